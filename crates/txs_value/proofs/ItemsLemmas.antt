@@ -1,0 +1,89 @@
+-- A list of values and its data: the same at each place.
+use Rattle.std.proofs.Common.{◌≡◌, ℕ, zero, suc, ◌+◌, ◌<◌, ◌≤◌, ◌++◌, max, List, [], ◌∷◌, length, get_or, take, refl, sym, ap, ◌∙◌, arith}
+use Rattle.std.proofs.lemmas.List.{take_more_same, get_or_read, length-map, length-append, length-take, map_more, map-append, take-map}
+use Rattle.std.proofs.Math.ListN.{get_or-map}
+use Rattle.txs_value.specs.PlainValue.{PlainValue, plain_row, plain_list, depth, row_depth, plain_size, row_size}
+use Rattle.txs_value.specs.Limits.{IsVector}
+use Rattle.txs_value.specs.View.{plain_of, plains_of, value_of}
+use Rattle.txs_value.specs.declared.value.Value.{Value}
+use Rattle.txs_value.specs.declared.value.Value.TheVariants.{Nil, Truth, Int, Key, Text, Vector, Cell}
+
+pub plain_list-plain_row : (ds : List PlainValue) → plain_list (plain_row ds) ≡ ds
+plain_list-plain_row [] = refl
+plain_list-plain_row (d ∷ ds) = ap (λ xs. d ∷ xs) (plain_list-plain_row ds)
+
+pub value_of-plain_of : (v : Value) → value_of (plain_of v) ≡ v
+value_of-plain_of Nil = refl
+value_of-plain_of (Truth b) = refl
+value_of-plain_of (Int z) = refl
+value_of-plain_of (Key bs) = refl
+value_of-plain_of (Text bs) = refl
+value_of-plain_of (Vector ds) = ap Vector (plain_list-plain_row ds)
+value_of-plain_of (Cell c) = refl
+
+-- two values with one plain value are equal
+pub plain_of-one : (v w : Value) → plain_of v ≡ plain_of w → v ≡ w
+plain_of-one v w e = sym (value_of-plain_of v) ∙ ap value_of e ∙ value_of-plain_of w
+
+-- what an index reads, as a plain value
+pub plain_at : (vs : List Value) (i : ℕ) (v : Value) (d : PlainValue) → i < length vs → v ≡ get_or vs i v → plain_of v ≡ get_or (plains_of vs) i d
+plain_at vs i v d lt e =
+    let there : i < length (plains_of vs) = rw (length-map vs plain_of) lt in
+    get_or_read (plains_of vs) i (plain_of v) there (ap plain_of e ∙ sym (get_or-map plain_of vs i v)) d
+
+module _ (us vs : List Value) (i : ℕ) (u v : Value) (in_us : i < length us) (in_vs : i < length vs) (is_u : u ≡ get_or us i u) (is_v : v ≡ get_or vs i v) where
+  pub same_so_far : u ≡ v → take i (plains_of us) ≡ take i (plains_of vs) → take (i + 1) (plains_of us) ≡ take (i + 1) (plains_of vs)
+  same_so_far e before =
+      let d = plain_of u in
+      take_more_same (plains_of us) (plains_of vs) i d (rw (length-map us plain_of) in_us) (rw (length-map vs plain_of) in_vs) before
+      (sym (plain_at us i u d in_us is_u) ∙ ap plain_of e ∙ plain_at vs i v d in_vs is_v)
+
+  pub same_here : plains_of us ≡ plains_of vs → u ≡ v
+  same_here e =
+      let d = plain_of u in
+      plain_of-one u v (plain_at us i u d in_us is_u ∙ ap (λ xs. get_or xs i d) e ∙ sym (plain_at vs i v d in_vs is_v))
+
+-- an item has less inside than its list
+size_of_item : (vs : List Value) (i : ℕ) (v : Value) → i < length vs → v ≡ get_or vs i v → plain_size (plain_of v) < row_size (plains_of vs)
+size_of_item [] i v lt is = absurd (omega arith)
+size_of_item (w ∷ vs) zero v lt is = rw is (omega arith)
+size_of_item (w ∷ vs) (suc i) v lt is = omega (arith, size_of_item vs i v (omega arith) is)
+
+pub item_falls : (ds : List PlainValue) (vs : List Value) (i : ℕ) (v : Value) → plains_of vs ≡ ds → i < length vs → v ≡ get_or vs i v → plain_size (plain_of v) < row_size ds
+item_falls ds vs i v e lt is = rw (sym e) (size_of_item vs i v lt is)
+
+depth_of_item : (vs : List Value) (i : ℕ) (v : Value) → i < length vs → v ≡ get_or vs i v → depth (plain_of v) ≤ row_depth (plain_row (plains_of vs))
+depth_of_item [] i v lt is = absurd (omega arith)
+depth_of_item (w ∷ vs) zero v lt is = rw is (omega arith)
+depth_of_item (w ∷ vs) (suc i) v lt is = omega (arith, depth_of_item vs i v (omega arith) is)
+
+pub depth_at : (ds : List PlainValue) (vs : List Value) (i : ℕ) (v : Value) → plains_of vs ≡ ds → i < length vs → v ≡ get_or vs i v → depth (plain_of v) ≤ row_depth (plain_row ds)
+depth_at ds vs i v e lt is = rw (sym e) (depth_of_item vs i v lt is)
+
+row_depth-push : (ds : List PlainValue) (d : PlainValue) → row_depth (plain_row (ds ++ d ∷ [])) ≡ max (row_depth (plain_row ds)) (depth d)
+row_depth-push [] d = omega arith
+row_depth-push (e ∷ ds) d = omega (arith, row_depth-push ds d)
+
+pub depth_so_far : (vs : List Value) (i : ℕ) (v : Value) (n : ℕ) → i < length vs → v ≡ get_or vs i v → depth (plain_of v) ≤ n → row_depth (plain_row (plains_of (take i vs))) ≤ n
+    → row_depth (plain_row (plains_of (take (i + 1) vs))) ≤ n
+depth_so_far vs i v n lt is one before =
+    rw (map_more plain_of vs i v lt, sym is) (omega (arith, row_depth-push (plains_of (take i vs)) (plain_of v)))
+
+-- a vector that isn't full, and an item that isn't too deep
+pub IsVector-push : (vs us : List Value) (v w : Value) (ds : List PlainValue) → us ≡ vs ++ w ∷ [] → w ≡ v → plains_of vs ≡ ds → IsVector ds → length ds < 65535 → depth (plain_of v) ≤ 31 → IsVector (plains_of us)
+IsVector-push vs us v w ds is same seen before short shallow =
+    rw (is, same, map-append plain_of vs (v ∷ []), seen)
+    (simp length-append (omega arith), omega (arith, row_depth-push ds (plain_of v)))
+
+row_depth-take : (ds : List PlainValue) (n : ℕ) → row_depth (plain_row (take n ds)) ≤ row_depth (plain_row ds)
+row_depth-take [] zero = omega arith
+row_depth-take [] (suc n) = omega arith
+row_depth-take (d ∷ ds) zero = omega arith
+row_depth-take (d ∷ ds) (suc n) = omega (arith, row_depth-take ds n)
+
+pub IsVector-take : (us vs : List Value) (ds : List PlainValue) (n : ℕ) → us ≡ take n vs → plains_of vs ≡ ds → IsVector ds → IsVector (plains_of us)
+IsVector-take us vs ds n is seen before =
+    rw (is, sym (take-map plain_of n vs), seen) (simp length-take (omega arith), omega (arith, row_depth-take ds n))
+
+pub plains_of-take : (us vs : List Value) (ds : List PlainValue) (n : ℕ) → us ≡ take n vs → plains_of vs ≡ ds → plains_of us ≡ take n ds
+plains_of-take us vs ds n is seen = rw (is, sym (take-map plain_of n vs), seen)

@@ -1,0 +1,5 @@
+pub mod AskLemmas
+pub mod CoreLemmas
+pub mod ItemsLemmas
+pub mod PrintedLemmas
+pub mod SameLemmas

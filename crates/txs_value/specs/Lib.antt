@@ -1,0 +1,9 @@
+pub mod Ask
+pub mod Core
+pub mod PlainValue
+pub mod Falls
+pub mod Limits
+pub mod Names
+pub mod Printed
+pub mod Same
+pub mod View

@@ -1,0 +1,27 @@
+//! Values of scripts: what they are, when two are equal, how they print, and the core operations on
+//! them. A value is plain data to every contract: a copy is equal to what it was made of, `same` is
+//! equality, `write_text` appends the printed text, and `apply` answers the table of core operations.
+#![tactic(auto)]
+
+pub mod ask;
+pub mod copy;
+pub mod equal;
+pub mod fault;
+pub mod listed;
+pub mod op;
+pub mod operate;
+pub mod print;
+pub mod value;
+
+pub use ask::{Ask, Reply};
+pub use copy::copy_value;
+pub use equal::same;
+pub use fault::{Fault, FaultKind, Span, Stop};
+pub use listed::Listed;
+pub use op::{Callee, Op};
+pub use operate::apply;
+pub use print::write_text;
+pub use value::{CellId, CellKind, Items, Name, Text, Value};
+
+#[cfg(test)]
+mod tests;

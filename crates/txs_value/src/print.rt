@@ -1,0 +1,81 @@
+// The text of values.
+ghost use Rattle.std.specs.Prelude.{◌≡◌, ◌++◌, ◌∷◌, [], OnOk, OnErr};
+ghost use Rattle.txs_value.specs.PlainValue.{plain_row};
+ghost use Rattle.txs_value.specs.Printed.{printed, items_printed, kind_printed, gap, Extends};
+ghost use Rattle.txs_value.specs.View.{plain_of};
+
+use crate::value::{CellKind, Items, Value};
+use itoa::Buffer;
+use std::alloc::AllocError;
+
+/// Appends the value as `println` writes it.
+pub fn write_text(value: &Value, out: &mut Vec<u8>) -> Result<(), AllocError>
+    ensures ok { OnOk result (out.new.items ≡ out.old.items ++ printed (plain_of value.now)) }
+    ensures err { OnErr result (out.new.items ≡ out.old.items) }
+{
+    let start = out.len();
+    let done = print(value, out);
+    if done.is_err() {
+        out.truncate(start);
+    }
+    done
+}
+
+fn kind_text(kind: CellKind) -> &'static [u8]
+    ensures { result.now ≡ kind_printed kind }
+{
+    match kind {
+        CellKind::Ref => b"#ref[",
+        CellKind::Atom => b"#atom[",
+        CellKind::Agent => b"#agent[",
+    }
+}
+
+// A space before each item but the first.
+fn separate(i: usize, out: &mut Vec<u8>) -> Result<(), AllocError>
+    ensures ok { OnOk result (out.new.items ≡ out.old.items ++ gap i) }
+    ensures kept { Extends out.old.items out.new.items }
+{
+    if i > 0 {
+        out.push(b' ')?;
+    }
+    Ok(())
+}
+
+#[cycle(print)]
+fn print(value: &Value, out: &mut Vec<u8>) -> Result<(), AllocError>
+    ensures ok { OnOk result (out.new.items ≡ out.old.items ++ printed (plain_of value.now)) }
+    ensures kept { Extends out.old.items out.new.items }
+{
+    match value {
+        Value::Nil => out.extend_from_slice(b"nil"),
+        Value::Truth(true) => out.extend_from_slice(b"true"),
+        Value::Truth(false) => out.extend_from_slice(b"false"),
+        Value::Int(n) => out.extend_from_slice(Buffer::new().format(*n).as_bytes()),
+        Value::Key(name) => {
+            out.push(b':')?;
+            out.extend_from_slice(name.as_bytes())
+        }
+        Value::Text(text) => out.extend_from_slice(text.as_str().as_bytes()),
+        Value::Vector(items) => print_items(items, out),
+        Value::Cell(cell) => {
+            out.extend_from_slice(kind_text(cell.kind))?;
+            out.extend_from_slice(Buffer::new().format(cell.number).as_bytes())?;
+            Ok(out.push(b']')?)
+        }
+    }
+}
+
+#[cycle(print)]
+fn print_items(items: &Items, out: &mut Vec<u8>) -> Result<(), AllocError>
+    ensures ok { OnOk result (out.new.items
+        ≡ out.old.items ++ 91 ∷ items_printed (plain_row items.now) ++ 93 ∷ []) }
+    ensures kept { Extends out.old.items out.new.items }
+{
+    out.push(b'[')?;
+    for (i, item) in items.items.iter().enumerate() {
+        separate(i, out)?;
+        print(item, out)?;
+    }
+    Ok(out.push(b']')?)
+}
