@@ -1,9 +1,9 @@
 -- The core operations as a table from values to a value or a fault.
 use Rattle.std.specs.Prelude.{◌≡◌, ℕ, zero, suc, ◌^◌, ℤ, pos, negsuc, ◌+ℤ◌, ◌-◌, int_div, int_lt, not, Bool, true, false, nat_lt, nat_le, ◌==◌, if◌then◌else◌, List, [], ◌∷◌, ◌++◌, length, drop, take, slice_get, slice_index_or, Option, Some, None, Result, Ok, Err, ⊤}
 use Rattle.std.specs.Int.{int_rem_euclid}
-use Rattle.txs_value.specs.PlainValue.{PlainValue, nil, depth}
+use Rattle.txs_value.specs.PlainValue.{PlainValue, nil, depth, row_depth, plain_row}
 use Rattle.txs_value.specs.Same.{same_plain}
-use Rattle.txs_value.specs.View.{plain_of, value_of}
+use Rattle.txs_value.specs.View.{plain_of, plains_of, value_of}
 use Rattle.txs_value.specs.declared.value.Value.{Value}
 use Rattle.txs_value.specs.declared.value.Value.TheVariants.{Nil, Truth, Int, Vector}
 use Rattle.txs_value.specs.declared.fault.FaultKind.{FaultKind}
@@ -177,3 +177,10 @@ abbrev pub Answers : Result Value Stop → Answer → Type 0
 Answers (Ok v) a = a ≡ Ok v
 Answers (Err (Fault k)) a = a ≡ Err k
 Answers (Err Memory) a = ⊤
+
+-- a vector of these items
+abbrev pub vector_of : List Value → Answer
+vector_of vs =
+    if nat_lt 65535 (length vs) then Err TooLong
+    else if nat_lt 31 (row_depth (plain_row (plains_of vs))) then Err TooDeep
+    else Ok (Vector (plains_of vs))

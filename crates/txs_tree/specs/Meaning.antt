@@ -1,0 +1,160 @@
+-- What a tree does, where each loop makes at most n turns. What the forms on cells do is handed in.
+use Rattle.std.specs.Prelude.{ℕ, zero, suc, Bool, true, false, List, [], ◌∷◌, ◌++◌, Option, Some, None, Result, Ok, Err, length, nat_eq, if◌then◌else◌}
+use Rattle.txs_value.specs.Core.{core, vector_of}
+use Rattle.txs_value.specs.declared.fault.Fault.{Fault}
+use Rattle.txs_value.specs.declared.fault.FaultKind.{FaultKind}
+use Rattle.txs_value.specs.declared.fault.Span.{Span}
+use Rattle.txs_value.specs.declared.op.Callee.{Callee}
+use Rattle.txs_value.specs.declared.op.Callee.TheVariants.{Core as CoreOp, Function}
+use Rattle.txs_value.specs.declared.value.Value.{Value}
+use Rattle.txs_value.specs.declared.value.Value.TheVariants.{Nil, Truth, Int, Key, Text, Vector, Cell}
+use Rattle.txs_tree.specs.Tree.{Tree, Const, Local, If, Do, Let, Loop, Recur, Core, Call, VectorOf, Println, Dosync, Deref, Alter, Trees, none, more, is_none, count, PlainFunction}
+
+-- how a part of a tree ends, with the state that it leaves
+pub data Completion (S A : Type 0) : Type 0 where
+  Completes : (a : A) (s : S) → Completion S A
+  -- a recur with these values
+  Recurs : (vs : List Value) (s : S) → Completion S A
+  Faults : (f : Fault) (s : S) → Completion S A
+  -- the transaction has to run again
+  Retries : (s : S) → Completion S A
+  -- what it needs from outside isn't there
+  Waits : (s : S) → Completion S A
+  -- a loop's turns don't suffice
+  OutOfTurns : (s : S) → Completion S A
+  -- no meaning, which never comes of a sound program
+  Invalid : Completion S A
+
+-- goes on with what was given; the first part is no recur's tail position
+abbrev pub bind : {S A B : Type 0} → Completion S A → (A → S → Completion S B) → Completion S B
+bind (Completes a s) go = go a s
+bind (Recurs vs s) go = Invalid
+bind (Faults f s) go = Faults f s
+bind (Retries s) go = Retries s
+bind (Waits s) go = Waits s
+bind (OutOfTurns s) go = OutOfTurns s
+bind Invalid go = Invalid
+
+-- a recur goes on, all else stays
+abbrev pub again : {S A : Type 0} → Completion S A → (List Value → S → Completion S A) → Completion S A
+again (Completes a s) go = Completes a s
+again (Recurs vs s) go = go vs s
+again (Faults f s) go = Faults f s
+again (Retries s) go = Retries s
+again (Waits s) go = Waits s
+again (OutOfTurns s) go = OutOfTurns s
+again Invalid go = Invalid
+
+-- a place that no recur leaves
+abbrev pub closed : {S A : Type 0} → Completion S A → Completion S A
+closed r = again r (λ vs s. Invalid)
+
+-- only nil and false are logically false
+abbrev pub choose : {A : Type 0} → Value → A → A → A
+choose Nil a b = b
+choose (Truth false) a b = b
+choose (Truth true) a b = a
+choose (Int z) a b = a
+choose (Key bs) a b = a
+choose (Text bs) a b = a
+choose (Vector vs) a b = a
+choose (Cell c) a b = a
+
+abbrev pub nth : {A : Type 0} → List A → ℕ → Option A
+nth [] i = None
+nth (x ∷ xs) zero = Some x
+nth (x ∷ xs) (suc i) = nth xs i
+
+abbrev pub give : {S A : Type 0} → Option A → S → Completion S A
+give None s = Invalid
+give (Some v) s = Completes v s
+
+abbrev pub fault_at : FaultKind → Span → Fault
+fault_at kind span = record { kind = kind; span = span }
+
+abbrev pub result_of : {S : Type 0} → Result Value FaultKind → Span → S → Completion S Value
+result_of (Ok v) span s = Completes v s
+result_of (Err k) span s = Faults (fault_at k span) s
+
+-- What the forms on cells do. The truth value tells whether a transaction is running.
+pub record Effects (S : Type 0) : Type 0 where
+  pub print : Bool → List Value → S → Completion S Value
+  pub deref : Bool → Span → Value → S → Completion S Value
+  -- with what the callee gives of the cell's value
+  pub alter : Bool → Span → Value → (Value → S → Completion S Value) → S → Completion S Value
+  -- with the body, its locals, and what it does in a running transaction
+  pub dosync : Bool → Span → Tree → List Value → (S → Completion S Value) → S → Completion S Value
+
+-- at most n turns, each with d values
+abbrev pub turns : {S : Type 0} → ℕ → ℕ → (List Value → S → Completion S Value) → List Value → S → Completion S Value
+turns zero d body vs s = OutOfTurns s
+turns (suc n) d body vs s = if nat_eq (length vs) d then again (body vs s) (turns n d body) else Invalid
+
+abbrev pub last_or : {S : Type 0} → Bool → Completion S Value → (S → Completion S Value) → Completion S Value
+last_or true r go = r
+last_or false r go = bind r (λ v s. go s)
+
+abbrev pub apply : {S : Type 0} → (ℕ → List Value → S → Completion S Value) → Span → Callee → List Value → S → Completion S Value
+apply call span (CoreOp op) vs s = result_of (core op vs) span s
+apply call span (Function f) vs s = call f vs s
+
+abbrev mutual
+  pub eval : {S : Type 0} → Effects S → (Bool → ℕ → List Value → S → Completion S Value) → ℕ → Bool → Tree → List Value → S → Completion S Value
+  -- a constant is its value
+  eval fx call n inside (Const v m) env s = Completes v s
+  -- a local is the value that it was bound to
+  eval fx call n inside (Local i m) env s = give (nth env i) s
+  -- the test, and then one branch alone
+  eval fx call n inside (If c a b m) env s =
+      bind (eval fx call n inside c env s) (λ v s1. choose v (eval fx call n inside a env s1) (eval fx call n inside b env s1))
+  -- the items in order, with the last one's result
+  eval fx call n inside (Do items m) env s = eval_do fx call n inside items env s
+  -- the values in order, each of which sees the earlier ones, and then the body
+  eval fx call n inside (Let values body m) env s =
+      bind (eval_let fx call n inside values env s) (λ vs s1. eval fx call n inside body (env ++ vs) s1)
+  -- a let whose body a recur runs again
+  eval fx call n inside (Loop values body m) env s =
+      bind (eval_let fx call n inside values env s) (λ vs s1. turns n (count values) (λ ws s2. eval fx call n inside body (env ++ ws) s2) vs s1)
+  -- the values in order, for the next turn of the nearest loop or function
+  eval fx call n inside (Recur values m) env s = bind (eval_all fx call n inside values env s) (λ vs s1. Recurs vs s1)
+  -- the arguments from left to right, and then the operation
+  eval fx call n inside (Core op args m) env s = bind (eval_all fx call n inside args env s) (λ vs s1. result_of (core op vs) m.span s1)
+  -- the arguments from left to right, and then the function
+  eval fx call n inside (Call f args m) env s = bind (eval_all fx call n inside args env s) (λ vs s1. call inside f vs s1)
+  -- the vector of the items
+  eval fx call n inside (VectorOf items m) env s = bind (eval_all fx call n inside items env s) (λ vs s1. result_of (vector_of vs) m.span s1)
+  -- the arguments from left to right, and then they are printed
+  eval fx call n inside (Println args m) env s = bind (eval_all fx call n inside args env s) (λ vs s1. fx.print inside vs s1)
+  -- the body in a transaction, which no recur leaves
+  eval fx call n inside (Dosync body m) env s = fx.dosync inside m.span body env (λ s1. closed (eval fx call n true body env s1)) s
+  -- the cell, and then its value
+  eval fx call n inside (Deref cell m) env s = bind (eval fx call n inside cell env s) (λ v s1. fx.deref inside m.span v s1)
+  -- the cell, the arguments, and then the callee on the cell's value and the arguments
+  eval fx call n inside (Alter cell callee args m) env s =
+      bind (eval fx call n inside cell env s) (λ c s1.
+      bind (eval_all fx call n inside args env s1) (λ vs s2.
+      fx.alter inside m.span c (λ v s3. apply (call inside) m.span callee (v ∷ vs) s3) s2))
+
+  -- the values, in order
+  pub eval_all : {S : Type 0} → Effects S → (Bool → ℕ → List Value → S → Completion S Value) → ℕ → Bool → Trees → List Value → S → Completion S (List Value)
+  eval_all fx call n inside none env s = Completes [] s
+  eval_all fx call n inside (more e rest) env s =
+      bind (eval fx call n inside e env s) (λ v s1. bind (eval_all fx call n inside rest env s1) (λ vs s2. Completes (v ∷ vs) s2))
+
+  -- the new locals, of which each sees the earlier ones
+  pub eval_let : {S : Type 0} → Effects S → (Bool → ℕ → List Value → S → Completion S Value) → ℕ → Bool → Trees → List Value → S → Completion S (List Value)
+  eval_let fx call n inside none env s = Completes [] s
+  eval_let fx call n inside (more e rest) env s =
+      bind (eval fx call n inside e env s) (λ v s1. bind (eval_let fx call n inside rest (env ++ v ∷ []) s1) (λ vs s2. Completes (v ∷ vs) s2))
+
+  -- the last one's value
+  pub eval_do : {S : Type 0} → Effects S → (Bool → ℕ → List Value → S → Completion S Value) → ℕ → Bool → Trees → List Value → S → Completion S Value
+  eval_do fx call n inside none env s = Invalid
+  eval_do fx call n inside (more e rest) env s =
+      last_or (is_none rest) (eval fx call n inside e env s) (λ s1. eval_do fx call n inside rest env s1)
+
+-- a function's meaning, where calls go at most b deep; what the forms do may depend on that depth too
+abbrev pub call_at : {S : Type 0} → (ℕ → Effects S) → ℕ → List PlainFunction → ℕ → Bool → ℕ → List Value → S → Completion S Value
+call_at fx n functions zero inside f vs s = Invalid
+call_at fx n functions (suc b) inside f vs s =
+    bind (give (nth functions f) s) (λ fun s1. turns n fun.parameters (λ ws s2. eval (fx b) (call_at fx n functions b) n inside fun.body ws s2) vs s1)

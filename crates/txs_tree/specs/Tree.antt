@@ -1,0 +1,69 @@
+-- What a program is, as plain data.
+use Rattle.std.specs.Prelude.{ℕ, suc, Bool, true, false, List}
+use Rattle.txs_value.specs.declared.fault.Span.{Span}
+use Rattle.txs_value.specs.declared.op.Op.{Op}
+use Rattle.txs_value.specs.declared.op.Callee.{Callee}
+use Rattle.txs_value.specs.declared.value.CellKind.{CellKind}
+use Rattle.txs_value.specs.declared.value.Value.{Value}
+
+-- where a node stands in the script, and whether its result is wanted
+pub record Mark : Type 0 where
+  pub span : Span
+  pub wanted : Bool
+
+mutual
+  pub data Tree : Type 0 where
+    Const : (value : Value) (mark : Mark) → Tree
+    -- locals are numbered by nesting, parameters first
+    Local : (i : ℕ) (mark : Mark) → Tree
+    If : (test yes no : Tree) (mark : Mark) → Tree
+    Do : (items : Trees) (mark : Mark) → Tree
+    Let : (values : Trees) (body : Tree) (mark : Mark) → Tree
+    Loop : (values : Trees) (body : Tree) (mark : Mark) → Tree
+    Recur : (values : Trees) (mark : Mark) → Tree
+    Core : (op : Op) (args : Trees) (mark : Mark) → Tree
+    Call : (f : ℕ) (args : Trees) (mark : Mark) → Tree
+    VectorOf : (items : Trees) (mark : Mark) → Tree
+    Println : (args : Trees) (mark : Mark) → Tree
+    Dosync : (body : Tree) (mark : Mark) → Tree
+    Deref : (cell : Tree) (mark : Mark) → Tree
+    Alter : (cell : Tree) (callee : Callee) (args : Trees) (mark : Mark) → Tree
+
+  pub data Trees : Type 0 where
+    none : Trees
+    more : (item : Tree) (rest : Trees) → Trees
+
+abbrev pub count : Trees → ℕ
+count none = 0
+count (more e rest) = suc (count rest)
+
+abbrev pub is_none : Trees → Bool
+is_none none = true
+is_none (more e rest) = false
+
+-- a cell: its kind, its name, and the value that it opens with
+pub record PlainCell : Type 0 where
+  pub kind : CellKind
+  pub name : List ℕ
+  pub opening : Value
+
+-- a function: the number of its parameters, its body, and where its definition stands; it calls functions before it alone
+pub record PlainFunction : Type 0 where
+  pub parameters : ℕ
+  pub body : Tree
+  pub span : Span
+
+-- a thread: the body of a future, and where the future stands
+pub record PlainThread : Type 0 where
+  pub body : Tree
+  pub span : Span
+
+pub record PlainProgram : Type 0 where
+  pub cells : List PlainCell
+  pub functions : List PlainFunction
+  pub threads : List PlainThread
+
+-- one thread with the functions that it may call
+pub record ThreadSource : Type 0 where
+  pub functions : List PlainFunction
+  pub main : Tree
