@@ -1,5 +1,5 @@
-pub mod Cells
 pub mod Meaning
+pub mod Sound
 pub mod Thread
 pub mod Transaction
 pub mod Tree

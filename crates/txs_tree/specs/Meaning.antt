@@ -1,13 +1,14 @@
 -- What a tree does, where each loop makes at most n turns. What the forms on cells do is handed in.
 use Rattle.std.specs.Prelude.{ℕ, zero, suc, Bool, true, false, List, [], ◌∷◌, ◌++◌, Option, Some, None, Result, Ok, Err, length, nat_eq, if◌then◌else◌}
 use Rattle.txs_value.specs.Core.{core, vector_of}
+use Rattle.txs_value.specs.Places.{nth, fault_at}
+use Rattle.txs_value.specs.Truth.{choose}
 use Rattle.txs_value.specs.declared.fault.Fault.{Fault}
 use Rattle.txs_value.specs.declared.fault.FaultKind.{FaultKind}
 use Rattle.txs_value.specs.declared.fault.Span.{Span}
 use Rattle.txs_value.specs.declared.op.Callee.{Callee}
 use Rattle.txs_value.specs.declared.op.Callee.TheVariants.{Core as CoreOp, Function}
 use Rattle.txs_value.specs.declared.value.Value.{Value}
-use Rattle.txs_value.specs.declared.value.Value.TheVariants.{Nil, Truth, Int, Key, Text, Vector, Cell}
 use Rattle.txs_tree.specs.Tree.{Tree, Const, Local, If, Do, Let, Loop, Recur, Core, Call, VectorOf, Println, Dosync, Deref, Alter, Trees, none, more, is_none, count, PlainFunction}
 
 -- how a part of a tree ends, with the state that it leaves
@@ -49,28 +50,9 @@ again Invalid go = Invalid
 abbrev pub closed : {S A : Type 0} → Completion S A → Completion S A
 closed r = again r (λ vs s. Invalid)
 
--- only nil and false are logically false
-abbrev pub choose : {A : Type 0} → Value → A → A → A
-choose Nil a b = b
-choose (Truth false) a b = b
-choose (Truth true) a b = a
-choose (Int z) a b = a
-choose (Key bs) a b = a
-choose (Text bs) a b = a
-choose (Vector vs) a b = a
-choose (Cell c) a b = a
-
-abbrev pub nth : {A : Type 0} → List A → ℕ → Option A
-nth [] i = None
-nth (x ∷ xs) zero = Some x
-nth (x ∷ xs) (suc i) = nth xs i
-
 abbrev pub give : {S A : Type 0} → Option A → S → Completion S A
 give None s = Invalid
 give (Some v) s = Completes v s
-
-abbrev pub fault_at : FaultKind → Span → Fault
-fault_at kind span = record { kind = kind; span = span }
 
 abbrev pub result_of : {S : Type 0} → Result Value FaultKind → Span → S → Completion S Value
 result_of (Ok v) span s = Completes v s

@@ -2,14 +2,16 @@
 use Rattle.std.specs.Prelude.{ℕ, zero, suc, false, not, Bool, true, List, [], ◌∷◌, ◌++◌, length, if◌then◌else◌, Result, Ok, Err}
 use Rattle.txs_value.specs.Ask.{Writes, same_writes, same_cell}
 use Rattle.txs_value.specs.Printed.{printed_line}
+use Rattle.txs_value.specs.Limits.{reruns}
+use Rattle.txs_value.specs.Places.{fault_at}
 use Rattle.txs_value.specs.declared.fault.FaultKind.{FaultKind}
 use Rattle.txs_value.specs.declared.fault.FaultKind.TheVariants.{RetryLimit}
 use Rattle.txs_value.specs.declared.fault.Span.{Span}
 use Rattle.txs_value.specs.declared.value.CellId.{CellId}
 use Rattle.txs_value.specs.declared.value.Value.{Value}
 use Rattle.txs_value.specs.declared.value.Value.TheVariants.{Nil}
-use Rattle.txs_tree.specs.Cells.{World, any_cell}
-use Rattle.txs_tree.specs.Meaning.{Completion, Completes, Recurs, Faults, Retries, Waits, OutOfTurns, Invalid, closed, Effects, eval, call_at, fault_at}
+use Rattle.txs_value.specs.Cells.{World, any_cell}
+use Rattle.txs_tree.specs.Meaning.{Completion, Completes, Recurs, Faults, Retries, Waits, OutOfTurns, Invalid, closed, Effects, eval, call_at}
 use Rattle.txs_tree.specs.Transaction.{TxState, tx_meaning}
 use Rattle.txs_tree.specs.Tree.{Tree, PlainFunction, ThreadSource}
 
@@ -24,10 +26,6 @@ pub data SeenEvent : Type 0 where
 pub record ThreadState : Type 0 where
   pub todo : List SeenEvent
   pub printed : List ℕ
-
--- a transaction runs again at most so many times
-unfoldable pub reruns : ℕ
-reruns = 9999
 
 abbrev pub eats_read : CellId → List SeenEvent → ThreadState → Completion ThreadState Value
 eats_read c [] t = Waits t

@@ -1,13 +1,14 @@
 -- What a transaction's body means on one world of refs.
 use Rattle.std.specs.Prelude.{ℕ, true, List, [], ◌∷◌, ◌++◌, Option, Some, None, Result, Ok, Err}
 use Rattle.txs_value.specs.Ask.{Writes, buffered, with_write}
+use Rattle.txs_value.specs.Places.{fault_at}
 use Rattle.txs_value.specs.declared.fault.FaultKind.{FaultKind}
 use Rattle.txs_value.specs.declared.fault.Span.{Span}
 use Rattle.txs_value.specs.declared.value.CellId.{CellId}
 use Rattle.txs_value.specs.declared.value.Value.{Value}
-use Rattle.txs_tree.specs.Cells.{World, readable_cell, ref_cell}
+use Rattle.txs_value.specs.Cells.{World, readable_cell, ref_cell}
 use Rattle.txs_tree.specs.Tree.{Tree, PlainFunction}
-use Rattle.txs_tree.specs.Meaning.{Completion, Completes, Faults, Invalid, bind, closed, Effects, eval, call_at, fault_at}
+use Rattle.txs_tree.specs.Meaning.{Completion, Completes, Faults, Invalid, bind, closed, Effects, eval, call_at}
 
 -- what a transaction has done so far: its own values, and the refs that it read
 pub record TxState : Type 0 where

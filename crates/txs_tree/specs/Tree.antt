@@ -3,7 +3,6 @@ use Rattle.std.specs.Prelude.{ℕ, suc, Bool, true, false, List}
 use Rattle.txs_value.specs.declared.fault.Span.{Span}
 use Rattle.txs_value.specs.declared.op.Op.{Op}
 use Rattle.txs_value.specs.declared.op.Callee.{Callee}
-use Rattle.txs_value.specs.declared.value.CellKind.{CellKind}
 use Rattle.txs_value.specs.declared.value.Value.{Value}
 
 -- where a node stands in the script, and whether its result is wanted
@@ -41,12 +40,6 @@ abbrev pub is_none : Trees → Bool
 is_none none = true
 is_none (more e rest) = false
 
--- a cell: its kind, its name, and the value that it opens with
-pub record PlainCell : Type 0 where
-  pub kind : CellKind
-  pub name : List ℕ
-  pub opening : Value
-
 -- a function: the number of its parameters, its body, and where its definition stands; it calls functions before it alone
 pub record PlainFunction : Type 0 where
   pub parameters : ℕ
@@ -59,7 +52,6 @@ pub record PlainThread : Type 0 where
   pub span : Span
 
 pub record PlainProgram : Type 0 where
-  pub cells : List PlainCell
   pub functions : List PlainFunction
   pub threads : List PlainThread
 

@@ -1,9 +1,12 @@
 pub mod Ask
+pub mod Cells
 pub mod Core
-pub mod PlainValue
 pub mod Falls
 pub mod Limits
 pub mod Names
+pub mod Places
+pub mod PlainValue
 pub mod Printed
 pub mod Same
+pub mod Truth
 pub mod View

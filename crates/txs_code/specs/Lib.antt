@@ -1,0 +1,2 @@
+pub mod ActorState
+pub mod Machine

@@ -1,0 +1,68 @@
+-- The code of a thread does what its tree does, on any replies.
+use Rattle.std.specs.Prelude.{◌≡◌, false, ℕ, ◌≤◌, List, [], ◌∷◌, ◌++◌, length, Option, Some, None}
+use Rattle.txs_value.specs.Ask.{Exchange}
+use Rattle.txs_value.specs.declared.value.Value.{Value}
+use Rattle.txs_tree.specs.Meaning.{Completion, Completes, Recurs, Faults, Retries, Waits, OutOfTurns, Invalid, eval, closed, call_at}
+use Rattle.txs_tree.specs.Tree.{ThreadSource}
+use Rattle.txs_code.specs.ActorState.{ActorState}
+use Rattle.txs_code.specs.Machine.{ThreadCode, locals_of, Outside, Configuration, configuration, Outcome, Ended, Failed, Asking, Unfinished, Stuck, exec}
+use Rattle.txs_follows.specs.OnReplies.{on_replies}
+
+-- an actor's state before its first turn, with the exchanges to come
+abbrev pub fresh : List Exchange → ActorState
+fresh todo = record { todo = todo; printed = []; at = 0; writes = []; wants = None }
+
+-- the thread on these exchanges, where each loop makes at most n turns
+abbrev pub source : ThreadSource → ℕ → List Exchange → Completion ActorState Value
+source p n todo = closed (eval on_replies (call_at (λ d. on_replies) n p.functions (length p.functions)) n false p.main [] (fresh todo))
+
+-- where a thread begins
+abbrev pub opening : ThreadCode → List Exchange → Configuration
+opening code todo = configuration 0 0 [] (locals_of (Some code.main) []) [] Outside (fresh todo)
+
+-- the machine on these exchanges, after at most m instructions
+abbrev pub target : ThreadCode → ℕ → List Exchange → Outcome
+target code m todo = exec code m (opening code todo)
+
+-- an answer of a program that was checked, on lawful replies
+abbrev pub IsMeant : Completion ActorState Value → Type 0
+IsMeant (Completes v s) = Unit {0}
+IsMeant (Recurs vs s) = ⊥
+IsMeant (Faults f s) = Unit {0}
+IsMeant (Retries s) = ⊥
+IsMeant (Waits s) = Unit {0}
+IsMeant (OutOfTurns s) = Unit {0}
+IsMeant Invalid = ⊥
+
+-- an answer that more turns don't change
+abbrev pub HasEnded : Completion ActorState Value → Type 0
+HasEnded (Completes v s) = Unit {0}
+HasEnded (Recurs vs s) = ⊥
+HasEnded (Faults f s) = Unit {0}
+HasEnded (Retries s) = ⊥
+HasEnded (Waits s) = Unit {0}
+HasEnded (OutOfTurns s) = ⊥
+HasEnded Invalid = ⊥
+
+abbrev pub outcome_of : Completion ActorState Value → Outcome
+outcome_of (Completes v s) = Ended s
+outcome_of (Recurs vs s) = Stuck
+outcome_of (Faults f s) = Failed f s
+outcome_of (Retries s) = Stuck
+outcome_of (Waits s) = Asking s
+outcome_of (OutOfTurns s) = Unfinished s
+outcome_of Invalid = Stuck
+
+-- a run that is over
+abbrev pub IsOver : Outcome → Type 0
+IsOver (Ended s) = Unit {0}
+IsOver (Failed f s) = Unit {0}
+IsOver (Asking s) = Unit {0}
+IsOver (Unfinished s) = ⊥
+IsOver Stuck = Unit {0}
+
+-- the code does what the thread does, and nothing else
+pub record Behaves (code : ThreadCode) (p : ThreadSource) : Type 0 where
+  pub follows : (todo : List Exchange) (n : ℕ) → HasEnded (source p n todo) → (m : ℕ) × (target code m todo ≡ outcome_of (source p n todo))
+  pub goes_on : (todo : List Exchange) (n : ℕ) (s : ActorState) → source p n todo ≡ OutOfTurns s → (m : ℕ) × (n ≤ m) × (target code m todo ≡ Unfinished s)
+  pub only : (todo : List Exchange) (m : ℕ) (o : Outcome) → IsOver o → target code m todo ≡ o → IsMeant (source p m todo) → outcome_of (source p m todo) ≡ o

@@ -1,0 +1,3 @@
+pub mod Behaves
+pub mod OnReplies
+pub mod RepliesFit

@@ -1,0 +1,8 @@
+-- The generated code does what the tree does.
+use Rattle.txs_tree.specs.Tree.{ThreadSource}
+use Rattle.txs_follows.specs.Behaves.{Behaves}
+use Rattle.txs_gen.specs.Gen.{generated}
+
+-- the code of a thread does what its tree does, on any replies
+abbrev pub CodeBehaves : Type 0
+CodeBehaves = (p : ThreadSource) → Behaves (generated p) p

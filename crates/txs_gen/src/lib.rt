@@ -1,0 +1,11 @@
+//! Code from trees.
+#![tactic(auto)]
+
+ghost use Rattle.std.specs.Prelude.{◌≡◌};
+ghost use Rattle.txs_tree.specs.Tree.{ThreadSource};
+ghost use Rattle.txs_gen.specs.Correct.{CodeBehaves};
+
+/// One answer.
+pub fn one()
+    ensures { CodeBehaves → CodeBehaves }
+{}
