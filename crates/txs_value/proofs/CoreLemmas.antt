@@ -1,38 +1,31 @@
 -- The table's sum, step by step.
-use Rattle.std.proofs.Common.{◌≡◌, ℕ, ◌+◌, ◌-◌, ◌<◌, ◌≤◌, List, [], ◌∷◌, length, get_or, slice_get, drop, ℤ, pos, negsuc, ◌+ℤ◌, Some, Ok, Err, sym, ap, ◌∙◌, arith}
+use Rattle.std.proofs.Common.{◌≡◌, ℕ, ◌+◌, ◌-◌, ◌<◌, ◌≤◌, List, [], ◌∷◌, length, get_or, slice_get, take, drop, ◌++◌, refl, ℤ, pos, negsuc, Result, Some, Ok, Err, sym, ap, ◌∙◌, arith}
 use Rattle.std.proofs.lemmas.List.{drop_more, length-map}
 use Rattle.std.proofs.lemmas.Option.{slice_get-get_or}
+use Rattle.std.proofs.lemmas.Bool.Decides.{nat_tests}
+use Rattle.std.specs.Prelude.{Bool, true, false, nat_le, if◌then◌else◌}
 use Rattle.std.specs.Int.{FitsUnsignedBits}
 use lib.IntN.{nat_abs}
 use Rattle.txs_value.proofs.ItemsLemmas.{plain_at, value_of-plain_of}
-use Rattle.txs_value.specs.Core.{whole, number_of, sum_from, arg, items_of, nth_of, peek_of}
-use Rattle.txs_value.specs.PlainValue.{PlainValue, nil}
+use Rattle.txs_value.specs.Core.{number_of, from_left, arg, items_of, nth_of, peek_of, place_in, assoc_of}
+use Rattle.txs_value.specs.PlainValue.{PlainValue, nil, depth}
 use Rattle.txs_value.specs.View.{plain_of, plains_of, value_of}
 use Rattle.txs_value.specs.declared.value.Value.{Value}
-use Rattle.txs_value.specs.declared.value.Value.TheVariants.{Int}
+use Rattle.txs_value.specs.declared.value.Value.TheVariants.{Int, Vector}
 use Rattle.txs_value.specs.declared.fault.FaultKind.{FaultKind}
+use Rattle.txs_value.specs.declared.fault.FaultKind.TheVariants.{IndexOut}
 
--- one more number, and the rest of the list
-pub sum_from-more : (t n u : ℤ) (x : Value) (xs : List Value) → Ok n ≡ number_of x → Ok u ≡ whole (t +ℤ n) → sum_from (Int t) (x ∷ xs) ≡ sum_from (Int u) xs
-sum_from-more t n u x xs is_n is_u = rw (sym is_n, sym is_u)
+module _ (f : ℤ → ℤ → Result ℤ FaultKind) where
+  -- one more number, and the rest of the list
+  pub from_left-at : (t n u : ℤ) (x : Value) (xs : List Value) (i : ℕ) → i < length xs → x ≡ get_or xs i x → Ok n ≡ number_of x → Ok u ≡ f t n
+      → from_left f (Int t) (drop i xs) ≡ from_left f (Int u) (drop (i + 1) xs)
+  from_left-at t n u x xs i lt is is_n is_u = rw (drop_more xs i x lt, sym is) (rw (sym is_n, sym is_u))
 
-pub sum_from-at : (t n u : ℤ) (x : Value) (xs : List Value) (i : ℕ) → i < length xs → x ≡ get_or xs i x → Ok n ≡ number_of x → Ok u ≡ whole (t +ℤ n)
-    → sum_from (Int t) (drop i xs) ≡ sum_from (Int u) (drop (i + 1) xs)
-sum_from-at t n u x xs i lt is is_n is_u =
-    rw (drop_more xs i x lt, sym is) (sum_from-more t n u x (drop (i + 1) xs) is_n is_u)
-
--- what is not a number ends the sum
-pub sum_from-not_number : (t : ℤ) (x : Value) (xs : List Value) (i : ℕ) (k : FaultKind) → i < length xs → x ≡ get_or xs i x → Err k ≡ number_of x → sum_from (Int t) (drop i xs) ≡ Err k
-sum_from-not_number t x xs i k lt is fault = rw (drop_more xs i x lt, sym is) (rw (sym fault))
-
-pub sum_from-overflow : (t n : ℤ) (x : Value) (xs : List Value) (i : ℕ) (k : FaultKind) → i < length xs → x ≡ get_or xs i x → Ok n ≡ number_of x → Err k ≡ whole (t +ℤ n)
-    → sum_from (Int t) (drop i xs) ≡ Err k
-sum_from-overflow t n x xs i k lt is is_n fault = rw (drop_more xs i x lt, sym is) (rw (sym is_n, sym fault))
-
-pub sum_from-first : (vs : List Value) (v : Value) (k : FaultKind) → 2 ≤ length vs → v ≡ get_or vs 0 v → Err k ≡ number_of v → sum_from (arg 0 vs) (drop 1 vs) ≡ Err k
-sum_from-first [] v k le is fault = absurd (omega arith)
-sum_from-first (w ∷ []) v k le is fault = absurd (omega arith)
-sum_from-first (w ∷ x ∷ xs) v k le is fault = rw (sym is, sym fault)
+  -- what is not a number ends the sum
+  pub from_left-first : (vs : List Value) (v : Value) (k : FaultKind) → 2 ≤ length vs → v ≡ get_or vs 0 v → Err k ≡ number_of v → from_left f (arg 0 vs) (drop 1 vs) ≡ Err k
+  from_left-first [] v k le is fault = absurd (omega arith)
+  from_left-first (w ∷ []) v k le is fault = absurd (omega arith)
+  from_left-first (w ∷ x ∷ xs) v k le is fault = rw (sym is, sym fault)
 
 slice_get_at : (ds : List PlainValue) (vs : List Value) (i : ℕ) (v : Value) → plains_of vs ≡ ds → i < length vs → v ≡ get_or vs i v → slice_get ds i ≡ Some (plain_of v)
 slice_get_at ds vs i v seen lt is =
@@ -53,3 +46,22 @@ pub peek_of-last : (a : Value) (ds : List PlainValue) (vs : List Value) (v w : V
 peek_of-last a ds vs v w is_ds seen some is same =
     let there : length vs - 1 < length vs = omega arith in
     rw (is_ds, sym seen, length-map vs plain_of) (ap Ok (ap value_of (sym (plain_at vs (length vs - 1) v nil there is)) ∙ value_of-plain_of v ∙ sym same))
+
+chosen : (b : Bool) (m n : ℕ) → Ok n ≡ (if b then Ok m else Err IndexOut) → (b ≡ true) × (n ≡ m)
+chosen true m n e = (refl, cc)
+chosen false m n e = absurd cc
+
+-- an index that is one is at most the end
+pub place_in-within : (ds : List PlainValue) (z : ℤ) (n : ℕ) → Ok n ≡ place_in ds z → n ≤ length ds
+place_in-within ds (negsuc m) n e = absurd cc
+place_in-within ds (pos m) n e =
+    let b = chosen (nat_le m (length ds)) m n e in
+    let le = b.0 in
+    rw b.1 (grind (arith, nat_tests))
+
+pub assoc_of-put : (a b c : Value) (ds r : List PlainValue) (z : ℤ) (n : ℕ) → items_of a ≡ Ok ds → Ok z ≡ number_of b → Ok n ≡ place_in ds z → n < 65535 → depth (plain_of c) ≤ 31
+    → r ≡ take n ds ++ plain_of c ∷ drop (n + 1) ds → assoc_of a b c ≡ Ok (Vector r)
+assoc_of-put a b c ds r z n is_ds is_z is_n short shallow is =
+    let long : nat_le 65535 n ≡ false = grind (arith, nat_tests) in
+    let deep : nat_le 32 (depth (plain_of c)) ≡ false = grind (arith, nat_tests) in
+    rw (is_ds, sym is_z, sym is_n, long, deep, is) refl

@@ -1,6 +1,6 @@
 -- A list of values and its data: the same at each place.
-use Rattle.std.proofs.Common.{◌≡◌, ℕ, zero, suc, ◌+◌, ◌<◌, ◌≤◌, ◌++◌, max, List, [], ◌∷◌, length, get_or, take, refl, sym, ap, ◌∙◌, arith}
-use Rattle.std.proofs.lemmas.List.{take_more_same, get_or_read, length-map, length-append, length-take, map_more, map-append, take-map}
+use Rattle.std.proofs.Common.{◌≡◌, ℕ, zero, suc, ◌+◌, ◌<◌, ◌≤◌, ◌++◌, max, List, [], ◌∷◌, length, get_or, set, take, drop, refl, sym, ap, ◌∙◌, add-one, arith}
+use Rattle.std.proofs.lemmas.List.{take_more_same, get_or_read, length-map, length-append, length-take, length-drop, map_more, map-append, take-map, drop-map}
 use Rattle.std.proofs.Math.ListN.{get_or-map}
 use Rattle.txs_value.specs.PlainValue.{PlainValue, plain_row, plain_list, depth, row_depth, plain_size, row_size}
 use Rattle.txs_value.specs.Limits.{IsVector}
@@ -87,3 +87,33 @@ IsVector-take us vs ds n is seen before =
 
 pub plains_of-take : (us vs : List Value) (ds : List PlainValue) (n : ℕ) → us ≡ take n vs → plains_of vs ≡ ds → plains_of us ≡ take n ds
 plains_of-take us vs ds n is seen = rw (is, sym (take-map plain_of n vs), seen)
+
+set_suc : {X : Type 0} (xs : List X) (i : ℕ) (y : X) → i < length xs → set xs i y ≡ take i xs ++ y ∷ drop (suc i) xs
+set_suc [] i y lt = absurd (omega arith)
+set_suc (x ∷ xs) zero y lt = refl
+set_suc (x ∷ xs) (suc i) y lt = ap (λ ys. x ∷ ys) (set_suc xs i y (omega arith))
+
+-- a write, as what stands before it and behind it
+pub set_is : {X : Type 0} (xs : List X) (i : ℕ) (y : X) → i < length xs → set xs i y ≡ take i xs ++ y ∷ drop (i + 1) xs
+set_is xs i y lt = rw add-one (set_suc xs i y lt)
+
+-- the plain values of a list with an item put in
+pub plains_of-put : (us vs : List Value) (ds : List PlainValue) (v w : Value) (n : ℕ) → us ≡ take n vs ++ w ∷ drop (n + 1) vs → w ≡ v → plains_of vs ≡ ds → plains_of us ≡ take n ds ++ plain_of v ∷ drop (n + 1) ds
+plains_of-put us vs ds v w n is same seen =
+    rw (is, same, map-append plain_of (take n vs) (v ∷ drop (n + 1) vs), sym (take-map plain_of n vs), sym (drop-map plain_of (n + 1) vs), seen) refl
+
+row_depth-drop : (ds : List PlainValue) (n : ℕ) → row_depth (plain_row (drop n ds)) ≤ row_depth (plain_row ds)
+row_depth-drop [] zero = omega arith
+row_depth-drop [] (suc n) = omega arith
+row_depth-drop (d ∷ ds) zero = omega arith
+row_depth-drop (d ∷ ds) (suc n) = omega (arith, row_depth-drop ds n)
+
+row_depth-append : (ds es : List PlainValue) → row_depth (plain_row (ds ++ es)) ≡ max (row_depth (plain_row ds)) (row_depth (plain_row es))
+row_depth-append [] es = omega arith
+row_depth-append (d ∷ ds) es = omega (arith, row_depth-append ds es)
+
+pub IsVector-put : (us vs : List Value) (ds : List PlainValue) (v w : Value) (n : ℕ) → us ≡ take n vs ++ w ∷ drop (n + 1) vs → w ≡ v → plains_of vs ≡ ds → IsVector ds → n ≤ length ds → n < 65535
+    → depth (plain_of v) ≤ 31 → IsVector (plains_of us)
+IsVector-put us vs ds v w n is same seen before le short shallow =
+    rw (plains_of-put us vs ds v w n is same seen)
+    (omega (arith, length-append (take n ds) (plain_of v ∷ drop (n + 1) ds), length-take n ds, length-drop (n + 1) ds), omega (arith, row_depth-append (take n ds) (plain_of v ∷ drop (n + 1) ds), row_depth-take ds n, row_depth-drop ds (n + 1)))

@@ -1,5 +1,6 @@
 pub mod AskLemmas
 pub mod CoreLemmas
 pub mod ItemsLemmas
+pub mod OperationsLemmas
 pub mod PrintedLemmas
 pub mod SameLemmas

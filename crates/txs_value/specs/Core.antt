@@ -1,6 +1,7 @@
 -- The core operations as a table from values to a value or a fault.
-use Rattle.std.specs.Prelude.{◌≡◌, ℕ, zero, suc, ◌^◌, ℤ, pos, negsuc, ◌+ℤ◌, ◌-◌, int_div, int_lt, not, Bool, true, false, nat_lt, nat_le, ◌==◌, if◌then◌else◌, List, [], ◌∷◌, ◌++◌, length, drop, take, slice_get, slice_index_or, Option, Some, None, Result, Ok, Err, ⊤}
-use Rattle.std.specs.Int.{int_rem_euclid}
+use Rattle.std.specs.Prelude.{◌≡◌, ℕ, zero, suc, ◌+◌, ◌^◌, ℤ, pos, negsuc, ◌+ℤ◌, ◌-ℤ◌, ◌*ℤ◌, neg_ℤ, ◌-◌, int_div, int_rem, int_lt, int_le, not, Bool, true, false, nat_lt, nat_le, ◌==◌, if◌then◌else◌, List, [], ◌∷◌, ◌++◌, length, drop, take, slice_get, slice_index_or, Option, Some, None, Result, Ok, Err, ⊤}
+use Rattle.std.specs.Int.{int_rem_euclid, int_max, int_min}
+use Rattle.std.specs.Ordering.{int_eq}
 use Rattle.txs_value.specs.PlainValue.{PlainValue, nil, depth, row_depth, plain_row}
 use Rattle.txs_value.specs.Same.{same_plain}
 use Rattle.txs_value.specs.View.{plain_of, plains_of, value_of}
@@ -11,12 +12,13 @@ use Rattle.txs_value.specs.declared.fault.FaultKind.TheVariants.{Overflow, Divid
 use Rattle.txs_value.specs.declared.fault.Stop.{Stop}
 use Rattle.txs_value.specs.declared.fault.Stop.TheVariants.{Fault, Memory}
 use Rattle.txs_value.specs.declared.op.Op.{Op}
-use Rattle.txs_value.specs.declared.op.Op.TheVariants.{Add, Inc, Quot, Mod, Equal, Less, Not, Count, Nth, Conj, Assoc, Peek, Pop}
+use Rattle.txs_value.specs.declared.op.Op.TheVariants.{Add, Subtract, Multiply, Inc, Dec, Quot, Rem, Mod, Equal, NotEqual, Less, Greater, LessOrEqual, GreaterOrEqual, Max, Min, Not, IsNil, IsZero, IsPositive, IsNegative, Count, Nth, Conj, Assoc, Peek, Pop}
 
 -- a value or a fault
 abbrev pub Answer : Type 0
 Answer = Result Value FaultKind
 
+-- the first fault is the answer
 infixl 10 ◌>>=◌
 abbrev pub ◌>>=◌ : {A B : Type 0} → Result A FaultKind → (A → Result B FaultKind) → Result B FaultKind
 Ok x >>= f = f x
@@ -27,28 +29,58 @@ abbrev pub fits : ℤ → Bool
 fits (pos n) = nat_lt n (2 ^ 63)
 fits (negsuc n) = nat_lt n (2 ^ 63)
 
+-- a number of 64 bits, else an overflow
 abbrev pub whole : ℤ → Result ℤ FaultKind
 whole z = if fits z then Ok z else Err Overflow
 
+-- the number that a value is
 abbrev pub number_of : Value → Result ℤ FaultKind
 number_of (Int z) = Ok z
 number_of _ = Err NotANumber
 
+-- the items of the vector that a value is
 abbrev pub items_of : Value → Result (List PlainValue) FaultKind
 items_of (Vector ds) = Ok ds
 items_of _ = Err NotAVector
 
-abbrev pub sum_of_two : Value → Value → Answer
-sum_of_two a b = do
+-- ---- arithmetic
+
+-- what is made of one number
+abbrev pub of_number : (ℤ → Result ℤ FaultKind) → Value → Answer
+of_number f a = do
   x ← number_of a
-  y ← number_of b
-  z ← whole (x +ℤ y)
+  z ← f x
   Ok (Int z)
 
--- the sum of a value and those after it, from the left
-abbrev pub sum_from : Value → List Value → Answer
-sum_from a [] = Ok a
-sum_from a (b ∷ bs) = sum_of_two a b >>= λ c. sum_from c bs
+-- what is made of two numbers
+abbrev pub of_numbers : (ℤ → ℤ → Result ℤ FaultKind) → Value → Value → Answer
+of_numbers f a b = do
+  x ← number_of a
+  y ← number_of b
+  z ← f x y
+  Ok (Int z)
+
+-- what is made of a value and those after it, two at a time from the left
+abbrev pub from_left : (ℤ → ℤ → Result ℤ FaultKind) → Value → List Value → Answer
+from_left f a [] = Ok a
+from_left f a (b ∷ bs) = of_numbers f a b >>= λ c. from_left f c bs
+
+abbrev pub plus : ℤ → ℤ → Result ℤ FaultKind
+plus x y = whole (x +ℤ y)
+
+abbrev pub minus : ℤ → ℤ → Result ℤ FaultKind
+minus x y = whole (x -ℤ y)
+
+abbrev pub times : ℤ → ℤ → Result ℤ FaultKind
+times x y = whole (x *ℤ y)
+
+abbrev pub negated : ℤ → Result ℤ FaultKind
+negated x = whole (neg_ℤ x)
+
+-- a number alone is negated; from the first of several the others are taken away
+abbrev pub difference_of : Value → List Value → Answer
+difference_of a [] = of_number negated a
+difference_of a (b ∷ bs) = from_left minus a (b ∷ bs)
 
 -- rounded toward zero
 abbrev pub quotient : ℤ → ℤ → Result ℤ FaultKind
@@ -56,45 +88,48 @@ quotient x (pos zero) = Err DivideByZero
 quotient x (pos (suc n)) = whole (int_div x (pos (suc n)))
 quotient x (negsuc n) = whole (int_div x (negsuc n))
 
-abbrev pub quot_of : Value → Value → Answer
-quot_of a b = do
-  x ← number_of a
-  y ← number_of b
-  z ← quotient x y
-  Ok (Int z)
+-- what rounding toward zero leaves: it has the dividend's sign
+abbrev pub remainder : ℤ → ℤ → Result ℤ FaultKind
+remainder x (pos zero) = Err DivideByZero
+remainder x (pos (suc n)) = Ok (int_rem x (pos (suc n)))
+remainder x (negsuc n) = Ok (int_rem x (negsuc n))
 
-abbrev pub found : Option PlainValue → Answer
-found None = Err IndexOut
-found (Some d) = Ok (value_of d)
-
+-- what is left, brought down to the divisor's sign
 abbrev pub below : ℤ → ℤ → ℤ
 below (pos zero) y = pos 0
 below r y = r +ℤ y
 
--- the remainder of rounding down: it has the divisor's sign
+-- what rounding down leaves: it has the divisor's sign
 abbrev pub modulo : ℤ → ℤ → Result ℤ FaultKind
 modulo x (pos zero) = Err DivideByZero
 modulo x (pos (suc n)) = Ok (int_rem_euclid x (pos (suc n)))
 modulo x (negsuc n) = Ok (below (int_rem_euclid x (negsuc n)) (negsuc n))
 
-abbrev pub mod_of : Value → Value → Answer
-mod_of a b = do
+-- ---- comparisons and tests
+
+-- whether two numbers compare so
+abbrev pub compared : (ℤ → ℤ → Bool) → Value → Value → Answer
+compared f a b = do
   x ← number_of a
   y ← number_of b
-  z ← modulo x y
-  Ok (Int z)
+  Ok (Truth (f x y))
 
-abbrev pub inc_of : Value → Answer
-inc_of a = do
+-- whether a number is such a one
+abbrev pub tested : (ℤ → Bool) → Value → Answer
+tested f a = do
   x ← number_of a
-  z ← whole (x +ℤ pos 1)
-  Ok (Int z)
+  Ok (Truth (f x))
 
-abbrev pub less_of : Value → Value → Answer
-less_of a b = do
-  x ← number_of a
-  y ← number_of b
-  Ok (Truth (int_lt x y))
+-- the greater and the lesser of two numbers
+abbrev pub greatest : ℤ → ℤ → Result ℤ FaultKind
+greatest x y = Ok (int_max x y)
+
+abbrev pub least : ℤ → ℤ → Result ℤ FaultKind
+least x y = Ok (int_min x y)
+
+-- whether two values are equal, all the way down
+abbrev pub equals : Value → Value → Bool
+equals a b = same_plain (plain_of a) (plain_of b)
 
 -- only `nil` and `false` are logically false
 abbrev pub is_false : Value → Bool
@@ -102,21 +137,22 @@ is_false Nil = true
 is_false (Truth b) = not b
 is_false _ = false
 
-abbrev pub last_of : List PlainValue → Value
-last_of ds = value_of (slice_index_or ds (length ds - 1) nil)
+abbrev pub is_nil : Value → Bool
+is_nil Nil = true
+is_nil _ = false
 
-abbrev pub peek_of : Value → Answer
-peek_of a = do
-  ds ← items_of a
-  Ok (last_of ds)
+-- ---- vectors
 
-abbrev pub shorter : List PlainValue → Answer
-shorter ds = if length ds == 0 then Err PopEmpty else Ok (Vector (take (length ds - 1) ds))
+-- `nil` counts as empty
+abbrev pub count_of : Value → Answer
+count_of Nil = Ok (Int (pos 0))
+count_of (Vector ds) = Ok (Int (pos (length ds)))
+count_of _ = Err NotAVector
 
-abbrev pub pop_of : Value → Answer
-pop_of a = do
-  ds ← items_of a
-  shorter ds
+-- an item that has to be there
+abbrev pub found : Option PlainValue → Answer
+found None = Err IndexOut
+found (Some d) = Ok (value_of d)
 
 -- the item at an index
 abbrev pub item_at : List PlainValue → ℤ → Answer
@@ -129,11 +165,7 @@ nth_of a b = do
   i ← number_of b
   item_at ds i
 
-abbrev pub count_of : Value → Answer
-count_of Nil = Ok (Int (pos 0))
-count_of (Vector ds) = Ok (Int (pos (length ds)))
-count_of _ = Err NotAVector
-
+-- one more item at the end
 abbrev pub added : List PlainValue → PlainValue → Answer
 added ds d = if nat_le 65535 (length ds) then Err TooLong else (if nat_le 32 (depth d) then Err TooDeep else Ok (Vector (ds ++ d ∷ [])))
 
@@ -142,45 +174,112 @@ conj_of a b = do
   ds ← items_of a
   added ds (plain_of b)
 
+-- an index up to the end
+abbrev pub place_in : List PlainValue → ℤ → Result ℕ FaultKind
+place_in ds (negsuc n) = Err IndexOut
+place_in ds (pos n) = if nat_le n (length ds) then Ok n else Err IndexOut
+
+-- an item in the place of another, or one more at the end
+abbrev pub replaced : List PlainValue → ℕ → PlainValue → Answer
+replaced ds n d = if nat_le 65535 n then Err TooLong else (if nat_le 32 (depth d) then Err TooDeep else Ok (Vector (take n ds ++ d ∷ drop (n + 1) ds)))
+
+abbrev pub assoc_of : Value → Value → Value → Answer
+assoc_of a b c = do
+  ds ← items_of a
+  i ← number_of b
+  n ← place_in ds i
+  replaced ds n (plain_of c)
+
+-- the last item, `nil` where there is none
+abbrev pub last_of : List PlainValue → Value
+last_of ds = value_of (slice_index_or ds (length ds - 1) nil)
+
+abbrev pub peek_of : Value → Answer
+peek_of a = do
+  ds ← items_of a
+  Ok (last_of ds)
+
+-- all items but the last
+abbrev pub shorter : List PlainValue → Answer
+shorter ds = if length ds == 0 then Err PopEmpty else Ok (Vector (take (length ds - 1) ds))
+
+abbrev pub pop_of : Value → Answer
+pop_of a = do
+  ds ← items_of a
+  shorter ds
+
+-- the vector of these values
+abbrev pub vector_of : List Value → Answer
+vector_of vs = if nat_lt 65535 (length vs) then Err TooLong else (if nat_le 32 (row_depth (plain_row (plains_of vs))) then Err TooDeep else Ok (Vector (plains_of vs)))
+
+-- ---- the table
+
+-- an argument by its place, from 0
 abbrev pub arg : ℕ → List Value → Value
 arg i vs = slice_index_or vs i Nil
 
--- the table
-abbrev pub core : Op → List Value → Answer
-core Add vs = sum_from (arg 0 vs) (drop 1 vs)
-core Quot vs = quot_of (arg 0 vs) (arg 1 vs)
-core Mod vs = mod_of (arg 0 vs) (arg 1 vs)
-core Inc vs = inc_of (arg 0 vs)
-core Less vs = less_of (arg 0 vs) (arg 1 vs)
+-- the answer of each operation
+unfoldable pub core : Op → List Value → Answer
+core Add vs = from_left plus (arg 0 vs) (drop 1 vs)
+core Subtract vs = difference_of (arg 0 vs) (drop 1 vs)
+core Multiply vs = from_left times (arg 0 vs) (drop 1 vs)
+core Inc vs = of_number (λ x. plus x (pos 1)) (arg 0 vs)
+core Dec vs = of_number (λ x. minus x (pos 1)) (arg 0 vs)
+core Quot vs = of_numbers quotient (arg 0 vs) (arg 1 vs)
+core Rem vs = of_numbers remainder (arg 0 vs) (arg 1 vs)
+core Mod vs = of_numbers modulo (arg 0 vs) (arg 1 vs)
+core Equal vs = Ok (Truth (equals (arg 0 vs) (arg 1 vs)))
+core NotEqual vs = Ok (Truth (not (equals (arg 0 vs) (arg 1 vs))))
+core Less vs = compared int_lt (arg 0 vs) (arg 1 vs)
+core Greater vs = compared (λ x y. int_lt y x) (arg 0 vs) (arg 1 vs)
+core LessOrEqual vs = compared int_le (arg 0 vs) (arg 1 vs)
+core GreaterOrEqual vs = compared (λ x y. int_le y x) (arg 0 vs) (arg 1 vs)
+core Max vs = of_numbers greatest (arg 0 vs) (arg 1 vs)
+core Min vs = of_numbers least (arg 0 vs) (arg 1 vs)
 core Not vs = Ok (Truth (is_false (arg 0 vs)))
-core Peek vs = peek_of (arg 0 vs)
-core Pop vs = pop_of (arg 0 vs)
-core Equal vs = Ok (Truth (same_plain (plain_of (arg 0 vs)) (plain_of (arg 1 vs))))
+core IsNil vs = Ok (Truth (is_nil (arg 0 vs)))
+core IsZero vs = tested (λ x. int_eq x (pos 0)) (arg 0 vs)
+core IsPositive vs = tested (λ x. int_lt (pos 0) x) (arg 0 vs)
+core IsNegative vs = tested (λ x. int_lt x (pos 0)) (arg 0 vs)
 core Count vs = count_of (arg 0 vs)
 core Nth vs = nth_of (arg 0 vs) (arg 1 vs)
 core Conj vs = conj_of (arg 0 vs) (arg 1 vs)
-core _ vs = Err NotANumber
+core Assoc vs = assoc_of (arg 0 vs) (arg 1 vs) (arg 2 vs)
+core Peek vs = peek_of (arg 0 vs)
+core Pop vs = pop_of (arg 0 vs)
 
--- which counts of arguments an operation takes
-abbrev pub takes : Op → ℕ → Bool
+-- whether an operation takes so many arguments
+unfoldable pub takes : Op → ℕ → Bool
 takes Add n = nat_le 2 n
+takes Subtract n = nat_le 1 n
+takes Multiply n = nat_le 2 n
 takes Inc n = n == 1
+takes Dec n = n == 1
+takes Quot n = n == 2
+takes Rem n = n == 2
+takes Mod n = n == 2
+takes Equal n = n == 2
+takes NotEqual n = n == 2
+takes Less n = n == 2
+takes Greater n = n == 2
+takes LessOrEqual n = n == 2
+takes GreaterOrEqual n = n == 2
+takes Max n = n == 2
+takes Min n = n == 2
 takes Not n = n == 1
+takes IsNil n = n == 1
+takes IsZero n = n == 1
+takes IsPositive n = n == 1
+takes IsNegative n = n == 1
 takes Count n = n == 1
+takes Nth n = n == 2
+takes Conj n = n == 2
+takes Assoc n = n == 3
 takes Peek n = n == 1
 takes Pop n = n == 1
-takes Assoc n = n == 3
-takes _ n = n == 2
 
 -- the result is the table's answer, or there was no memory for it
 abbrev pub Answers : Result Value Stop → Answer → Type 0
 Answers (Ok v) a = a ≡ Ok v
 Answers (Err (Fault k)) a = a ≡ Err k
 Answers (Err Memory) a = ⊤
-
--- a vector of these items
-abbrev pub vector_of : List Value → Answer
-vector_of vs =
-    if nat_lt 65535 (length vs) then Err TooLong
-    else if nat_lt 31 (row_depth (plain_row (plains_of vs))) then Err TooDeep
-    else Ok (Vector (plains_of vs))

@@ -4,6 +4,7 @@ pub mod Core
 pub mod Falls
 pub mod Limits
 pub mod Names
+pub mod Operations
 pub mod Places
 pub mod PlainValue
 pub mod Printed

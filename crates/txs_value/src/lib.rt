@@ -4,14 +4,17 @@
 #![tactic(auto)]
 
 pub mod ask;
+mod comparisons;
 pub mod copy;
 pub mod equal;
 pub mod fault;
 pub mod listed;
+mod numbers;
 pub mod op;
 pub mod operate;
 pub mod print;
 pub mod value;
+pub mod vectors;
 
 pub use ask::{Ask, Reply};
 pub use copy::copy_value;
@@ -19,9 +22,10 @@ pub use equal::same;
 pub use fault::{Fault, FaultKind, Span, Stop};
 pub use listed::Listed;
 pub use op::{Callee, Op};
-pub use operate::apply;
+pub use operate::{apply, takes};
 pub use print::write_text;
 pub use value::{CellId, CellKind, Items, Name, Text, Value};
+pub use vectors::{is_within, make_vector};
 
 #[cfg(test)]
 mod tests;

@@ -1,4 +1,8 @@
-//! The core operations by name, and what a form may call.
+//! The core operations by name and by number, and what a form may call.
+
+ghost use Rattle.std.specs.Prelude.{◌≡◌, ◌≢◌, MatchOption};
+ghost use Rattle.txs_value.specs.Operations.{op_name, op_number};
+ghost use Rattle.txs_value.specs.declared.op.Op.{Op as AnOp};
 
 /// The 27 core operations, in the order of their numbers from 0.
 #[derive(Clone, Copy, Debug, PartialEq, Eq)]
@@ -30,6 +34,86 @@ pub enum Op {
     Assoc,
     Peek,
     Pop,
+}
+
+/// The core operations by their numbers.
+const OPERATIONS: [Op; 27] = [
+    Op::Add,
+    Op::Subtract,
+    Op::Multiply,
+    Op::Inc,
+    Op::Dec,
+    Op::Quot,
+    Op::Rem,
+    Op::Mod,
+    Op::Equal,
+    Op::NotEqual,
+    Op::Less,
+    Op::Greater,
+    Op::LessOrEqual,
+    Op::GreaterOrEqual,
+    Op::Max,
+    Op::Min,
+    Op::Not,
+    Op::IsNil,
+    Op::IsZero,
+    Op::IsPositive,
+    Op::IsNegative,
+    Op::Count,
+    Op::Nth,
+    Op::Conj,
+    Op::Assoc,
+    Op::Peek,
+    Op::Pop,
+];
+
+impl Op {
+    /// The name in Clojure.
+    pub fn name(self) -> &'static [u8]
+        ensures { result.now ≡ op_name self }
+    {
+        match self {
+            Op::Add => b"+",
+            Op::Subtract => b"-",
+            Op::Multiply => b"*",
+            Op::Inc => b"inc",
+            Op::Dec => b"dec",
+            Op::Quot => b"quot",
+            Op::Rem => b"rem",
+            Op::Mod => b"mod",
+            Op::Equal => b"=",
+            Op::NotEqual => b"not=",
+            Op::Less => b"<",
+            Op::Greater => b">",
+            Op::LessOrEqual => b"<=",
+            Op::GreaterOrEqual => b">=",
+            Op::Max => b"max",
+            Op::Min => b"min",
+            Op::Not => b"not",
+            Op::IsNil => b"nil?",
+            Op::IsZero => b"zero?",
+            Op::IsPositive => b"pos?",
+            Op::IsNegative => b"neg?",
+            Op::Count => b"count",
+            Op::Nth => b"nth",
+            Op::Conj => b"conj",
+            Op::Assoc => b"assoc",
+            Op::Peek => b"peek",
+            Op::Pop => b"pop",
+        }
+    }
+
+    /// The operation of this name, if there is one.
+    pub fn from_name(name: &[u8]) -> Option<Op>
+        ensures { MatchOption result ((op : AnOp) → op_name op ≢ name.now) (λ op. op_name op ≡ name.now) }
+    {
+        for op in &OPERATIONS {
+            if op.name() == name {
+                return Some(*op);
+            }
+        }
+        None
+    }
 }
 
 /// What `alter`, `commute`, `swap!` and `send` call: a core operation, or a function by its number.

@@ -1,227 +1,89 @@
-// The core operations.
-ghost use Rattle.std.specs.Prelude.{◌≡◌, ◌↔◌, ◌≤◌, ◌<◌, ◌^◌, length, IsTrue, MatchResult, Ok, Err, ◌+ℤ◌};
-ghost use Rattle.txs_value.specs.Core.{core, takes, Answers, whole, quotient, number_of, items_of, sum_from, quot_of, nth_of, count_of, conj_of, modulo, mod_of, inc_of, less_of, is_false, peek_of, pop_of};
-ghost use Rattle.txs_value.specs.PlainValue.{depth, row_depth, plain_row};
-ghost use Rattle.txs_value.specs.Same.{same_plain};
-ghost use Rattle.txs_value.specs.View.{plain_of};
+//! The core operations by their table.
 
-use crate::copy::{copy_items, copy_value};
-use crate::equal::same;
-use crate::fault::{FaultKind, Stop};
+ghost use Rattle.std.specs.Prelude.{◌≡◌, length, IsTrue};
+ghost use Rattle.txs_value.specs.Core.{core, takes, Answers};
+
+use crate::comparisons::{
+    equal, greater, greater_or_equal, is_false, is_negative, is_nil, is_positive, is_zero, less,
+    less_or_equal,
+};
+use crate::fault::Stop;
+use crate::numbers::{dec, difference, inc, max, min, product, quot, rem, remainder_down, sum};
 use crate::op::Op;
-use crate::value::{Items, Value};
+use crate::value::Value;
+use crate::vectors::{assoc, conj, count, nth, peek, pop};
 use std::alloc::Global;
 
-fn number(value: &Value) -> Result<i64, FaultKind>
-    ensures { result ≡ number_of value.now }
+/// Whether the operation takes so many arguments.
+#[tactic(auto, unfolding(crate::specs::Core::takes))]
+pub fn takes(op: Op, count: usize) -> bool
+    ensures { result ≡ takes op count }
 {
-    match value {
-        Value::Int(n) => Ok(*n),
-        _ => Err(FaultKind::NotANumber),
+    match op {
+        Op::Add => count >= 2,
+        Op::Subtract => count >= 1,
+        Op::Multiply => count >= 2,
+        Op::Inc => count == 1,
+        Op::Dec => count == 1,
+        Op::Quot => count == 2,
+        Op::Rem => count == 2,
+        Op::Mod => count == 2,
+        Op::Equal => count == 2,
+        Op::NotEqual => count == 2,
+        Op::Less => count == 2,
+        Op::Greater => count == 2,
+        Op::LessOrEqual => count == 2,
+        Op::GreaterOrEqual => count == 2,
+        Op::Max => count == 2,
+        Op::Min => count == 2,
+        Op::Not => count == 1,
+        Op::IsNil => count == 1,
+        Op::IsZero => count == 1,
+        Op::IsPositive => count == 1,
+        Op::IsNegative => count == 1,
+        Op::Count => count == 1,
+        Op::Nth => count == 2,
+        Op::Conj => count == 2,
+        Op::Assoc => count == 3,
+        Op::Peek => count == 1,
+        Op::Pop => count == 1,
     }
 }
 
-fn items(value: &Value) -> Result<&Items, FaultKind>
-    ensures { MatchResult result (λ r. items_of value.now ≡ Ok r.now) (λ k. items_of value.now ≡ Err k) }
-{
-    match value {
-        Value::Vector(items) => Ok(items),
-        _ => Err(FaultKind::NotAVector),
-    }
-}
-
-fn add(x: i64, y: i64) -> Result<i64, FaultKind>
-    ensures { result ≡ whole (x +ℤ y) }
-{
-    x.checked_add(y).ok_or(FaultKind::Overflow)
-}
-
-fn quotient(x: i64, y: i64) -> Result<i64, FaultKind>
-    ensures { result ≡ quotient x y }
-{
-    if y == 0 {
-        return Err(FaultKind::DivideByZero);
-    }
-    x.checked_div(y).ok_or(FaultKind::Overflow)
-}
-
-fn sum(args: &[Value]) -> Result<Value, FaultKind>
-    requires { 2 ≤ length args.now }
-    ensures { result ≡ core Op.Add args.now }
-{
-    let mut total = number(&args[0])?;
-    for value in &args[1..] {
-        total = add(total, number(value)?)?;
-    }
-    Ok(Value::Int(total))
-}
-
-fn quot(a: &Value, b: &Value) -> Result<Value, FaultKind>
-    ensures { result ≡ quot_of a.now b.now }
-{
-    let x = number(a)?;
-    let y = number(b)?;
-    Ok(Value::Int(quotient(x, y)?))
-}
-
-fn modulo(x: i64, y: i64) -> Result<i64, FaultKind>
-    ensures { result ≡ modulo x y }
-{
-    if y == 0 {
-        return Err(FaultKind::DivideByZero);
-    }
-    if y == -1 {
-        return Ok(0);
-    }
-    let rest = x.rem_euclid(y);
-    if y < 0 && rest != 0 {
-        Ok(rest + y)
-    } else {
-        Ok(rest)
-    }
-}
-
-fn remainder_down(a: &Value, b: &Value) -> Result<Value, FaultKind>
-    ensures { result ≡ mod_of a.now b.now }
-{
-    let x = number(a)?;
-    let y = number(b)?;
-    Ok(Value::Int(modulo(x, y)?))
-}
-
-fn inc(value: &Value) -> Result<Value, FaultKind>
-    ensures { result ≡ inc_of value.now }
-{
-    let x = number(value)?;
-    Ok(Value::Int(add(x, 1)?))
-}
-
-fn less(a: &Value, b: &Value) -> Result<Value, FaultKind>
-    ensures { result ≡ less_of a.now b.now }
-{
-    let x = number(a)?;
-    let y = number(b)?;
-    Ok(Value::Truth(x < y))
-}
-
-fn equal(a: &Value, b: &Value) -> bool
-    ensures { result ≡ same_plain (plain_of a.now) (plain_of b.now) }
-{
-    same(a, b)
-}
-
-fn is_false(value: &Value) -> bool
-    ensures { result ≡ is_false value.now }
-{
-    match value {
-        Value::Nil => true,
-        Value::Truth(b) => !*b,
-        _ => false,
-    }
-}
-
-fn peek(alloc: Global, value: &Value) -> Result<Value, Stop>
-    ensures { Answers result (peek_of value.now) }
-{
-    let items = items(value)?;
-    match items.as_slice().last() {
-        None => Ok(Value::Nil),
-        Some(last) => Ok(copy_value(alloc, last)?),
-    }
-}
-
-fn pop(alloc: Global, value: &Value) -> Result<Value, Stop>
-    ensures { Answers result (pop_of value.now) }
-{
-    let items = items(value)?;
-    if items.len() == 0 {
-        return Err(Stop::Fault(FaultKind::PopEmpty));
-    }
-    let mut shorter = copy_items(alloc, items)?.into_vec();
-    shorter.truncate(items.len() - 1);
-    Ok(Value::Vector(Items::from_vec(shorter)))
-}
-
-fn count(value: &Value) -> Result<Value, FaultKind>
-    ensures { result ≡ count_of value.now }
-{
-    match value {
-        Value::Nil => Ok(Value::Int(0)),
-        Value::Vector(items) => Ok(Value::Int(items.len() as i64)),
-        _ => Err(FaultKind::NotAVector),
-    }
-}
-
-fn nth(alloc: Global, vector: &Value, index: &Value) -> Result<Value, Stop>
-    ensures { Answers result (nth_of vector.now index.now) }
-{
-    let items = items(vector)?;
-    let index = number(index)?;
-    let Ok(place) = usize::try_from(index) else {
-        return Err(Stop::Fault(FaultKind::IndexOut));
-    };
-    match items.as_slice().get(place) {
-        None => Err(Stop::Fault(FaultKind::IndexOut)),
-        Some(value) => Ok(copy_value(alloc, value)?),
-    }
-}
-
-/// Whether vectors nest in the value at most this deep.
-#[cycle(depth)]
-pub fn is_within(value: &Value, limit: u8) -> bool
-    ensures { IsTrue result ↔ (depth (plain_of value.now) ≤ limit) }
-{
-    match value {
-        Value::Vector(items) => limit > 0 && all_within(items, limit - 1),
-        _ => true,
-    }
-}
-
-#[cycle(depth)]
-fn all_within(items: &Items, limit: u8) -> bool
-    ensures { IsTrue result ↔ (row_depth (plain_row items.now) ≤ limit) }
-{
-    for item in items.as_slice() {
-        if !is_within(item, limit) {
-            return false;
-        }
-    }
-    true
-}
-
-fn conj(alloc: Global, vector: &Value, item: &Value) -> Result<Value, Stop>
-    ensures { Answers result (conj_of vector.now item.now) }
-{
-    let items = items(vector)?;
-    if items.len() >= 65_535 {
-        return Err(Stop::Fault(FaultKind::TooLong));
-    }
-    if !is_within(item, 31) {
-        return Err(Stop::Fault(FaultKind::TooDeep));
-    }
-    let mut longer = copy_items(alloc, items)?.into_vec();
-    longer.push(copy_value(alloc, item)?)?;
-    Ok(Value::Vector(Items::from_vec(longer)))
-}
-
-/// The operation on its arguments, of which there are as many as it takes.
+/// The operation on its arguments, of which there are as many as it takes: its value, the first fault
+/// of those that the table tests, or Memory where there is none for a vector's items.
+#[tactic(auto, unfolding(crate::specs::Core::core, crate::specs::Core::takes))]
 pub fn apply(alloc: Global, op: Op, args: &[Value]) -> Result<Value, Stop>
     requires { IsTrue (takes op (length args.now)) }
     ensures { Answers result (core op args.now) }
 {
     match op {
         Op::Add => Ok(sum(args)?),
+        Op::Subtract => Ok(difference(args)?),
+        Op::Multiply => Ok(product(args)?),
+        Op::Inc => Ok(inc(&args[0])?),
+        Op::Dec => Ok(dec(&args[0])?),
         Op::Quot => Ok(quot(&args[0], &args[1])?),
+        Op::Rem => Ok(rem(&args[0], &args[1])?),
+        Op::Mod => Ok(remainder_down(&args[0], &args[1])?),
+        Op::Equal => Ok(Value::Truth(equal(&args[0], &args[1]))),
+        Op::NotEqual => Ok(Value::Truth(!equal(&args[0], &args[1]))),
+        Op::Less => Ok(less(&args[0], &args[1])?),
+        Op::Greater => Ok(greater(&args[0], &args[1])?),
+        Op::LessOrEqual => Ok(less_or_equal(&args[0], &args[1])?),
+        Op::GreaterOrEqual => Ok(greater_or_equal(&args[0], &args[1])?),
+        Op::Max => Ok(max(&args[0], &args[1])?),
+        Op::Min => Ok(min(&args[0], &args[1])?),
+        Op::Not => Ok(Value::Truth(is_false(&args[0]))),
+        Op::IsNil => Ok(Value::Truth(is_nil(&args[0]))),
+        Op::IsZero => Ok(is_zero(&args[0])?),
+        Op::IsPositive => Ok(is_positive(&args[0])?),
+        Op::IsNegative => Ok(is_negative(&args[0])?),
         Op::Count => Ok(count(&args[0])?),
         Op::Nth => nth(alloc, &args[0], &args[1]),
         Op::Conj => conj(alloc, &args[0], &args[1]),
-        Op::Mod => Ok(remainder_down(&args[0], &args[1])?),
-        Op::Inc => Ok(inc(&args[0])?),
-        Op::Less => Ok(less(&args[0], &args[1])?),
-        Op::Equal => Ok(Value::Truth(equal(&args[0], &args[1]))),
-        Op::Not => Ok(Value::Truth(is_false(&args[0]))),
+        Op::Assoc => assoc(alloc, &args[0], &args[1], &args[2]),
         Op::Peek => peek(alloc, &args[0]),
         Op::Pop => pop(alloc, &args[0]),
-        _ => Err(Stop::Fault(FaultKind::NotANumber)),
     }
 }

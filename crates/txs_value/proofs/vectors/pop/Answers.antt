@@ -2,7 +2,7 @@ use Rattle.std.proofs.Common.{◌≡◌, ◌-◌, rules, arith}
 use Rattle.txs_value.specs.View.{plains_of}
 use Rattle.txs_value.specs.Limits.{IsVector}
 use Rattle.txs_value.proofs.ItemsLemmas.{IsVector-take, plains_of-take}
-use Rattle.txs_value.proofs.operate.pop.Goals as goal
+use Rattle.txs_value.proofs.vectors.pop.Goals as goal
 
 pub from_vec-requires : goal.from_vec-requires
 from_vec-requires c =

@@ -3,7 +3,7 @@ use Rattle.txs_value.specs.PlainValue.{depth}
 use Rattle.txs_value.specs.Limits.{IsVector}
 use Rattle.txs_value.specs.View.{plain_of, plains_of}
 use Rattle.txs_value.proofs.ItemsLemmas.{IsVector-push}
-use Rattle.txs_value.proofs.operate.conj.Goals as goal
+use Rattle.txs_value.proofs.vectors.conj.Goals as goal
 
 pub from_vec-requires : goal.from_vec-requires
 from_vec-requires c =
