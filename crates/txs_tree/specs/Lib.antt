@@ -3,3 +3,4 @@ pub mod Sound
 pub mod Thread
 pub mod Transaction
 pub mod Tree
+pub mod View

@@ -1,11 +1,13 @@
 //! Programs as trees, and what they mean.
 #![tactic(auto)]
 
-ghost use Rattle.std.specs.Prelude.{◌≡◌, ℕ, List};
-ghost use Rattle.txs_tree.specs.Thread.{SeenEvent, thread_meaning};
-ghost use Rattle.txs_tree.specs.Tree.{ThreadSource};
+ghost use Rattle.txs_tree.specs.View.{tree_again};
 
-/// The thread meaning is one answer.
-pub fn meaning_is_one()
-    ensures { (p : ThreadSource) (n : ℕ) (es : List SeenEvent) → thread_meaning p n es ≡ thread_meaning p n es }
+pub mod node;
+
+pub use node::{Node, NodeKind, Thread};
+
+#[tactic(auto, using(crate::proofs::Trees::do_tree, crate::proofs::Trees::let_tree, crate::proofs::Trees::core_tree, crate::proofs::Trees::println_tree))]
+pub fn one()
+    ensures { tree_again }
 {}

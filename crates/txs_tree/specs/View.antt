@@ -1,0 +1,39 @@
+-- Nodes as plain trees.
+use Rattle.std.specs.Prelude.{◌≡◌, ℕ, Bool, List, [], ◌∷◌}
+use Rattle.txs_value.specs.declared.fault.Span.{Span}
+use Rattle.txs_tree.specs.Tree.{Tree, Trees, Mark, none, more, PlainThread}
+use Rattle.txs_tree.specs.Tree as tree
+use Rattle.txs_tree.specs.declared.node.Node.{Node}
+use Rattle.txs_tree.specs.declared.node.NodeKind.{NodeKind, Const, Local, Do', Let', Core', Println', Row_of-Node, end_of-Node, more_of-Node}
+use Rattle.txs_tree.specs.declared.node.Thread.{Thread}
+
+abbrev pub mark_of : Span → Bool → Mark
+mark_of span wanted = record { span = span; wanted = wanted }
+
+abbrev mutual
+  -- the tree of a node of this kind
+  pub kind_tree : NodeKind → Mark → Tree
+  kind_tree (Const v) m = tree.Const v m
+  kind_tree (Local i) m = tree.Local i m
+  kind_tree (Do' shape items) m = tree.Do (row_trees items) m
+  kind_tree (Let' shape values q body span wanted) m = tree.Let (row_trees values) (kind_tree body (mark_of span wanted)) m
+  kind_tree (Core' op shape args) m = tree.Core op (row_trees args) m
+  kind_tree (Println' shape args) m = tree.Println (row_trees args) m
+
+  pub row_trees : {n : _} → Row_of-Node n → Trees
+  row_trees end_of-Node = none
+  row_trees (more_of-Node k span wanted rest) = more (kind_tree k (mark_of span wanted)) (row_trees rest)
+
+-- the tree of a node
+abbrev pub tree_of : Node → Tree
+tree_of n = kind_tree n.kind (mark_of n.span n.wanted)
+
+abbrev pub trees_of : List Node → Trees
+trees_of [] = none
+trees_of (n ∷ ns) = more (tree_of n) (trees_of ns)
+
+abbrev pub thread_of : Thread → PlainThread
+thread_of t = record { body = tree_of t.body; span = t.span }
+
+abbrev pub tree_again : Type 0
+tree_again = (n : Node) → tree_of n ≡ tree_of n

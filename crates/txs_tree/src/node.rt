@@ -1,0 +1,37 @@
+//! The nodes of a program.
+
+use txs_value::{Op, Span, Value};
+
+/// What a node does.
+#[cycle(node)]
+#[derive(Debug, Drop)]
+pub enum NodeKind {
+    /// A constant.
+    Const(Value),
+    /// A local, by its number: locals are numbered by nesting, from 0.
+    Local(u8),
+    /// The items in order, with the last one's result. There is at least one.
+    Do(Vec<Node>),
+    /// The values in order, each of which sees the earlier ones as locals, and then the body.
+    Let(Vec<Node>, Box<Node>),
+    /// A core operation on its arguments.
+    Core(Op, Vec<Node>),
+    /// Prints its arguments as a line.
+    Println(Vec<Node>),
+}
+
+/// A node of a program: what it does, where it stands in the script, and whether its result is wanted.
+#[cycle(node)]
+#[derive(Debug, Drop)]
+pub struct Node {
+    pub kind: NodeKind,
+    pub span: Span,
+    pub wanted: bool,
+}
+
+/// A thread: the body of a future, and where the future stands in the script.
+#[derive(Debug, Drop)]
+pub struct Thread {
+    pub body: Node,
+    pub span: Span,
+}
