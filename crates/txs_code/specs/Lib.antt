@@ -1,2 +1,4 @@
 pub mod ActorState
 pub mod Machine
+pub mod PlainCode
+pub mod WellTyped

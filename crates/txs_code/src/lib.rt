@@ -1,10 +1,11 @@
-//! Code, and what the machine does with it.
+//! Code: instructions with their spans, constants, and what makes code well typed. What the machine
+//! does with code is told in the definitions, by cases on instructions.
 #![tactic(auto)]
 
-ghost use Rattle.std.specs.Prelude.{◌≡◌, ℕ};
-ghost use Rattle.txs_code.specs.Machine.{ThreadCode, Configuration, exec};
+pub mod code;
+pub mod instr;
+pub mod verified;
 
-/// One answer.
-pub fn one()
-    ensures { (code : ThreadCode) (m : ℕ) (c : Configuration) → exec code m c ≡ exec code m c }
-{}
+pub use code::{Body, Code};
+pub use instr::Instr;
+pub use verified::Verified;

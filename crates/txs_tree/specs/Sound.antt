@@ -73,9 +73,31 @@ abbrev mutual
   nodes_in none = 0
   nodes_in (more e rest) = nodes e + nodes_in rest
 
+-- how many nodes stand in one another
+abbrev mutual
+  pub levels : Tree → ℕ
+  levels (Const v m) = 1
+  levels (Local i m) = 1
+  levels (If c a b m) = suc (max (levels c) (max (levels a) (levels b)))
+  levels (Do items m) = suc (levels_in items)
+  levels (Let values body m) = suc (max (levels_in values) (levels body))
+  levels (Loop values body m) = suc (max (levels_in values) (levels body))
+  levels (Recur values m) = suc (levels_in values)
+  levels (Core op args m) = suc (levels_in args)
+  levels (Call f args m) = suc (levels_in args)
+  levels (VectorOf items m) = suc (levels_in items)
+  levels (Println args m) = suc (levels_in args)
+  levels (Dosync body m) = suc (levels body)
+  levels (Deref cell m) = suc (levels cell)
+  levels (Alter cell callee args m) = suc (max (levels cell) (levels_in args))
+
+  pub levels_in : Trees → ℕ
+  levels_in none = 0
+  levels_in (more e rest) = max (levels e) (levels_in rest)
+
 -- a thread's body: outside every transaction, with no locals yet
 abbrev pub SoundThread : PlainThread → Type 0
-SoundThread t = SoundTree false 0 None t.body
+SoundThread t = SoundTree false 0 None t.body × (levels t.body ≤ 1000)
 
 abbrev pub SoundThreads : List PlainThread → Type 0
 SoundThreads [] = Unit {0}

@@ -1,7 +1,7 @@
 -- Nodes as plain trees.
 use Rattle.std.specs.Prelude.{◌≡◌, ℕ, Bool, List, [], ◌∷◌}
 use Rattle.txs_value.specs.declared.fault.Span.{Span}
-use Rattle.txs_tree.specs.Tree.{Tree, Trees, Mark, none, more, PlainThread}
+use Rattle.txs_tree.specs.Tree.{Tree, Trees, Mark, none, more, PlainThread, PlainProgram}
 use Rattle.txs_tree.specs.Tree as tree
 use Rattle.txs_tree.specs.declared.node.Node.{Node}
 use Rattle.txs_tree.specs.declared.node.NodeKind.{NodeKind, Const, Local, Do', Let', Core', Println', Row_of-Node, end_of-Node, more_of-Node}
@@ -35,5 +35,10 @@ trees_of (n ∷ ns) = more (tree_of n) (trees_of ns)
 abbrev pub thread_of : Thread → PlainThread
 thread_of t = record { body = tree_of t.body; span = t.span }
 
-abbrev pub tree_again : Type 0
-tree_again = (n : Node) → tree_of n ≡ tree_of n
+abbrev pub threads_of : List Thread → List PlainThread
+threads_of [] = []
+threads_of (t ∷ ts) = thread_of t ∷ threads_of ts
+
+-- the program of these threads
+abbrev pub program_of : List Thread → PlainProgram
+program_of ts = record { functions = []; threads = threads_of ts }

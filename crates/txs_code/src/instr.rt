@@ -1,0 +1,28 @@
+//! Instructions.
+
+use txs_value::Op;
+
+/// An instruction. Its places are numbers of instructions of the same body, from 0.
+#[derive(Clone, Copy, Debug, PartialEq, Eq)]
+pub enum Instr {
+    /// Pushes a constant, by its number.
+    Const(u32),
+    /// Pushes a local, by its number.
+    Local(u8),
+    /// Pops a value into a local.
+    Store(u8),
+    /// Pops a value.
+    Pop,
+    /// Goes on at a place.
+    Jump(u32),
+    /// Pops a value, and goes on at a place where it is logically false.
+    JumpFalse(u32),
+    /// A core operation on so many values at the top of the stack, with its value in their place.
+    Core(Op, u16),
+    /// A vector of so many values at the top of the stack, in their place.
+    Vector(u16),
+    /// Prints so many values at the top of the stack as a line, with nil in their place.
+    Print(u16),
+    /// Ends a thread.
+    Halt,
+}
