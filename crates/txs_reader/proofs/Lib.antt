@@ -1,0 +1,12 @@
+pub mod Runs
+pub mod Splitting
+pub mod Holding
+pub mod Numbers
+pub mod Meanings
+pub mod Trees
+pub mod Last
+pub mod Steps
+pub mod Running
+pub mod Pieces
+pub mod OneAnswer
+pub mod Decided

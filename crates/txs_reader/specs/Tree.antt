@@ -1,0 +1,64 @@
+-- What a form is, without where it lies in memory.
+use Rattle.std.specs.Prelude.{ℕ, suc, max, List, [], ◌∷◌, map, ℤ, Bool}
+use Rattle.txs_value.specs.declared.fault.Span.{Span}
+use Rattle.txs_reader.specs.declared.form.Bracket.{Bracket}
+use Rattle.txs_reader.specs.declared.form.Form.{Form, fold-Form}
+use Rattle.txs_reader.specs.declared.form.Form.TheOpen.{Form-F}
+
+-- a form without parts
+pub data Leaf : Type 0 where
+  nil : Leaf
+  truth : Bool → Leaf
+  number : ℤ → Leaf
+  text : List ℕ → Leaf
+  keyword : List ℕ → Leaf
+  symbol : List ℕ → Leaf
+
+mutual
+  pub data Tree : Type 0 where
+    leaf : Leaf → Span → Tree
+    group : Bracket → Trees → Span → Tree
+
+  pub data Trees : Type 0 where
+    none : Trees
+    first : Tree → Trees → Trees
+
+abbrev pub trees_of : List Tree → Trees
+trees_of [] = none
+trees_of (t ∷ ts) = first t (trees_of ts)
+
+-- one level, with each form inside already seen as its tree
+abbrev pub tree_step : Form-F Tree → Tree
+tree_step (Form-F.Nil span) = leaf nil span
+tree_step (Form-F.Truth b span) = leaf (truth b) span
+tree_step (Form-F.Number z span) = leaf (number z) span
+tree_step (Form-F.Text t span) = leaf (text t) span
+tree_step (Form-F.Keyword s span) = leaf (keyword s) span
+tree_step (Form-F.Symbol s span) = leaf (symbol s) span
+tree_step (Form-F.Group b v span) = group b (trees_of v.items) span
+
+-- the tree of a form
+abbrev pub tree : Form → Tree
+tree = fold-Form Tree tree_step
+
+abbrev pub trees : List Form → List Tree
+trees = map tree
+
+-- where a form stands
+abbrev pub place : Tree → Span
+place (leaf x span) = span
+place (group b ts span) = span
+
+-- how many brackets stand in one another
+abbrev mutual
+  pub height : Tree → ℕ
+  height (leaf x span) = 0
+  height (group b ts span) = suc (height_within ts)
+
+  pub height_within : Trees → ℕ
+  height_within none = 0
+  height_within (first t ts) = max (height t) (height_within ts)
+
+abbrev pub height_of_all : List Tree → ℕ
+height_of_all [] = 0
+height_of_all (t ∷ ts) = max (height t) (height_of_all ts)

@@ -1,0 +1,15 @@
+//! A form whose end hasn't come yet.
+
+ghost use Rattle.std.specs.Prelude.{◌+◌, ◌^◌, ◌<◌};
+
+use crate::form::{Bracket, Form};
+
+/// An opening byte whose form isn't whole yet, and the forms before it in what it stands in.
+#[derive(Debug, Drop)]
+pub struct OpenForm {
+    pub bracket: Bracket,
+    /// The offset of the opening byte.
+    pub from: u32,
+    pub before: Vec<Form>,
+    ghost small: { from + 1 < 2 ^ 32 },
+}
