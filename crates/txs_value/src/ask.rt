@@ -1,5 +1,9 @@
 //! What an actor asks the shared state, and what it is answered.
 
+ghost use Rattle.std.specs.Prelude.{◌≡◌, ◌↔◌, IsTrue};
+ghost use Rattle.txs_value.specs.Ask.{same_ask};
+ghost use Rattle.txs_value.specs.declared.ask.Ask.{Ask as AnAsk};
+
 use crate::listed::Listed;
 use crate::value::{CellId, Value};
 
@@ -45,3 +49,8 @@ pub enum Reply {
     /// There was no memory.
     Memory,
 }
+
+/// The law that the definitions' test of two asks answers true exactly where they are equal.
+pub fn same_ask_is_equality()
+    ensures { (a b : AnAsk) → IsTrue (same_ask a b) ↔ (a ≡ b) }
+{}

@@ -103,6 +103,53 @@ impl Op {
         }
     }
 
+    /// The number, from 0 to 26.
+    pub fn number(self) -> u8
+        ensures { result ≡ op_number self }
+    {
+        match self {
+            Op::Add => 0,
+            Op::Subtract => 1,
+            Op::Multiply => 2,
+            Op::Inc => 3,
+            Op::Dec => 4,
+            Op::Quot => 5,
+            Op::Rem => 6,
+            Op::Mod => 7,
+            Op::Equal => 8,
+            Op::NotEqual => 9,
+            Op::Less => 10,
+            Op::Greater => 11,
+            Op::LessOrEqual => 12,
+            Op::GreaterOrEqual => 13,
+            Op::Max => 14,
+            Op::Min => 15,
+            Op::Not => 16,
+            Op::IsNil => 17,
+            Op::IsZero => 18,
+            Op::IsPositive => 19,
+            Op::IsNegative => 20,
+            Op::Count => 21,
+            Op::Nth => 22,
+            Op::Conj => 23,
+            Op::Assoc => 24,
+            Op::Peek => 25,
+            Op::Pop => 26,
+        }
+    }
+
+    /// The operation of this number, if there is one.
+    pub fn from_number(number: u8) -> Option<Op>
+        ensures { MatchOption result ((op : AnOp) → op_number op ≢ number) (λ op. op_number op ≡ number) }
+    {
+        let operations = &OPERATIONS;
+        if number < 27 {
+            Some(operations[usize::from(number)])
+        } else {
+            None
+        }
+    }
+
     /// The operation of this name, if there is one.
     pub fn from_name(name: &[u8]) -> Option<Op>
         ensures { MatchOption result ((op : AnOp) → op_name op ≢ name.now) (λ op. op_name op ≡ name.now) }
@@ -115,6 +162,11 @@ impl Op {
         None
     }
 }
+
+/// The law that no two operations have one name.
+pub fn op_names_differ()
+    ensures { (a b : AnOp) → op_name a ≡ op_name b → a ≡ b }
+{}
 
 /// What `alter`, `commute`, `swap!` and `send` call: a core operation, or a function by its number.
 #[derive(Clone, Copy, Debug, PartialEq, Eq)]

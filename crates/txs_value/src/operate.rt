@@ -10,9 +10,11 @@ use crate::comparisons::{
 use crate::fault::Stop;
 use crate::numbers::{dec, difference, inc, max, min, product, quot, rem, remainder_down, sum};
 use crate::op::Op;
+use crate::owned::{assoc_owned, conj_owned, pop_owned};
 use crate::value::Value;
 use crate::vectors::{assoc, conj, count, nth, peek, pop};
 use std::alloc::Global;
+use std::mem;
 
 /// Whether the operation takes so many arguments.
 #[tactic(auto, unfolding(crate::specs::Core::takes))]
@@ -85,5 +87,34 @@ pub fn apply(alloc: Global, op: Op, args: &[Value]) -> Result<Value, Stop>
         Op::Assoc => assoc(alloc, &args[0], &args[1], &args[2]),
         Op::Peek => peek(alloc, &args[0]),
         Op::Pop => pop(alloc, &args[0]),
+    }
+}
+
+/// Takes a value from its place.
+fn take(place: &mut Value) -> Value
+    ensures { result ≡ place.old }
+{
+    mem::replace(place, Value::Nil)
+}
+
+/// The operation as `apply` does it, on arguments that it may take: `conj`, `assoc` and `pop` change
+/// their vector in place and copy nothing. What is left in the arguments' places isn't said.
+#[tactic(auto, unfolding(crate::specs::Core::core, crate::specs::Core::takes))]
+pub fn apply_owned(alloc: Global, op: Op, args: &mut [Value]) -> Result<Value, Stop>
+    requires { IsTrue (takes op (length args.old)) }
+    ensures { Answers result (core op args.old) }
+{
+    match op {
+        Op::Conj => {
+            let item = take(&mut args[1]);
+            conj_owned(take(&mut args[0]), item)
+        }
+        Op::Assoc => {
+            let vector = take(&mut args[0]);
+            let item = take(&mut args[2]);
+            assoc_owned(vector, &args[1], item)
+        }
+        Op::Pop => pop_owned(take(&mut args[0])),
+        _ => apply(alloc, op, args),
     }
 }

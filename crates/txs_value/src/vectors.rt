@@ -112,7 +112,7 @@ pub(crate) fn pop(alloc: Global, value: &Value) -> Result<Value, Stop>
 }
 
 /// The place of an index up to the end of so many items.
-fn place_in(items: &Items, index: i64) -> Result<usize, FaultKind>
+pub(crate) fn place_in(items: &Items, index: i64) -> Result<usize, FaultKind>
     ensures { result ≡ place_in items.now index }
 {
     match usize::try_from(index) {
@@ -122,7 +122,7 @@ fn place_in(items: &Items, index: i64) -> Result<usize, FaultKind>
 }
 
 /// Puts an item in the place of another, or behind the last.
-fn put_at(items: &mut Vec<Value>, place: usize, item: Value) -> Result<(), AllocError>
+pub(crate) fn put_at(items: &mut Vec<Value>, place: usize, item: Value) -> Result<(), AllocError>
     requires { place ≤ length items.old.items }
     ensures { OnOk result (items.new.items ≡ take place items.old.items ++ item ∷ drop (place + 1) items.old.items) }
 {
