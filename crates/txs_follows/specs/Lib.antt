@@ -1,3 +1,4 @@
 pub mod Behaves
 pub mod OnReplies
 pub mod RepliesFit
+pub mod RepliesFitTo

@@ -1,12 +1,23 @@
-//! What it is that code follows a program.
+//! What it is that code follows a program: after any number of turns, on replies that fit a thread's
+//! events, the thread's meaning eats those events with what the code printed, and ends as the code has.
+//! Each law stands on a function of its own, which does nothing when it runs.
 #![tactic(auto)]
 
-ghost use Rattle.std.specs.Prelude.{◌≡◌};
-ghost use Rattle.txs_tree.specs.Tree.{ThreadSource};
-ghost use Rattle.txs_code.specs.Machine.{ThreadCode};
-ghost use Rattle.txs_follows.specs.RepliesFit.{SoundFollows, Follows};
+ghost use Rattle.txs_follows.specs.RepliesFit.{SoundFollows};
+ghost use Rattle.txs_follows.specs.RepliesFitTo.{FittingToFits, OneMoreFits};
 
-/// One answer.
-pub fn one()
-    ensures { (code : ThreadCode) (p : ThreadSource) → Follows code p → Follows code p }
+/// Code that behaves as a sound thread's tree does on any replies follows the thread's meaning.
+pub fn sound_code_follows()
+    ensures { SoundFollows }
+{}
+
+/// Exchanges that fit events and end in some phase fit those events.
+pub fn replies_fit()
+    ensures { FittingToFits }
+{}
+
+/// Exchanges that fit events, and one more that fits further events in the phase after them, fit all
+/// these events together.
+pub fn one_more_fits()
+    ensures { OneMoreFits }
 {}

@@ -1,0 +1,9 @@
+mod Acts
+mod Fitted
+mod Grows
+mod More
+mod Related
+mod Sound
+mod Threads
+mod Whole
+mod Worlds
