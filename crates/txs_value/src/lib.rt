@@ -4,9 +4,11 @@
 #![tactic(auto)]
 
 pub mod ask;
+pub mod cell;
 mod comparisons;
 pub mod copy;
 pub mod equal;
+pub mod event;
 pub mod fault;
 pub mod listed;
 mod numbers;
@@ -18,8 +20,10 @@ pub mod value;
 pub mod vectors;
 
 pub use ask::{Ask, Reply};
+pub use cell::CellDefinition;
 pub use copy::{copy_ask, copy_reply, copy_value, copy_values, copy_writes};
 pub use equal::same;
+pub use event::{Event, EventKind, Outcome};
 pub use fault::{Fault, FaultKind, Span, Stop};
 pub use listed::Listed;
 pub use op::{Callee, Op};
