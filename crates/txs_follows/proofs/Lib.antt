@@ -1,4 +1,5 @@
 mod Acts
+mod All
 mod Fitted
 mod Grows
 mod More

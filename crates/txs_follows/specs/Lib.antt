@@ -1,4 +1,5 @@
 pub mod Behaves
+pub mod FollowsAll
 pub mod OnReplies
 pub mod RepliesFit
 pub mod RepliesFitTo

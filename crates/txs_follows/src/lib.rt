@@ -3,6 +3,7 @@
 //! Each law stands on a function of its own, which does nothing when it runs.
 #![tactic(auto)]
 
+ghost use Rattle.txs_follows.specs.FollowsAll.{GeneratedFollows, SoundFollowsAll};
 ghost use Rattle.txs_follows.specs.RepliesFit.{SoundFollows};
 ghost use Rattle.txs_follows.specs.RepliesFitTo.{FittingToFits, OneMoreFits};
 
@@ -20,4 +21,16 @@ pub fn replies_fit()
 /// these events together.
 pub fn one_more_fits()
     ensures { OneMoreFits }
+{}
+
+/// Where the code of each thread of a sound program behaves as the thread's tree does on any replies,
+/// the code follows the program.
+pub fn sound_follows_all()
+    ensures { SoundFollowsAll }
+{}
+
+/// Where a generator makes code that behaves as a thread's tree does, what it makes of each thread of
+/// a sound program follows the program.
+pub fn generated_follows()
+    ensures { GeneratedFollows }
 {}
