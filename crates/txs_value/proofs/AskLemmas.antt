@@ -1,7 +1,6 @@
 -- The test for equal asks answers true exactly for equal asks.
-use Rattle.std.proofs.Common.{◌≡◌, ℕ, Bool, true, false, List, [], ◌∷◌, refl, sym, ap, ◌∙◌, arith, ◌&&◌, ◌==◌}
+use Rattle.std.proofs.Common.{◌≡◌, Bool, true, [], ◌∷◌, refl, ap, ◌&&◌, ◌==◌}
 use Rattle.std.proofs.lemmas.Bool.{false≢true}
-use Rattle.txs_value.specs.PlainValue.{cell}
 use Rattle.txs_value.specs.Ask.{Writes, same_value, same_cell, same_writes, same_ask}
 use Rattle.txs_value.specs.View.{plain_of}
 use Rattle.txs_value.proofs.ItemsLemmas.{plain_of-one}

@@ -6,7 +6,7 @@ use Rattle.txs_value.specs.declared.value.CellId.{CellId}
 use Rattle.txs_value.specs.declared.value.CellKind.{CellKind}
 use Rattle.txs_value.specs.declared.value.CellKind.TheVariants.{Ref, Atom, Agent}
 use Rattle.txs_value.specs.declared.value.Value.{Value}
-use Rattle.txs_value.specs.declared.value.Value.TheVariants.{Nil, Truth, Int, Key, Text, Vector, Cell}
+use Rattle.txs_value.specs.declared.value.Value.TheVariants.{Cell}
 
 -- a value for each cell, by the cell's number
 abbrev pub World : Type 0

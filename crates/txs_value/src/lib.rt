@@ -27,7 +27,7 @@ pub use event::{Event, EventKind, Outcome};
 pub use fault::{Fault, FaultKind, Span, Stop};
 pub use listed::Listed;
 pub use op::{Callee, Op};
-pub use operate::{apply, apply_owned, takes};
+pub use operate::{apply, apply_on_stack, apply_owned, takes};
 pub use print::write_text;
 pub use value::{CellId, CellKind, Items, Name, Text, Value};
 pub use vectors::{is_within, make_vector};

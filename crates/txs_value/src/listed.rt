@@ -30,7 +30,8 @@ impl<T> Listed<T> {
     pub fn into_vec(self) -> Vec<T>
         ensures { result.items ≡ self }
     {
-        self.items
+        let Listed { items: all } = self;
+        all
     }
 
     /// The items, lent.

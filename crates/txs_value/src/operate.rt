@@ -1,7 +1,7 @@
 //! The core operations by their table.
 
-ghost use Rattle.std.specs.Prelude.{◌≡◌, length, IsTrue};
-ghost use Rattle.txs_value.specs.Core.{core, takes, Answers};
+ghost use Rattle.std.specs.Prelude.{◌≡◌, ◌<◌, ◌≤◌, ◌-◌, length, take, drop, vec_capacity, IsTrue};
+ghost use Rattle.txs_value.specs.Core.{core, takes, Answers, AnswersOnTop};
 
 use crate::comparisons::{
     equal, greater, greater_or_equal, is_false, is_negative, is_nil, is_positive, is_zero, less,
@@ -117,4 +117,27 @@ pub fn apply_owned(alloc: Global, op: Op, args: &mut [Value]) -> Result<Value, S
         Op::Pop => pop_owned(take(&mut args[0])),
         _ => apply(alloc, op, args),
     }
+}
+
+/// The operation on the last so many values of a stack, taken from it, and its answer in their place.
+/// After an error they are gone, and what stood below them is left.
+pub fn apply_on_stack(
+    alloc: Global,
+    op: Op,
+    count: usize,
+    stack: &mut Vec<Value>,
+) -> Result<(), Stop>
+    requires takes { IsTrue (takes op count) }
+    requires enough { count ≤ length stack.old.items }
+    requires some { 0 < count }
+    requires room { length stack.old.items ≤ vec_capacity stack.old }
+    ensures answer { AnswersOnTop result (take (length stack.old.items - count) stack.old.items) stack.new.items
+        (core op (drop (length stack.old.items - count) stack.old.items)) }
+    ensures capacity { vec_capacity stack.new ≡ vec_capacity stack.old }
+{
+    let below = stack.len() - count;
+    let answer = apply_owned(alloc, op, &mut stack[below..]);
+    stack.truncate(below);
+    stack.push_reserved(answer?);
+    Ok(())
 }

@@ -161,7 +161,8 @@ impl Items {
         ensures value { plains_of result.items ≡ self }
         ensures limits { IsVector self }
     {
-        self.items
+        let Items { items: values } = self;
+        values
     }
 
     pub fn as_slice(&self) -> &[Value]

@@ -1,4 +1,4 @@
-use Rattle.std.proofs.Common.{◌≡◌, ◌≢◌, ◌<◌, ℕ, get_or}
+use Rattle.std.proofs.Common.{◌≢◌, ◌<◌, ℕ, get_or}
 use Rattle.txs_value.specs.Operations.{op_name}
 use Rattle.txs_value.specs.declared.op.Op.TheVariants.{Add}
 use Rattle.txs_value.proofs.op.Op.from_name.Given as goal
