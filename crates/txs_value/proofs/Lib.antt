@@ -4,3 +4,4 @@ pub mod ItemsLemmas
 pub mod OperationsLemmas
 pub mod PrintedLemmas
 pub mod SameLemmas
+pub mod TruthLemmas

@@ -52,8 +52,8 @@ pub(crate) fn greater_or_equal(a: &Value, b: &Value) -> Result<Value, FaultKind>
     Ok(Value::Truth(x >= y))
 }
 
-/// `not`
-pub(crate) fn is_false(value: &Value) -> bool
+/// `not`: whether a value is logically false, which `nil` and `false` alone are.
+pub fn is_false(value: &Value) -> bool
     ensures { result ≡ is_false value.now }
 {
     match value {

@@ -21,14 +21,15 @@ pub mod vectors;
 
 pub use ask::{Ask, Reply};
 pub use cell::CellDefinition;
-pub use copy::{copy_ask, copy_reply, copy_value, copy_values, copy_writes};
+pub use comparisons::is_false;
+pub use copy::{copy_ask, copy_event, copy_reply, copy_value, copy_values, copy_writes};
 pub use equal::same;
 pub use event::{Event, EventKind, Outcome};
 pub use fault::{Fault, FaultKind, Span, Stop};
 pub use listed::Listed;
 pub use op::{Callee, Op};
 pub use operate::{apply, apply_on_stack, apply_owned, takes};
-pub use print::write_text;
+pub use print::{write_line, write_text};
 pub use value::{CellId, CellKind, Items, Name, Text, Value};
 pub use vectors::{is_within, make_vector};
 

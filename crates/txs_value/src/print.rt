@@ -1,14 +1,14 @@
-// The text of values.
+//! The text of values.
 ghost use Rattle.std.specs.Prelude.{◌≡◌, ◌++◌, ◌∷◌, [], OnOk, OnErr};
 ghost use Rattle.txs_value.specs.PlainValue.{plain_row};
-ghost use Rattle.txs_value.specs.Printed.{printed, items_printed, kind_printed, gap, Extends};
-ghost use Rattle.txs_value.specs.View.{plain_of};
+ghost use Rattle.txs_value.specs.Printed.{printed, items_printed, printed_line, kind_printed, gap, Extends};
+ghost use Rattle.txs_value.specs.View.{plain_of, plains_of};
 
-use crate::value::{CellKind, Items, Value};
+use crate::value::{CellKind, Value};
 use itoa::Buffer;
 use std::alloc::AllocError;
 
-/// Appends the value as `println` writes it.
+/// Appends the value as `println` writes it. After an error nothing is appended.
 pub fn write_text(value: &Value, out: &mut Vec<u8>) -> Result<(), AllocError>
     ensures ok { OnOk result (out.new.items ≡ out.old.items ++ printed (plain_of value.now)) }
     ensures err { OnErr result (out.new.items ≡ out.old.items) }
@@ -19,6 +19,28 @@ pub fn write_text(value: &Value, out: &mut Vec<u8>) -> Result<(), AllocError>
         out.truncate(start);
     }
     done
+}
+
+/// Appends the line that `println` writes of these values: one space between each two, then a
+/// newline. After an error nothing is appended.
+pub fn write_line(values: &[Value], out: &mut Vec<u8>) -> Result<(), AllocError>
+    ensures ok { OnOk result (out.new.items ≡ out.old.items ++ printed_line values.now) }
+    ensures err { OnErr result (out.new.items ≡ out.old.items) }
+{
+    let start = out.len();
+    let done = print_line(values, out);
+    if done.is_err() {
+        out.truncate(start);
+    }
+    done
+}
+
+fn print_line(values: &[Value], out: &mut Vec<u8>) -> Result<(), AllocError>
+    ensures ok { OnOk result (out.new.items ≡ out.old.items ++ printed_line values.now) }
+    ensures kept { Extends out.old.items out.new.items }
+{
+    print_row(values, out)?;
+    Ok(out.push(b'\n')?)
 }
 
 fn kind_text(kind: CellKind) -> &'static [u8]
@@ -57,7 +79,11 @@ fn print(value: &Value, out: &mut Vec<u8>) -> Result<(), AllocError>
             out.extend_from_slice(name.as_bytes())
         }
         Value::Text(text) => out.extend_from_slice(text.as_str().as_bytes()),
-        Value::Vector(items) => print_items(items, out),
+        Value::Vector(items) => {
+            out.push(b'[')?;
+            print_row(items.as_slice(), out)?;
+            Ok(out.push(b']')?)
+        }
         Value::Cell(cell) => {
             out.extend_from_slice(kind_text(cell.kind))?;
             out.extend_from_slice(Buffer::new().format(cell.number).as_bytes())?;
@@ -66,16 +92,16 @@ fn print(value: &Value, out: &mut Vec<u8>) -> Result<(), AllocError>
     }
 }
 
+/// The values with a space between each two.
 #[cycle(print)]
-fn print_items(items: &Items, out: &mut Vec<u8>) -> Result<(), AllocError>
+fn print_row(values: &[Value], out: &mut Vec<u8>) -> Result<(), AllocError>
     ensures ok { OnOk result (out.new.items
-        ≡ out.old.items ++ 91 ∷ items_printed (plain_row items.now) ++ 93 ∷ []) }
+        ≡ out.old.items ++ items_printed (plain_row (plains_of values.now))) }
     ensures kept { Extends out.old.items out.new.items }
 {
-    out.push(b'[')?;
-    for (i, item) in items.items.iter().enumerate() {
+    for (i, value) in values.iter().enumerate() {
         separate(i, out)?;
-        print(item, out)?;
+        print(value, out)?;
     }
-    Ok(out.push(b']')?)
+    Ok(())
 }

@@ -1,22 +1,29 @@
-use Rattle.std.proofs.Common.{◌<◌, ◌++◌, [], ◌∷◌, take, length, ap, ◌∙◌, sym, rules}
+use Rattle.std.proofs.Common.{◌<◌, ◌++◌, [], take, length, refl, ap, ◌∙◌, sym, rules}
 use Rattle.txs_value.specs.PlainValue.{plain_row}
-use Rattle.txs_value.specs.View.{plain_of}
+use Rattle.txs_value.specs.View.{plain_of, plains_of}
 use Rattle.txs_value.specs.Printed.{printed, items_printed, gap}
+use Rattle.txs_value.proofs.ItemsLemmas.{item_falls}
 use Rattle.txs_value.proofs.PrintedLemmas.{items_printed-more, appended, Extends-appended}
 use Rattle.txs_value.proofs.print.+print.Goals as goal
 
-pub print_items-returns-in_err-print-clause-kept : goal.print_items-returns-in_err-print-clause-kept
-print_items-returns-in_err-print-clause-kept t c =
+pub print_row-print-requires : goal.print_row-print-requires
+print_row-print-requires t c =
+    let vs = c.args.values.now in
+    let falls = item_falls (plains_of vs) vs c.loop-i.i c.index-values-i.result refl (search rules) c.index-values-i.is in
+    search (rules, falls)
+
+pub print_row-returns-in_err-print-clause-kept : goal.print_row-returns-in_err-print-clause-kept
+print_row-returns-in_err-print-clause-kept t c =
     Extends-appended c.args.out.now.items _ (gap c.loop-i.i) [] c.loop-i.out.items c.separate.new.out.items c.print.new.out.items c.loop-i.invariant (search rules) c.print.ensures.kept
 
-pub print_items-loop-i-preserved : goal.print_items-loop-i-preserved
-print_items-loop-i-preserved t c =
-    let ds = c.args.items.now in
-    let vs = c.items.inside.items.items in
+pub print_row-loop-i-preserved : goal.print_row-loop-i-preserved
+print_row-loop-i-preserved t c =
+    let vs = c.args.values.now in
+    let ds = plains_of vs in
     let i = c.loop-i.i in
-    let v = c.item-item.result in
+    let v = c.index-values-i.result in
     let so_far = items_printed (plain_row (take i ds)) in
     let lt : i < length vs = search rules in
-    let more = items_printed-more ds vs v i c.items.view_is lt (search rules) in
-    let all = appended c.args.out.now.items (91 ∷ so_far) (gap i) (printed (plain_of v)) c.loop-i.out.items c.separate.new.out.items c.print.new.out.items c.loop-i.invariant (search rules) (search rules) in
-    all ∙ ap (λ xs. c.args.out.now.items ++ 91 ∷ xs) (sym more)
+    let more = items_printed-more ds vs v i refl lt c.index-values-i.is in
+    let all = appended c.args.out.now.items so_far (gap i) (printed (plain_of v)) c.loop-i.out.items c.separate.new.out.items c.print.new.out.items c.loop-i.invariant (search rules) (search rules) in
+    all ∙ ap (λ xs. c.args.out.now.items ++ xs) (sym more)
