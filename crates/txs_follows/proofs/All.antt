@@ -7,7 +7,7 @@ use Rattle.txs_code.specs.Machine.{ThreadCode}
 use Rattle.txs_follows.specs.Behaves.{Behaves}
 use Rattle.txs_follows.specs.FollowsAll.{source_of, SoundFollowsAll, GeneratedFollows}
 use Rattle.txs_follows.proofs.Sound.{ever_meant}
-use Rattle.txs_follows.proofs.Whole.{behaves_follows}
+use Rattle.txs_follows.proofs.Ends.{behaves_follows}
 
 abbrev IsThere : {A : Type 0} → Option A → Type 0
 IsThere None = ⊥

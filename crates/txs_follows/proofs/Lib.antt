@@ -1,8 +1,11 @@
 mod Acts
 mod All
+mod Ends
 mod Fitted
 mod Grows
+mod Loops
 mod More
+mod MoreEvents
 mod Related
 mod Sound
 mod Threads

@@ -31,6 +31,9 @@ same_link = record {
   out_of_turns_loose = λ s h o. tt;
   retries_loose = λ s h o. absurd h;
   out_of_turns_of = λ s t r. tt;
+  invalid = λ b. Unit {0};
+  invalid_both = tt;
+  invalid_loose = λ h b. tt;
 }
 
 itself : {A : Type 0} (x : Completion ActorState A) → Related same_link x x

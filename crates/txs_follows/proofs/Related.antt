@@ -20,14 +20,27 @@ pub record Link (S T : Type 0) : Type 1 where
   pub waits : S → Halt T → Type 0
   pub out_of_turns : S → Halt T → Type 0
   pub retries : S → Halt T → Type 0
+  -- what the second has to be where the first is invalid, by whether it is so too
+  pub invalid : Bool → Type 0
   pub waits_loose : (s : S) → waits s Going → (o : Halt T) → waits s o
   pub out_of_turns_loose : (s : S) → out_of_turns s Going → (o : Halt T) → out_of_turns s o
   pub retries_loose : (s : S) → retries s Going → (o : Halt T) → retries s o
   pub out_of_turns_of : (s : S) (t : T) → rel s t → out_of_turns s (Short t)
+  pub invalid_both : invalid true
+  pub invalid_loose : invalid false → (b : Bool) → invalid b
 
 -- both have the same turns; or the second has more, and then what needs turns may do anything
 abbrev pub Turns : (S T : Type 0) → Link S T → ℕ → ℕ → Type 0
 Turns S T k nl nr = (nl ≡ nr) ⊎ ((nl ≤ nr) × ((s : S) (t : T) → k.rel s t → (o : Halt T) → k.out_of_turns s o))
+
+abbrev pub is_invalid : {S A : Type 0} → Completion S A → Bool
+is_invalid (Completes a s) = false
+is_invalid (Recurs vs s) = false
+is_invalid (Faults f s) = false
+is_invalid (Retries s) = false
+is_invalid (Waits s) = false
+is_invalid (OutOfTurns s) = false
+is_invalid Invalid = true
 
 abbrev pub CompletesAs : {S T A : Type 0} → Link S T → A → S → Completion T A → Type 0
 CompletesAs k a s (Completes b t) = (a ≡ b) × k.rel s t
@@ -48,13 +61,14 @@ Related k (Faults f s) y = FaultsAs k f s y
 Related k (Retries s) y = k.retries s (halted y)
 Related k (Waits s) y = k.waits s (halted y)
 Related k (OutOfTurns s) y = k.out_of_turns s (halted y)
-Related k Invalid y = Unit {0}
+Related k Invalid y = k.invalid (is_invalid y)
 
 module _ (S T : Type 0) (k : Link S T) where
   pub bind_related : {A B : Type 0} (x : Completion S A) (y : Completion T A) (f : A → S → Completion S B) (g : A → T → Completion T B) → Related k x y → ((a : A) (s : S) (t : T) → k.rel s t → Related k (f a s) (g a t)) → Related k (bind x f) (bind y g)
   bind_related (Completes a s) (Completes b t) f g h hc = subst (λ c. Related k (f a s) (g c t)) h.0 (hc a s t h.1)
   bind_related (Completes a s) _ f g h hc = absurd h
-  bind_related (Recurs vs s) y f g h hc = tt
+  bind_related (Recurs vs s) (Recurs ws t) f g h hc = k.invalid_both
+  bind_related (Recurs vs s) _ f g h hc = absurd h
   bind_related (Faults x s) (Faults y t) f g h hc = h
   bind_related (Faults x s) _ f g h hc = absurd h
   bind_related (Retries s) (Completes b t) f g h hc = k.retries_loose s h (halted (g b t))
@@ -67,7 +81,9 @@ module _ (S T : Type 0) (k : Link S T) where
   bind_related (OutOfTurns s) (OutOfTurns t) f g h hc = h
   bind_related (OutOfTurns s) (Completes b t) f g h hc = k.out_of_turns_loose s h (halted (g b t))
   bind_related (OutOfTurns s) _ f g h hc = h
-  bind_related Invalid y f g h hc = tt
+  bind_related Invalid (Completes b t) f g h hc = k.invalid_loose h (is_invalid (g b t))
+  bind_related Invalid (Recurs ws t) f g h hc = k.invalid_both
+  bind_related Invalid _ f g h hc = h
 
   pub again_related : {A : Type 0} (x : Completion S A) (y : Completion T A) (f : List Value → S → Completion S A) (g : List Value → T → Completion T A) → Related k x y → ((vs : List Value) (s : S) (t : T) → k.rel s t → Related k (f vs s) (g vs t)) → Related k (again x f) (again y g)
   again_related (Completes a s) (Completes b t) f g h hc = h
@@ -82,10 +98,11 @@ module _ (S T : Type 0) (k : Link S T) where
   again_related (Waits s) _ f g h hc = h
   again_related (OutOfTurns s) (Recurs ws t) f g h hc = k.out_of_turns_loose s h (halted (g ws t))
   again_related (OutOfTurns s) _ f g h hc = h
-  again_related Invalid y f g h hc = tt
+  again_related Invalid (Recurs ws t) f g h hc = k.invalid_loose h (is_invalid (g ws t))
+  again_related Invalid _ f g h hc = h
 
   pub closed_related : {A : Type 0} (x : Completion S A) (y : Completion T A) → Related k x y → Related k (closed x) (closed y)
-  closed_related x y h = again_related x y (λ vs s. Invalid) (λ vs t. Invalid) h (λ vs s t r. tt)
+  closed_related x y h = again_related x y (λ vs s. Invalid) (λ vs t. Invalid) h (λ vs s t r. k.invalid_both)
 
   choose_related : {A : Type 0} (v : Value) (x1 x2 : Completion S A) (y1 y2 : Completion T A) → Related k x1 y1 → Related k x2 y2 → Related k (choose v x1 x2) (choose v y1 y2)
   choose_related Nil x1 x2 y1 y2 h1 h2 = h2
@@ -98,7 +115,7 @@ module _ (S T : Type 0) (k : Link S T) where
   choose_related (Cell c) x1 x2 y1 y2 h1 h2 = h1
 
   give_related : {A : Type 0} (o : Option A) (s : S) (t : T) → k.rel s t → Related k (give o s) (give o t)
-  give_related None s t r = tt
+  give_related None s t r = k.invalid_both
   give_related (Some a) s t r = (refl, r)
 
   result_related : (x : Result Value FaultKind) (span : Span) (s : S) (t : T) → k.rel s t → Related k (result_of x span s) (result_of x span t)
@@ -120,7 +137,7 @@ module _ (S T : Type 0) (k : Link S T) where
     where
       turn : (b : Bool) → ((ws : List Value) (s1 : S) (t1 : T) → k.rel s1 t1 → Related k (turns nl d f ws s1) (turns nr d g ws t1)) → Related k (if b then again (f vs s) (turns nl d f) else Invalid) (if b then again (g vs t) (turns nr d g) else Invalid)
       turn true next = again_related (f vs s) (g vs t) (turns nl d f) (turns nr d g) (h vs s t r) next
-      turn false next = tt
+      turn false next = k.invalid_both
 
   apply_related : (cf : ℕ → List Value → S → Completion S Value) (cg : ℕ → List Value → T → Completion T Value) → ((f : ℕ) (vs : List Value) (s : S) (t : T) → k.rel s t → Related k (cf f vs s) (cg f vs t)) → (span : Span) (c : Callee) (vs : List Value) (s : S) (t : T) → k.rel s t → Related k (apply cf span c vs s) (apply cg span c vs t)
   apply_related cf cg h span (CoreOp op) vs s t r = result_related (core op vs) span s t r
@@ -187,7 +204,7 @@ module _ (S T : Type 0) (k : Link S T) (fx : Effects S) (gx : Effects T) (cf : B
         (λ v s1 t1 r1. bind_related S T k (eval_let fx cf nl inside rest (env ++ v ∷ []) s1) (eval_let gx cg nr inside rest (env ++ v ∷ []) t1) (λ vs s2. Completes (v ∷ vs) s2) (λ vs t2. Completes (v ∷ vs) t2) (let_related rest inside (env ++ v ∷ []) s1 t1 m r1) (λ vs s2 t2 r2. (refl, r2)))
 
     do_related : (es : Trees) (inside : Bool) (env : List Value) (s : S) (t : T) → Mode inside → k.rel s t → Related k (eval_do fx cf nl inside es env s) (eval_do gx cg nr inside es env t)
-    do_related none inside env s t m r = tt
+    do_related none inside env s t m r = k.invalid_both
     do_related (more e rest) inside env s t m r =
         last_related S T k (is_none rest) (eval fx cf nl inside e env s) (eval gx cg nr inside e env t) (λ s1. eval_do fx cf nl inside rest env s1) (λ t1. eval_do gx cg nr inside rest env t1) (eval_related e inside env s t m r) (λ s1 t1 r1. do_related rest inside env s1 t1 m r1)
 
@@ -195,7 +212,7 @@ module _ (S T : Type 0) (k : Link S T) (fx : Effects S) (gx : Effects T) (cf : B
 module _ (S T : Type 0) (k : Link S T) (fxs : ℕ → Effects S) (gxs : ℕ → Effects T) (nl nr : ℕ) (functions : List PlainFunction) (Mode : Bool → Type 0)
     (more_turns : Turns S T k nl nr) (alikes : (d : ℕ) → Alike S T k (fxs d) (gxs d) (call_at fxs nl functions d) (call_at gxs nr functions d) nl nr Mode) where
   pub calls_related : (d : ℕ) → CallsAlike S T k (call_at fxs nl functions d) (call_at gxs nr functions d) Mode
-  calls_related zero inside f vs s t m r = tt
+  calls_related zero inside f vs s t m r = k.invalid_both
   calls_related (suc d) inside f vs s t m r =
       bind_related S T k (give (nth functions f) s) (give (nth functions f) t) _ _ (give_related S T k (nth functions f) s t r)
       (λ fun s1 t1 r1. turns_related S T k nl nr more_turns fun.parameters (λ ws s2. eval (fxs d) (call_at fxs nl functions d) nl inside fun.body ws s2) (λ ws t2. eval (gxs d) (call_at gxs nr functions d) nr inside fun.body ws t2)

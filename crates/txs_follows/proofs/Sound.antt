@@ -2,10 +2,11 @@
 use Rattle.std.proofs.Common.{ℕ, zero, suc, Bool, true, false, List, [], Option, Some, None, Result, Ok, Err, refl, sym, ap, subst, length, arith, length-append, ◌≡◌, ◌<◌, ◌+◌, ◌∷◌, ◌++◌, ◌∙◌, if◌then◌else◌}
 use Rattle.std.proofs.lemmas.Bool.{false≢true, eq-eqb}
 use Rattle.txs_code.specs.ActorState.{ActorState, Replied, asks, begun, begin, failed, fail, committed, commit, looked, buffered_or, look, peeked, peek, put_write, print, read}
-use Rattle.txs_follows.proofs.Worlds.{answered}
+use Rattle.txs_follows.proofs.Worlds.{answered, fit_splits}
 use Rattle.txs_follows.specs.Behaves.{fresh, source, IsMeant}
+use Rattle.txs_follows.specs.Follows.{IsEverMeant}
 use Rattle.txs_follows.specs.OnReplies.{res, met, settled, attempt, retrying, tries, joined, on_replies}
-use Rattle.txs_follows.specs.RepliesFit.{Out, In, ReplyFits, RepliesFit, IsEverMeant}
+use Rattle.txs_follows.specs.RepliesFit.{Out, In, ReplyFits, RepliesFit}
 use Rattle.txs_tree.specs.Meaning.{Completion, Completes, Recurs, Faults, Retries, Waits, OutOfTurns, Invalid, bind, again, closed, give, result_of, turns, apply, eval, eval_all, eval_let, eval_do, call_at}
 use Rattle.txs_tree.specs.Sound.{SoundTree, SoundAll, SoundLet, SoundDo, SoundSource, SoundCallee}
 use Rattle.txs_tree.specs.Thread.{SeenEvent, Read, Committed, Retried, Aborted}
@@ -134,7 +135,7 @@ look_meant span (Ok c) s h = go (buffered s.writes c.number)
   where
     go : (o : Option Value) → MeantAs true None Any (res (buffered_or o s (looked (asks (Look c s.at) s))))
     go (Some v) = (tt, h)
-    go None = answered (In h.0) h.1 (Look c s.at) s (λ x. MeantAs true None Any (res (looked x))) h.2 tt (λ r xs m. looked_meant h.0 h.1 c s r xs m)
+    go None = answered RepliesFit fit_splits (In h.0) h.1 (Look c s.at) s (λ x. MeantAs true None Any (res (looked x))) h.2 tt (λ r xs m. looked_meant h.0 h.1 c s r xs m)
 
 -- a read outside
 peeked_meant : (es : List SeenEvent) (c : CellId) (s : ActorState) (r : Reply) (xs : List Exchange) → ReplyFits Out (Peek c) r (λ ph1 es1. RepliesFit ph1 xs es1) es → MeantAs false None Any (res (peeked (Replied r (record s { todo = xs }))))
@@ -152,7 +153,7 @@ peeked_meant [] c s (Is v) xs m = absurd m
 peek_meant : (span : Span) (rc : Result CellId FaultKind) (s : ActorState) → Fitting false s → MeantAs false None Any (res (peek span rc s))
 unfolding peek
 peek_meant span (Err k) s h = h
-peek_meant span (Ok c) s h = answered Out h.0 (Peek c) s (λ x. MeantAs false None Any (res (peeked x))) h.1 tt (λ r xs m. peeked_meant h.0 c s r xs m)
+peek_meant span (Ok c) s h = answered RepliesFit fit_splits Out h.0 (Peek c) s (λ x. MeantAs false None Any (res (peeked x))) h.1 tt (λ r xs m. peeked_meant h.0 c s r xs m)
 
 read_meant : (inside : Bool) (span : Span) (v : Value) (s : ActorState) → Fitting inside s → MeantAs inside None Any (res (read inside span v s))
 read_meant true span v s h = look_meant span (readable_cell v) s h
@@ -224,9 +225,9 @@ failed_meant R [] f s Done xs m = absurd m
 
 settled_meant : (x : Completion ActorState Value) → MeantAs true None Any x → TryMeant (settled x)
 unfolding commit fail
-settled_meant (Completes v s) h = answered (In h.1.0) h.1.1 (Commit s.at s.writes) s (λ x. TryMeant (met (committed x) (λ s1. Completes v s1) (λ s1. Retries s1))) h.1.2 tt (λ r xs m. committed_meant h.1.0 h.1.1 v s r xs m)
+settled_meant (Completes v s) h = answered RepliesFit fit_splits (In h.1.0) h.1.1 (Commit s.at s.writes) s (λ x. TryMeant (met (committed x) (λ s1. Completes v s1) (λ s1. Retries s1))) h.1.2 tt (λ r xs m. committed_meant h.1.0 h.1.1 v s r xs m)
 settled_meant (Recurs vs s) h = absurd (none_some (length vs) h.0)
-settled_meant (Faults f s) h = answered (In h.0) h.1 (Fail s.at) s (λ x. TryMeant (met (failed x) (λ s1. Faults f s1) (λ s1. Invalid))) h.2 tt (λ r xs m. failed_meant h.0 h.1 f s r xs m)
+settled_meant (Faults f s) h = answered RepliesFit fit_splits (In h.0) h.1 (Fail s.at) s (λ x. TryMeant (met (failed x) (λ s1. Faults f s1) (λ s1. Invalid))) h.2 tt (λ r xs m. failed_meant h.0 h.1 f s r xs m)
 settled_meant (Retries s) h = h.1
 settled_meant (Waits s) h = tt
 settled_meant (OutOfTurns s) h = tt
@@ -244,7 +245,7 @@ begun_meant body h es s Memory xs m = absurd m
 
 attempt_meant : (body : ActorState → Completion ActorState Value) → ((s : ActorState) → Fitting true s → MeantAs true None Any (body s)) → (s : ActorState) → Fitting false s → TryMeant (attempt body s)
 unfolding begin
-attempt_meant body h s g = answered Out g.0 Begin s (λ x. TryMeant (met (begun x) (λ s1. settled (body s1)) (λ s1. Invalid))) g.1 tt (λ r xs m. begun_meant body h g.0 s r xs m)
+attempt_meant body h s g = answered RepliesFit fit_splits Out g.0 Begin s (λ x. TryMeant (met (begun x) (λ s1. settled (body s1)) (λ s1. Invalid))) g.1 tt (λ r xs m. begun_meant body h g.0 s r xs m)
 
 tries_meant : (k : ℕ) (span : Span) (body : ActorState → Completion ActorState Value) → ((s : ActorState) → Fitting true s → MeantAs true None Any (body s)) → (s : ActorState) → Fitting false s → MeantAs false None Any (tries k span body s)
 tries_meant zero span body h s g = g

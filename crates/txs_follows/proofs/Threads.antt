@@ -3,7 +3,7 @@ use Rattle.std.proofs.Common.{ℕ, zero, suc, Bool, true, false, List, [], Resul
 use Rattle.std.proofs.lemmas.Bool.{false≢true}
 use Rattle.txs_code.specs.ActorState.{ActorState, Replied, begun, begin, failed, fail, committed, commit, peeked, peek, print}
 use Rattle.txs_follows.proofs.Related.{Link, CompletesAs, FaultsAs, Related, closed_related, Alike, eval_related, calls_related}
-use Rattle.txs_follows.proofs.Worlds.{answered, tx_link, tx_related}
+use Rattle.txs_follows.proofs.Worlds.{answered, fit_splits, tx_link, tx_related}
 use Rattle.txs_follows.specs.Behaves.{fresh, source}
 use Rattle.txs_follows.specs.OnReplies.{res, met, settled, retrying, tries, on_replies}
 use Rattle.txs_follows.specs.RepliesFit.{Phase, Out, In, ReplyFits, RepliesFit, halted, HasEaten, Agrees, TreeFollows}
@@ -37,6 +37,9 @@ thread_link = record {
   out_of_turns_loose = λ s h o e. absurd (h e);
   retries_loose = λ s h o. tt;
   out_of_turns_of = λ s t r e. (subst (λ l. RepliesFit Out l t.todo) e r.1, r.0);
+  invalid = λ b. Unit {0};
+  invalid_both = tt;
+  invalid_loose = λ h b. tt;
 }
 
 -- no event is left where no exchange is
@@ -87,10 +90,10 @@ module _ (k : ℕ) (span : Span) (body : ActorState → Completion ActorState Va
   fail_answered R f g s t [] out Done xs y fg pr m = absurd m
 
   -- the end of a try
-  completes_settled : (R : World) (v : Value) (s : ActorState) (y : Completion TxState Value) (es : List SeenEvent) (out : List ℕ) → txm R ≡ y → CompletesAs (tx_link R es out) v s y → Related thread_link (retrying (settled (Completes v s)) (tries k span body)) (eats_tx (suc k) span txm es out)
+  completes_settled : (R : World) (v : Value) (s : ActorState) (y : Completion TxState Value) (es : List SeenEvent) (out : List ℕ) → txm R ≡ y → CompletesAs (tx_link RepliesFit R es out) v s y → Related thread_link (retrying (settled (Completes v s)) (tries k span body)) (eats_tx (suc k) span txm es out)
   unfolding commit
   completes_settled R v s (Completes w t) es out e h =
-      answered (In R) es (Commit s.at s.writes) s (λ x. Related thread_link (retrying (met (committed x) (λ s1. Completes v s1) (λ s1. Retries s1)) (tries k span body)) (eats_tx (suc k) span txm es out)) h.1.1
+      answered RepliesFit fit_splits (In R) es (Commit s.at s.writes) s (λ x. Related thread_link (retrying (met (committed x) (λ s1. Completes v s1) (λ s1. Retries s1)) (tries k span body)) (eats_tx (suc k) span txm es out)) h.1.1
       (waiting (In R) s es out (sym h.1.2) h.1.1)
       (λ r xs m. commit_answered R v w s t es out r xs e h.0 h.1.0 (sym h.1.2) m)
   completes_settled R v s (Recurs vs t) es out e h = absurd h
@@ -100,10 +103,10 @@ module _ (k : ℕ) (span : Span) (body : ActorState → Completion ActorState Va
   completes_settled R v s (OutOfTurns t) es out e h = absurd h
   completes_settled R v s Invalid es out e h = absurd h
 
-  faults_settled : (R : World) (f : Fault) (s : ActorState) (y : Completion TxState Value) (es : List SeenEvent) (out : List ℕ) → txm R ≡ y → FaultsAs (tx_link R es out) f s y → Related thread_link (retrying (settled (Faults f s)) (tries k span body)) (eats_tx (suc k) span txm es out)
+  faults_settled : (R : World) (f : Fault) (s : ActorState) (y : Completion TxState Value) (es : List SeenEvent) (out : List ℕ) → txm R ≡ y → FaultsAs (tx_link RepliesFit R es out) f s y → Related thread_link (retrying (settled (Faults f s)) (tries k span body)) (eats_tx (suc k) span txm es out)
   unfolding fail
   faults_settled R f s (Faults g t) es out e h =
-      answered (In R) es (Fail s.at) s (λ x. Related thread_link (retrying (met (failed x) (λ s1. Faults f s1) (λ s1. Invalid)) (tries k span body)) (eats_tx (suc k) span txm es out)) h.1.1
+      answered RepliesFit fit_splits (In R) es (Fail s.at) s (λ x. Related thread_link (retrying (met (failed x) (λ s1. Faults f s1) (λ s1. Invalid)) (tries k span body)) (eats_tx (suc k) span txm es out)) h.1.1
       (waiting (In R) s es out (sym h.1.2) h.1.1)
       (λ r xs m. fail_answered R f g s t es out r xs e h.0 (sym h.1.2) m)
   faults_settled R f s (Recurs vs t) es out e h = absurd h
@@ -113,17 +116,17 @@ module _ (k : ℕ) (span : Span) (body : ActorState → Completion ActorState Va
   faults_settled R f s (OutOfTurns t) es out e h = absurd h
   faults_settled R f s Invalid es out e h = absurd h
 
-  settled_related : (R : World) (x : Completion ActorState Value) (es : List SeenEvent) (out : List ℕ) → Related (tx_link R es out) x (txm R) → Related thread_link (retrying (settled x) (tries k span body)) (eats_tx (suc k) span txm es out)
+  settled_related : (R : World) (x : Completion ActorState Value) (es : List SeenEvent) (out : List ℕ) → Related (tx_link RepliesFit R es out) x (txm R) → Related thread_link (retrying (settled x) (tries k span body)) (eats_tx (suc k) span txm es out)
   settled_related R (Completes v s) es out h = completes_settled R v s (txm R) es out refl h
   settled_related R (Recurs vs s) es out h = tt
   settled_related R (Faults f s) es out h = faults_settled R f s (txm R) es out refl h
   settled_related R (Retries s) es out h =
       subst (λ l. Related thread_link (tries k span body s) (eats_tx (suc k) span txm l out)) (sym h.1) (next s h.0 out (sym h.3) h.2)
   settled_related R (Waits s) es out h = waiting (In R) s es out (sym h.1) h.0
-  settled_related R (OutOfTurns s) es out h = waiting (In R) s es out (sym h.1) h.0
+  settled_related R (OutOfTurns s) es out h = waiting (In R) s es out (sym h.2) h.1
   settled_related R Invalid es out h = tt
 
-  begin_answered : (body_related : (R : World) (s : ActorState) (es : List SeenEvent) (out : List ℕ) → s.writes ≡ [] → RepliesFit (In R) s.todo es → s.printed ≡ out → Related (tx_link R es out) (body s) (txm R))
+  begin_answered : (body_related : (R : World) (s : ActorState) (es : List SeenEvent) (out : List ℕ) → s.writes ≡ [] → RepliesFit (In R) s.todo es → s.printed ≡ out → Related (tx_link RepliesFit R es out) (body s) (txm R))
       (s : ActorState) (es : List SeenEvent) (out : List ℕ) (r : Reply) (xs : List Exchange) → out ≡ s.printed → ReplyFits Out Begin r (λ ph1 es1. RepliesFit ph1 xs es1) es →
       Related thread_link (retrying (met (begun (Replied r (record s { todo = xs }))) (λ s1. settled (body s1)) (λ s1. Invalid)) (tries k span body)) (eats_tx (suc k) span txm es out)
   begin_answered br s es out (At p) xs pr m =
@@ -135,15 +138,15 @@ module _ (k : ℕ) (span : Span) (body : ActorState → Completion ActorState Va
   begin_answered br s es out Full xs pr m = tt
   begin_answered br s es out Memory xs pr m = tt
 
-  attempt_related : (body_related : (R : World) (s : ActorState) (es : List SeenEvent) (out : List ℕ) → s.writes ≡ [] → RepliesFit (In R) s.todo es → s.printed ≡ out → Related (tx_link R es out) (body s) (txm R))
+  attempt_related : (body_related : (R : World) (s : ActorState) (es : List SeenEvent) (out : List ℕ) → s.writes ≡ [] → RepliesFit (In R) s.todo es → s.printed ≡ out → Related (tx_link RepliesFit R es out) (body s) (txm R))
       (s : ActorState) (es : List SeenEvent) (out : List ℕ) → out ≡ s.printed → RepliesFit Out s.todo es → Related thread_link (tries (suc k) span body s) (eats_tx (suc k) span txm es out)
   unfolding begin
   attempt_related br s es out pr f =
-      answered Out es Begin s (λ x. Related thread_link (retrying (met (begun x) (λ s1. settled (body s1)) (λ s1. Invalid)) (tries k span body)) (eats_tx (suc k) span txm es out)) f
+      answered RepliesFit fit_splits Out es Begin s (λ x. Related thread_link (retrying (met (begun x) (λ s1. settled (body s1)) (λ s1. Invalid)) (tries k span body)) (eats_tx (suc k) span txm es out)) f
       (waiting Out s es out pr f)
       (λ r xs m. begin_answered br s es out r xs pr m)
 
-tries_related : (k : ℕ) (span : Span) (body : ActorState → Completion ActorState Value) (txm : World → Completion TxState Value) (body_related : (R : World) (s : ActorState) (es : List SeenEvent) (out : List ℕ) → s.writes ≡ [] → RepliesFit (In R) s.todo es → s.printed ≡ out → Related (tx_link R es out) (body s) (txm R))
+tries_related : (k : ℕ) (span : Span) (body : ActorState → Completion ActorState Value) (txm : World → Completion TxState Value) (body_related : (R : World) (s : ActorState) (es : List SeenEvent) (out : List ℕ) → s.writes ≡ [] → RepliesFit (In R) s.todo es → s.printed ≡ out → Related (tx_link RepliesFit R es out) (body s) (txm R))
     (s : ActorState) (es : List SeenEvent) (out : List ℕ) → out ≡ s.printed → RepliesFit Out s.todo es → Related thread_link (tries k span body s) (eats_tx k span txm es out)
 tries_related zero span body txm br s es out pr f = (refl, (pr, f))
 tries_related (suc k) span body txm br s es out pr f = attempt_related k span body txm (λ s1 es1 out1 pr1 f1. tries_related k span body txm br s1 es1 out1 pr1 f1) br s es out pr f
@@ -167,7 +170,7 @@ peek_related : (span : Span) (rc : Result CellId FaultKind) (s : ActorState) (t 
 unfolding peek
 peek_related span (Err k) s t r = (refl, r)
 peek_related span (Ok c) s t r =
-    answered Out t.todo (Peek c) s (λ h. Related thread_link (res (peeked h)) (eats_read c t.todo t)) r.1
+    answered RepliesFit fit_splits Out t.todo (Peek c) s (λ h. Related thread_link (res (peeked h)) (eats_read c t.todo t)) r.1
     (λ e. let z = none_left Out s.todo t.todo r.1 e in subst (λ l. HasEaten s.printed (halted (eats_read c l t))) (sym z) (z, r.0))
     (λ rep xs m. peek_answered c s t t.todo rep xs r.0 m)
 
@@ -204,7 +207,7 @@ thread_alike n functions d = record {
     th_dosync true span e env s t m h r = absurd (true_false m)
     th_dosync false span e env s t m h r =
         tries_related (suc reruns) span (λ s1. closed (eval on_replies (call_at (λ x. on_replies) n functions d) n true e env s1)) (tx_meaning n functions d e env)
-        (λ R s1 es out own f pr. tx_related R out es n functions d e env s1 own f pr) s t.todo t.printed r.0 r.1
+        (λ R s1 es out own f pr. tx_related RepliesFit fit_splits R out es n functions d e env s1 own f pr) s t.todo t.printed r.0 r.1
 
 agrees : (x : Completion ActorState Value) (y : Completion ThreadState Value) → Related thread_link x y → Agrees x y
 agrees (Completes v s) (Completes w t) h = (t, ap (λ u. Completes u t) (sym h.0), h.1.0, h.1.1)

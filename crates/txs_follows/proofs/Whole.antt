@@ -5,10 +5,9 @@ use Rattle.txs_code.specs.ActorState.{ActorState}
 use Rattle.txs_code.specs.Machine.{ThreadCode, Ended, Failed, Asking, Unfinished, Stuck, Outcome}
 use Rattle.txs_follows.proofs.Acts.{longer}
 use Rattle.txs_follows.proofs.Grows.{GrowsTo, Later, later}
-use Rattle.txs_follows.proofs.More.{more_turns}
 use Rattle.txs_follows.proofs.Threads.{tree_follows}
 use Rattle.txs_follows.specs.Behaves.{source, opening, target, IsMeant, HasEnded, outcome_of, IsOver, Behaves}
-use Rattle.txs_follows.specs.RepliesFit.{Out, RepliesFit, halted, HasEaten, Agrees, HasEatenAll, Explained, Consumed, Follows, IsEverMeant}
+use Rattle.txs_follows.specs.RepliesFit.{Out, RepliesFit, halted, HasEaten, Agrees, HasEatenAll, Explained, Consumed}
 use Rattle.txs_tree.specs.Meaning.{Completion, Completes, Recurs, Faults, Retries, Waits, OutOfTurns, Invalid}
 use Rattle.txs_tree.specs.Thread.{SeenEvent, ThreadState, thread_meaning}
 use Rattle.txs_tree.specs.Tree.{ThreadSource}
@@ -16,7 +15,7 @@ use Rattle.txs_value.specs.Ask.{Exchange}
 use Rattle.txs_value.specs.declared.value.Value.{Value}
 
 -- a list that is nothing put before another leaves nothing
-nothing_after : {A : Type 0} (xs ys : List A) → xs ++ ys ≡ [] → ys ≡ []
+pub nothing_after : {A : Type 0} (xs ys : List A) → xs ++ ys ≡ [] → ys ≡ []
 nothing_after [] ys e = e
 nothing_after (x ∷ xs) ys e = absurd (subst (λ l. elim l as (λ m. Type 0) [ [] ↦ ⊥ | y ∷ m ↦ Unit {0} ]) e tt)
 
@@ -51,7 +50,7 @@ agreed (OutOfTurns u) r t a s g e =
 agreed Invalid r t a s g e = absurd t
 
 -- a run that goes on at m has, at m or later, grown to what it reaches
-grown : (code : ThreadCode) (todo : List Exchange) (m k : ℕ) (s : ActorState) (o : Outcome) → m ≤ k → target code m todo ≡ Unfinished s → target code k todo ≡ o → GrowsTo s o
+pub grown : (code : ThreadCode) (todo : List Exchange) (m k : ℕ) (s : ActorState) (o : Outcome) → m ≤ k → target code m todo ≡ Unfinished s → target code k todo ≡ o → GrowsTo s o
 grown code todo m k s o le e f =
     subst (GrowsTo s) f (subst (λ u. Later u (target code k todo)) e (later code m k le (opening code todo)))
 
@@ -68,7 +67,7 @@ grown_over : (code : ThreadCode) (todo : List Exchange) (m : ℕ) (s : ActorStat
 grown_over code todo m s o over e r = grown code todo m r.0 s o (not_before code todo m r.0 s o over e r.1) e r.1
 
 -- an outcome that is the tree's, with all exchanges consumed
-over_explained : (x : Completion ActorState Value) (r : Completion ThreadState Value) → HasEnded x → Agrees x r → Consumed (outcome_of x) → Explained (outcome_of x) r
+pub over_explained : (x : Completion ActorState Value) (r : Completion ThreadState Value) → HasEnded x → Agrees x r → Consumed (outcome_of x) → Explained (outcome_of x) r
 over_explained (Completes v s) r t a e = (v, a.0, a.1, fits_nothing s.todo a.0.todo e a.3, a.2)
 over_explained (Recurs vs s) r t a e = absurd t
 over_explained (Faults f s) r t a e = (a.0, a.1, fits_nothing s.todo a.0.todo e a.3, a.2)
@@ -88,7 +87,7 @@ ended_of (OutOfTurns s) o t e over = subst IsOver (sym e) over
 ended_of Invalid o t e over = absurd t
 
 module _ (code : ThreadCode) (p : ThreadSource) (behaves : Behaves code p) where
-  ends : (todo : List Exchange) (m : ℕ) (x : Completion ActorState Value) → source p m todo ≡ x → HasEnded x → (j : ℕ) × (target code j todo ≡ outcome_of x)
+  pub ends : (todo : List Exchange) (m : ℕ) (x : Completion ActorState Value) → source p m todo ≡ x → HasEnded x → (j : ℕ) × (target code j todo ≡ outcome_of x)
   ends todo m x q t = subst (λ y. (j : ℕ) × (target code j todo ≡ outcome_of y)) q (behaves.follows todo m (subst HasEnded (sym q) t))
 
   grown_to : (todo : List Exchange) (m : ℕ) (s : ActorState) (x : Completion ActorState Value) → source p m todo ≡ x → IsMeant x → target code m todo ≡ Unfinished s → GrowsTo s (outcome_of x)
@@ -108,17 +107,10 @@ module _ (code : ThreadCode) (p : ThreadSource) (behaves : Behaves code p) where
       subst (λ u. Explained u (thread_meaning p m es)) same
       (over_explained (source p m todo) (thread_meaning p m es) (ended_of (source p m todo) o t same ov) (tree_follows p m todo es f) (subst Consumed (sym same) c))
 
-  explained : (todo : List Exchange) (es : List SeenEvent) (m : ℕ) (o : Outcome) → target code m todo ≡ o → RepliesFit Out todo es → IsMeant (source p m todo) → Consumed o → Explained o (thread_meaning p m es)
+  pub explained : (todo : List Exchange) (es : List SeenEvent) (m : ℕ) (o : Outcome) → target code m todo ≡ o → RepliesFit Out todo es → IsMeant (source p m todo) → Consumed o → Explained o (thread_meaning p m es)
   explained todo es m (Unfinished s) e f t c =
       agreed (source p m todo) (thread_meaning p m es) t (tree_follows p m todo es f) s (grown_to todo m s (source p m todo) refl t e) c
   explained todo es m (Ended s) e f t c = over todo es m (Ended s) e f t c tt
   explained todo es m (Failed x s) e f t c = over todo es m (Failed x s) e f t c tt
   explained todo es m (Asking s) e f t c = over todo es m (Asking s) e f t c tt
   explained todo es m Stuck e f t c = over todo es m Stuck e f t c tt
-
-  -- code that behaves as a thread's tree follows it, where no answer of the tree is invalid
-  pub behaves_follows : IsEverMeant p → Follows code p
-  behaves_follows meant = record {
-    explained = λ todo es m f c. explained todo es m (target code m todo) refl f (meant m todo es f) c;
-    reaches = λ todo es n k f t le. (behaves.follows todo n t, subst (λ x. Agrees x (thread_meaning p k es)) (more_turns p todo n k le t) (tree_follows p k todo es f));
-  }

@@ -5,7 +5,7 @@ use Rattle.txs_tree.specs.Sound.{Sound}
 use Rattle.txs_tree.specs.Tree.{PlainThread, PlainProgram, ThreadSource}
 use Rattle.txs_code.specs.Machine.{ThreadCode}
 use Rattle.txs_follows.specs.Behaves.{Behaves}
-use Rattle.txs_follows.specs.RepliesFit.{Follows}
+use Rattle.txs_follows.specs.Follows.{Follows}
 
 -- a thread of a program, with the functions that it may call
 abbrev pub source_of : PlainProgram → PlainThread → ThreadSource

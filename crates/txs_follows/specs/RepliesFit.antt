@@ -1,5 +1,5 @@
 -- Which replies fit which events, and what it is that code follows a program.
-use Rattle.std.specs.Prelude.{◌≡◌, ℕ, ◌≤◌, List, [], ◌∷◌, ◌++◌}
+use Rattle.std.specs.Prelude.{◌≡◌, ℕ, List, [], ◌∷◌, ◌++◌}
 use Rattle.txs_value.specs.Ask.{Exchange}
 use Rattle.txs_value.specs.Cells.{World}
 use Rattle.txs_value.specs.declared.ask.Ask.{Ask}
@@ -11,9 +11,8 @@ use Rattle.txs_tree.specs.Meaning.{Completion, Completes, Recurs, Faults, Retrie
 use Rattle.txs_tree.specs.Thread.{SeenEvent, Read, Committed, Retried, Aborted, ThreadState, thread_meaning}
 use Rattle.txs_tree.specs.Tree.{ThreadSource}
 use Rattle.txs_code.specs.ActorState.{ActorState}
-use Rattle.txs_code.specs.Machine.{ThreadCode, Outcome, Ended, Failed, Asking, Unfinished, Stuck}
-use Rattle.txs_tree.specs.Sound.{SoundSource}
-use Rattle.txs_follows.specs.Behaves.{source, target, Behaves, IsMeant, HasEnded, outcome_of}
+use Rattle.txs_code.specs.Machine.{Outcome, Ended, Failed, Asking, Unfinished, Stuck}
+use Rattle.txs_follows.specs.Behaves.{source}
 
 -- outside a transaction, or in a try on one world
 pub data Phase : Type 0 where
@@ -101,18 +100,3 @@ Consumed (Failed f s) = s.todo ≡ []
 Consumed (Asking s) = s.todo ≡ []
 Consumed (Unfinished s) = s.todo ≡ []
 Consumed Stuck = Unit {0}
-
--- The code follows the thread's tree, on all replies that fit.
-pub record Follows (code : ThreadCode) (p : ThreadSource) : Type 0 where
-  -- after any number of turns, on exchanges that fit the events, the thread eats the events with what was printed
-  pub explained : (todo : List Exchange) (es : List SeenEvent) (m : ℕ) → RepliesFit Out todo es → Consumed (target code m todo) → Explained (target code m todo) (thread_meaning p m es)
-  -- where the tree on these replies ends for some bound on its loops, the code ends so, and the thread with any greater bound agrees
-  pub reaches : (todo : List Exchange) (es : List SeenEvent) (n k : ℕ) → RepliesFit Out todo es → HasEnded (source p n todo) → n ≤ k → ((m : ℕ) × (target code m todo ≡ outcome_of (source p n todo))) × Agrees (source p n todo) (thread_meaning p k es)
-
--- no answer of a tree on replies that fit is invalid
-abbrev pub IsEverMeant : ThreadSource → Type 0
-IsEverMeant p = (n : ℕ) (todo : List Exchange) (es : List SeenEvent) → RepliesFit Out todo es → IsMeant (source p n todo)
-
--- code that behaves as a sound thread's tree follows it
-abbrev pub SoundFollows : Type 0
-SoundFollows = (code : ThreadCode) (p : ThreadSource) → Behaves code p → SoundSource p → Follows code p

@@ -4,7 +4,7 @@
 #![tactic(auto)]
 
 ghost use Rattle.txs_follows.specs.FollowsAll.{GeneratedFollows, SoundFollowsAll};
-ghost use Rattle.txs_follows.specs.RepliesFit.{SoundFollows};
+ghost use Rattle.txs_follows.specs.Follows.{SoundFollows};
 ghost use Rattle.txs_follows.specs.RepliesFitTo.{FittingToFits, OneMoreFits};
 
 /// Code that behaves as a sound thread's tree does on any replies follows the thread's meaning.

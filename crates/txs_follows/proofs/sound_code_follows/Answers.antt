@@ -1,5 +1,5 @@
 use Rattle.txs_follows.proofs.Sound.{ever_meant}
-use Rattle.txs_follows.proofs.Whole.{behaves_follows}
+use Rattle.txs_follows.proofs.Ends.{behaves_follows}
 use Rattle.txs_follows.proofs.sound_code_follows.Goals as goal
 
 pub returns : goal.returns

@@ -1,0 +1,87 @@
+-- Where the thread's meaning ends on the events, the code ends so.
+use Rattle.std.proofs.Common.{ℕ, List, [], refl, sym, subst, arith, ⊎_elim, ◌≡◌, ◌≤◌, ◌+◌, ◌++◌, ◌∙◌}
+use Rattle.std.proofs.lemmas.Bool.{cases_lt}
+use Rattle.txs_code.specs.ActorState.{ActorState}
+use Rattle.txs_code.specs.Machine.{ThreadCode, Ended, Failed, Asking, Unfinished, Stuck, Outcome}
+use Rattle.txs_follows.proofs.Acts.{longer}
+use Rattle.txs_follows.proofs.Fitted.{fits_of}
+use Rattle.txs_follows.proofs.Grows.{GrowsTo}
+use Rattle.txs_follows.proofs.Loops.{loops_too}
+use Rattle.txs_follows.proofs.MoreEvents.{settled_same, needs_before}
+use Rattle.txs_follows.proofs.More.{more_turns}
+use Rattle.txs_follows.proofs.Threads.{tree_follows}
+use Rattle.txs_follows.proofs.Whole.{explained, nothing_after, grown, ends, over_explained}
+use Rattle.txs_follows.specs.Behaves.{source, opening, target, IsMeant, HasEnded, outcome_of, IsOver, Behaves}
+use Rattle.txs_follows.specs.EndsSo.{NeedsTurns, HasSettled, in_hand, EndsSo}
+use Rattle.txs_follows.specs.Follows.{Follows, IsEverMeant}
+use Rattle.txs_follows.specs.OnReplies.{settled}
+use Rattle.txs_follows.specs.RepliesFit.{Phase, Out, Agrees, Explained, Consumed}
+use Rattle.txs_follows.specs.RepliesFitTo.{RepliesFitTo}
+use Rattle.txs_tree.specs.Meaning.{Completion, Completes, Recurs, Faults, Retries, Waits, OutOfTurns, Invalid}
+use Rattle.txs_tree.specs.Thread.{SeenEvent, thread_meaning}
+use Rattle.txs_tree.specs.Tree.{ThreadSource}
+use Rattle.txs_value.specs.Ask.{Exchange}
+use Rattle.txs_value.specs.declared.value.Value.{Value}
+
+consumed_grown : (s : ActorState) (o : Outcome) → GrowsTo s o → s.todo ≡ [] → Consumed o
+consumed_grown s (Ended u) g e = nothing_after g.done u.todo (sym g.eats ∙ e)
+consumed_grown s (Failed f u) g e = nothing_after g.done u.todo (sym g.eats ∙ e)
+consumed_grown s (Asking u) g e = nothing_after g.done u.todo (sym g.eats ∙ e)
+consumed_grown s (Unfinished u) g e = nothing_after g.done u.todo (sym g.eats ∙ e)
+consumed_grown s Stuck g e = tt
+
+-- what has consumed all replies has done so later
+consumed_later : (code : ThreadCode) (todo : List Exchange) (m j : ℕ) (a o : Outcome) → m ≤ j → target code m todo ≡ a → target code j todo ≡ o → Consumed a → Consumed o
+consumed_later code todo m j (Unfinished s) o le e f c = consumed_grown s o (grown code todo m j s o le e f) c
+consumed_later code todo m j (Ended s) o le e f c = subst Consumed (sym (longer code m j le (opening code todo) (Ended s) tt e) ∙ f) c
+consumed_later code todo m j (Failed x s) o le e f c = subst Consumed (sym (longer code m j le (opening code todo) (Failed x s) tt e) ∙ f) c
+consumed_later code todo m j (Asking s) o le e f c = subst Consumed (sym (longer code m j le (opening code todo) (Asking s) tt e) ∙ f) c
+consumed_later code todo m j Stuck o le e f c = subst Consumed (sym (longer code m j le (opening code todo) Stuck tt e) ∙ f) c
+
+-- what is over has consumed all replies where some run has
+consumed_over : (code : ThreadCode) (todo : List Exchange) (m j : ℕ) (o : Outcome) → IsOver o → target code j todo ≡ o → Consumed (target code m todo) → Consumed o
+consumed_over code todo m j o over f c =
+    ⊎_elim
+    (λ lt. subst Consumed (longer code j m (omega (arith, lt)) (opening code todo) o over f) c)
+    (λ le. consumed_later code todo m j (target code m todo) o le refl f c)
+    (cases_lt j m)
+
+module _ (code : ThreadCode) (p : ThreadSource) (behaves : Behaves code p) (todo : List Exchange) (es : List SeenEvent) (end : Phase) (m n k b : ℕ)
+    (m_below : m ≤ b) (n_below : n ≤ b) (k_below : k ≤ b) (f : RepliesFitTo Out todo es end) (c : Consumed (target code m todo))
+    (settled : HasSettled (thread_meaning p n es)) (enough : NeedsTurns (thread_meaning p k (es ++ in_hand end)) → ⊥) where
+  over_so : (x : Completion ActorState Value) → source p b todo ≡ x → HasEnded x → IsOver (outcome_of x) → Agrees x (thread_meaning p n es) → (j : ℕ) × IsOver (target code j todo) × Explained (target code j todo) (thread_meaning p n es)
+  over_so x q t over a =
+      let r = ends code p behaves todo b x q t in
+      let o = outcome_of x in
+      (r.0, subst IsOver (sym r.1) over, subst (λ u. Explained u (thread_meaning p n es)) (sym r.1) (over_explained x (thread_meaning p n es) t a (consumed_over code todo m r.0 o over r.1 c)))
+
+  -- the tree has turns enough
+  never_short : (s : ActorState) → source p b todo ≡ OutOfTurns s → ⊥
+  never_short s q =
+      let r = behaves.goes_on todo b s q in
+      let none_left : s.todo ≡ [] = consumed_later code todo m r.0 (target code m todo) (Unfinished s) (omega (arith, m_below, r.1)) refl r.2 c in
+      enough (needs_before p (es ++ in_hand end) k b k_below (loops_too p b todo es end s f q none_left))
+
+  ended_so : (x : Completion ActorState Value) → source p b todo ≡ x → IsMeant x → Agrees x (thread_meaning p n es) → (j : ℕ) × IsOver (target code j todo) × Explained (target code j todo) (thread_meaning p n es)
+  ended_so (Completes v s) q t a = over_so (Completes v s) q tt tt a
+  ended_so (Recurs vs s) q t a = absurd t
+  ended_so (Faults g s) q t a = over_so (Faults g s) q tt tt a
+  ended_so (Retries s) q t a = absurd t
+  ended_so (Waits s) q t a = over_so (Waits s) q tt tt a
+  ended_so (OutOfTurns s) q t a = absurd (never_short s q)
+  ended_so Invalid q t a = absurd t
+
+ends_so : (code : ThreadCode) (p : ThreadSource) → Behaves code p → IsEverMeant p → EndsSo code p
+ends_so code p behaves meant todo es end m n k f c settled enough =
+    let b = m + (n + k) in
+    let fit = fits_of Out todo es end f in
+    ended_so code p behaves todo es end m n k b (omega arith) (omega arith) (omega arith) f c settled enough (source p b todo) refl (meant b todo es fit)
+    (subst (λ y. Agrees (source p b todo) y) (settled_same p es n b (omega arith) settled) (tree_follows p b todo es fit))
+
+-- code that behaves as a thread's tree follows the thread, where no answer of the tree is invalid
+pub behaves_follows : (code : ThreadCode) (p : ThreadSource) → Behaves code p → IsEverMeant p → Follows code p
+behaves_follows code p behaves meant = record {
+  explained = λ todo es m f c. explained code p behaves todo es m (target code m todo) refl f (meant m todo es f) c;
+  reaches = λ todo es n k f t le. (behaves.follows todo n t, subst (λ x. Agrees x (thread_meaning p k es)) (more_turns p todo n k le t) (tree_follows p k todo es f));
+  ends_so = ends_so code p behaves meant;
+}
