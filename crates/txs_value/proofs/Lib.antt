@@ -4,4 +4,5 @@ pub mod ItemsLemmas
 pub mod OperationsLemmas
 pub mod PrintedLemmas
 pub mod SameLemmas
+pub mod TakesLemmas
 pub mod TruthLemmas

@@ -1,6 +1,6 @@
 //! The core operations by their table.
 
-ghost use Rattle.std.specs.Prelude.{◌≡◌, ◌<◌, ◌≤◌, ◌-◌, length, take, drop, vec_capacity, IsTrue};
+ghost use Rattle.std.specs.Prelude.{◌≡◌, ◌≤◌, ◌-◌, length, take, drop, vec_capacity, IsTrue};
 ghost use Rattle.txs_value.specs.Core.{core, takes, Answers, AnswersOnTop};
 
 use crate::comparisons::{
@@ -129,8 +129,6 @@ pub fn apply_on_stack(
 ) -> Result<(), Stop>
     requires takes { IsTrue (takes op count) }
     requires enough { count ≤ length stack.old.items }
-    requires some { 0 < count }
-    requires room { length stack.old.items ≤ vec_capacity stack.old }
     ensures answer { AnswersOnTop result (take (length stack.old.items - count) stack.old.items) stack.new.items
         (core op (drop (length stack.old.items - count) stack.old.items)) }
     ensures capacity { vec_capacity stack.new ≡ vec_capacity stack.old }
