@@ -1,12 +1,13 @@
--- The children of a node as a list.
-use Rattle.std.proofs.Common.{rules, ◌≡◌, List, [], ◌∷◌, ◌++◌, refl, ap, Vec, Global, Box}
+-- A node as a tree, with its children as a list.
+use Rattle.std.proofs.Common.{rules, ◌≡◌, ℕ, List, [], ◌∷◌, refl, sym, ap, ◌∙◌, Vec, Global, Box}
 use Rattle.txs_value.specs.declared.op.Op.{Op}
+use Rattle.txs_value.specs.declared.value.Value.{Value}
 use Rattle.txs_tree.specs.Tree.{Mark, Tree, Trees, more}
 use Rattle.txs_tree.specs.Tree as tree
 use Rattle.txs_tree.specs.View.{kind_tree, row_trees, tree_of, trees_of, mark_of}
 use Rattle.txs_tree.specs.declared.node.Node.{Node}
 use Rattle.txs_tree.specs.declared.node.NodeKind.{NodeKind, Row_of-Node, end_of-Node, more_of-Node, items-the_row-Node, the_lemmas}
-use Rattle.txs_tree.specs.declared.node.NodeKind.TheVariants.{Do, Let, Core, Println}
+use Rattle.txs_tree.specs.declared.node.NodeKind.TheVariants.{Const, Local, Do, Let, Core, Println}
 
 pub row_list : {n : _} (row : Row_of-Node n) → row_trees row ≡ trees_of (items-the_row-Node n row)
 row_list end_of-Node = refl
@@ -23,3 +24,31 @@ core_tree op args m = search (rules, the_lemmas, row_list)
 
 pub println_tree : (args : Vec Node Global) (m : Mark) → kind_tree (Println args) m ≡ tree.Println (trees_of args.items) m
 println_tree args m = search (rules, the_lemmas, row_list)
+
+-- a node by its kind, with its children as they were read
+module _ (n : Node) where
+  pub const_node : (v : Value) → n.kind ≡ Const v → tree_of n ≡ tree.Const v (mark_of n.span n.wanted)
+  const_node v is = ap (λ k. kind_tree k (mark_of n.span n.wanted)) is
+
+  pub local_node : (i : ℕ) → n.kind ≡ Local i → tree_of n ≡ tree.Local i (mark_of n.span n.wanted)
+  local_node i is = ap (λ k. kind_tree k (mark_of n.span n.wanted)) is
+
+  pub do_node : (items : Vec Node Global) (ns : List Node) → n.kind ≡ Do items → ns ≡ items.items → tree_of n ≡ tree.Do (trees_of ns) (mark_of n.span n.wanted)
+  do_node items ns is same =
+      let m = mark_of n.span n.wanted in
+      ap (λ k. kind_tree k m) is ∙ do_tree items m ∙ ap (λ l. tree.Do (trees_of l) m) (sym same)
+
+  pub let_node : (values : Vec Node Global) (body : Box Node Global) (ns : List Node) (b : Node) → n.kind ≡ Let values body → ns ≡ values.items → b ≡ body.value → tree_of n ≡ tree.Let (trees_of ns) (tree_of b) (mark_of n.span n.wanted)
+  let_node values body ns b is same same_body =
+      let m = mark_of n.span n.wanted in
+      ap (λ k. kind_tree k m) is ∙ let_tree values body m ∙ ap (λ l. tree.Let (trees_of l) (tree_of body.value) m) (sym same) ∙ ap (λ x. tree.Let (trees_of ns) (tree_of x) m) (sym same_body)
+
+  pub core_node : (op : Op) (args : Vec Node Global) (ns : List Node) → n.kind ≡ Core op args → ns ≡ args.items → tree_of n ≡ tree.Core op (trees_of ns) (mark_of n.span n.wanted)
+  core_node op args ns is same =
+      let m = mark_of n.span n.wanted in
+      ap (λ k. kind_tree k m) is ∙ core_tree op args m ∙ ap (λ l. tree.Core op (trees_of l) m) (sym same)
+
+  pub println_node : (args : Vec Node Global) (ns : List Node) → n.kind ≡ Println args → ns ≡ args.items → tree_of n ≡ tree.Println (trees_of ns) (mark_of n.span n.wanted)
+  println_node args ns is same =
+      let m = mark_of n.span n.wanted in
+      ap (λ k. kind_tree k m) is ∙ println_tree args m ∙ ap (λ l. tree.Println (trees_of l) m) (sym same)

@@ -1,3 +1,4 @@
+pub mod Evaluated
 pub mod Meaning
 pub mod Sound
 pub mod Thread

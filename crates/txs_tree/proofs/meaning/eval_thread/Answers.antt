@@ -1,0 +1,17 @@
+use Rattle.std.proofs.Common.{ap, length}
+use Rattle.txs_tree.proofs.Ends.{sound_body, told_done, told_fault}
+use Rattle.txs_tree.proofs.meaning.eval_thread.Goals as goal
+
+pub evaluate-requires : goal.evaluate-requires
+evaluate-requires c =
+    sound_body c.threads.result.now c.args.program.now c.args.thread c.index-threads-thread.result c.threads.ensures.value c.requires c.index-threads-thread.is (length c.new-locals.result.items) (ap length c.new-locals.ensures.items) c.threads.ensures.sound
+
+pub returns-in-Ok : goal.returns-in-Ok
+returns-in-Ok c =
+    told_done c.threads.result.now c.args.program.now c.args.thread c.index-threads-thread.result c.threads.ensures.value c.requires c.index-threads-thread.is c.args.turns c.ended.result
+    c.new-locals.result.items c.new-printed.result.items c.evaluate.new.printed.items c.new-locals.ensures.items c.new-printed.ensures.items c.in-Ok.field-0 c.in-Ok.ensures.value c.ended.ensures
+
+pub returns-in-Err-Fault : goal.returns-in-Err-Fault
+returns-in-Err-Fault c =
+    told_fault c.threads.result.now c.args.program.now c.args.thread c.index-threads-thread.result c.threads.ensures.value c.requires c.index-threads-thread.is c.args.turns c.ended-in-Err-Fault.result
+    c.new-locals.result.items c.new-printed.result.items c.evaluate.new.printed.items c.new-locals.ensures.items c.new-printed.ensures.items c.in-Err-Fault.field-0 c.in-Err-Fault.fault c.in-Err-Fault.field-0-is c.in-Err-Fault.ensures.value c.ended-in-Err-Fault.ensures

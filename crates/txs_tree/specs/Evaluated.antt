@@ -1,0 +1,73 @@
+-- What the plain evaluator answers.
+use Rattle.std.specs.Prelude.{◌≡◌, ℕ, zero, suc, false, List, [], ◌∷◌, ◌++◌, Option, Some, None, Result, Ok, Err, ⊤}
+use Rattle.txs_value.specs.Places.{nth}
+use Rattle.txs_value.specs.declared.value.Value.{Value}
+use Rattle.txs_tree.specs.Meaning.{Completion, Completes, Recurs, Faults, Retries, Waits, OutOfTurns, Invalid, bind, Effects, eval, eval_all, eval_let, eval_do, call_at}
+use Rattle.txs_tree.specs.Thread.{ThreadState, on_events}
+use Rattle.txs_tree.specs.Tree.{Tree, Trees, PlainProgram, PlainThread, ThreadSource}
+use Rattle.txs_tree.specs.declared.evaluate.EvalStop.{EvalStop}
+use Rattle.txs_tree.specs.declared.evaluate.EvalStop.TheVariants.{Fault, Memory}
+use Rattle.txs_tree.specs.declared.meaning.Ending.{Ending}
+use Rattle.txs_tree.specs.declared.meaning.Ending.TheVariants.{Done, Failed}
+use Rattle.txs_tree.specs.declared.meaning.Needs.{Needs}
+use Rattle.txs_tree.specs.declared.meaning.Needs.TheVariants.{Nothing, Event, Turns, Wrong}
+use Rattle.txs_tree.specs.declared.meaning.ThreadMeaning.{ThreadMeaning}
+
+abbrev pub source_in : PlainProgram → Option PlainThread → Option ThreadSource
+source_in p None = None
+source_in p (Some t) = Some (record { functions = p.functions; main = t.body })
+
+-- the thread at a place of a program, with the functions that it may call
+abbrev pub thread_source : PlainProgram → ℕ → Option ThreadSource
+thread_source p k = source_in p (nth p.threads k)
+
+-- what was printed, what is needed, and how the thread ended
+pub record Account (m : ThreadMeaning) (bytes : List ℕ) (lack : Needs) (end : Option Ending) : Type 0 where
+  pub printed : m.printed ≡ bytes
+  pub needs : m.needs ≡ lack
+  pub ending : m.ending ≡ end
+
+-- An evaluation tells how the meaning ends, and the bytes that are printed until then. A meaning at which the thread
+-- doesn't end says what it needs. No thread ends in a recur or runs again as a whole.
+abbrev pub Tells : ThreadMeaning → Completion ThreadState Value → Type 0
+Tells m (Completes v s) = Account m s.printed Nothing (Some Done)
+Tells m (Recurs vs s) = ⊥
+Tells m (Faults f s) = Account m s.printed Nothing (Some (Failed f))
+Tells m (Retries s) = ⊥
+Tells m (Waits s) = Account m s.printed Event None
+Tells m (OutOfTurns s) = Account m s.printed Turns None
+Tells m Invalid = (m.needs ≡ Wrong) × (m.ending ≡ None)
+
+-- bytes that were printed, with no events to come
+abbrev pub printing : List ℕ → ThreadState
+printing out = record { todo = []; printed = out }
+
+-- what a node means outside every transaction, with these locals, after these bytes were printed
+abbrev pub means : ℕ → Tree → List Value → List ℕ → Completion ThreadState Value
+means n e env out = eval (on_events n [] 0) (call_at (on_events n []) n [] 0) n false e env (printing out)
+
+-- the same of nodes whose values are all wanted
+abbrev pub all_mean : ℕ → Trees → List Value → List ℕ → Completion ThreadState (List Value)
+all_mean n es env out = eval_all (on_events n [] 0) (call_at (on_events n []) n [] 0) n false es env (printing out)
+
+-- the same of nodes of which the last one's value is wanted
+abbrev pub do_means : ℕ → Trees → List Value → List ℕ → Completion ThreadState Value
+do_means n es env out = eval_do (on_events n [] 0) (call_at (on_events n []) n [] 0) n false es env (printing out)
+
+-- the same of a body after its new locals
+abbrev pub let_means : ℕ → Trees → Tree → List Value → List ℕ → Completion ThreadState Value
+let_means n es body env out =
+    bind (eval_let (on_events n [] 0) (call_at (on_events n []) n [] 0) n false es env (printing out))
+    (λ vs s. eval (on_events n [] 0) (call_at (on_events n []) n [] 0) n false body (env ++ vs) s)
+
+-- the result and the printed bytes are those of the meaning, or there was no memory for them
+abbrev pub Gives : {A : Type 0} → Result A EvalStop → List ℕ → Completion ThreadState A → Type 0
+Gives (Ok v) out c = c ≡ Completes v (printing out)
+Gives (Err (Fault f)) out c = c ≡ Faults f (printing out)
+Gives (Err Memory) out c = ⊤
+
+-- the same of a list of values
+abbrev pub GivesAll : {V : Type 0} → (V → List Value) → Result V EvalStop → List ℕ → Completion ThreadState (List Value) → Type 0
+GivesAll items (Ok v) out c = c ≡ Completes (items v) (printing out)
+GivesAll items (Err (Fault f)) out c = c ≡ Faults f (printing out)
+GivesAll items (Err Memory) out c = ⊤

@@ -1,0 +1,75 @@
+//! What a thread means.
+
+ghost use Rattle.std.specs.Prelude.{◌≡◌, ◌<◌, length, IfOk, IfSome, Some, []};
+ghost use Rattle.txs_tree.specs.Evaluated.{Account, Tells, thread_source};
+ghost use Rattle.txs_tree.specs.Thread.{thread_meaning};
+ghost use Rattle.txs_tree.specs.declared.meaning.Needs.TheVariants.{Nothing};
+ghost use Rattle.txs_tree.specs.View.{program_of};
+
+use crate::evaluate::{EvalStop, evaluate};
+use crate::program::Program;
+use std::alloc::{AllocError, Global};
+use txs_value::{Fault, Listed};
+
+/// What a thread lacks that hasn't ended.
+#[derive(Clone, Copy, Debug, PartialEq, Eq)]
+pub enum Needs {
+    /// It has ended.
+    Nothing,
+    /// One more event.
+    Event,
+    /// More turns of a loop.
+    Turns,
+    /// The events aren't those of the thread.
+    Wrong,
+}
+
+/// How a thread ends.
+#[derive(Clone, Copy, Debug, PartialEq, Eq)]
+pub enum Ending {
+    /// Its body has a value.
+    Done,
+    /// It faults.
+    Failed(Fault),
+}
+
+/// What a thread means: the bytes that it prints, what it needs, and how it ends, where it needs nothing.
+#[derive(Debug, Drop)]
+pub struct ThreadMeaning {
+    pub printed: Listed<u8>,
+    pub needs: Needs,
+    pub ending: Option<Ending>,
+}
+
+/// The meaning of a thread that ended so and printed these bytes.
+fn ended(printed: Vec<u8>, ending: Ending) -> ThreadMeaning
+    ensures { Account result printed.items Nothing (Some ending) }
+{
+    ThreadMeaning {
+        printed: Listed::from_vec(printed),
+        needs: Needs::Nothing,
+        ending: Some(ending),
+    }
+}
+
+/// The meaning of the program's thread at this place, counted from 0, where each loop makes at most
+/// `turns` turns. An error where there is no memory for it.
+pub fn eval_thread(
+    alloc: Global,
+    program: &Program,
+    thread: usize,
+    turns: u32,
+) -> Result<ThreadMeaning, AllocError>
+    requires { thread < length program.now }
+    ensures { IfOk result (λ m. IfSome (thread_source (program_of program.now) thread)
+        (λ p. Tells m (thread_meaning p turns []))) }
+{
+    let mut locals = Vec::new(alloc);
+    let mut printed = Vec::new(alloc);
+    let body = &program.threads()[thread].body;
+    match evaluate(alloc, body, turns, &mut locals, &mut printed) {
+        Ok(_) => Ok(ended(printed, Ending::Done)),
+        Err(EvalStop::Fault(fault)) => Ok(ended(printed, Ending::Failed(fault))),
+        Err(EvalStop::Memory) => Err(AllocError),
+    }
+}

@@ -1,0 +1,195 @@
+//! Which programs are sound: the test that a program has to pass.
+
+ghost use Rattle.std.specs.Prelude.{◌≡◌, ◌≤◌, ◌<◌, ◌+◌, ◌↔◌, length, false, None, IsTrue, MatchOption};
+ghost use Rattle.txs_tree.specs.Sound.{Sound, SoundTree, SoundAll, SoundLet, SoundThread, SoundThreads, nodes, nodes_in, nodes_of_all, levels, levels_in};
+ghost use Rattle.txs_tree.specs.Tree.{count};
+ghost use Rattle.txs_tree.specs.View.{tree_of, trees_of, thread_of, threads_of, program_of};
+
+use crate::node::{Node, NodeKind, Thread};
+use txs_value::takes;
+
+/// The threads that a program has at most.
+const MAX_THREADS: usize = 64;
+
+/// The nodes that all threads of a program have at most.
+const MAX_NODES: u32 = 200_000;
+
+/// The nodes that stand in one another at most.
+const MAX_LEVELS: u16 = 1_000;
+
+/// The locals that one place sees at most.
+const MAX_LOCALS: usize = 200;
+
+/// The items that a vector or a line has at most.
+const MAX_ITEMS: usize = 65_535;
+
+/// Whether these threads are a sound program: each local is bound, each operation has as many arguments
+/// as it takes, and the program keeps the limits of locals, arguments, levels, nodes and threads. It goes
+/// down no more than 1,001 levels, and looks at each node at most three times.
+pub fn is_sound(threads: &[Thread]) -> bool
+    ensures { IsTrue result ↔ Sound (program_of threads.now) }
+{
+    if threads.len() > MAX_THREADS {
+        return false;
+    }
+    if !are_sound_threads(threads) {
+        return false;
+    }
+    have_few_nodes(threads)
+}
+
+/// Whether each thread's body is sound.
+fn are_sound_threads(threads: &[Thread]) -> bool
+    ensures { IsTrue result ↔ SoundThreads (threads_of threads.now) }
+{
+    for thread in threads {
+        if !is_sound_thread(thread) {
+            return false;
+        }
+    }
+    true
+}
+
+/// Whether the thread's body has few levels and is sound.
+fn is_sound_thread(thread: &Thread) -> bool
+    ensures { IsTrue result ↔ SoundThread (thread_of thread.now) }
+{
+    if !is_within(&thread.body, MAX_LEVELS) {
+        return false;
+    }
+    is_sound_node(&thread.body, 0)
+}
+
+/// Whether all threads together have few nodes.
+fn have_few_nodes(threads: &[Thread]) -> bool
+    ensures { IsTrue result ↔ (nodes_of_all (threads_of threads.now) ≤ 200000) }
+{
+    let mut left = MAX_NODES;
+    for thread in threads {
+        let Some(rest) = nodes_left(&thread.body, left) else {
+            return false;
+        };
+        left = rest;
+    }
+    true
+}
+
+/// Whether the node is sound among so many locals.
+#[cycle(sound)]
+fn is_sound_node(node: &Node, locals: usize) -> bool
+    requires { locals ≤ 200 }
+    ensures { IsTrue result ↔ SoundTree false locals None (tree_of node.now) }
+{
+    match &node.kind {
+        NodeKind::Const(_) => true,
+        NodeKind::Local(place) => usize::from(*place) < locals,
+        NodeKind::Do(items) => !items.is_empty() && are_sound(items, locals),
+        NodeKind::Let(values, body) => {
+            are_sound_values(values, locals) && is_sound_node(body, locals + values.len())
+        }
+        NodeKind::Core(op, args) => takes(*op, args.len()) && are_sound(args, locals),
+        NodeKind::Println(args) => args.len() <= MAX_ITEMS && are_sound(args, locals),
+    }
+}
+
+/// Whether each node is sound among so many locals.
+#[cycle(sound)]
+fn are_sound(nodes: &[Node], locals: usize) -> bool
+    requires { locals ≤ 200 }
+    ensures { IsTrue result ↔ SoundAll false locals (trees_of nodes.now) }
+{
+    for node in nodes {
+        if !is_sound_node(node, locals) {
+            return false;
+        }
+    }
+    true
+}
+
+/// Whether the nodes are sound among so many locals, where each is a further local for those after it.
+#[cycle(sound)]
+fn are_sound_values(nodes: &[Node], locals: usize) -> bool
+    requires { locals ≤ 200 }
+    ensures { IsTrue result ↔ SoundLet false locals (trees_of nodes.now) }
+{
+    if nodes.len() > MAX_LOCALS - locals {
+        return false;
+    }
+    let mut bound = locals;
+    for node in nodes {
+        if !is_sound_node(node, bound) {
+            return false;
+        }
+        bound += 1;
+    }
+    true
+}
+
+/// Whether at most so many nodes stand in one another.
+#[cycle(levels)]
+fn is_within(node: &Node, limit: u16) -> bool
+    ensures { IsTrue result ↔ (levels (tree_of node.now) ≤ limit) }
+{
+    if limit == 0 {
+        return false;
+    }
+    match &node.kind {
+        NodeKind::Const(_) => true,
+        NodeKind::Local(_) => true,
+        NodeKind::Do(items) => are_within(items, limit - 1),
+        NodeKind::Let(values, body) => are_within(values, limit - 1) && is_within(body, limit - 1),
+        NodeKind::Core(_, args) => are_within(args, limit - 1),
+        NodeKind::Println(args) => are_within(args, limit - 1),
+    }
+}
+
+/// The same of each node.
+#[cycle(levels)]
+fn are_within(nodes: &[Node], limit: u16) -> bool
+    ensures { IsTrue result ↔ (levels_in (trees_of nodes.now) ≤ limit) }
+{
+    for node in nodes {
+        if !is_within(node, limit) {
+            return false;
+        }
+    }
+    true
+}
+
+/// How many of so many nodes are left after those of this one; none where it has more.
+#[cycle(nodes)]
+fn nodes_left(node: &Node, limit: u32) -> Option<u32>
+    ensures { MatchOption result (limit < nodes (tree_of node.now))
+        (λ left. left + nodes (tree_of node.now) ≡ limit) }
+{
+    if limit == 0 {
+        return None;
+    }
+    match &node.kind {
+        NodeKind::Const(_) => Some(limit - 1),
+        NodeKind::Local(_) => Some(limit - 1),
+        NodeKind::Do(items) => all_nodes_left(items, limit - 1),
+        NodeKind::Let(values, body) => match all_nodes_left(values, limit - 1) {
+            None => None,
+            Some(left) => nodes_left(body, left),
+        },
+        NodeKind::Core(_, args) => all_nodes_left(args, limit - 1),
+        NodeKind::Println(args) => all_nodes_left(args, limit - 1),
+    }
+}
+
+/// The same of all the nodes.
+#[cycle(nodes)]
+fn all_nodes_left(nodes: &[Node], limit: u32) -> Option<u32>
+    ensures { MatchOption result (limit < nodes_in (trees_of nodes.now))
+        (λ left. left + nodes_in (trees_of nodes.now) ≡ limit) }
+{
+    let mut left = limit;
+    for node in nodes {
+        let Some(rest) = nodes_left(node, left) else {
+            return None;
+        };
+        left = rest;
+    }
+    Some(left)
+}
