@@ -10,7 +10,7 @@ use Rattle.txs_tree.specs.Thread.{ThreadState, thread_meaning}
 use Rattle.txs_tree.specs.View.{tree_of, thread_of, threads_of, program_of}
 use Rattle.txs_tree.specs.declared.evaluate.EvalStop.{EvalStop}
 use Rattle.txs_tree.specs.declared.evaluate.EvalStop.TheVariants.{Fault}
-use Rattle.txs_tree.specs.declared.meaning.Ending.TheVariants.{Done, Failed}
+use Rattle.txs_value.specs.declared.event.Outcome.TheVariants.{Done, Failed}
 use Rattle.txs_tree.specs.declared.meaning.Needs.TheVariants.{Nothing}
 use Rattle.txs_tree.specs.declared.meaning.ThreadMeaning.{ThreadMeaning}
 use Rattle.txs_tree.specs.declared.node.Node.{Node}

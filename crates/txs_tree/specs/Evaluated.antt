@@ -1,14 +1,14 @@
 -- What the plain evaluator answers.
 use Rattle.std.specs.Prelude.{◌≡◌, ℕ, zero, suc, false, List, [], ◌∷◌, ◌++◌, Option, Some, None, Result, Ok, Err, ⊤}
 use Rattle.txs_value.specs.Places.{nth}
+use Rattle.txs_value.specs.declared.event.Outcome.{Outcome}
+use Rattle.txs_value.specs.declared.event.Outcome.TheVariants.{Done, Failed}
 use Rattle.txs_value.specs.declared.value.Value.{Value}
 use Rattle.txs_tree.specs.Meaning.{Completion, Completes, Recurs, Faults, Retries, Waits, OutOfTurns, Invalid, bind, Effects, eval, eval_all, eval_let, eval_do, call_at}
 use Rattle.txs_tree.specs.Thread.{ThreadState, on_events}
 use Rattle.txs_tree.specs.Tree.{Tree, Trees, PlainProgram, PlainThread, ThreadSource}
 use Rattle.txs_tree.specs.declared.evaluate.EvalStop.{EvalStop}
 use Rattle.txs_tree.specs.declared.evaluate.EvalStop.TheVariants.{Fault, Memory}
-use Rattle.txs_tree.specs.declared.meaning.Ending.{Ending}
-use Rattle.txs_tree.specs.declared.meaning.Ending.TheVariants.{Done, Failed}
 use Rattle.txs_tree.specs.declared.meaning.Needs.{Needs}
 use Rattle.txs_tree.specs.declared.meaning.Needs.TheVariants.{Nothing, Event, Turns, Wrong}
 use Rattle.txs_tree.specs.declared.meaning.ThreadMeaning.{ThreadMeaning}
@@ -22,10 +22,10 @@ abbrev pub thread_source : PlainProgram → ℕ → Option ThreadSource
 thread_source p k = source_in p (nth p.threads k)
 
 -- what was printed, what is needed, and how the thread ended
-pub record Account (m : ThreadMeaning) (bytes : List ℕ) (lack : Needs) (end : Option Ending) : Type 0 where
+pub record Account (m : ThreadMeaning) (bytes : List ℕ) (lack : Needs) (end : Option Outcome) : Type 0 where
   pub printed : m.printed ≡ bytes
   pub needs : m.needs ≡ lack
-  pub ending : m.ending ≡ end
+  pub outcome : m.outcome ≡ end
 
 -- An evaluation tells how the meaning ends, and the bytes that are printed until then. A meaning at which the thread
 -- doesn't end says what it needs. No thread ends in a recur or runs again as a whole.
@@ -36,7 +36,7 @@ Tells m (Faults f s) = Account m s.printed Nothing (Some (Failed f))
 Tells m (Retries s) = ⊥
 Tells m (Waits s) = Account m s.printed Event None
 Tells m (OutOfTurns s) = Account m s.printed Turns None
-Tells m Invalid = (m.needs ≡ Wrong) × (m.ending ≡ None)
+Tells m Invalid = (m.needs ≡ Wrong) × (m.outcome ≡ None)
 
 -- bytes that were printed, with no events to come
 abbrev pub printing : List ℕ → ThreadState

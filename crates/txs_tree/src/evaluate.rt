@@ -9,10 +9,9 @@ ghost use Rattle.txs_tree.specs.Tree.{count};
 ghost use Rattle.txs_tree.specs.View.{tree_of, trees_of};
 ghost use Rattle.txs_tree.specs.declared.evaluate.EvalStop.TheVariants.{Memory};
 
-use crate::line::write_line;
 use crate::node::{Node, NodeKind};
 use std::alloc::{AllocError, AllocFailed, Global};
-use txs_value::{Fault, Op, Span, Stop, Value, apply, copy_value};
+use txs_value::{Fault, Op, Span, Stop, Value, apply, copy_value, write_line};
 
 /// Why an evaluation gives no value: it faults, or there was no memory.
 #[derive(Debug, Drop)]

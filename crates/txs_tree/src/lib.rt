@@ -1,19 +1,16 @@
 //! Programs as trees, and what they mean. A node is a plain tree to every contract (`tree_of`), a program
 //! the sound program of its threads. `is_sound` tells exactly which threads are a sound program, and
 //! `eval_thread` answers exactly the thread meaning: its printed bytes, what it needs, and how it ends.
-//! `write_line` appends exactly the line that `println` prints.
 #![tactic(auto)]
 
 pub mod evaluate;
-pub mod line;
 pub mod meaning;
 pub mod node;
 pub mod program;
 pub mod sound;
 
 pub use evaluate::EvalStop;
-pub use line::write_line;
-pub use meaning::{Ending, Needs, ThreadMeaning, eval_thread};
+pub use meaning::{Needs, ThreadMeaning, eval_thread};
 pub use node::{Node, NodeKind, Thread};
 pub use program::Program;
 pub use sound::is_sound;

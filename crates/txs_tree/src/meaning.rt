@@ -9,7 +9,7 @@ ghost use Rattle.txs_tree.specs.View.{program_of};
 use crate::evaluate::{EvalStop, evaluate};
 use crate::program::Program;
 use std::alloc::{AllocError, Global};
-use txs_value::{Fault, Listed};
+use txs_value::{Listed, Outcome};
 
 /// What a thread lacks that hasn't ended.
 #[derive(Clone, Copy, Debug, PartialEq, Eq)]
@@ -24,31 +24,23 @@ pub enum Needs {
     Wrong,
 }
 
-/// How a thread ends.
-#[derive(Clone, Copy, Debug, PartialEq, Eq)]
-pub enum Ending {
-    /// Its body has a value.
-    Done,
-    /// It faults.
-    Failed(Fault),
-}
-
-/// What a thread means: the bytes that it prints, what it needs, and how it ends, where it needs nothing.
+/// What a thread means: the bytes that it prints, what it needs, and its outcome. The outcome is there
+/// where it needs nothing: Done where its body has a value, Failed where it faults.
 #[derive(Debug, Drop)]
 pub struct ThreadMeaning {
     pub printed: Listed<u8>,
     pub needs: Needs,
-    pub ending: Option<Ending>,
+    pub outcome: Option<Outcome>,
 }
 
 /// The meaning of a thread that ended so and printed these bytes.
-fn ended(printed: Vec<u8>, ending: Ending) -> ThreadMeaning
-    ensures { Account result printed.items Nothing (Some ending) }
+fn ended(printed: Vec<u8>, outcome: Outcome) -> ThreadMeaning
+    ensures { Account result printed.items Nothing (Some outcome) }
 {
     ThreadMeaning {
         printed: Listed::from_vec(printed),
         needs: Needs::Nothing,
-        ending: Some(ending),
+        outcome: Some(outcome),
     }
 }
 
@@ -68,8 +60,8 @@ pub fn eval_thread(
     let mut printed = Vec::new(alloc);
     let body = &program.threads()[thread].body;
     match evaluate(alloc, body, turns, &mut locals, &mut printed) {
-        Ok(_) => Ok(ended(printed, Ending::Done)),
-        Err(EvalStop::Fault(fault)) => Ok(ended(printed, Ending::Failed(fault))),
+        Ok(_) => Ok(ended(printed, Outcome::Done)),
+        Err(EvalStop::Fault(fault)) => Ok(ended(printed, Outcome::Failed(fault))),
         Err(EvalStop::Memory) => Err(AllocError),
     }
 }
