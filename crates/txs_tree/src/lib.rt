@@ -14,3 +14,6 @@ pub use meaning::{Needs, ThreadMeaning, eval_thread};
 pub use node::{Node, NodeKind, Thread};
 pub use program::Program;
 pub use sound::is_sound;
+
+#[cfg(test)]
+mod tests;
