@@ -150,6 +150,7 @@ impl Model for Items {
 }
 
 impl Items {
+    /// The vector of these items.
     pub fn from_vec(items: Vec<Value>) -> Items
         requires { IsVector (plains_of items.items) }
         ensures { result ≡ plains_of items.items }
@@ -157,6 +158,7 @@ impl Items {
         Items { items }
     }
 
+    /// The items.
     pub fn into_vec(self) -> Vec<Value>
         ensures value { plains_of result.items ≡ self }
         ensures limits { IsVector self }
@@ -165,6 +167,7 @@ impl Items {
         values
     }
 
+    /// The items, lent.
     pub fn as_slice(&self) -> &[Value]
         ensures value { plains_of result.now ≡ self.now }
         ensures limits { IsVector self.now }
@@ -172,6 +175,7 @@ impl Items {
         self.items.as_slice()
     }
 
+    /// How many items there are.
     pub fn len(&self) -> usize
         ensures value { result ≡ length self.now }
         ensures small { result < 2 ^ 63 }
