@@ -1,5 +1,11 @@
 pub mod Acts
+pub mod Bodies
+pub mod Emissions
 pub mod Ends
+pub mod Generation
 pub mod Lists
+pub mod NodeTrees
+pub mod Parts
+pub mod Segments
 pub mod Simulates
 pub mod Steps

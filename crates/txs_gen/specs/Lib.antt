@@ -1,2 +1,5 @@
+pub mod Bodies
 pub mod Correct
+pub mod Emission
 pub mod Gen
+pub mod Generated

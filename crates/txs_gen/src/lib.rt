@@ -1,13 +1,12 @@
-//! Code from trees.
+//! Code from trees. `generate` gives exactly the code of a program: for each thread the instructions of
+//! its tree, each with the span of the node that it is made for, and the constants, each with an entry
+//! of its own. That code is well typed, with the room that each thread's stack needs. By the law of
+//! `generated_code_behaves` the code of a tree does what the tree does on any replies, and so, by that
+//! of `code_of_program_follows`, the code of a program follows the program.
 #![tactic(auto)]
 
 pub mod behaves;
+mod emit;
+pub mod threads;
 
-ghost use Rattle.std.specs.Prelude.{◌≡◌};
-ghost use Rattle.txs_tree.specs.Tree.{ThreadSource};
-ghost use Rattle.txs_gen.specs.Correct.{CodeBehaves};
-
-/// One answer.
-pub fn one()
-    ensures { CodeBehaves → CodeBehaves }
-{}
+pub use threads::generate;

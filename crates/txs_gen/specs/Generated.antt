@@ -1,0 +1,139 @@
+-- Which code is that of a program: each thread's instructions, the span of each, and the constants.
+use Rattle.std.specs.Prelude.{◌≡◌, ◌≤◌, ℕ, zero, suc, List, [], ◌∷◌, ◌++◌, length}
+use Rattle.std.specs.List.{range_with_len}
+use Rattle.txs_value.specs.declared.fault.Span.{Span}
+use Rattle.txs_value.specs.declared.value.Value.{Value}
+use Rattle.txs_tree.specs.Tree.{Tree, Const, Local, If, Do, Let, Loop, Recur, Core, Call, VectorOf, Println, Dosync, Deref, Alter, Trees, none, more, count, PlainThread, PlainProgram}
+use Rattle.txs_code.specs.declared.instr.Instr.{Instr}
+use Rattle.txs_code.specs.declared.instr.Instr.TheVariants as instr
+use Rattle.txs_code.specs.PlainCode.{CodeBody, PlainCode, plain_body}
+use Rattle.txs_gen.specs.Gen.{body_code}
+
+-- so many times the same span
+abbrev pub copies : ℕ → Span → List Span
+copies zero span = []
+copies (suc n) span = span ∷ copies n span
+
+-- The span of each instruction of a tree's code: that of the node whose form it belongs to. So a pop has the span of its
+-- do, and a store that of its let.
+abbrev mutual
+  pub spans_of : Tree → List Span
+  spans_of (Const v m) = m.span ∷ []
+  spans_of (Local i m) = m.span ∷ []
+  spans_of (If c a b m) = spans_of c ++ m.span ∷ (spans_of a ++ m.span ∷ spans_of b)
+  spans_of (Do items m) = spans_of_do m.span items
+  spans_of (Let values body m) = spans_of_let m.span values ++ spans_of body
+  spans_of (Loop values body m) = spans_of_let m.span values ++ spans_of body
+  spans_of (Recur values m) = spans_of_all values ++ copies (suc (count values)) m.span
+  spans_of (Core op args m) = spans_of_all args ++ m.span ∷ []
+  spans_of (Call f args m) = spans_of_all args ++ m.span ∷ []
+  spans_of (VectorOf items m) = spans_of_all items ++ m.span ∷ []
+  spans_of (Println args m) = spans_of_all args ++ m.span ∷ []
+  spans_of (Dosync body m) = m.span ∷ (spans_of body ++ m.span ∷ [])
+  spans_of (Deref cell m) = spans_of cell ++ m.span ∷ []
+  spans_of (Alter cell callee args m) = spans_of cell ++ (spans_of_all args ++ copies 3 m.span)
+
+  pub spans_of_all : Trees → List Span
+  spans_of_all none = []
+  spans_of_all (more e rest) = spans_of e ++ spans_of_all rest
+
+  -- each value is stored
+  pub spans_of_let : Span → Trees → List Span
+  spans_of_let span none = []
+  spans_of_let span (more e rest) = spans_of e ++ span ∷ spans_of_let span rest
+
+  -- each item but the last is popped
+  pub spans_of_do : Span → Trees → List Span
+  spans_of_do span none = []
+  spans_of_do span (more e none) = spans_of e
+  spans_of_do span (more e (more f rest)) = spans_of e ++ span ∷ spans_of_do span (more f rest)
+
+-- the constants of a tree, in the order of its code
+abbrev mutual
+  pub constants_of : Tree → List Value
+  constants_of (Const v m) = v ∷ []
+  constants_of (Local i m) = []
+  constants_of (If c a b m) = constants_of c ++ (constants_of a ++ constants_of b)
+  constants_of (Do items m) = constants_in items
+  constants_of (Let values body m) = constants_in values ++ constants_of body
+  constants_of (Loop values body m) = constants_in values ++ constants_of body
+  constants_of (Recur values m) = constants_in values
+  constants_of (Core op args m) = constants_in args
+  constants_of (Call f args m) = constants_in args
+  constants_of (VectorOf items m) = constants_in items
+  constants_of (Println args m) = constants_in args
+  constants_of (Dosync body m) = constants_of body
+  constants_of (Deref cell m) = constants_of cell
+  constants_of (Alter cell callee args m) = constants_of cell ++ constants_in args
+
+  pub constants_in : Trees → List Value
+  constants_in none = []
+  constants_in (more e rest) = constants_of e ++ constants_in rest
+
+-- the constants of threads, one thread's after another's
+abbrev pub constants_of_threads : List PlainThread → List Value
+constants_of_threads [] = []
+constants_of_threads (t ∷ ts) = constants_of t.body ++ constants_of_threads ts
+
+-- the numbers of the constants that instructions push, in their order
+abbrev pub numbers_in : List Instr → List ℕ
+numbers_in [] = []
+numbers_in (instr.Const k ∷ is) = k ∷ numbers_in is
+numbers_in (instr.Local i ∷ is) = numbers_in is
+numbers_in (instr.Store i ∷ is) = numbers_in is
+numbers_in (instr.Pop ∷ is) = numbers_in is
+numbers_in (instr.Jump t ∷ is) = numbers_in is
+numbers_in (instr.JumpFalse t ∷ is) = numbers_in is
+numbers_in (instr.Core op n ∷ is) = numbers_in is
+numbers_in (instr.Vector n ∷ is) = numbers_in is
+numbers_in (instr.Print n ∷ is) = numbers_in is
+numbers_in (instr.Halt ∷ is) = numbers_in is
+
+abbrev pub numbers_in_all : List CodeBody → List ℕ
+numbers_in_all [] = []
+numbers_in_all (b ∷ bs) = numbers_in b.instrs ++ numbers_in_all bs
+
+-- the body of a thread: its instructions are those of the tree, each with its span, and the last one has that of the future
+pub record IsBodyOf (constants : List Value) (b : CodeBody) (t : PlainThread) : Type 0 where
+  pub code : plain_body constants b ≡ body_code t.body
+  pub spans : b.spans ≡ spans_of t.body ++ t.span ∷ []
+  pub as_many : length b.spans ≡ length b.instrs
+
+-- a body for each thread, in order
+abbrev pub AreBodiesOf : List Value → List CodeBody → List PlainThread → Type 0
+AreBodiesOf ks [] [] = Unit {0}
+AreBodiesOf ks [] (t ∷ ts) = ⊥
+AreBodiesOf ks (b ∷ bs) [] = ⊥
+AreBodiesOf ks (b ∷ bs) (t ∷ ts) = IsBodyOf ks b t × AreBodiesOf ks bs ts
+
+-- the code of a program: a body for each thread, and each constant that is pushed has an entry of its own, in order
+pub record IsCodeOf (code : PlainCode) (p : PlainProgram) : Type 0 where
+  pub threads : AreBodiesOf code.constants code.threads p.threads
+  pub constants : code.constants ≡ constants_of_threads p.threads
+  pub entries : numbers_in_all code.threads ≡ range_with_len 0 (length code.constants)
+
+-- each operation has a number of arguments that an instruction can name
+abbrev mutual
+  pub FewArguments : Tree → Type 0
+  FewArguments (Const v m) = Unit {0}
+  FewArguments (Local i m) = Unit {0}
+  FewArguments (If c a b m) = FewArguments c × FewArguments a × FewArguments b
+  FewArguments (Do items m) = FewArgumentsIn items
+  FewArguments (Let values body m) = FewArgumentsIn values × FewArguments body
+  FewArguments (Loop values body m) = FewArgumentsIn values × FewArguments body
+  FewArguments (Recur values m) = FewArgumentsIn values
+  FewArguments (Core op args m) = (count args ≤ 65535) × FewArgumentsIn args
+  FewArguments (Call f args m) = FewArgumentsIn args
+  FewArguments (VectorOf items m) = FewArgumentsIn items
+  FewArguments (Println args m) = FewArgumentsIn args
+  FewArguments (Dosync body m) = FewArguments body
+  FewArguments (Deref cell m) = FewArguments cell
+  FewArguments (Alter cell callee args m) = FewArguments cell × FewArgumentsIn args
+
+  pub FewArgumentsIn : Trees → Type 0
+  FewArgumentsIn none = Unit {0}
+  FewArgumentsIn (more e rest) = FewArguments e × FewArgumentsIn rest
+
+abbrev pub FewArgumentsEach : List PlainThread → Type 0
+FewArgumentsEach [] = Unit {0}
+FewArgumentsEach (t ∷ ts) = FewArguments t.body × FewArgumentsEach ts

@@ -1,0 +1,62 @@
+//! The code of a program.
+
+ghost use Rattle.std.specs.Prelude.{◌≡◌, ◌+◌, ◌≤◌, length, IfOk};
+ghost use Rattle.txs_tree.specs.Sound.{nodes};
+ghost use Rattle.txs_tree.specs.View.{tree_of, thread_of, threads_of, program_of};
+ghost use Rattle.txs_gen.specs.Bodies.{finished};
+ghost use Rattle.txs_gen.specs.Emission.{emission, IsPart};
+ghost use Rattle.txs_gen.specs.Generated.{FewArgumentsEach, IsCodeOf};
+
+use crate::emit::{Emitter, emit};
+use std::alloc::{AllocError, Global};
+use txs_code::{Body, Code, Instr, Verified};
+use txs_tree::{Program, Thread};
+use txs_value::Value;
+
+/// The code of a program, well typed: for each thread, in script order, the instructions of its body and
+/// then a halt; for each instruction the span of the node that it is made for, and for the halt that of
+/// the future; and the constants, each with an entry of its own, in the order of the code.
+///
+/// No operation of the program has more than 65,535 arguments.
+///
+/// # Errors
+///
+/// `AllocError` where there is no memory for the code.
+pub fn generate(alloc: Global, program: &Program) -> Result<Verified, AllocError>
+    requires { FewArgumentsEach (threads_of program.now) }
+    ensures { IfOk result (λ code. IsCodeOf code (program_of program.now)) }
+{
+    let threads = program.threads();
+    let mut constants = Vec::new(alloc);
+    let mut bodies = Vec::new(alloc);
+    let mut rooms = Vec::new(alloc);
+    for thread in threads {
+        let made = thread_code(alloc, constants, thread)?;
+        constants = made.constants;
+        bodies.push(Body::new(made.locals, made.instrs, made.spans))?;
+        rooms.push(made.room)?;
+    }
+    Ok(Verified::seal(Code::new(constants, bodies), rooms))
+}
+
+/// The code of a thread, after these constants.
+fn thread_code(
+    alloc: Global,
+    constants: Vec<Value>,
+    thread: &Thread,
+) -> Result<Emitter, AllocError>
+    requires part { IsPart 0 (tree_of thread.now.body) }
+    requires few_constants { length constants.items + nodes (tree_of thread.now.body) ≤ 200000 }
+    ensures { IfOk result (λ made. emission made ≡ finished (thread_of thread.now) constants.items) }
+{
+    let mut made = Emitter {
+        instrs: Vec::new(alloc),
+        spans: Vec::new(alloc),
+        constants,
+        locals: 0,
+        room: 0,
+    };
+    emit(alloc, &mut made, &thread.body, 0, 0)?;
+    made.put(Instr::Halt, thread.span)?;
+    Ok(made)
+}
