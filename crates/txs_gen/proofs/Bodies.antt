@@ -1,28 +1,27 @@
 -- The bodies of threads are theirs, and well typed.
-use Rattle.std.proofs.Common.{◌≡◌, ℕ, zero, suc, ◌+◌, ◌<◌, ◌≤◌, max, List, [], ◌∷◌, ◌++◌, length, get_or, drop, refl, sym, ap, ◌∙◌, subst, append_assoc, length-append, arith}
+use Rattle.std.proofs.Common.{◌≡◌, ℕ, suc, ◌+◌, ◌<◌, ◌≤◌, max, List, [], ◌∷◌, ◌++◌, length, get_or, drop, refl, sym, ap, ◌∙◌, subst, length-append, arith}
 use Rattle.std.proofs.Math.Seq.{drop-cons}
 use Rattle.std.proofs.lemmas.List.{append-nil, drop_all}
 use Rattle.std.specs.List.{range_with_len}
 use Rattle.txs_value.specs.declared.fault.Span.{Span}
 use Rattle.txs_value.specs.declared.value.Value.{Value}
-use Rattle.txs_tree.specs.Sound.{nodes, nodes_of_all}
 use Rattle.txs_tree.specs.Tree.{PlainThread}
-use Rattle.txs_tree.specs.View.{tree_of, thread_of, threads_of, program_of}
+use Rattle.txs_tree.specs.View.{thread_of, threads_of, program_of}
 use Rattle.txs_tree.specs.declared.node.Thread.{Thread}
 use Rattle.txs_code.specs.declared.instr.Instr.{Instr}
 use Rattle.txs_code.specs.declared.instr.Instr.TheVariants.{Halt}
 use Rattle.txs_code.specs.Machine.{PlainInstr, PlainBody}
 use Rattle.txs_code.specs.Machine as machine
-use Rattle.txs_code.specs.PlainCode.{CodeBody, PlainCode, plain_instrs, plain_body}
+use Rattle.txs_code.specs.PlainCode.{CodeBody, PlainCode, plain_instrs}
 use Rattle.txs_code.specs.WellTyped.{WellTyped, WellTypedBody, WellTypedBodies}
 use Rattle.txs_gen.specs.Bodies.{fresh, finished}
 use Rattle.txs_gen.specs.Emission.{Emission, emits, instrs_of, stored, top, IsPart}
-use Rattle.txs_gen.specs.Gen.{gen, body_code, locals_in}
+use Rattle.txs_gen.specs.Gen.{gen, locals_in}
 use Rattle.txs_gen.specs.Generated.{spans_of, constants_of, constants_of_threads, numbers_in, numbers_in_all, IsBodyOf, AreBodiesOf, IsCodeOf}
 use Rattle.txs_gen.proofs.Emissions.{make}
 use Rattle.txs_gen.proofs.Generation.{tree_segment, locals_stored}
 use Rattle.txs_gen.proofs.Parts.{ArePart}
-use Rattle.txs_gen.proofs.Segments.{At, at_first, at_rest, at_middle, Segment, plain_append, numbers_append, range_append, straight_well_typed}
+use Rattle.txs_gen.proofs.Segments.{At, at_first, at_rest, at_middle, plain_append, numbers_append, range_append, straight_well_typed}
 
 -- the body of a thread, where so many constants are there already
 abbrev pub body_at : PlainThread → ℕ → CodeBody
@@ -49,12 +48,15 @@ body_right ks t k p a =
     let is = instrs_of t.body 0 k in
     let l : max 0 (stored t.body 0) ≡ locals_in t.body 0 = sym (locals_stored t.body 0 p) in
     let code : plain_instrs ks (is ++ Halt ∷ []) (spans_of t.body ++ t.span ∷ []) ≡ gen t.body 0 0 0 0 ++ machine.Halt ∷ [] =
-      plain_append ks is (Halt ∷ []) (spans_of t.body) (t.span ∷ []) s.as_many ∙ ap (λ x. x ++ machine.Halt ∷ []) s.seen in
-    (record {
-      code = ap (λ n. body n (plain_instrs ks (is ++ Halt ∷ []) (spans_of t.body ++ t.span ∷ []))) l ∙ ap (λ x. body (locals_in t.body 0) x) code;
-      spans = refl;
-      as_many = omega (arith, length-append (spans_of t.body) (t.span ∷ []), length-append is (Halt ∷ []), s.as_many);
-    }, straight_well_typed ks b most is refl s.straight s.lawful, numbers_append is (Halt ∷ []) ∙ append-nil (numbers_in is) ∙ s.numbers)
+    plain_append ks is (Halt ∷ []) (spans_of t.body) (t.span ∷ []) s.as_many ∙ ap (λ x. x ++ machine.Halt ∷ []) s.seen in (
+      record {
+        code = ap (λ n. body n (plain_instrs ks (is ++ Halt ∷ []) (spans_of t.body ++ t.span ∷ []))) l ∙ ap (λ x. body (locals_in t.body 0) x) code;
+        spans = refl;
+        as_many = omega (arith, length-append (spans_of t.body) (t.span ∷ []), length-append is (Halt ∷ []), s.as_many);
+      },
+      straight_well_typed ks b most is refl s.straight s.lawful,
+      numbers_append is (Halt ∷ []) ∙ append-nil (numbers_in is) ∙ s.numbers,
+    )
 
 pub bodies_right : (ks : List Value) (ts : List PlainThread) (k : ℕ) → ArePart ts → At ks k (constants_of_threads ts) →
     AreBodiesOf ks (bodies_from ts k) ts × WellTypedBodies ks (bodies_from ts k) (rooms_of ts) × (numbers_in_all (bodies_from ts k) ≡ range_with_len k (length (constants_of_threads ts)))
@@ -63,10 +65,10 @@ bodies_right ks (t ∷ ts) k p a =
     let first = body_right ks t k p.0 (at_first ks k (constants_of t.body) (constants_of_threads ts) a) in
     let rest = bodies_right ks ts (k + length (constants_of t.body)) p.1 (at_rest ks k (constants_of t.body) (constants_of_threads ts) a) in
     let numbers : numbers_in_all (bodies_from (t ∷ ts) k) ≡ range_with_len k (length (constants_of_threads (t ∷ ts))) =
-      ap (λ x. x ++ numbers_in_all (bodies_from ts (k + length (constants_of t.body)))) first.2
-      ∙ ap (λ x. range_with_len k (length (constants_of t.body)) ++ x) rest.2
-      ∙ range_append k (length (constants_of t.body)) (length (constants_of_threads ts))
-      ∙ ap (λ n. range_with_len k n) (sym (length-append (constants_of t.body) (constants_of_threads ts))) in
+    ap (λ x. x ++ numbers_in_all (bodies_from ts (k + length (constants_of t.body)))) first.2
+    ∙ ap (λ x. range_with_len k (length (constants_of t.body)) ++ x) rest.2
+    ∙ range_append k (length (constants_of t.body)) (length (constants_of_threads ts))
+    ∙ ap (λ n. range_with_len k n) (sym (length-append (constants_of t.body) (constants_of_threads ts))) in
     ((first.0, rest.0), (first.1, rest.1), numbers)
 
 abbrev pub code_of_threads : List PlainThread → PlainCode

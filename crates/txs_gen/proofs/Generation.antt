@@ -1,17 +1,15 @@
 -- The code of a tree is what it should be, and well typed.
-use Rattle.std.proofs.Common.{◌≡◌, ℕ, zero, suc, ◌+◌, ◌-◌, ◌<◌, ◌≤◌, max, eqb, leb, Bool, true, false, List, [], ◌∷◌, ◌++◌, length, refl, sym, ap, ◌∙◌, subst, append_assoc, length-append, arith}
+use Rattle.std.proofs.Common.{◌≡◌, ℕ, suc, ◌+◌, ◌-◌, ◌<◌, ◌≤◌, max, eqb, leb, true, List, [], ◌∷◌, ◌++◌, length, refl, sym, ap, length-append, arith}
 use Rattle.std.proofs.lemmas.List.{append-nil}
 use Rattle.std.proofs.lemmas.Bool.{eqb-true, leb-true}
-use Rattle.std.specs.List.{range_with_len}
 use Rattle.txs_value.specs.Core.{takes}
 use Rattle.txs_value.specs.declared.fault.Span.{Span}
 use Rattle.txs_value.specs.declared.op.Op.{Op}
 use Rattle.txs_value.specs.declared.op.Op.TheVariants as op
 use Rattle.txs_value.specs.declared.value.Value.{Value}
-use Rattle.txs_tree.specs.Tree.{Mark, Tree, Const, Local, If, Do, Let, Loop, Recur, Core, Call, VectorOf, Println, Dosync, Deref, Alter, Trees, none, more, count, is_none}
-use Rattle.txs_code.specs.declared.instr.Instr.{Instr}
+use Rattle.txs_tree.specs.Tree.{Tree, Const, Local, If, Do, Let, Loop, Recur, Core, Call, VectorOf, Println, Dosync, Deref, Alter, Trees, none, more, count}
 use Rattle.txs_code.specs.declared.instr.Instr.TheVariants as instr
-use Rattle.txs_code.specs.Machine.{Push, PlainInstr}
+use Rattle.txs_code.specs.Machine.{Push}
 use Rattle.txs_code.specs.PlainCode.{CodeBody}
 use Rattle.txs_gen.specs.Gen.{gen, gen_all, gen_let, gen_do, locals_in, locals_in_all, locals_in_let}
 use Rattle.txs_gen.specs.Generated.{spans_of, spans_of_all, spans_of_let, spans_of_do, constants_of, constants_in}
@@ -113,29 +111,29 @@ mutual
   tree_segment ks b most (If c x y m) d k h base start pc p a l s g r = absurd p
   tree_segment ks b most (Do items m) d k h base start pc p a l s g r = do_segment ks b most items m.span d k h base start pc p a l s g r
   tree_segment ks b most (Let values body m) d k h base start pc p a l s g r =
-    let n : length (constants_in values) + length (constants_of body) ≡ length (constants_in values ++ constants_of body) = sym (length-append (constants_in values) (constants_of body)) in
-    let first = let_segment ks b most values m.span d k h base start pc p.0 (at_first ks k (constants_in values) (constants_of body) a) l (omega (arith, s)) g (omega (arith, r)) in
-    let second = tree_segment ks b most body (d + count values) (k + length (constants_in values)) h base start (pc + length (gen_let values d base start pc)) p.1 (at_rest ks k (constants_in values) (constants_of body) a) (omega (arith, let_reaches values d, l, s)) (omega (arith, s)) g (omega (arith, r)) in
-    segment_is ks b most k _ _ h _ _ _ _ _ n refl (segment_join ks b most k _ _ h h (h + 1) _ _ _ _ _ _ first second)
+      let n : length (constants_in values) + length (constants_of body) ≡ length (constants_in values ++ constants_of body) = sym (length-append (constants_in values) (constants_of body)) in
+      let first = let_segment ks b most values m.span d k h base start pc p.0 (at_first ks k (constants_in values) (constants_of body) a) l (omega (arith, s)) g (omega (arith, r)) in
+      let second = tree_segment ks b most body (d + count values) (k + length (constants_in values)) h base start (pc + length (gen_let values d base start pc)) p.1 (at_rest ks k (constants_in values) (constants_of body) a) (omega (arith, let_reaches values d, l, s)) (omega (arith, s)) g (omega (arith, r)) in
+      segment_is ks b most k _ _ h _ _ _ _ _ n refl (segment_join ks b most k _ _ h h (h + 1) _ _ _ _ _ _ first second)
   tree_segment ks b most (Loop values body m) d k h base start pc p a l s g r = absurd p
   tree_segment ks b most (Recur values m) d k h base start pc p a l s g r = absurd p
   tree_segment ks b most (Core o args m) d k h base start pc p a l s g r =
-    let first = all_segment ks b most args d k h base start pc p.2 a l s g r in
-    let high : h + count args ≤ most = straight_end most h _ _ first.straight in
-    let some = takes_positive o (count args) p.0 in
-    let e : h + 1 ≡ h + count args - count args + 1 = omega arith in
-    let n : length (constants_in args) + 0 ≡ length (constants_in args) = omega arith in
-    let last = segment_cons ks b most (k + length (constants_in args)) 0 (h + count args) (h + 1) (h + 1) (instr.Core o (count args)) [] m.span [] [] refl e high (omega arith, some) p.0 (segment_nil ks b most (k + length (constants_in args)) (h + 1) (omega (arith, high, some))) in
-    segment_is ks b most k _ _ h _ _ _ _ _ n refl (segment_join ks b most k _ _ h (h + count args) (h + 1) _ _ _ _ _ _ first last)
+      let first = all_segment ks b most args d k h base start pc p.2 a l s g r in
+      let high : h + count args ≤ most = straight_end most h _ _ first.straight in
+      let some = takes_positive o (count args) p.0 in
+      let e : h + 1 ≡ h + count args - count args + 1 = omega arith in
+      let n : length (constants_in args) + 0 ≡ length (constants_in args) = omega arith in
+      let last = segment_cons ks b most (k + length (constants_in args)) 0 (h + count args) (h + 1) (h + 1) (instr.Core o (count args)) [] m.span [] [] refl e high (omega arith, some) p.0 (segment_nil ks b most (k + length (constants_in args)) (h + 1) (omega (arith, high, some))) in
+      segment_is ks b most k _ _ h _ _ _ _ _ n refl (segment_join ks b most k _ _ h (h + count args) (h + 1) _ _ _ _ _ _ first last)
   tree_segment ks b most (Call f args m) d k h base start pc p a l s g r = absurd p
   tree_segment ks b most (VectorOf items m) d k h base start pc p a l s g r = absurd p
   tree_segment ks b most (Println args m) d k h base start pc p a l s g r =
-    let first = all_segment ks b most args d k h base start pc p.1 a l s g (omega (arith, r)) in
-    let high : h + count args ≤ most = straight_end most h _ _ first.straight in
-    let e : h + 1 ≡ h + count args - count args + 1 = omega arith in
-    let n : length (constants_in args) + 0 ≡ length (constants_in args) = omega arith in
-    let last = segment_cons ks b most (k + length (constants_in args)) 0 (h + count args) (h + 1) (h + 1) (instr.Print (count args)) [] m.span [] [] refl e high (omega arith, omega (arith, r)) tt (segment_nil ks b most (k + length (constants_in args)) (h + 1) (omega (arith, r))) in
-    segment_is ks b most k _ _ h _ _ _ _ _ n refl (segment_join ks b most k _ _ h (h + count args) (h + 1) _ _ _ _ _ _ first last)
+      let first = all_segment ks b most args d k h base start pc p.1 a l s g (omega (arith, r)) in
+      let high : h + count args ≤ most = straight_end most h _ _ first.straight in
+      let e : h + 1 ≡ h + count args - count args + 1 = omega arith in
+      let n : length (constants_in args) + 0 ≡ length (constants_in args) = omega arith in
+      let last = segment_cons ks b most (k + length (constants_in args)) 0 (h + count args) (h + 1) (h + 1) (instr.Print (count args)) [] m.span [] [] refl e high (omega arith, omega (arith, r)) tt (segment_nil ks b most (k + length (constants_in args)) (h + 1) (omega (arith, r))) in
+      segment_is ks b most k _ _ h _ _ _ _ _ n refl (segment_join ks b most k _ _ h (h + count args) (h + 1) _ _ _ _ _ _ first last)
   tree_segment ks b most (Dosync body m) d k h base start pc p a l s g r = absurd p
   tree_segment ks b most (Deref cell m) d k h base start pc p a l s g r = absurd p
   tree_segment ks b most (Alter cell callee args m) d k h base start pc p a l s g r = absurd p
@@ -144,40 +142,40 @@ mutual
       IsPartAll d ts → At ks k (constants_in ts) → d ≤ b.locals → stored_in ts d ≤ b.locals → h ≤ most → top_args ts h ≤ most →
       Segment ks b most k (length (constants_in ts)) h (h + count ts) (instrs_of_all ts d k) (spans_of_all ts) (gen_all ts d base start pc)
   all_segment ks b most none d k h base start pc p a l s g r =
-    let e : h ≡ h + 0 = omega arith in segment_is ks b most k 0 0 h h (h + 0) [] [] [] refl e (segment_nil ks b most k h g)
+      let e : h ≡ h + 0 = omega arith in segment_is ks b most k 0 0 h h (h + 0) [] [] [] refl e (segment_nil ks b most k h g)
   all_segment ks b most (more t ts) d k h base start pc p a l s g r =
-    let n : length (constants_of t) + length (constants_in ts) ≡ length (constants_of t ++ constants_in ts) = sym (length-append (constants_of t) (constants_in ts)) in
-    let e : h + 1 + count ts ≡ h + suc (count ts) = omega arith in
-    let first = tree_segment ks b most t d k h base start pc p.0 (at_first ks k (constants_of t) (constants_in ts) a) l (omega (arith, s)) g (omega (arith, r)) in
-    let rest = all_segment ks b most ts d (k + length (constants_of t)) (h + 1) base start (pc + length (gen t d base start pc)) p.1 (at_rest ks k (constants_of t) (constants_in ts) a) l (omega (arith, s)) (straight_end most h _ _ first.straight) (omega (arith, r)) in
-    segment_is ks b most k _ _ h _ _ _ _ _ n e (segment_join ks b most k _ _ h (h + 1) (h + 1 + count ts) _ _ _ _ _ _ first rest)
+      let n : length (constants_of t) + length (constants_in ts) ≡ length (constants_of t ++ constants_in ts) = sym (length-append (constants_of t) (constants_in ts)) in
+      let e : h + 1 + count ts ≡ h + suc (count ts) = omega arith in
+      let first = tree_segment ks b most t d k h base start pc p.0 (at_first ks k (constants_of t) (constants_in ts) a) l (omega (arith, s)) g (omega (arith, r)) in
+      let rest = all_segment ks b most ts d (k + length (constants_of t)) (h + 1) base start (pc + length (gen t d base start pc)) p.1 (at_rest ks k (constants_of t) (constants_in ts) a) l (omega (arith, s)) (straight_end most h _ _ first.straight) (omega (arith, r)) in
+      segment_is ks b most k _ _ h _ _ _ _ _ n e (segment_join ks b most k _ _ h (h + 1) (h + 1 + count ts) _ _ _ _ _ _ first rest)
 
   let_segment : (ks : List Value) (b : CodeBody) (most : ℕ) (ts : Trees) (span : Span) (d k h base start pc : ℕ) →
       IsPartLet d ts → At ks k (constants_in ts) → d ≤ b.locals → stored_let ts d ≤ b.locals → h ≤ most → top_in ts h ≤ most →
       Segment ks b most k (length (constants_in ts)) h h (instrs_of_let ts d k) (spans_of_let span ts) (gen_let ts d base start pc)
   let_segment ks b most none span d k h base start pc p a l s g r = segment_nil ks b most k h g
   let_segment ks b most (more t ts) span d k h base start pc p a l s g r =
-    let n : length (constants_of t) + length (constants_in ts) ≡ length (constants_of t ++ constants_in ts) = sym (length-append (constants_of t) (constants_in ts)) in
-    let e : h ≡ h + 1 - 1 = omega arith in
-    let first = tree_segment ks b most t d k h base start pc p.0 (at_first ks k (constants_of t) (constants_in ts) a) l (omega (arith, s)) g (omega (arith, r)) in
-    let high : h + 1 ≤ most = straight_end most h _ _ first.straight in
-    let rest = let_segment ks b most ts span (d + 1) (k + length (constants_of t)) h base start (pc + length (gen t d base start pc) + 1) p.1 (at_rest ks k (constants_of t) (constants_in ts) a) (omega (arith, s)) (omega (arith, s)) g (omega (arith, r)) in
-    let second = segment_cons ks b most (k + length (constants_of t)) _ (h + 1) h h (instr.Store d) _ span _ _ refl e high (omega arith) (omega (arith, s)) rest in
-    segment_is ks b most k _ _ h _ _ _ _ _ n refl (segment_join ks b most k _ _ h (h + 1) h _ _ _ _ _ _ first second)
+      let n : length (constants_of t) + length (constants_in ts) ≡ length (constants_of t ++ constants_in ts) = sym (length-append (constants_of t) (constants_in ts)) in
+      let e : h ≡ h + 1 - 1 = omega arith in
+      let first = tree_segment ks b most t d k h base start pc p.0 (at_first ks k (constants_of t) (constants_in ts) a) l (omega (arith, s)) g (omega (arith, r)) in
+      let high : h + 1 ≤ most = straight_end most h _ _ first.straight in
+      let rest = let_segment ks b most ts span (d + 1) (k + length (constants_of t)) h base start (pc + length (gen t d base start pc) + 1) p.1 (at_rest ks k (constants_of t) (constants_in ts) a) (omega (arith, s)) (omega (arith, s)) g (omega (arith, r)) in
+      let second = segment_cons ks b most (k + length (constants_of t)) _ (h + 1) h h (instr.Store d) _ span _ _ refl e high (omega arith) (omega (arith, s)) rest in
+      segment_is ks b most k _ _ h _ _ _ _ _ n refl (segment_join ks b most k _ _ h (h + 1) h _ _ _ _ _ _ first second)
 
   do_segment : (ks : List Value) (b : CodeBody) (most : ℕ) (ts : Trees) (span : Span) (d k h base start pc : ℕ) →
       IsPartDo d ts → At ks k (constants_in ts) → d ≤ b.locals → stored_in ts d ≤ b.locals → h ≤ most → top_in ts h ≤ most →
       Segment ks b most k (length (constants_in ts)) h (h + 1) (instrs_of_do ts d k) (spans_of_do span ts) (gen_do ts d base start pc)
   do_segment ks b most none span d k h base start pc p a l s g r = absurd p
   do_segment ks b most (more t none) span d k h base start pc p a l s g r =
-    let n : length (constants_of t) ≡ length (constants_of t ++ []) = ap length (sym (append-nil (constants_of t))) in
-    let first = tree_segment ks b most t d k h base start pc p (at_first ks k (constants_of t) [] a) l (omega (arith, s)) g (omega (arith, r)) in
-    segment_is ks b most k _ _ h _ _ _ _ _ n refl first
+      let n : length (constants_of t) ≡ length (constants_of t ++ []) = ap length (sym (append-nil (constants_of t))) in
+      let first = tree_segment ks b most t d k h base start pc p (at_first ks k (constants_of t) [] a) l (omega (arith, s)) g (omega (arith, r)) in
+      segment_is ks b most k _ _ h _ _ _ _ _ n refl first
   do_segment ks b most (more t (more u ts)) span d k h base start pc p a l s g r =
-    let n : length (constants_of t) + length (constants_in (more u ts)) ≡ length (constants_of t ++ constants_in (more u ts)) = sym (length-append (constants_of t) (constants_in (more u ts))) in
-    let e : h ≡ h + 1 - 1 = omega arith in
-    let first = tree_segment ks b most t d k h base start pc p.0 (at_first ks k (constants_of t) (constants_in (more u ts)) a) l (omega (arith, s)) g (omega (arith, r)) in
-    let high : h + 1 ≤ most = straight_end most h _ _ first.straight in
-    let rest = do_segment ks b most (more u ts) span d (k + length (constants_of t)) h base start (pc + length (gen t d base start pc) + 1) p.1 (at_rest ks k (constants_of t) (constants_in (more u ts)) a) l (omega (arith, s)) g (omega (arith, r)) in
-    let second = segment_cons ks b most (k + length (constants_of t)) _ (h + 1) h (h + 1) instr.Pop _ span _ _ refl e high (omega arith) tt rest in
-    segment_is ks b most k _ _ h _ _ _ _ _ n refl (segment_join ks b most k _ _ h (h + 1) (h + 1) _ _ _ _ _ _ first second)
+      let n : length (constants_of t) + length (constants_in (more u ts)) ≡ length (constants_of t ++ constants_in (more u ts)) = sym (length-append (constants_of t) (constants_in (more u ts))) in
+      let e : h ≡ h + 1 - 1 = omega arith in
+      let first = tree_segment ks b most t d k h base start pc p.0 (at_first ks k (constants_of t) (constants_in (more u ts)) a) l (omega (arith, s)) g (omega (arith, r)) in
+      let high : h + 1 ≤ most = straight_end most h _ _ first.straight in
+      let rest = do_segment ks b most (more u ts) span d (k + length (constants_of t)) h base start (pc + length (gen t d base start pc) + 1) p.1 (at_rest ks k (constants_of t) (constants_in (more u ts)) a) l (omega (arith, s)) g (omega (arith, r)) in
+      let second = segment_cons ks b most (k + length (constants_of t)) _ (h + 1) h (h + 1) instr.Pop _ span _ _ refl e high (omega arith) tt rest in
+      segment_is ks b most k _ _ h _ _ _ _ _ n refl (segment_join ks b most k _ _ h (h + 1) (h + 1) _ _ _ _ _ _ first second)

@@ -2,6 +2,7 @@ pub mod Acts
 pub mod Bodies
 pub mod Emissions
 pub mod Ends
+pub mod CodesFollow
 pub mod Generation
 pub mod Lists
 pub mod NodeTrees

@@ -1,9 +1,8 @@
 -- Sound programs are of the kinds that there are.
-use Rattle.std.proofs.Common.{◌≡◌, ℕ, suc, ◌+◌, ◌≤◌, Bool, true, false, List, [], ◌∷◌, Option, Some, None, refl, sym, ap, ◌∙◌}
+use Rattle.std.proofs.Common.{ℕ, ◌+◌, false, List, [], ◌∷◌, Option, None}
 use Rattle.txs_tree.specs.Sound.{SoundTree, SoundAll, SoundLet, SoundDo, SoundThreads}
-use Rattle.txs_tree.specs.Tree.{Mark, Tree, Trees, none, more, count, PlainThread}
-use Rattle.txs_tree.specs.View.{kind_tree, row_trees, tree_of, mark_of, thread_of, threads_of}
-use Rattle.txs_tree.specs.declared.node.Node.{Node}
+use Rattle.txs_tree.specs.Tree.{Mark, count, PlainThread}
+use Rattle.txs_tree.specs.View.{kind_tree, row_trees, mark_of, threads_of}
 use Rattle.txs_tree.specs.declared.node.NodeKind.{NodeKind, Const, Local, Do', Let', Core', Println', Row_of-Node, end_of-Node, more_of-Node}
 use Rattle.txs_tree.specs.declared.node.Thread.{Thread}
 use Rattle.txs_gen.specs.Generated.{FewArguments, FewArgumentsIn, FewArgumentsEach}

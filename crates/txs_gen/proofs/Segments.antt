@@ -1,17 +1,15 @@
 -- A run of instructions: what the machine sees of it, its constants, and its depths.
-use Rattle.std.proofs.Common.{◌≡◌, ℕ, zero, suc, ◌+◌, ◌-◌, ◌<◌, ◌≤◌, max, Bool, true, false, List, [], ◌∷◌, ◌++◌, length, refl, sym, ap, ◌∙◌, subst, append_assoc, length-append, arith, Option, Some, None, slice_index_or}
+use Rattle.std.proofs.Common.{◌≡◌, ℕ, zero, suc, ◌+◌, ◌-◌, ◌<◌, ◌≤◌, List, [], ◌∷◌, ◌++◌, length, refl, sym, ap, ◌∙◌, subst, length-append, arith, Option, Some, slice_index_or}
 use Rattle.std.specs.List.{range_with_len}
-use Rattle.txs_value.specs.Core.{takes}
 use Rattle.txs_value.specs.Places.{nth}
 use Rattle.txs_value.specs.declared.fault.Span.{Span}
-use Rattle.txs_value.specs.declared.op.Op.{Op}
 use Rattle.txs_value.specs.declared.value.Value.{Value}
 use Rattle.txs_value.specs.declared.value.Value.TheVariants.{Nil}
 use Rattle.txs_code.specs.declared.instr.Instr.{Instr}
 use Rattle.txs_code.specs.declared.instr.Instr.TheVariants.{Const, Local, Store, Pop, Jump, JumpFalse, Core, Vector, Print, Halt}
 use Rattle.txs_code.specs.Machine.{PlainInstr}
 use Rattle.txs_code.specs.PlainCode.{CodeBody, plain_instr, plain_instrs}
-use Rattle.txs_code.specs.WellTyped.{Depths, depth_at, IsLawful, Leads, Fits, IsTable, WellTypedBody}
+use Rattle.txs_code.specs.WellTyped.{Depths, depth_at, IsLawful, Fits, WellTypedBody}
 use Rattle.txs_gen.specs.Generated.{numbers_in}
 
 -- the constants stand in the list from a place on
@@ -248,9 +246,12 @@ table_stands most d (i ∷ is) p (suc at) e q =
 pub straight_well_typed : (ks : List Value) (b : CodeBody) (most : ℕ) (is : List Instr) → b.instrs ≡ is ++ Halt ∷ [] → Straight most 0 is 1 → Lawful ks b is → WellTypedBody ks b most
 straight_well_typed ks b most is e p w = record {
   lawful = λ at i h. lawful_at ks b (is ++ Halt ∷ []) (lawful_append ks b is (Halt ∷ []) w (tt, tt)) at i (ap (λ l. nth l at) (sym e) ∙ h);
-  table = (table 0 is, record {
-    first = table_first 0 is;
-    within = table_within most 0 is p;
-    fits = λ at d h. let r = table_stands most 0 is p at d h in (r.0, ap (λ l. nth l at) e ∙ r.1, fits_of most (table 0 is) at d r.0 r.2);
-  });
+  table = (
+    table 0 is,
+    record {
+      first = table_first 0 is;
+      within = table_within most 0 is p;
+      fits = λ at d h. let r = table_stands most 0 is p at d h in (r.0, ap (λ l. nth l at) e ∙ r.1, fits_of most (table 0 is) at d r.0 r.2);
+    },
+  );
 }

@@ -1,10 +1,8 @@
 -- What is made of threads.
-use Rattle.std.specs.Prelude.{◌≡◌, ℕ, ◌+◌, max, List, [], ◌∷◌, ◌++◌, length}
+use Rattle.std.specs.Prelude.{List, []}
 use Rattle.txs_value.specs.declared.value.Value.{Value}
 use Rattle.txs_tree.specs.Tree.{PlainThread}
 use Rattle.txs_code.specs.declared.instr.Instr.TheVariants.{Halt}
-use Rattle.txs_code.specs.PlainCode.{CodeBody}
-use Rattle.txs_gen.specs.Generated.{constants_of}
 use Rattle.txs_gen.specs.Emission.{Emission, emits, with_instr}
 
 -- nothing but constants

@@ -1,4 +1,5 @@
 pub mod Bodies
+pub mod CodeFollows
 pub mod Correct
 pub mod Emission
 pub mod Gen

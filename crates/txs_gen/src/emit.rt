@@ -54,7 +54,11 @@ impl Emitter {
     fn pop_unless(&mut self, last: bool, span: Span) -> Result<(), AllocError>
         ensures { OnOk result (emission self.new ≡ with_pop last span (emission self.old)) }
     {
-        if last { Ok(()) } else { self.put(Instr::Pop, span) }
+        if last {
+            Ok(())
+        } else {
+            self.put(Instr::Pop, span)
+        }
     }
 
     /// So many values are on the stack.

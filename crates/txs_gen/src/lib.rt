@@ -7,6 +7,7 @@
 
 pub mod behaves;
 mod emit;
+pub mod follows;
 pub mod threads;
 
 pub use threads::generate;

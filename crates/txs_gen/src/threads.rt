@@ -40,11 +40,7 @@ pub fn generate(alloc: Global, program: &Program) -> Result<Verified, AllocError
 }
 
 /// The code of a thread, after these constants.
-fn thread_code(
-    alloc: Global,
-    constants: Vec<Value>,
-    thread: &Thread,
-) -> Result<Emitter, AllocError>
+fn thread_code(alloc: Global, constants: Vec<Value>, thread: &Thread) -> Result<Emitter, AllocError>
     requires part { IsPart 0 (tree_of thread.now.body) }
     requires few_constants { length constants.items + nodes (tree_of thread.now.body) ≤ 200000 }
     ensures { IfOk result (λ made. emission made ≡ finished (thread_of thread.now) constants.items) }

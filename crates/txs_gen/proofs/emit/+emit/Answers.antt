@@ -1,12 +1,10 @@
-use Rattle.std.proofs.Common.{rules, arith, ◌≡◌, ℕ, suc, ◌+◌, ◌-◌, ◌<◌, ◌≤◌, eqb, Bool, true, length, drop, refl, sym, ap, ◌∙◌, subst, OnOk, length-drop}
-use Rattle.txs_value.specs.Core.{takes}
+use Rattle.std.proofs.Common.{arith, ◌≡◌, ◌+◌, ◌-◌, eqb, length, drop, refl, sym, ap, ◌∙◌, subst, OnOk, length-drop}
 use Rattle.txs_tree.specs.Sound.{nodes, nodes_in}
-use Rattle.txs_tree.specs.Tree.{Trees, none, more, count, is_none}
-use Rattle.txs_tree.specs.Tree as tree
+use Rattle.txs_tree.specs.Tree.{count, is_none}
 use Rattle.txs_tree.specs.View.{tree_of, trees_of, mark_of}
 use Rattle.txs_code.specs.declared.instr.Instr.TheVariants as instr
-use Rattle.txs_gen.specs.Emission.{Emission, emission, emits, emits_all, emits_do, emits_let, IsPart, IsPartAll, IsPartDo, IsPartLet, with_instr, with_constant, with_locals, with_pop, with_room}
-use Rattle.txs_gen.proofs.Emissions.{IsLeft, emits_const, emits_local, emits_do_is, emits_core, emits_println, emits_let_is, emits_all_none, emits_all_more, emits_let_none, emits_let_more, emits_do_none, emits_do_more, is_none_trees, left_of, left_first, left_rest, nodes_positive, emits_constants, emits_let_constants, let_locals, left_is, nothing_left, nodes_left, pop_constants}
+use Rattle.txs_gen.specs.Emission.{Emission, emission, emits, emits_all, emits_do, emits_let, IsPart, IsPartAll, IsPartLet, with_instr, with_constant, with_locals, with_pop, with_room}
+use Rattle.txs_gen.proofs.Emissions.{IsLeft, emits_const, emits_local, emits_do_is, emits_core, emits_println, emits_let_is, emits_all_none, emits_all_more, emits_let_none, emits_let_more, emits_do_none, emits_do_more, is_none_trees, left_first, left_rest, nodes_positive, emits_constants, emits_let_constants, let_locals, left_is, nothing_left, nodes_left, pop_constants}
 use Rattle.txs_gen.proofs.NodeTrees.{const_is, local_is, do_is, let_is, core_is, println_is, count_list}
 use Rattle.txs_gen.proofs.emit.+emit.Goals as goal
 
@@ -137,9 +135,9 @@ emit_all-loop-arg-preserved t c =
     let z = nodes_positive (tree_of n) in
     record {
       made = ap (λ x. emits_all rest c.args.depth (c.loop-arg.top + 1) x) c.in_ok-emit.ensures
-        ∙ sym (emits_all_more (tree_of n) rest c.args.depth c.loop-arg.top (emission c.loop-arg.to))
-        ∙ ap (λ x. emits_all x c.args.depth c.loop-arg.top (emission c.loop-arg.to)) (sym e)
-        ∙ c.loop-arg.invariant.made;
+          ∙ sym (emits_all_more (tree_of n) rest c.args.depth c.loop-arg.top (emission c.loop-arg.to))
+          ∙ ap (λ x. emits_all x c.args.depth c.loop-arg.top (emission c.loop-arg.to)) (sym e)
+          ∙ c.loop-arg.invariant.made;
       part = p.1;
       few_constants = omega (arith, k, l, m, c.loop-arg.invariant.few_constants);
       low = omega (arith, k, z, c.loop-arg.invariant.low);
@@ -169,11 +167,11 @@ emit_do-loop-item-preserved t c =
     let r = ap length (pop_constants (eqb (c.loop-item.left - 1) 0) c.args.span (emission c.emit.new.to)) in
     record {
       made = ap (λ x. emits_do rest c.args.span c.args.depth c.args.height x) c.in_ok-pop_unless.ensures
-        ∙ ap (λ b. emits_do rest c.args.span c.args.depth c.args.height (with_pop b c.args.span (emission c.emit.new.to))) (sym last)
-        ∙ ap (λ x. emits_do rest c.args.span c.args.depth c.args.height (with_pop (is_none rest) c.args.span x)) c.in_ok-emit.ensures
-        ∙ sym (emits_do_more (tree_of n) rest c.args.span c.args.depth c.args.height (emission c.loop-item.to))
-        ∙ ap (λ x. emits_do x c.args.span c.args.depth c.args.height (emission c.loop-item.to)) (sym e)
-        ∙ c.loop-item.invariant.made;
+          ∙ ap (λ b. emits_do rest c.args.span c.args.depth c.args.height (with_pop b c.args.span (emission c.emit.new.to))) (sym last)
+          ∙ ap (λ x. emits_do rest c.args.span c.args.depth c.args.height (with_pop (is_none rest) c.args.span x)) c.in_ok-emit.ensures
+          ∙ sym (emits_do_more (tree_of n) rest c.args.span c.args.depth c.args.height (emission c.loop-item.to))
+          ∙ ap (λ x. emits_do x c.args.span c.args.depth c.args.height (emission c.loop-item.to)) (sym e)
+          ∙ c.loop-item.invariant.made;
       part = left_rest c.args.depth (tree_of n) rest p;
       few_constants = omega (arith, k, l, m, q, r, c.loop-item.invariant.few_constants);
       low = omega (arith, k, c.loop-item.invariant.low);
@@ -215,10 +213,10 @@ emit_let-loop-value-preserved t c =
     let q = ap (λ (x : Emission). length x.constants) c.in_ok-store.ensures in
     record {
       made = ap (λ x. emits_let rest c.args.span (d + 1) c.args.height x) c.in_ok-store.ensures
-        ∙ ap (λ x. emits_let rest c.args.span (d + 1) c.args.height (with_instr (instr.Store d) c.args.span (with_locals (d + 1) x))) c.in_ok-emit.ensures
-        ∙ sym (emits_let_more (tree_of n) rest c.args.span d c.args.height (emission c.loop-value.to))
-        ∙ ap (λ x. emits_let x c.args.span d c.args.height (emission c.loop-value.to)) (sym e)
-        ∙ c.loop-value.invariant.made;
+          ∙ ap (λ x. emits_let rest c.args.span (d + 1) c.args.height (with_instr (instr.Store d) c.args.span (with_locals (d + 1) x))) c.in_ok-emit.ensures
+          ∙ sym (emits_let_more (tree_of n) rest c.args.span d c.args.height (emission c.loop-value.to))
+          ∙ ap (λ x. emits_let x c.args.span d c.args.height (emission c.loop-value.to)) (sym e)
+          ∙ c.loop-value.invariant.made;
       part = p.1;
       few_constants = omega (arith, k, l, m, q, c.loop-value.invariant.few_constants);
       low = omega (arith, k, c.loop-value.invariant.low);

@@ -2,7 +2,7 @@ use Rattle.std.proofs.Common.{◌≡◌, ◌+◌, ◌*◌, ◌≤◌, length, dr
 use Rattle.txs_tree.specs.Sound.{nodes, nodes_in}
 use Rattle.txs_tree.specs.Tree.{count}
 use Rattle.txs_tree.specs.View.{tree_of, trees_of}
-use Rattle.txs_gen.specs.Emission.{emission, emits_all, emits_do, emits_let, IsPartAll, IsPartDo, IsPartLet}
+use Rattle.txs_gen.specs.Emission.{emission, emits_all, emits_do, emits_let, IsPartAll, IsPartLet}
 use Rattle.txs_gen.proofs.Emissions.{IsLeft}
 use Rattle.txs_gen.proofs.emit.+emit.Given as goal
 

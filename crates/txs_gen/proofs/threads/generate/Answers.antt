@@ -1,4 +1,4 @@
-use Rattle.std.proofs.Common.{arith, ◌≡◌, ℕ, ◌+◌, ◌≤◌, List, [], ◌∷◌, ◌++◌, length, drop, sym, ap, ◌∙◌, subst, append_assoc, length-append}
+use Rattle.std.proofs.Common.{arith, ◌+◌, ◌≤◌, [], ◌∷◌, ◌++◌, length, drop, sym, ap, ◌∙◌, subst, append_assoc, length-append}
 use Rattle.std.proofs.lemmas.List.{append-nil}
 use Rattle.txs_tree.specs.Sound.{nodes_of_all, SoundThreads}
 use Rattle.txs_tree.specs.View.{tree_of, thread_of, threads_of, program_of}
@@ -50,20 +50,20 @@ loop-thread-preserved c =
     let count = ap length more ∙ length-append cs (constants_of (tree_of t.body)) in
     record {
       bodies = ap (λ l. l ++ bodies_from rest (length k)) c.in_ok-push.ensures.items
-        ∙ append_assoc bs (c.new.result ∷ []) (bodies_from rest (length k))
-        ∙ ap (λ x. bs ++ x ∷ bodies_from rest (length k)) body
-        ∙ ap (λ n. bs ++ body_at (thread_of t) (length cs) ∷ bodies_from rest n) count
-        ∙ ap (λ l. bs ++ bodies_from l (length cs)) (sym e)
-        ∙ c.loop-thread.invariant.bodies;
+          ∙ append_assoc bs (c.new.result ∷ []) (bodies_from rest (length k))
+          ∙ ap (λ x. bs ++ x ∷ bodies_from rest (length k)) body
+          ∙ ap (λ n. bs ++ body_at (thread_of t) (length cs) ∷ bodies_from rest n) count
+          ∙ ap (λ l. bs ++ bodies_from l (length cs)) (sym e)
+          ∙ c.loop-thread.invariant.bodies;
       rooms = ap (λ l. l ++ rooms_of rest) c.in_ok-push-2.ensures.items
-        ∙ append_assoc rs (c.in_ok-made.made.room ∷ []) (rooms_of rest)
-        ∙ ap (λ x. rs ++ x ∷ rooms_of rest) room
-        ∙ ap (λ l. rs ++ rooms_of l) (sym e)
-        ∙ c.loop-thread.invariant.rooms;
+          ∙ append_assoc rs (c.in_ok-made.made.room ∷ []) (rooms_of rest)
+          ∙ ap (λ x. rs ++ x ∷ rooms_of rest) room
+          ∙ ap (λ l. rs ++ rooms_of l) (sym e)
+          ∙ c.loop-thread.invariant.rooms;
       constants = ap (λ l. l ++ constants_of_threads rest) more
-        ∙ append_assoc cs (constants_of (tree_of t.body)) (constants_of_threads rest)
-        ∙ ap (λ l. cs ++ constants_of_threads l) (sym e)
-        ∙ c.loop-thread.invariant.constants;
+          ∙ append_assoc cs (constants_of (tree_of t.body)) (constants_of_threads rest)
+          ∙ ap (λ l. cs ++ constants_of_threads l) (sym e)
+          ∙ c.loop-thread.invariant.constants;
       part = p.1;
       few = omega (arith, count, constants_nodes (tree_of t.body), ap nodes_of_all e, c.loop-thread.invariant.few);
     }

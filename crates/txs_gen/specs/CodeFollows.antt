@@ -1,0 +1,11 @@
+-- The code of a program does what the program means.
+use Rattle.std.specs.Prelude.{map}
+use Rattle.txs_tree.specs.Sound.{Sound}
+use Rattle.txs_tree.specs.Tree.{PlainProgram}
+use Rattle.txs_code.specs.PlainCode.{PlainCode, thread_code}
+use Rattle.txs_follows.specs.FollowsAll.{FollowsAll}
+use Rattle.txs_gen.specs.Generated.{IsCodeOf}
+
+-- the code of a sound program follows it
+abbrev pub CodeFollows : Type 0
+CodeFollows = (code : PlainCode) (p : PlainProgram) → Sound p → IsCodeOf code p → FollowsAll (map (λ b. thread_code code b) code.threads) p
