@@ -11,3 +11,6 @@ pub mod follows;
 pub mod threads;
 
 pub use threads::generate;
+
+#[cfg(test)]
+mod tests;

@@ -1,0 +1,173 @@
+// The code of small programs, instruction by instruction.
+ghost use Rattle.std.specs.Prelude.{◌≤◌, IfOk, IfSome};
+ghost use Rattle.txs_tree.specs.Tree.{count};
+ghost use Rattle.txs_tree.specs.View.{threads_of, tree_of, trees_of};
+ghost use Rattle.txs_gen.specs.Generated.{FewArguments, FewArgumentsEach, FewArgumentsIn};
+
+use crate::generate;
+use std::alloc::{AllocError, Global};
+use std::test::Fail;
+use txs_code::Instr;
+use txs_tree::{Node, NodeKind, Program, Thread, is_sound};
+use txs_value::{Op, Span, Value, same};
+
+fn number(n: i64, at: Span) -> Node
+    ensures { FewArguments (tree_of result) }
+{
+    Node {
+        kind: NodeKind::Const(Value::Int(n)),
+        span: at,
+        wanted: true,
+    }
+}
+
+fn local(i: u8, at: Span) -> Node
+    ensures { FewArguments (tree_of result) }
+{
+    Node {
+        kind: NodeKind::Local(i),
+        span: at,
+        wanted: true,
+    }
+}
+
+fn one(alloc: Global, only: Node) -> Result<Vec<Node>, AllocError>
+    requires { FewArguments (tree_of only) }
+    ensures { IfOk result (λ all. FewArgumentsIn (trees_of all.items) × (count (trees_of all.items) ≤ 65535)) }
+{
+    let mut all = Vec::new(alloc);
+    all.push(only)?;
+    Ok(all)
+}
+
+fn two(alloc: Global, first: Node, second: Node) -> Result<Vec<Node>, AllocError>
+    requires first { FewArguments (tree_of first) }
+    requires second { FewArguments (tree_of second) }
+    ensures { IfOk result (λ all. FewArgumentsIn (trees_of all.items) × (count (trees_of all.items) ≤ 65535)) }
+{
+    let mut all = Vec::new(alloc);
+    all.push(first)?;
+    all.push(second)?;
+    Ok(all)
+}
+
+fn core(op: Op, args: Vec<Node>, at: Span) -> Node
+    requires { FewArgumentsIn (trees_of args.items) × (count (trees_of args.items) ≤ 65535) }
+    ensures { FewArguments (tree_of result) }
+{
+    Node {
+        kind: NodeKind::Core(op, args),
+        span: at,
+        wanted: true,
+    }
+}
+
+fn println(args: Vec<Node>, at: Span) -> Node
+    requires { FewArgumentsIn (trees_of args.items) × (count (trees_of args.items) ≤ 65535) }
+    ensures { FewArguments (tree_of result) }
+{
+    Node {
+        kind: NodeKind::Println(args),
+        span: at,
+        wanted: true,
+    }
+}
+
+fn do_all(items: Vec<Node>, at: Span) -> Node
+    requires { FewArgumentsIn (trees_of items.items) × (count (trees_of items.items) ≤ 65535) }
+    ensures { FewArguments (tree_of result) }
+{
+    Node {
+        kind: NodeKind::Do(items),
+        span: at,
+        wanted: true,
+    }
+}
+
+fn bind(values: Vec<Node>, body: Box<Node>, at: Span) -> Node
+    requires values { FewArgumentsIn (trees_of values.items) × (count (trees_of values.items) ≤ 65535) }
+    requires body { FewArguments (tree_of body.value) }
+    ensures { FewArguments (tree_of result) }
+{
+    Node {
+        kind: NodeKind::Let(values, body),
+        span: at,
+        wanted: true,
+    }
+}
+
+fn program(alloc: Global, body: Node, at: Span) -> Result<Option<Program>, AllocError>
+    requires { FewArguments (tree_of body) }
+    ensures { IfOk result (λ p. IfSome p (λ q. FewArgumentsEach (threads_of q))) }
+{
+    let mut threads = Vec::new(alloc);
+    threads.push(Thread { body, span: at })?;
+    if is_sound(&threads) {
+        Ok(Some(Program::new(threads)))
+    } else {
+        Ok(None)
+    }
+}
+
+fn at(from: u32, to: u32) -> Span {
+    Span { from, to }
+}
+
+#[test]
+fn a_sum_is_printed(rt: HostRuntime) -> Result<(), Fail> {
+    let alloc = rt.alloc();
+    let terms = two(alloc, number(1, at(20, 21)), number(2, at(22, 23)))?;
+    let words = one(alloc, core(Op::Add, terms, at(17, 24)))?;
+    let body = println(words, at(8, 25));
+    let program = program(alloc, body, at(0, 26))?.expect(&rt, "sound");
+    let verified = generate(alloc, &program)?;
+    let code = verified.code();
+    assert_eq!(rt; code.constants().len(), 2);
+    for (constant, n) in code.constants().iter().zip([1, 2].as_slice()) {
+        assert!(rt; same(constant, &Value::Int(*n)));
+    }
+    assert_eq!(rt; code.threads().len(), 1);
+    for thread in code.threads() {
+        assert_eq!(rt; thread.locals(), 0);
+        let instrs = [
+            Instr::Const(0),
+            Instr::Const(1),
+            Instr::Core(Op::Add, 2),
+            Instr::Print(1),
+            Instr::Halt,
+        ];
+        assert!(rt; thread.instrs() == instrs.as_slice());
+        let spans = [at(20, 21), at(22, 23), at(17, 24), at(8, 25), at(0, 26)];
+        assert!(rt; thread.spans() == spans.as_slice());
+    }
+    assert!(rt; verified.rooms() == [2].as_slice());
+    Ok(())
+}
+
+#[test]
+fn a_local_is_stored_and_a_value_dropped(rt: HostRuntime) -> Result<(), Fail> {
+    let alloc = rt.alloc();
+    let words = one(alloc, local(0, at(40, 41)))?;
+    let line = println(words, at(30, 42));
+    let items = two(alloc, local(0, at(28, 29)), line)?;
+    let inner = Box::new(alloc, do_all(items, at(20, 43)))?;
+    let values = one(alloc, number(5, at(15, 16)))?;
+    let body = bind(values, inner, at(8, 44));
+    let program = program(alloc, body, at(0, 45))?.expect(&rt, "sound");
+    let verified = generate(alloc, &program)?;
+    for thread in verified.code().threads() {
+        assert_eq!(rt; thread.locals(), 1);
+        let instrs = [
+            Instr::Const(0),
+            Instr::Store(0),
+            Instr::Local(0),
+            Instr::Pop,
+            Instr::Local(0),
+            Instr::Print(1),
+            Instr::Halt,
+        ];
+        assert!(rt; thread.instrs() == instrs.as_slice());
+    }
+    assert!(rt; verified.rooms() == [1].as_slice());
+    Ok(())
+}
