@@ -1,4 +1,5 @@
-// The code of a thread's tree.
+//! The code of a thread's tree.
+
 ghost use Rattle.std.specs.Prelude.{◌≡◌, ◌+◌, ◌<◌, ◌≤◌, OnOk, MatchResult, length, IfOk, [], ◌∷◌};
 ghost use Rattle.txs_tree.specs.Sound.{nodes, nodes_in};
 ghost use Rattle.txs_tree.specs.Tree.{count};
