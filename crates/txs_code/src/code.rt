@@ -71,7 +71,6 @@ pub struct Code {
 
 impl Model for Code {
     ghost use Rattle.txs_code.specs.PlainCode.{PlainCode};
-
     ghost use Rattle.std.specs.Coded.{codes};
     ghost use Rattle.txs_value.specs.contracts.value.Value as value;
 

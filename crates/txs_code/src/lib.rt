@@ -1,5 +1,6 @@
-//! Code: instructions with their spans, constants, and what makes code well typed. What the machine
-//! does with code is told in the definitions, by cases on instructions.
+//! Code: instructions with their spans, the constants that they name, and what makes code well typed:
+//! a table of the stack's depth at each place that it comes to. What the machine does with code is told
+//! by the definitions, by cases on instructions, and so is what an actor's state is.
 #![tactic(auto)]
 
 pub mod code;

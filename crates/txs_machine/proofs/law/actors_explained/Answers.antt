@@ -1,0 +1,5 @@
+use Rattle.txs_machine.proofs.Following
+use Rattle.txs_machine.proofs.law.actors_explained.Goals as goal
+
+pub returns : goal.returns
+returns c = Following.actors_explained

@@ -1,0 +1,5 @@
+use Rattle.txs_machine.proofs.Following
+use Rattle.txs_machine.proofs.law.actors_follow.Goals as goal
+
+pub returns : goal.returns
+returns c = Following.actors_follow

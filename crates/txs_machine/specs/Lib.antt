@@ -1,0 +1,4 @@
+pub mod Flat
+pub mod Laws
+pub mod PlainActor
+pub mod Turns
