@@ -1,5 +1,5 @@
 -- A script has one reading, or stops at one place for one reason.
-use Rattle.std.proofs.Common.{◌≡◌, ℕ, ◌+◌, ◌-◌, ◌≤◌, Bool, true, false, ltb, List, [], ◌∷◌, ◌++◌, Option, Some, None, Result, Ok, Err, length, refl, sym, ap, subst, ◌∙◌, append_assoc, arith}
+use Rattle.std.proofs.Common.{cond, ◌≡◌, ℕ, ◌+◌, ◌-◌, ◌≤◌, Bool, true, false, ltb, List, [], ◌∷◌, ◌++◌, Option, Some, None, Result, Ok, Err, length, refl, sym, ap, subst, ◌∙◌, append_assoc, arith}
 use Rattle.std.proofs.lemmas.List.{append-nil, take_all}
 use Rattle.std.proofs.lemmas.Bool.{false≢true}
 use Rattle.std.proofs.lemmas.Bool.Decides.{nat_tests}
@@ -10,12 +10,16 @@ use Rattle.txs_value.specs.declared.fault.Span.{Span}
 use Rattle.txs_reader.specs.declared.form.Bracket.{Bracket}
 use Rattle.txs_reader.specs.declared.form.Bracket.TheVariants.{Round, Square}
 use Rattle.txs_reader.specs.declared.error.ReadErrorKind.{ReadErrorKind}
-use Rattle.txs_reader.specs.Bytes.{is_word_byte, meaning}
+use Rattle.txs_reader.specs.declared.error.ReadErrorKind.TheVariants.{TooLarge}
+use Rattle.txs_reader.specs.Bytes.{begins_part, is_word_byte, meaning}
 use Rattle.txs_reader.specs.Tree.{Leaf, Tree}
-use Rattle.txs_reader.specs.Script.{Piece, White, Comment, Opening, Closing, Word, closing_byte, written, IsWord, IsPiece, EndsAt, Splits, Token, between, token, tokens, Open, Holds, Reads, FitsLast, StandsLast, Refuses, at_end, at_closing, at_opening, at_byte, at_word, StopsWithin, ReadStops, too_long, no_text, within}
-use Rattle.txs_reader.proofs.Running.{State, run, run-append, run-holds, onto, same}
-use Rattle.txs_reader.proofs.Pieces.{class_of, rank, one_piece, one_run, piece_front, word_front, left_out_class, opening_class, closing_class, closing_one}
-use Rattle.txs_reader.proofs.Last.{FitsLast-push}
+use Rattle.txs_reader.specs.Script.{Quoted, Piece, White, Comment, Opening, Closing, Word, closing_byte, written, IsWord, IsPiece, EndsAt, Splits, Token, between, token, tokens, Open, Holds, Reads, FitsLast, StandsLast, HasAll, IsFull, RefusesText, at_text_end, at_backslash, at_quote, Refuses, at_end, at_closing, at_full, at_opening, at_byte, at_text, at_word, StopsWithin, ReadStops, too_long, no_text, within}
+use Rattle.txs_reader.proofs.Running.{State, run, run_none, run-append, run-holds, onto, same, fits, complete, has_room, has_room_in}
+use Rattle.txs_reader.proofs.Pieces.{class, class_of, rank, PartClass, part_class, one_piece, one_run, piece_front, word_front, left_out_class, opening_class, quote_class, closing_class, closing_one}
+use Rattle.txs_reader.specs.Quoted.{Part, part_text, part_value, IsPart, IsAtPart}
+use Rattle.txs_reader.proofs.Texts.{one_text, quote_no_part, end_no_part}
+use Rattle.std.specs.List.{AllByRecursion, flat_map}
+use Rattle.txs_reader.proofs.Last.{FitsLast-push, IsFull-last}
 
 -- ---- two splits of one text
 
@@ -56,11 +60,7 @@ start = Some (record { openings = []; forms = [] })
 
 -- what the tokens up to the rest leave
 holds_runs : (bytes : List ℕ) (os : List Open) (fs : List Tree) (rest : List ℕ) (h : Holds bytes os fs rest) → run (tokens 0 h.pieces) start ≡ Some (record { openings = onto os []; forms = fs })
-holds_runs bytes os fs rest h = ap (λ (ts : List Token). run ts start) h.spells ∙ run-holds os fs [] h.shallow
-
-run_none : (ts : List Token) → run ts None ≡ None
-run_none [] = refl
-run_none (t ∷ ts) = refl
+holds_runs bytes os fs rest h = ap (λ (ts : List Token). run ts start) h.spells ∙ run-holds os fs [] h.limits tt
 
 tokens-append : (at : ℕ) (ps qs : List Piece) → (n : ℕ) × (tokens at (ps ++ qs) ≡ tokens at ps ++ tokens n qs)
 tokens-append at [] qs = (at, refl)
@@ -109,19 +109,27 @@ ok_err x k e = absurd cc
 
 -- ---- why a reading stops
 
-abbrev stop_rank : {os : List Open} {rest : List ℕ} {at : ℕ} {k : ReadErrorKind} {s : Span} → Refuses os rest at k s → ℕ
+abbrev head_of : List ℕ → ℕ
+head_of [] = 0
+head_of (b ∷ bs) = b
+
+abbrev stop_rank : {os : List Open} {fs : List Tree} {rest : List ℕ} {at : ℕ} {k : ReadErrorKind} {s : Span} → Refuses os fs rest at k s → ℕ
 stop_rank (at_end from e q p r) = 9
 stop_rank (at_closing b more e p q r) = 4
-stop_rank (at_opening b more e p q r) = 3
-stop_rank (at_byte b more e p q r) = 1
-stop_rank (at_word w more e is ends p r) = 5
+stop_rank (at_full b more e is p q r) = class b
+stop_rank (at_opening b more e many p q r) = 3
+stop_rank (at_byte b more e is p q r) = 1
+stop_rank (at_text ps more e is ends why p) = 6
+stop_rank (at_word w more e is ends p r full) = 5
 
-stop_class : (os : List Open) (rest : List ℕ) (at : ℕ) (k : ReadErrorKind) (s : Span) (w : Refuses os rest at k s) → class_of rest ≡ stop_rank w
-stop_class os rest at k s (at_end from e q p r) = ap class_of e
-stop_class os rest at k s (at_closing b more e p q r) = ap class_of e ∙ closing_class b
-stop_class os rest at k s (at_opening b more e p q r) = ap class_of e ∙ opening_class b
-stop_class os rest at k s (at_byte b more e p q r) = ap class_of e ∙ left_out_class b p
-stop_class os rest at k s (at_word w more e is ends p r) = ap class_of e ∙ word_front w more is
+stop_class : (os : List Open) (fs : List Tree) (rest : List ℕ) (at : ℕ) (k : ReadErrorKind) (s : Span) (w : Refuses os fs rest at k s) → class_of rest ≡ stop_rank w
+stop_class os fs rest at k s (at_end from e q p r) = ap class_of e
+stop_class os fs rest at k s (at_closing b more e p q r) = ap class_of e ∙ closing_class b
+stop_class os fs rest at k s (at_full b more e is p q r) = ap class_of e
+stop_class os fs rest at k s (at_opening b more e many p q r) = ap class_of e ∙ opening_class b
+stop_class os fs rest at k s (at_byte b more e is p q r) = ap class_of e ∙ left_out_class b is
+stop_class os fs rest at k s (at_text ps more e is ends why p) = ap class_of e ∙ quote_class
+stop_class os fs rest at k s (at_word w more e is ends p r full) = ap class_of e ∙ word_front w more is
 
 stands_one : (os : List Open) (m n : ℕ) → StandsLast os m → StandsLast os n → m ≡ n
 stands_one [] m n p q = absurd p
@@ -131,16 +139,56 @@ stands_one (o ∷ o' ∷ os) m n p q = stands_one (o' ∷ os) m n p q
 err_one : (k l : ReadErrorKind) → err k ≡ err l → k ≡ l
 err_one k l e = cc
 
-same_stop : (os : List Open) (rest : List ℕ) (at : ℕ) (k l : ReadErrorKind) (s t : Span) (v : Refuses os rest at k s) (w : Refuses os rest at l t) → stop_rank v ≡ stop_rank w → (k ≡ l) × (s ≡ t)
-same_stop os rest at k l s t (at_end from e q p r) (at_end from' e' q' p' r') same_rank =
+same_text_stop : (ps : List Part) (rest : List ℕ) (at : ℕ) (k l : ReadErrorKind) (s t : Span) → RefusesText ps rest at k s → RefusesText ps rest at l t → (k ≡ l) × (s ≡ t)
+same_text_stop ps rest at k l s t (at_text_end e p q) (at_text_end e' p' q') = (p ∙ sym p', q ∙ sym q')
+same_text_stop ps rest at k l s t (at_backslash more e p q) (at_backslash more' e' p' q') = (p ∙ sym p', q ∙ sym q')
+same_text_stop ps rest at k l s t (at_quote more e long p q) (at_quote more' e' long' p' q') = (p ∙ sym p', q ∙ sym q')
+same_text_stop ps rest at k l s t (at_text_end e p q) (at_backslash more' e' p' q') = absurd cc
+same_text_stop ps rest at k l s t (at_text_end e p q) (at_quote more' e' long' p' q') = absurd cc
+same_text_stop ps rest at k l s t (at_backslash more e p q) (at_text_end e' p' q') = absurd cc
+same_text_stop ps rest at k l s t (at_backslash more e p q) (at_quote more' e' long' p' q') = absurd (differ (sym e ∙ e'))
+  where
+    differ : 92 ∷ more ≡ 34 ∷ more' → ⊥
+    differ f = omega (arith, ap head_of f)
+same_text_stop ps rest at k l s t (at_quote more e long p q) (at_text_end e' p' q') = absurd cc
+same_text_stop ps rest at k l s t (at_quote more e long p q) (at_backslash more' e' p' q') = absurd (differ (sym e' ∙ e))
+  where
+    differ : 92 ∷ more' ≡ 34 ∷ more → ⊥
+    differ f = omega (arith, ap head_of f)
+
+-- a full bracket refuses in one way
+full_one : (os : List Open) (fs : List Tree) (rest : List ℕ) (at b : ℕ) (l : ReadErrorKind) (t : Span) (w : Refuses os fs rest at l t) → begins_part b ≡ true → IsFull os fs → class b ≡ stop_rank w → (l ≡ TooLarge) × (t ≡ between at (at + 1))
+full_one os fs rest at b l t (at_full c more e is f p q) begins full c_rank = (p, q)
+full_one os fs rest at b l t (at_end from e q p r) begins full c_rank = absurd ((part_class b begins).not_end c_rank)
+full_one os fs rest at b l t (at_closing c more e p q r) begins full c_rank = absurd ((part_class b begins).not_closing c_rank)
+full_one os fs rest at b l t (at_opening c more e many p q r) begins full c_rank = absurd (p full)
+full_one os fs rest at b l t (at_byte c more e is p q r) begins full c_rank = absurd (p full)
+full_one os fs rest at b l t (at_text ps more e is ends why p) begins full c_rank = absurd (p full)
+full_one os fs rest at b l t (at_word w more e is ends p r not_full) begins full c_rank = absurd (not_full full)
+
+same_stop : (os : List Open) (fs : List Tree) (rest : List ℕ) (at : ℕ) (k l : ReadErrorKind) (s t : Span) (v : Refuses os fs rest at k s) (w : Refuses os fs rest at l t) → stop_rank v ≡ stop_rank w → (k ≡ l) × (s ≡ t)
+same_stop os fs rest at k l s t (at_full b more e is f p q) w same_rank =
+    let one = full_one os fs rest at b l t w is f same_rank in
+    (p ∙ sym one.0, q ∙ sym one.1)
+same_stop os fs rest at k l s t v (at_full b more e is f p q) same_rank =
+    let one = full_one os fs rest at b k s v is f (sym same_rank) in
+    (one.0 ∙ sym p, one.1 ∙ sym q)
+same_stop os fs rest at k l s t (at_end from e q p r) (at_end from' e' q' p' r') same_rank =
     (p ∙ sym p', r ∙ ap (λ (n : ℕ). between n (n + 1)) (stands_one os from from' q q') ∙ sym r')
-same_stop os rest at k l s t (at_closing b more e p q r) (at_closing b' more' e' p' q' r') same_rank = (q ∙ sym q', r ∙ sym r')
-same_stop os rest at k l s t (at_opening b more e p q r) (at_opening b' more' e' p' q' r') same_rank = (q ∙ sym q', r ∙ sym r')
-same_stop os rest at k l s t (at_byte b more e p q r) (at_byte b' more' e' p' q' r') same_rank = (q ∙ sym q', r ∙ sym r')
-same_stop os rest at k l s t (at_word w more e is ends p r) (at_word w' more' e' is' ends' p' r') same_rank =
+same_stop os fs rest at k l s t (at_closing b more e p q r) (at_closing b' more' e' p' q' r') same_rank = (q ∙ sym q', r ∙ sym r')
+same_stop os fs rest at k l s t (at_opening b more e many p q r) (at_opening b' more' e' many' p' q' r') same_rank = (q ∙ sym q', r ∙ sym r')
+same_stop os fs rest at k l s t (at_byte b more e is p q r) (at_byte b' more' e' is' p' q' r') same_rank = (q ∙ sym q', r ∙ sym r')
+same_stop os fs rest at k l s t (at_text ps more e is ends why p) (at_text qs more' e' is' ends' why' p') same_rank =
+    let fronts : 34 ∷ (flat_map part_text ps ++ more) ≡ 34 ∷ (flat_map part_text qs ++ more') = sym e ∙ e' in
+    let tails : flat_map part_text ps ++ more ≡ flat_map part_text qs ++ more' = cc in
+    let one = one_text ps qs more more' tails is is' ends ends' in
+    let P : List Part → Type 0 = λ rs. RefusesText rs more' at l t in
+    let Q : List ℕ → Type 0 = λ x. RefusesText ps x at l t in
+    same_text_stop ps more at k l s t why (subst Q (sym one.1) (subst P (sym one.0) why'))
+same_stop os fs rest at k l s t (at_word w more e is ends p r full) (at_word w' more' e' is' ends' p' r' full') same_rank =
     let one = one_run is_word_byte w w' more more' (sym e ∙ e') is.1 is'.1 ends ends' in
     (err_one k l (sym p ∙ ap meaning one.0 ∙ p'), r ∙ ap (λ (x : List ℕ). between at (at + length x)) one.0 ∙ sym r')
-same_stop os rest at k l s t v w same_rank = absurd (omega (arith, same_rank))
+same_stop os fs rest at k l s t v w same_rank = absurd (omega (arith, same_rank))
 
 -- ---- a stop isn't passed
 
@@ -166,25 +214,60 @@ not_true : (b : Bool) → (b ≡ true → ⊥) → b ≡ false
 not_true true h = absurd (h refl)
 not_true false h = refl
 
-closing_breaks : (os : List Open) (fs : List Tree) (b : Bracket) → (FitsLast os b → ⊥) → Ended os → (at : ℕ) → run (token at (Closing b)) (Some (record { openings = onto os []; forms = fs })) ≡ None
+unfit_bracket : (c : Option Bracket) (b : Bracket) → (c ≡ Some b → ⊥) → fits c b ≡ false
+unfit_bracket None b h = refl
+unfit_bracket (Some c) b h = not_true _ (λ t. h (ap some_bracket (same_true c b t)))
+  where
+    some_bracket : Bracket → Option Bracket
+    some_bracket d = Some d
+
+closing_breaks : (os : List Open) (fs : List Tree) (b : Bracket) → ¬ FitsLast os b → Ended os → (at : ℕ) → run (token at (Closing b)) (Some (record { openings = onto os []; forms = fs })) ≡ None
 closing_breaks os fs b unfit (empty e) at = ap (λ (ps : List Open). run (token at (Closing b)) (Some (record { openings = onto ps []; forms = fs }))) e
 closing_breaks os fs b unfit (behind init o e) at =
-    let different : same o.bracket b ≡ false = not_true _ (λ t. unfit (subst (λ (ps : List Open). FitsLast ps b) (sym e) (FitsLast-push init o b (same_true _ _ t)))) in
+    let different : fits o.bracket b ≡ false = unfit_bracket o.bracket b (λ t. unfit (subst (λ (ps : List Open). FitsLast ps b) (sym e) (FitsLast-push init o b t))) in
     ap (λ (ps : List Open). run (token at (Closing b)) (Some (record { openings = onto ps []; forms = fs }))) e
     ∙ ap (λ (ps : List Open). run (token at (Closing b)) (Some (record { openings = ps; forms = fs }))) (innermost_onto init o [])
     ∙ rw different refl
 
-opening_breaks : (os : List Open) (fs : List Tree) (b : Bracket) → 100 ≤ length os → (at : ℕ) → run (token at (Opening b)) (Some (record { openings = onto os []; forms = fs })) ≡ None
+if_room : (r : Bool) (s t : Option State) → t ≡ None → cond r t None ≡ None
+if_room true s t e = e
+if_room false s t e = refl
+
+opening_breaks : (os : List Open) (fs : List Tree) (b : Option Bracket) → 100 ≤ length os → (at : ℕ) → run (token at (Opening b)) (Some (record { openings = onto os []; forms = fs })) ≡ None
 opening_breaks os fs b many at =
     let len : length (onto os []) ≡ length os + 0 = length-onto os [] in
     let full : ltb (length (onto os [])) 100 ≡ false = grind (arith, nat_tests) in
-    rw full refl
+    if_room (has_room (onto os []) fs) None _ (rw full refl)
 
-rank_low : (p : Piece) → rank p ≤ 5
+no_room_in : (c : Option Bracket) (fs : List Tree) → HasAll c (length fs) → has_room_in c fs ≡ false
+no_room_in None fs h = absurd h
+no_room_in (Some b) fs h = grind (arith, nat_tests)
+
+no_room : (os : List Open) (fs : List Tree) → IsFull os fs → Ended os → has_room (onto os []) fs ≡ false
+no_room os fs h (empty e) = absurd (subst (λ (ps : List Open). IsFull ps fs) e h)
+no_room os fs h (behind init o e) =
+    ap (λ (ps : List Open). has_room (onto ps []) fs) e
+    ∙ ap (λ (ps : List Open). has_room ps fs) (innermost_onto init o [])
+    ∙ no_room_in o.bracket fs (IsFull-last init o fs (subst (λ (ps : List Open). IsFull ps fs) e h))
+
+-- the next piece after which no state is left
+abbrev Breaks : List Open → List Tree → Piece → Type 0
+Breaks os fs p = (at : ℕ) → run (token at p) (Some (record { openings = onto os []; forms = fs })) ≡ None
+
+full_breaks : (os : List Open) (fs : List Tree) (p : Piece) → IsFull os fs → (rank p ≡ 0 → ⊥) → (rank p ≡ 2 → ⊥) → (rank p ≡ 4 → ⊥) → Breaks os fs p
+full_breaks os fs (White b) full a c d = absurd (a refl)
+full_breaks os fs (Comment b) full a c d = absurd (c refl)
+full_breaks os fs (Closing b) full a c d = absurd (d refl)
+full_breaks os fs (Opening b) full a c d = λ at. rw (no_room os fs full (ended os)) refl
+full_breaks os fs (Quoted ps) full a c d = λ at. rw (no_room os fs full (ended os)) refl
+full_breaks os fs (Word w x) full a c d = λ at. rw (no_room os fs full (ended os)) refl
+
+rank_low : (p : Piece) → rank p ≤ 6
 rank_low (White b) = omega arith
 rank_low (Comment c) = omega arith
 rank_low (Opening b) = omega arith
 rank_low (Closing b) = omega arith
+rank_low (Quoted ps) = omega arith
 rank_low (Word w x) = omega arith
 
 rank_not_one : (p : Piece) → rank p ≡ 1 → ⊥
@@ -192,25 +275,42 @@ rank_not_one (White b) e = omega (arith, e)
 rank_not_one (Comment c) e = omega (arith, e)
 rank_not_one (Opening b) e = omega (arith, e)
 rank_not_one (Closing b) e = omega (arith, e)
+rank_not_one (Quoted ps) e = omega (arith, e)
 rank_not_one (Word w x) e = omega (arith, e)
 
-stuck_at : (os : List Open) (fs : List Tree) (rest : List ℕ) (n : ℕ) (k : ReadErrorKind) (s : Span) (w : Refuses os rest n k s) (p : Piece) (more : List ℕ) → stop_rank w ≡ rank p → rest ≡ written p ++ more → IsPiece p → EndsAt p more → (at : ℕ) → run (token at p) (Some (record { openings = onto os []; forms = fs })) ≡ None
+-- what is refused is no whole text
+no_whole_text : (ps qs : List Part) (rest more : List ℕ) (at : ℕ) (k : ReadErrorKind) (s : Span) → RefusesText ps rest at k s → ps ≡ qs → rest ≡ 34 ∷ more → length (flat_map part_value qs) ≤ 65535 → ⊥
+no_whole_text ps qs rest more at k s (at_text_end e p q) same_parts quote le = absurd cc
+no_whole_text ps qs rest more at k s (at_backslash more' e p q) same_parts quote le = omega (arith, ap head_of (sym e ∙ quote))
+no_whole_text ps qs rest more at k s (at_quote more' e long p q) same_parts quote le =
+    let lengths : length (flat_map part_value ps) ≡ length (flat_map part_value qs) = ap (λ (rs : List Part). length (flat_map part_value rs)) same_parts in
+    omega (arith, long, le)
+
+stuck_at : (os : List Open) (fs : List Tree) (rest : List ℕ) (n : ℕ) (k : ReadErrorKind) (s : Span) (w : Refuses os fs rest n k s) (p : Piece) (more : List ℕ) → stop_rank w ≡ rank p → rest ≡ written p ++ more → IsPiece p → EndsAt p more → Breaks os fs p
 stuck_at os fs rest n k s (at_closing b more' e unfit q r) (Closing c) more same_rank front is ends =
     let bytes : closing_byte b ≡ closing_byte c = cc in
     let one : b ≡ c = closing_one b c bytes in
-    subst (λ (d : Bracket). (at : ℕ) → run (token at (Closing d)) (Some (record { openings = onto os []; forms = fs })) ≡ None) one (closing_breaks os fs b unfit (ended os))
-stuck_at os fs rest n k s (at_opening b more' e many q r) (Opening c) more same_rank front is ends = opening_breaks os fs c many
-stuck_at os fs rest n k s (at_word v more' e v_is v_ends p r) (Word w x) more same_rank front is ends =
+    subst (λ (d : Bracket). Breaks os fs (Closing d)) one (closing_breaks os fs b unfit (ended os))
+stuck_at os fs rest n k s (at_full b more' e begins full q r) p more same_rank front is ends =
+    let c = part_class b begins in
+    full_breaks os fs p full (λ z. c.not_white (same_rank ∙ z)) (λ z. c.not_comment (same_rank ∙ z)) (λ z. c.not_closing (same_rank ∙ z))
+stuck_at os fs rest n k s (at_opening b more' e many f q r) (Opening c) more same_rank front is ends = opening_breaks os fs c many
+stuck_at os fs rest n k s (at_text ps more' e all stops why full) (Quoted qs) more same_rank front is ends =
+    let fronts : 34 ∷ (flat_map part_text ps ++ more') ≡ 34 ∷ ((flat_map part_text qs ++ 34 ∷ []) ++ more) = sym e ∙ front in
+    let tails : flat_map part_text ps ++ more' ≡ (flat_map part_text qs ++ 34 ∷ []) ++ more = cc in
+    let one = one_text ps qs more' (34 ∷ more) (tails ∙ append_assoc (flat_map part_text qs) (34 ∷ []) more) all is.0 stops (quote_no_part more) in
+    absurd (no_whole_text ps qs more' more n k s why one.0 one.1 is.1)
+stuck_at os fs rest n k s (at_word v more' e v_is v_ends p r full) (Word w x) more same_rank front is ends =
     let one = one_run is_word_byte v w more' more (sym e ∙ front) v_is.1 is.0.1 v_ends ends in
     absurd (ok_err x k (sym is.1 ∙ sym (ap meaning one.0) ∙ p))
 stuck_at os fs rest n k s (at_end from e q p' r) p more same_rank front is ends = absurd (omega (arith, rank_low p, same_rank))
-stuck_at os fs rest n k s (at_byte b more' e left q r) p more same_rank front is ends = absurd (rank_not_one p (sym same_rank))
+stuck_at os fs rest n k s (at_byte b more' e left f q r) p more same_rank front is ends = absurd (rank_not_one p (sym same_rank))
 stuck_at os fs rest n k s w p more same_rank front is ends = absurd (omega (arith, same_rank))
 
-not_passed : (bytes : List ℕ) (os : List Open) (fs : List Tree) (rest : List ℕ) (h : Holds bytes os fs rest) (n : ℕ) (k : ReadErrorKind) (s : Span) → Refuses os rest n k s → (os' : List Open) (fs' : List Tree) (rest' : List ℕ) (h' : Holds bytes os' fs' rest') → GoesOn h.pieces rest h'.pieces → ⊥
+not_passed : (bytes : List ℕ) (os : List Open) (fs : List Tree) (rest : List ℕ) (h : Holds bytes os fs rest) (n : ℕ) (k : ReadErrorKind) (s : Span) → Refuses os fs rest n k s → (os' : List Open) (fs' : List Tree) (rest' : List ℕ) (h' : Holds bytes os' fs' rest') → GoesOn h.pieces rest h'.pieces → ⊥
 not_passed bytes os fs rest h n k s r os' fs' rest' h' g =
     broken bytes os fs rest h os' fs' rest' h' g
-    (stuck_at os fs rest n k s r g.next g.more (sym (stop_class os rest n k s r) ∙ ap class_of g.front ∙ piece_front g.next g.more g.is) g.front g.is g.ends)
+    (stuck_at os fs rest n k s r g.next g.more (sym (stop_class os fs rest n k s r) ∙ ap class_of g.front ∙ piece_front g.next g.more g.is) g.front g.is g.ends)
 
 -- ---- one state
 
@@ -243,18 +343,21 @@ one_state bytes os fs rest h os' fs' rest' k e =
 
 -- ---- one answer
 
-nothing_open : (n : ℕ) (k : ReadErrorKind) (s : Span) → Refuses [] [] n k s → ⊥
-nothing_open n k s (at_end from e q p r) = q
-nothing_open n k s (at_closing b more e p q r) = absurd cc
-nothing_open n k s (at_opening b more e p q r) = absurd cc
-nothing_open n k s (at_byte b more e p q r) = absurd cc
-nothing_open n k s (at_word w more e is ends p r) = empty_word w more is e
+nothing_open : (fs : List Tree) (n : ℕ) (k : ReadErrorKind) (s : Span) → Refuses [] fs [] n k s → ⊥
+nothing_open fs n k s (at_end from e q p r) = q
+nothing_open fs n k s (at_closing b more e p q r) = absurd cc
+nothing_open fs n k s (at_full b more e is f q r) = f
+nothing_open fs n k s (at_opening b more e many p q r) = absurd cc
+nothing_open fs n k s (at_byte b more e is p q r) = absurd cc
+nothing_open fs n k s (at_text ps more e is ends why p) = absurd cc
+nothing_open fs n k s (at_word w more e is ends p r full) = empty_word w more is e
 
 nothing_written : (p : Piece) (more : List ℕ) → IsPiece p → [] ≡ written p ++ more → ⊥
 nothing_written (White b) more is e = absurd cc
 nothing_written (Comment c) more is e = absurd cc
 nothing_written (Opening b) more is e = absurd cc
 nothing_written (Closing b) more is e = absurd cc
+nothing_written (Quoted ps) more is e = absurd cc
 nothing_written (Word w x) more is e = empty_word w more is.0 e
 
 ends_here : (ps : List Piece) (qs : List Piece) → GoesOn ps [] qs → ⊥
@@ -268,16 +371,20 @@ one_reading_within bytes f g h k =
       | longer on ↦ absurd (ends_here _ _ on)
     ]
 
+-- a refusal, at what is the same state
+moved : (bytes : List ℕ) (k : ReadErrorKind) (s : Span) (os : List Open) (fs : List Tree) (rest : List ℕ) (u : StopsWithin bytes k s) → os ≡ u.open_forms → fs ≡ u.forms → rest ≡ u.rest → Refuses os fs rest (length bytes - length rest) k s
+moved bytes k s os fs rest u e f g =
+    let R : List Open → List Tree → List ℕ → Type 0 = λ os fs rest. Refuses os fs rest (length bytes - length rest) k s in
+    subst (λ (os : List Open). R os fs rest) (sym e) (subst (λ (fs : List Tree). R u.open_forms fs rest) (sym f) (subst (λ (rest : List ℕ). R u.open_forms u.forms rest) (sym g) u.refuses))
+
 one_stop_within : (bytes : List ℕ) (k l : ReadErrorKind) (s t : Span) → StopsWithin bytes k s → StopsWithin bytes l t → (k ≡ l) × (s ≡ t)
 one_stop_within bytes k l s t u v =
     elim (compare bytes u.holds.pieces u.rest v.holds.pieces v.rest u.holds.splits v.holds.splits) [
       | alike e r ↦
           let one = one_state bytes u.open_forms u.forms u.rest u.holds v.open_forms v.forms v.rest v.holds e in
-          let R : List Open → List ℕ → Type 0 = λ os rest. Refuses os rest (length bytes - length rest) l t in
-          let moved : Refuses u.open_forms u.rest (length bytes - length u.rest) l t =
-          subst (λ (os : List Open). R os u.rest) (sym one.0) (subst (λ (rest : List ℕ). R v.open_forms rest) (sym r) v.refuses) in
+          let other : Refuses u.open_forms u.forms u.rest (length bytes - length u.rest) l t = moved bytes l t u.open_forms u.forms u.rest v one.0 one.1 r in
           let at : ℕ = length bytes - length u.rest in
-          same_stop u.open_forms u.rest at k l s t u.refuses moved (sym (stop_class u.open_forms u.rest at k s u.refuses) ∙ stop_class u.open_forms u.rest at l t moved)
+          same_stop u.open_forms u.forms u.rest at k l s t u.refuses other (sym (stop_class u.open_forms u.forms u.rest at k s u.refuses) ∙ stop_class u.open_forms u.forms u.rest at l t other)
       | shorter on ↦ absurd (not_passed bytes _ _ _ u.holds _ k s u.refuses _ _ _ v.holds on)
       | longer on ↦ absurd (not_passed bytes _ _ _ v.holds _ l t v.refuses _ _ _ u.holds on)
     ]
@@ -286,10 +393,7 @@ one_stop_within bytes k l s t u v =
 read_whole : (bytes : List ℕ) (f : List Tree) (h : Holds bytes [] f []) (k : ReadErrorKind) (s : Span) (u : StopsWithin bytes k s) → h.pieces ≡ u.holds.pieces → [] ≡ u.rest → ⊥
 read_whole bytes f h k s u e r =
     let one = one_state bytes [] f [] h u.open_forms u.forms u.rest u.holds e in
-    let R : List Open → List ℕ → Type 0 = λ os rest. Refuses os rest (length bytes - length rest) k s in
-    let moved : Refuses [] [] (length bytes - length {A = ℕ} []) k s =
-    subst (λ (os : List Open). R os []) (sym one.0) (subst (λ (rest : List ℕ). R u.open_forms rest) (sym r) u.refuses) in
-    nothing_open _ k s moved
+    nothing_open f _ k s (moved bytes k s [] f [] u one.0 one.1 r)
 
 not_both_within : (bytes : List ℕ) (f : List Tree) (k : ReadErrorKind) (s : Span) → Holds bytes [] f [] → StopsWithin bytes k s → ⊥
 not_both_within bytes f k s h u =

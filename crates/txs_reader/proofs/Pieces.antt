@@ -1,22 +1,24 @@
 -- What stands at the front of a text is one piece alone.
-use Rattle.std.proofs.Common.{◌≡◌, ℕ, Bool, true, false, not, cond, ◌&&◌, ◌||◌, eqb, List, [], ◌∷◌, ◌++◌, Result, Ok, refl, sym, ap, ◌∙◌, arith}
-use Rattle.std.specs.List.{list_all}
+use Rattle.std.proofs.Common.{◌≡◌, ℕ, Bool, true, false, not, cond, ◌&&◌, ◌||◌, eqb, List, [], ◌∷◌, ◌++◌, Option, None, Some, Result, Ok, refl, sym, ap, ◌∙◌, append_assoc, arith}
+use Rattle.std.specs.List.{list_all, flat_map}
+use Rattle.txs_reader.specs.Quoted.{part_text}
+use Rattle.txs_reader.proofs.Texts.{one_text, quote_no_part}
 use Rattle.std.proofs.lemmas.Bool.{false≢true}
 use Rattle.std.proofs.lemmas.Bool.Decides.{nat_tests}
 use Rattle.txs_reader.specs.declared.form.Bracket.{Bracket}
 use Rattle.txs_reader.specs.declared.form.Bracket.TheVariants.{Round, Square}
 use Rattle.txs_reader.specs.declared.error.ReadErrorKind.{ReadErrorKind}
-use Rattle.txs_reader.specs.Bytes.{is_white, is_left_out_byte, is_mark, is_word_byte, begins_with, meaning}
+use Rattle.txs_reader.specs.Bytes.{is_white, is_left_out_byte, is_mark, is_word_byte, begins_part, begins_with, meaning}
 use Rattle.txs_reader.specs.Tree.{Leaf}
-use Rattle.txs_reader.specs.Script.{Piece, White, Comment, Opening, Closing, Word, opening_byte, closing_byte, written, IsWord, IsPiece, EndsAt}
+use Rattle.txs_reader.specs.Script.{Piece, White, Comment, Opening, Closing, Quoted, Word, opening_byte, closing_byte, written, IsWord, IsPiece, EndsAt}
 
 -- ---- the class of a byte
 
-abbrev pub classed : (a b c d e : Bool) → ℕ
-classed a b c d e = cond a 0 (cond b 1 (cond c 2 (cond d 3 (cond e 4 5))))
+abbrev pub classed : (a b c d e f : Bool) → ℕ
+classed a b c d e f = cond a 0 (cond b 1 (cond c 2 (cond d 3 (cond e 4 (cond f 6 5)))))
 
 abbrev pub class : ℕ → ℕ
-class b = classed (is_white b) (is_left_out_byte b) (eqb b 59) (eqb b 40 || eqb b 91) (eqb b 41 || eqb b 93)
+class b = classed (is_white b) (is_left_out_byte b) (eqb b 59) (eqb b 40 || eqb b 91 || eqb b 64) (eqb b 41 || eqb b 93) (eqb b 34)
 
 -- the class of the first byte
 abbrev pub rank : Piece → ℕ
@@ -25,6 +27,7 @@ rank (Comment c) = 2
 rank (Opening b) = 3
 rank (Closing b) = 4
 rank (Word w x) = 5
+rank (Quoted ps) = 6
 
 white_class : (b : ℕ) → is_white b ≡ true → class b ≡ 0
 white_class b e = rw e refl
@@ -40,29 +43,59 @@ pub comment_class : class 59 ≡ 2
 unfolding is_white is_left_out_byte
 comment_class = refl
 
-pub opening_class : (b : Bracket) → class (opening_byte b) ≡ 3
+pub opening_class : (b : Option Bracket) → class (opening_byte b) ≡ 3
 unfolding is_white is_left_out_byte
-opening_class Round = refl
-opening_class Square = refl
+opening_class None = refl
+opening_class (Some Round) = refl
+opening_class (Some Square) = refl
+
+pub quote_class : class 34 ≡ 6
+unfolding is_white is_left_out_byte
+quote_class = refl
 
 pub closing_class : (b : Bracket) → class (closing_byte b) ≡ 4
 unfolding is_white is_left_out_byte
 closing_class Round = refl
 closing_class Square = refl
 
-split_word : (a b c d e f g : Bool) → not (a || b || (c || d || e || f || g)) ≡ true → classed a b c (d || f) (e || g) ≡ 5
-split_word true b c d e f g h = absurd cc
-split_word false true c d e f g h = absurd cc
-split_word false false true d e f g h = absurd cc
-split_word false false false true e f g h = absurd cc
-split_word false false false false true f g h = absurd cc
-split_word false false false false false true g h = absurd cc
-split_word false false false false false false true h = absurd cc
-split_word false false false false false false false h = refl
+split_word : (a b c d e f g h i : Bool) → not (a || b || (c || d || e || f || g || h || i)) ≡ true → classed a b c (d || f || h) (e || g) i ≡ 5
+split_word true b c d e f g h i p = absurd cc
+split_word false true c d e f g h i p = absurd cc
+split_word false false true d e f g h i p = absurd cc
+split_word false false false true e f g h i p = absurd cc
+split_word false false false false true f g h i p = absurd cc
+split_word false false false false false true g h i p = absurd cc
+split_word false false false false false false true h i p = absurd cc
+split_word false false false false false false false true i p = absurd cc
+split_word false false false false false false false false true p = absurd cc
+split_word false false false false false false false false false p = refl
 
 pub word_class : (b : ℕ) → is_word_byte b ≡ true → class b ≡ 5
 unfolding is_word_byte is_mark
-word_class b e = split_word (is_white b) (is_left_out_byte b) (eqb b 59) (eqb b 40) (eqb b 41) (eqb b 91) (eqb b 93) e
+word_class b e = split_word (is_white b) (is_left_out_byte b) (eqb b 59) (eqb b 40) (eqb b 41) (eqb b 91) (eqb b 93) (eqb b 64) (eqb b 34) e
+
+-- what begins a part is in none of the other classes
+split_part : (a b c d e f g : Bool) → not (a || c || d || e) ≡ true → (classed a b c f (d || e) g ≡ 0 → ⊥) × (classed a b c f (d || e) g ≡ 2 → ⊥) × (classed a b c f (d || e) g ≡ 4 → ⊥) × (classed a b c f (d || e) g ≡ 9 → ⊥)
+split_part true b c d e f g p = absurd cc
+split_part false b true d e f g p = absurd cc
+split_part false b false true e f g p = absurd cc
+split_part false b false false true f g p = absurd cc
+split_part false true false false false f g p = (λ h. omega (arith, h), λ h. omega (arith, h), λ h. omega (arith, h), λ h. omega (arith, h))
+split_part false false false false false true g p = (λ h. omega (arith, h), λ h. omega (arith, h), λ h. omega (arith, h), λ h. omega (arith, h))
+split_part false false false false false false true p = (λ h. omega (arith, h), λ h. omega (arith, h), λ h. omega (arith, h), λ h. omega (arith, h))
+split_part false false false false false false false p = (λ h. omega (arith, h), λ h. omega (arith, h), λ h. omega (arith, h), λ h. omega (arith, h))
+
+pub record PartClass (b : ℕ) : Type 0 where
+  pub not_white : class b ≡ 0 → ⊥
+  pub not_comment : class b ≡ 2 → ⊥
+  pub not_closing : class b ≡ 4 → ⊥
+  pub not_end : class b ≡ 9 → ⊥
+
+pub part_class : (b : ℕ) → begins_part b ≡ true → PartClass b
+unfolding begins_part
+part_class b e =
+    let s = split_part (is_white b) (is_left_out_byte b) (eqb b 59) (eqb b 41) (eqb b 93) (eqb b 40 || eqb b 91 || eqb b 64) (eqb b 34) e in
+    record { not_white = s.0; not_comment = s.1; not_closing = s.2; not_end = s.3 }
 
 -- the class of the first byte, 9 for none
 abbrev pub class_of : List ℕ → ℕ
@@ -86,6 +119,7 @@ piece_front (White b) more is = white_class b is
 piece_front (Comment c) more is = comment_class
 piece_front (Opening b) more is = opening_class b
 piece_front (Closing b) more is = closing_class b
+piece_front (Quoted ps) more is = quote_class
 piece_front (Word w x) more is = word_front w more is.0
 
 -- ---- one piece alone
@@ -101,11 +135,16 @@ one_run test (c ∷ a) (d ∷ b) x y e p q r s =
     let rest = one_run test a b x y tails (and_right _ _ p) (and_right _ _ q) r s in
     (let k : a ≡ b = rest.0 in cc, rest.1)
 
-opening_one : (b c : Bracket) → opening_byte b ≡ opening_byte c → b ≡ c
-opening_one Round Round e = refl
-opening_one Square Square e = refl
-opening_one Round Square e = absurd (omega (arith, e))
-opening_one Square Round e = absurd (omega (arith, e))
+opening_one : (b c : Option Bracket) → opening_byte b ≡ opening_byte c → b ≡ c
+opening_one None None e = refl
+opening_one (Some Round) (Some Round) e = refl
+opening_one (Some Square) (Some Square) e = refl
+opening_one None (Some Round) e = absurd (omega (arith, e))
+opening_one None (Some Square) e = absurd (omega (arith, e))
+opening_one (Some Round) None e = absurd (omega (arith, e))
+opening_one (Some Square) None e = absurd (omega (arith, e))
+opening_one (Some Round) (Some Square) e = absurd (omega (arith, e))
+opening_one (Some Square) (Some Round) e = absurd (omega (arith, e))
 
 pub closing_one : (b c : Bracket) → closing_byte b ≡ closing_byte c → b ≡ c
 closing_one Round Round e = refl
@@ -130,6 +169,11 @@ by_rank (Comment b) (Comment c) x y r e is_p is_q p_ends q_ends =
     (ap Comment one.0, one.1)
 by_rank (Opening b) (Opening c) x y r e is_p is_q p_ends q_ends = (let k : opening_byte b ≡ opening_byte c = cc in ap Opening (opening_one b c k), cc)
 by_rank (Closing b) (Closing c) x y r e is_p is_q p_ends q_ends = (let k : closing_byte b ≡ closing_byte c = cc in ap Closing (closing_one b c k), cc)
+by_rank (Quoted b) (Quoted c) x y r e is_p is_q p_ends q_ends =
+    let tails : (flat_map part_text b ++ 34 ∷ []) ++ x ≡ (flat_map part_text c ++ 34 ∷ []) ++ y = cc in
+    let one = one_text b c (34 ∷ x) (34 ∷ y) (sym (append_assoc (flat_map part_text b) (34 ∷ []) x) ∙ tails ∙ append_assoc (flat_map part_text c) (34 ∷ []) y) is_p.0 is_q.0 (quote_no_part x) (quote_no_part y) in
+    let rest : 34 ∷ x ≡ 34 ∷ y = one.1 in
+    (ap Quoted one.0, cc)
 by_rank (Word v i) (Word w j) x y r e is_p is_q p_ends q_ends =
     let one = one_run is_word_byte v w x y e is_p.0.1 is_q.0.1 p_ends q_ends in
     let leaves : i ≡ j = ok_one i j (sym is_p.1 ∙ ap meaning one.0 ∙ is_q.1) in

@@ -15,17 +15,25 @@ is_white b = (nat_le 9 b && nat_le b 13) || (nat_le 28 b && nat_le b 32) || b ==
 abbrev pub is_line_end : ℕ → Bool
 is_line_end b = b == 10 || b == 13
 
--- `{` `}` `^` `~` `\` and the backquote, and in this part also `@` and `"`
+-- `{` `}` `^` `~` `\` and the backquote
 unfoldable pub is_left_out_byte : ℕ → Bool
-is_left_out_byte b = b == 123 || b == 125 || b == 94 || b == 126 || b == 92 || b == 96 || b == 64 || b == 34
+is_left_out_byte b = b == 123 || b == 125 || b == 94 || b == 126 || b == 92 || b == 96
 
--- `;` `(` `)` `[` `]`
+-- `;` `(` `)` `[` `]` `@` `"`
 unfoldable pub is_mark : ℕ → Bool
-is_mark b = b == 59 || b == 40 || b == 41 || b == 91 || b == 93
+is_mark b = b == 59 || b == 40 || b == 41 || b == 91 || b == 93 || b == 64 || b == 34
 
--- any other byte
+-- a byte of a word is any other byte
 unfoldable pub is_word_byte : ℕ → Bool
 is_word_byte b = not (is_white b || is_left_out_byte b || is_mark b)
+
+-- what begins a part of a list: all but white space, `;`, `)` and `]`
+unfoldable pub begins_part : ℕ → Bool
+begins_part b = not (is_white b || b == 59 || b == 41 || b == 93)
+
+-- neither a quote nor a backslash
+unfoldable pub is_plain : ℕ → Bool
+is_plain b = not (b == 34 || b == 92)
 
 -- one of `'#/&%$|:`
 unfoldable pub is_foreign_byte : ℕ → Bool

@@ -1,6 +1,9 @@
 pub mod Bytes
+pub mod Completes
 pub mod Errors
+pub mod Escapes
 pub mod OpenForms
+pub mod Quoted
 pub mod Reached
 pub mod Refused
 pub mod Script

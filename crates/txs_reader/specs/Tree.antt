@@ -1,5 +1,5 @@
 -- What a form is, without where it lies in memory.
-use Rattle.std.specs.Prelude.{ℕ, suc, max, List, [], ◌∷◌, map, ℤ, Bool}
+use Rattle.std.specs.Prelude.{ℕ, suc, ◌≤◌, ◌+◌, max, codes, List, [], ◌∷◌, map, ℤ, Bool}
 use Rattle.txs_value.specs.declared.fault.Span.{Span}
 use Rattle.txs_reader.specs.declared.form.Bracket.{Bracket}
 use Rattle.txs_reader.specs.declared.form.Form.{Form, fold-Form}
@@ -49,7 +49,7 @@ abbrev pub place : Tree → Span
 place (leaf x span) = span
 place (group b ts span) = span
 
--- how many brackets stand in one another
+-- how many brackets stand in one another, a `@` being one too
 abbrev mutual
   pub height : Tree → ℕ
   height (leaf x span) = 0
@@ -62,3 +62,22 @@ abbrev mutual
 abbrev pub height_of_all : List Tree → ℕ
 height_of_all [] = 0
 height_of_all (t ∷ ts) = max (height t) (height_of_all ts)
+
+-- how many parts a list or vector has
+abbrev pub parts : Trees → ℕ
+parts none = 0
+parts (first t ts) = suc (parts ts)
+
+-- each list and vector in it has at most 65,535 parts
+abbrev mutual
+  pub IsNarrow : Tree → Type 0
+  IsNarrow (leaf x span) = Unit {0}
+  IsNarrow (group b ts span) = (parts ts ≤ 65535) × AreNarrow ts
+
+  pub AreNarrow : Trees → Type 0
+  AreNarrow none = Unit {0}
+  AreNarrow (first t ts) = IsNarrow t × AreNarrow ts
+
+-- the symbol that the sign `@` stands for
+abbrev pub deref : List ℕ
+deref = codes "deref"

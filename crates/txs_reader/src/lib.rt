@@ -11,9 +11,11 @@ ghost use Rattle.txs_reader.specs.Script.{Reads, ReadStops};
 
 mod bytes;
 pub mod error;
+mod escape;
 pub mod form;
 mod open_form;
 mod open_forms;
+mod quoted;
 pub mod reader;
 mod word;
 

@@ -7,7 +7,8 @@ use crate::form::{Bracket, Form};
 /// An opening byte whose form isn't whole yet, and the forms before it in what it stands in.
 #[derive(Debug, Drop)]
 pub struct OpenForm {
-    pub bracket: Bracket,
+    /// The bracket, or none for the sign `@`.
+    pub bracket: Option<Bracket>,
     /// The offset of the opening byte.
     pub from: u32,
     pub before: Vec<Form>,

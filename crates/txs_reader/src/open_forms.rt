@@ -1,29 +1,58 @@
-//! What has been read so far.
+//! What has been read so far: whole forms, and those whose end hasn't come yet.
 
-ghost use Rattle.std.specs.Prelude.{◌≡◌, ◌+◌, ◌^◌, ◌++◌, ◌∷◌, ◌<◌, [], true, false, length, IfOk, IsTrue, ◌↔◌};
+ghost use Rattle.std.specs.Prelude.{◌≡◌, ◌+◌, ◌^◌, ◌++◌, ◌∷◌, ◌<◌, [], List, ℕ, None, Some, true, false, length, IfOk, IsTrue, ◌↔◌};
+ghost use Rattle.txs_reader.specs.Completes.{Completes};
+ghost use Rattle.txs_reader.specs.OpenForms.{open_of, opens, Closes, Folds};
+ghost use Rattle.txs_reader.specs.Script.{Holds, FitsLast, HasAll, IsFull, EndsWithDeref, opened};
 ghost use Rattle.txs_reader.specs.Tree.{tree, trees};
-ghost use Rattle.txs_reader.specs.Script.{FitsLast, opened};
-ghost use Rattle.txs_reader.specs.OpenForms.{open_of, opens, Closes};
 
 use crate::form::{Bracket, Form};
 use crate::open_form::OpenForm;
 use std::alloc::{AllocError, Global};
-use txs_value::Span;
+use txs_value::{Name, Span};
 
-/// What has been read: the forms of the innermost bracket, and the brackets around it.
+/// How many parts a list or vector may have.
+const MAX_PARTS: usize = 65_535;
+
+/// What has been read: the forms behind the innermost opening, and the openings around them.
 #[derive(Debug, Drop)]
 pub struct OpenForms {
     pub open: Vec<OpenForm>,
     pub forms: Vec<Form>,
 }
 
-fn same_bracket(a: Bracket, b: Bracket) -> bool
-    ensures { IsTrue result ↔ (a ≡ b) }
+/// Whether an opening has this bracket.
+fn has_bracket(opening: Option<Bracket>, bracket: Bracket) -> bool
+    ensures { IsTrue result ↔ (opening ≡ Some bracket) }
 {
-    a == b
+    match opening {
+        Some(other) => other == bracket,
+        None => false,
+    }
+}
+
+/// Whether an opening is a `@`.
+fn is_deref(opening: Option<Bracket>) -> bool
+    ensures { IsTrue result ↔ (opening ≡ None) }
+{
+    match opening {
+        Some(_) => false,
+        None => true,
+    }
+}
+
+/// Whether an opening is a bracket that may have no more than so many parts.
+fn has_all(opening: Option<Bracket>, parts: usize) -> bool
+    ensures { IsTrue result ↔ HasAll opening parts }
+{
+    match opening {
+        Some(_) => parts >= MAX_PARTS,
+        None => false,
+    }
 }
 
 impl OpenForms {
+    /// Nothing yet.
     pub fn new(alloc: Global) -> OpenForms
         ensures open { opens result ≡ [] }
         ensures forms { trees result.forms.items ≡ [] }
@@ -34,15 +63,13 @@ impl OpenForms {
         }
     }
 
-    pub fn add(&mut self, form: Form) -> Result<(), AllocError>
-        ensures open { IfOk result (λ _. opens self.new ≡ opens self.old) }
-        ensures forms { IfOk result (λ _. trees self.new.forms.items ≡ trees self.old.forms.items ++ tree form ∷ []) }
-    {
-        self.forms.push(form)?;
-        Ok(())
-    }
-
-    pub fn open(&mut self, alloc: Global, bracket: Bracket, from: u32) -> Result<(), AllocError>
+    /// Opens a bracket, or a `@`, at an offset.
+    pub fn open(
+        &mut self,
+        alloc: Global,
+        bracket: Option<Bracket>,
+        from: u32,
+    ) -> Result<(), AllocError>
         requires { from + 1 < 2 ^ 32 }
         ensures open { IfOk result (λ _. opens self.new
             ≡ opens self.old ++ opened bracket from (trees self.old.forms.items) ∷ []) }
@@ -57,36 +84,81 @@ impl OpenForms {
         Ok(())
     }
 
-    /// Whether the innermost bracket is of this kind.
+    /// Whether the innermost opening has this bracket.
     pub fn fits(&self, bracket: Bracket) -> bool
         ensures yes { result ≡ true → FitsLast (opens self.now) bracket }
-        ensures no { result ≡ false → FitsLast (opens self.now) bracket → ⊥ }
+        ensures no { result ≡ false → ¬ FitsLast (opens self.now) bracket }
     {
         match self.open.last() {
-            Some(last) => same_bracket(last.bracket, bracket),
+            Some(last) => has_bracket(last.bracket, bracket),
             None => false,
         }
     }
 
-    /// Closes the innermost bracket.
-    pub fn close(&mut self, to: u32) -> Result<(), AllocError>
-        requires { 0 < length self.old.open.items }
-        ensures { IfOk result (λ _. Closes self.old self.new to) }
+    /// Whether the innermost opening is a `@`.
+    fn ends_with_deref(&self) -> bool
+        ensures yes { result ≡ true → EndsWithDeref (opens self.now) }
+        ensures no { result ≡ false → ¬ EndsWithDeref (opens self.now) }
+    {
+        match self.open.last() {
+            Some(last) => is_deref(last.bracket),
+            None => false,
+        }
+    }
+
+    /// Whether the innermost opening is a bracket with all the parts that it may have.
+    pub fn is_full(&self) -> bool
+        ensures yes { result ≡ true → IsFull (opens self.now) (trees self.now.forms.items) }
+        ensures no { result ≡ false → ¬ IsFull (opens self.now) (trees self.now.forms.items) }
+    {
+        match self.open.last() {
+            Some(last) => has_all(last.bracket, self.forms.len()),
+            None => false,
+        }
+    }
+
+    /// Takes the innermost bracket off, and makes a form of it.
+    pub fn close(&mut self, bracket: Bracket, to: u32) -> Form
+        requires { FitsLast (opens self.old) bracket }
+        ensures { Closes self.old self.new bracket (tree result) to }
     {
         match self.open.pop() {
-            Some(
-                OpenForm {
-                    bracket,
-                    from,
-                    before,
-                },
-            ) => {
+            Some(OpenForm { from, before, .. }) => {
                 let forms = std::mem::replace(&mut self.forms, before);
-                self.forms
-                    .push(Form::Group(bracket, forms, Span { from, to }))?;
-                Ok(())
+                Form::Group(bracket, forms, Span { from, to })
             }
             None => unreachable!(),
         }
+    }
+
+    /// Takes the innermost `@` off, and makes a list of it and the form.
+    fn fold(&mut self, alloc: Global, form: Form) -> Result<Form, AllocError>
+        requires { EndsWithDeref (opens self.old) }
+        ensures { IfOk result (λ list. Folds self.old self.new (tree form) (tree list)) }
+    {
+        match self.open.pop() {
+            Some(OpenForm { from, before, .. }) => {
+                let to = form.span().to;
+                let name = Name::from_bytes(alloc, b"deref")?;
+                let mut parts = std::mem::replace(&mut self.forms, before);
+                parts.push(Form::Symbol(name, Span { from, to: from + 1 }))?;
+                parts.push(form)?;
+                Ok(Form::Group(Bracket::Round, parts, Span { from, to }))
+            }
+            None => unreachable!(),
+        }
+    }
+
+    /// Adds a whole form; each `@` right before it becomes whole with it.
+    pub fn add(&mut self, alloc: Global, form: Form) -> Result<(), AllocError>
+        ensures { IfOk result (λ _. (bytes rest : List ℕ) → Completes bytes (opens self.old) (trees self.old.forms.items) (tree form) rest
+            → Holds bytes (opens self.new) (trees self.new.forms.items) rest) }
+    {
+        let mut form = form;
+        while self.ends_with_deref() {
+            form = self.fold(alloc, form)?;
+        }
+        self.forms.push(form)?;
+        Ok(())
     }
 }

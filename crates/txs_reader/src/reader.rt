@@ -1,60 +1,47 @@
 //! The reading of a script, from left to right.
 
 ghost use Rattle.std.specs.Prelude.{◌≡◌, ◌≢◌, ◌+◌, ◌^◌, ◌<◌, ◌≤◌, [], true, drop, length, slice_index, IfOk, IfErr};
-ghost use Rattle.txs_reader.specs.Bytes.{is_word_byte};
-ghost use Rattle.txs_reader.specs.Reached.{Reached};
+ghost use Rattle.txs_reader.specs.Bytes.{is_word_byte, begins_part};
+ghost use Rattle.txs_reader.specs.Reached.{Reached, HasRoom};
 ghost use Rattle.txs_reader.specs.Refused.{IsRefusal};
 ghost use Rattle.txs_reader.specs.Script.{Reads, ReadStops, Holds, between, opening_byte, closing_byte};
 ghost use Rattle.txs_reader.specs.Tree.{trees};
 ghost use Rattle.txs_reader.specs.declared.error.ReadErrorKind.TheVariants.{Memory};
 
-use crate::bytes::{is_left_out_byte, is_white, line_len, word_len};
+use crate::bytes::{byte_at, is_left_out_byte, is_white, line_len, rest_at, span_of, word_len};
 use crate::error::{ReadError, ReadErrorKind};
 use crate::form::{Bracket, Form};
 use crate::open_forms::OpenForms;
+use crate::quoted::{Quoted, read_quoted};
 use crate::word::form_of;
 use std::alloc::Global;
-use txs_value::Span;
+use txs_value::{Span, Text};
 
 /// How many bytes a script may have.
 const MAX_SCRIPT: usize = 1_048_576;
 
-/// How deep brackets may state.
+/// How many bytes a text may have.
+const MAX_TEXT: usize = 65_535;
+
+/// How deep brackets and `@` may nest.
 const MAX_DEPTH: usize = 100;
 
-fn span_of(from: usize, to: usize) -> Span
-    requires ordered { from ≤ to }
-    requires small { to < 2 ^ 32 }
-    ensures { result ≡ between from to }
-{
-    Span {
-        from: from as u32,
-        to: to as u32,
-    }
-}
-
-fn rest_at(bytes: &[u8], at: usize) -> &[u8]
-    requires { at ≤ length bytes.now }
-    ensures { result.now ≡ drop at bytes.now }
-{
-    &bytes[at..]
-}
-
-/// Reads an opening bracket.
+/// Reads an opening bracket, or a `@`.
 fn open(
     alloc: Global,
     state: &mut OpenForms,
-    bytes: &[u8],
+    script: &str,
     at: usize,
-    bracket: Bracket,
+    bracket: Option<Bracket>,
 ) -> Result<usize, ReadError>
-    requires inside { at < length bytes.now }
-    requires small { length bytes.now < 2 ^ 32 }
-    requires reached { Reached bytes.now state.old at }
-    requires byte { slice_index bytes.now at ≡ opening_byte bracket }
-    ensures next { IfOk result (λ next. (at < next) × (next ≤ length bytes.now)) }
-    ensures ok { IfOk result (λ next. Reached bytes.now state.new next) }
-    ensures err { IfErr result (λ e. IsRefusal bytes.now e) }
+    requires inside { at < length script.now }
+    requires small { length script.now < 2 ^ 32 }
+    requires reached { Reached script.now state.old at }
+    requires room { HasRoom state.old }
+    requires byte { slice_index script.now at ≡ opening_byte bracket }
+    ensures next { IfOk result (λ next. (at < next) × (next ≤ length script.now)) }
+    ensures ok { IfOk result (λ next. Reached script.now state.new next) }
+    ensures err { IfErr result (λ e. IsRefusal script.now e) }
 {
     if state.open.len() >= MAX_DEPTH {
         return Err(ReadError {
@@ -68,18 +55,19 @@ fn open(
 
 /// Reads a closing bracket.
 fn close(
+    alloc: Global,
     state: &mut OpenForms,
-    bytes: &[u8],
+    script: &str,
     at: usize,
     bracket: Bracket,
 ) -> Result<usize, ReadError>
-    requires inside { at < length bytes.now }
-    requires small { length bytes.now < 2 ^ 32 }
-    requires reached { Reached bytes.now state.old at }
-    requires byte { slice_index bytes.now at ≡ closing_byte bracket }
-    ensures next { IfOk result (λ next. (at < next) × (next ≤ length bytes.now)) }
-    ensures ok { IfOk result (λ next. Reached bytes.now state.new next) }
-    ensures err { IfErr result (λ e. IsRefusal bytes.now e) }
+    requires inside { at < length script.now }
+    requires small { length script.now < 2 ^ 32 }
+    requires reached { Reached script.now state.old at }
+    requires byte { slice_index script.now at ≡ closing_byte bracket }
+    ensures next { IfOk result (λ next. (at < next) × (next ≤ length script.now)) }
+    ensures ok { IfOk result (λ next. Reached script.now state.new next) }
+    ensures err { IfErr result (λ e. IsRefusal script.now e) }
 {
     if !state.fits(bracket) {
         return Err(ReadError {
@@ -87,43 +75,66 @@ fn close(
             at: span_of(at, at + 1),
         });
     }
-    state.close(at as u32 + 1)?;
+    let form = state.close(bracket, at as u32 + 1);
+    state.add(alloc, form)?;
     Ok(at + 1)
 }
 
 /// Reads a word.
-fn word(alloc: Global, state: &mut OpenForms, bytes: &[u8], at: usize) -> Result<usize, ReadError>
-    requires inside { at < length bytes.now }
-    requires small { length bytes.now < 2 ^ 32 }
-    requires reached { Reached bytes.now state.old at }
-    requires byte { is_word_byte (slice_index bytes.now at) ≡ true }
-    ensures next { IfOk result (λ next. (at < next) × (next ≤ length bytes.now)) }
-    ensures ok { IfOk result (λ next. Reached bytes.now state.new next) }
-    ensures err { IfErr result (λ e. IsRefusal bytes.now e) }
+fn word(alloc: Global, state: &mut OpenForms, script: &str, at: usize) -> Result<usize, ReadError>
+    requires inside { at < length script.now }
+    requires small { length script.now < 2 ^ 32 }
+    requires reached { Reached script.now state.old at }
+    requires room { HasRoom state.old }
+    requires byte { is_word_byte (slice_index script.now at) ≡ true }
+    ensures next { IfOk result (λ next. (at < next) × (next ≤ length script.now)) }
+    ensures ok { IfOk result (λ next. Reached script.now state.new next) }
+    ensures err { IfErr result (λ e. IsRefusal script.now e) }
 {
-    let rest = rest_at(bytes, at);
+    let rest = rest_at(script, at);
     let len = word_len(rest);
     let span = span_of(at, at + len);
     let (front, _) = rest.split_at(len);
     let form = form_of(alloc, front, span)?;
-    state.add(form)?;
+    state.add(alloc, form)?;
     Ok(at + len)
 }
 
-/// Reads what stands at an offset, and says where to go on.
-#[tactic(auto, using(crate::proofs::Steps::step_white, crate::proofs::Steps::stop_left_out, crate::proofs::Steps::step_comment))]
-fn step(alloc: Global, state: &mut OpenForms, bytes: &[u8], at: usize) -> Result<usize, ReadError>
-    requires inside { at < length bytes.now }
-    requires small { length bytes.now < 2 ^ 32 }
-    requires reached { Reached bytes.now state.old at }
-    ensures next { IfOk result (λ next. (at < next) × (next ≤ length bytes.now)) }
-    ensures ok { IfOk result (λ next. Reached bytes.now state.new next) }
-    ensures err { IfErr result (λ e. IsRefusal bytes.now e) }
+/// Reads a text.
+fn text(alloc: Global, state: &mut OpenForms, script: &str, at: usize) -> Result<usize, ReadError>
+    requires inside { at < length script.now }
+    requires small { length script.now < 2 ^ 32 }
+    requires reached { Reached script.now state.old at }
+    requires room { HasRoom state.old }
+    requires byte { slice_index script.now at ≡ 34 }
+    ensures next { IfOk result (λ next. (at < next) × (next ≤ length script.now)) }
+    ensures ok { IfOk result (λ next. Reached script.now state.new next) }
+    ensures err { IfErr result (λ e. IsRefusal script.now e) }
 {
-    let byte = bytes[at];
-    if is_white(byte) {
-        return Ok(at + 1);
+    let Quoted { text, end } = read_quoted(alloc, script, at)?;
+    let span = span_of(at, end + 1);
+    if text.len() > MAX_TEXT {
+        return Err(ReadError {
+            kind: ReadErrorKind::TooLarge,
+            at: span,
+        });
     }
+    state.add(alloc, Form::Text(Text::from_string(text), span))?;
+    Ok(end + 1)
+}
+
+/// Reads what begins a part of a list.
+fn part(alloc: Global, state: &mut OpenForms, script: &str, at: usize) -> Result<usize, ReadError>
+    requires inside { at < length script.now }
+    requires small { length script.now < 2 ^ 32 }
+    requires reached { Reached script.now state.old at }
+    requires room { HasRoom state.old }
+    requires byte { begins_part (slice_index script.now at) ≡ true }
+    ensures next { IfOk result (λ next. (at < next) × (next ≤ length script.now)) }
+    ensures ok { IfOk result (λ next. Reached script.now state.new next) }
+    ensures err { IfErr result (λ e. IsRefusal script.now e) }
+{
+    let byte = byte_at(script, at);
     if is_left_out_byte(byte) {
         return Err(ReadError {
             kind: ReadErrorKind::LeftOut,
@@ -131,25 +142,53 @@ fn step(alloc: Global, state: &mut OpenForms, bytes: &[u8], at: usize) -> Result
         });
     }
     match byte {
-        b';' => Ok(at + 1 + line_len(rest_at(bytes, at + 1))),
-        b'(' => open(alloc, state, bytes, at, Bracket::Round),
-        b'[' => open(alloc, state, bytes, at, Bracket::Square),
-        b')' => close(state, bytes, at, Bracket::Round),
-        b']' => close(state, bytes, at, Bracket::Square),
-        _ => word(alloc, state, bytes, at),
+        b'(' => open(alloc, state, script, at, Some(Bracket::Round)),
+        b'[' => open(alloc, state, script, at, Some(Bracket::Square)),
+        b'@' => open(alloc, state, script, at, None),
+        b'"' => text(alloc, state, script, at),
+        _ => word(alloc, state, script, at),
+    }
+}
+
+/// Reads what stands at an offset, and says where to go on.
+fn step(alloc: Global, state: &mut OpenForms, script: &str, at: usize) -> Result<usize, ReadError>
+    requires inside { at < length script.now }
+    requires small { length script.now < 2 ^ 32 }
+    requires reached { Reached script.now state.old at }
+    ensures next { IfOk result (λ next. (at < next) × (next ≤ length script.now)) }
+    ensures ok { IfOk result (λ next. Reached script.now state.new next) }
+    ensures err { IfErr result (λ e. IsRefusal script.now e) }
+{
+    let byte = byte_at(script, at);
+    if is_white(byte) {
+        return Ok(at + 1);
+    }
+    match byte {
+        b';' => Ok(at + 1 + line_len(rest_at(script, at + 1))),
+        b')' => close(alloc, state, script, at, Bracket::Round),
+        b']' => close(alloc, state, script, at, Bracket::Square),
+        _ => {
+            if state.is_full() {
+                return Err(ReadError {
+                    kind: ReadErrorKind::TooLarge,
+                    at: span_of(at, at + 1),
+                });
+            }
+            part(alloc, state, script, at)
+        }
     }
 }
 
 /// The forms of a script that is short enough and UTF-8.
-fn read_forms(alloc: Global, bytes: &[u8]) -> Result<Vec<Form>, ReadError>
-    requires small { length bytes.now < 2 ^ 32 }
-    ensures ok { IfOk result (λ forms. Holds bytes.now [] (trees forms.items) []) }
-    ensures err { IfErr result (λ e. IsRefusal bytes.now e) }
+fn read_forms(alloc: Global, script: &str) -> Result<Vec<Form>, ReadError>
+    requires small { length script.now < 2 ^ 32 }
+    ensures ok { IfOk result (λ forms. Holds script.now [] (trees forms.items) []) }
+    ensures err { IfErr result (λ e. IsRefusal script.now e) }
 {
     let mut state = OpenForms::new(alloc);
     let mut at = 0;
-    while at < bytes.len() {
-        at = step(alloc, &mut state, bytes, at)?;
+    while at < script.len() {
+        at = step(alloc, &mut state, script, at)?;
     }
     let OpenForms { mut open, forms } = state;
     match open.pop() {
@@ -182,7 +221,7 @@ pub fn read_script(alloc: Global, bytes: &[u8]) -> Result<Vec<Form>, ReadError>
         });
     }
     match str::from_utf8(bytes) {
-        Ok(_) => read_forms(alloc, bytes),
+        Ok(script) => read_forms(alloc, script),
         Err(e) => {
             let at = e.valid_up_to();
             Err(ReadError {

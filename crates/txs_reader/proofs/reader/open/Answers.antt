@@ -9,10 +9,10 @@ pub returns-clause-ok : goal.returns-clause-ok
 returns-clause-ok c =
     let old = c.args.state.now in
     let few : length (opens old) < 100 = simp length-map (omega arith) in
-    rw (c.in_ok-open.ensures.open, c.in_ok-open.ensures.forms) (step_open c.args.bytes.now (opens old) (trees old.forms.items) c.args.at c.args.bracket c.requires.reached c.requires.inside c.requires.byte few)
+    rw (c.in_ok-open.ensures.open, c.in_ok-open.ensures.forms) (step_open c.args.script.now (opens old) (trees old.forms.items) c.args.at c.args.bracket c.requires.reached c.requires.inside c.requires.byte few c.requires.room)
 
 pub returns-then-len-ge-MAX_DEPTH-clause-err : goal.returns-then-len-ge-MAX_DEPTH-clause-err
 returns-then-len-ge-MAX_DEPTH-clause-err c =
     let old = c.args.state.now in
     let many : 100 ≤ length (opens old) = simp length-map (omega arith) in
-    rw c.span_of.ensures (stop_deep c.args.bytes.now (opens old) (trees old.forms.items) c.args.at c.args.bracket c.requires.reached c.requires.inside c.requires.byte many)
+    rw c.span_of.ensures (stop_deep c.args.script.now (opens old) (trees old.forms.items) c.args.at c.args.bracket c.requires.reached c.requires.inside c.requires.byte many c.requires.room)

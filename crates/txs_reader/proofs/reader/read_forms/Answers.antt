@@ -8,7 +8,7 @@ use Rattle.txs_reader.proofs.reader.read_forms.Goals as goal
 
 pub returns-in-Some-clause-err : goal.returns-in-Some-clause-err
 returns-in-Some-clause-err c =
-    let bytes = c.args.bytes.now in
+    let bytes = c.args.script.now in
     let state = c.loop-at.state in
     let popped : opens state ≡ map open_of c.pop.new.self.items ++ open_of c.in-Some.last ∷ [] = ap (map open_of) c.in-Some.ensures.items ∙ map-append open_of _ _ in
     let ends : c.loop-at.at ≡ length bytes = omega arith in

@@ -1,0 +1,68 @@
+//! Texts: what stands between two quotes.
+
+ghost use Rattle.std.specs.Prelude.{◌≡◌, ◌++◌, ◌+◌, ◌^◌, ◌<◌, ◌≤◌, ◌-◌, length, drop, take, slice_index, string_bytes, IfOk, IfErr};
+ghost use Rattle.txs_reader.specs.Escapes.{TextUpTo, IsTextRefusal};
+
+use crate::bytes::{byte_at, plain_len, rest_at, span_of};
+use crate::error::{ReadError, ReadErrorKind};
+use crate::escape::read_escape;
+use std::alloc::{AllocError, Global};
+
+/// What stands between two quotes, its escapes replaced, and where its second quote stands.
+#[derive(Debug, Drop)]
+pub struct Quoted {
+    pub text: String,
+    pub end: usize,
+}
+
+/// Adds the bytes of a script between two of its ASCII bytes.
+fn push_between(out: &mut String, script: &str, from: usize, to: usize) -> Result<(), AllocError>
+    requires order { from < to }
+    requires within { to < length script.now }
+    requires front { slice_index script.now from < 128 }
+    requires back { slice_index script.now to < 128 }
+    ensures { IfOk result (λ _. string_bytes out.new ≡ string_bytes out.old ++ take (to - (from + 1)) (drop (from + 1) script.now)) }
+{
+    out.push_str(&script[from + 1..to])
+}
+
+/// Reads the text whose first quote stands at an offset.
+pub fn read_quoted(alloc: Global, script: &str, at: usize) -> Result<Quoted, ReadError>
+    requires inside { at < length script.now }
+    requires small { length script.now < 2 ^ 32 }
+    requires quote { slice_index script.now at ≡ 34 }
+    ensures ok { IfOk result (λ q. TextUpTo script.now at q.end (string_bytes q.text) × (slice_index script.now q.end ≡ 34) × (q.end < length script.now)) }
+    ensures err { IfErr result (λ e. IsTextRefusal script.now at e) }
+{
+    let mut text = String::new(alloc);
+    // The last byte of what has been read, an ASCII one.
+    let mut last = at;
+    loop {
+        let len = match plain_len(rest_at(script, last + 1)) {
+            Some(len) => len,
+            None => {
+                return Err(ReadError {
+                    kind: ReadErrorKind::Unclosed,
+                    at: span_of(at, at + 1),
+                });
+            }
+        };
+        let end = last + 1 + len;
+        push_between(&mut text, script, last, end)?;
+        if byte_at(script, end) == b'"' {
+            return Ok(Quoted { text, end });
+        }
+        match read_escape(rest_at(script, end)) {
+            Some(escape) => {
+                text.push(escape.value)?;
+                last = end + escape.len - 1;
+            }
+            None => {
+                return Err(ReadError {
+                    kind: ReadErrorKind::BadEscape,
+                    at: span_of(end, end + 1),
+                });
+            }
+        }
+    }
+}
