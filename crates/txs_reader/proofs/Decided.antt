@@ -1,5 +1,5 @@
 -- Each script is read, or its reading stops somewhere.
-use Rattle.std.proofs.Common.{◌≡◌, ◌≢◌, ℕ, zero, suc, ◌+◌, ◌-◌, ◌<◌, ◌≤◌, ◌⊎◌, inl, inr, Bool, true, false, not, Option, Some, None, List, [], ◌∷◌, ◌++◌, Result, Ok, Err, length, length-append, get_or, take, drop, refl, sym, ap, subst, ◌∙◌, arith, rules, length-drop}
+use Rattle.std.proofs.Common.{◌≡◌, ℕ, zero, suc, ◌+◌, ◌<◌, ◌≤◌, ◌⊎◌, inl, inr, Bool, true, false, not, Option, Some, None, List, [], ◌∷◌, ◌++◌, Result, Ok, Err, length, length-append, get_or, take, drop, refl, sym, ap, subst, ◌∙◌, arith, length-drop}
 use Rattle.std.proofs.lemmas.Bool.{cases_Bool, cases_lt, cases_eq, false≢true}
 use Rattle.std.proofs.Math.Seq.{drop-length}
 use Rattle.std.proofs.lemmas.List.{take_all, drop_all}
@@ -17,7 +17,7 @@ use Rattle.txs_reader.specs.Script.{Open, sugar, Holds, Reads, StopsWithin, Read
 use Rattle.txs_reader.specs.Completes.{Completes}
 use Rattle.txs_reader.specs.Escapes.{TextUpTo}
 use Rattle.txs_reader.proofs.Last.{FitsLast-last, EndsWithDeref-last, IsFull-push, IsFull-last}
-use Rattle.txs_reader.proofs.Running.{same, same_itself, fits}
+use Rattle.txs_reader.proofs.Running.{same_itself, fits}
 use Rattle.txs_reader.proofs.Holding.{completed, folded}
 use Rattle.txs_reader.proofs.Escapes.{escape_or_not, part_more, text_begins}
 use Rattle.txs_reader.proofs.OneAnswer.{Ended, empty, behind, ended, same_true}

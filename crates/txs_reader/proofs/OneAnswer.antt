@@ -14,11 +14,11 @@ use Rattle.txs_reader.specs.declared.error.ReadErrorKind.TheVariants.{TooLarge}
 use Rattle.txs_reader.specs.Bytes.{begins_part, is_word_byte, meaning}
 use Rattle.txs_reader.specs.Tree.{Leaf, Tree}
 use Rattle.txs_reader.specs.Script.{Quoted, Piece, White, Comment, Opening, Closing, Word, closing_byte, written, IsWord, IsPiece, EndsAt, Splits, Token, between, token, tokens, Open, Holds, Reads, FitsLast, StandsLast, HasAll, IsFull, RefusesText, at_text_end, at_backslash, at_quote, Refuses, at_end, at_closing, at_full, at_opening, at_byte, at_text, at_word, StopsWithin, ReadStops, too_long, no_text, within}
-use Rattle.txs_reader.proofs.Running.{State, run, run_none, run-append, run-holds, onto, same, fits, complete, has_room, has_room_in}
-use Rattle.txs_reader.proofs.Pieces.{class, class_of, rank, PartClass, part_class, one_piece, one_run, piece_front, word_front, left_out_class, opening_class, quote_class, closing_class, closing_one}
-use Rattle.txs_reader.specs.Quoted.{Part, part_text, part_value, IsPart, IsAtPart}
-use Rattle.txs_reader.proofs.Texts.{one_text, quote_no_part, end_no_part}
-use Rattle.std.specs.List.{AllByRecursion, flat_map}
+use Rattle.txs_reader.proofs.Running.{State, run, run_none, run-append, run-holds, onto, same, fits, has_room, has_room_in}
+use Rattle.txs_reader.proofs.Pieces.{class, class_of, rank, part_class, one_piece, one_run, piece_front, word_front, left_out_class, opening_class, quote_class, closing_class, closing_one}
+use Rattle.txs_reader.specs.Quoted.{Part, part_text, part_value}
+use Rattle.txs_reader.proofs.Texts.{one_text, quote_no_part}
+use Rattle.std.specs.List.{flat_map}
 use Rattle.txs_reader.proofs.Last.{FitsLast-push, IsFull-last}
 
 -- ---- two splits of one text

@@ -1,5 +1,5 @@
 -- Tokens stand one behind the other: so a list in brackets was not written with the sign `@`.
-use Rattle.std.proofs.Common.{◌≡◌, ℕ, suc, ◌+◌, ◌<◌, ◌≤◌, Bool, true, false, ◌&&◌, eqb, List, [], ◌∷◌, ◌++◌, length, length-append, inl, inr, refl, sym, ap, subst, ◌∙◌, append_assoc, arith}
+use Rattle.std.proofs.Common.{◌≡◌, ℕ, suc, ◌+◌, ◌<◌, ◌≤◌, Bool, true, false, ◌&&◌, eqb, List, [], ◌∷◌, ◌++◌, length, inl, inr, refl, sym, ap, subst, ◌∙◌, append_assoc, arith}
 use Rattle.std.proofs.lemmas.Bool.{cases_Bool, false≢true}
 use Rattle.std.proofs.lemmas.Bool.Decides.{nat_tests}
 use Rattle.std.proofs.lemmas.List.{append-nil}
@@ -7,9 +7,8 @@ use Rattle.std.proofs.lemmas.List.Concat.{flat_map-append}
 use Rattle.std.specs.List.{flat_map}
 use Rattle.txs_value.specs.declared.fault.Span.{Span}
 use Rattle.txs_reader.specs.declared.form.Bracket.{Bracket}
-use Rattle.txs_reader.specs.declared.form.Bracket.TheVariants.{Round, Square}
-use Rattle.txs_reader.specs.Quoted.{part_text}
-use Rattle.txs_reader.specs.Tree.{Leaf, symbol, Tree, leaf, group, trees_of}
+use Rattle.txs_reader.specs.declared.form.Bracket.TheVariants.{Round}
+use Rattle.txs_reader.specs.Tree.{Leaf, symbol, Tree, leaf, trees_of}
 use Rattle.txs_reader.specs.Script.{Piece, White, Comment, Opening, Closing, Quoted, Word, written, IsPiece, Splits, opens, stands_for, Token, between, token, tokens, spelled, is_sugar, Open, begun, Holds}
 
 abbrev Rising : ℕ → List Token → Type 0

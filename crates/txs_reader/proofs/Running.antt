@@ -1,15 +1,14 @@
 -- What openings and forms tokens leave, token by token: so tokens are spelled by one state alone.
-use Rattle.std.proofs.Common.{◌≡◌, ◌≢◌, ℕ, zero, suc, ◌+◌, ◌-◌, ◌<◌, ◌≤◌, max, Bool, true, false, cond, eqb, ltb, ◌&&◌, List, [], ◌∷◌, ◌++◌, Option, Some, None, length, length-append, drop, refl, sym, ap, subst, ◌∙◌, append_assoc, arith, rules, ◌⊎◌, inl, inr}
+use Rattle.std.proofs.Common.{◌≡◌, ℕ, suc, ◌+◌, ◌-◌, ◌≤◌, Bool, true, false, cond, eqb, ltb, ◌&&◌, List, [], ◌∷◌, ◌++◌, Option, Some, None, length, length-append, drop, refl, sym, ap, subst, ◌∙◌, append_assoc, arith, inl, inr}
 use Rattle.std.proofs.lemmas.List.{append-nil}
 use Rattle.std.proofs.lemmas.Bool.{cases_Bool, false≢true}
 use Rattle.std.proofs.lemmas.Bool.Decides.{nat_tests}
 use Rattle.std.proofs.lemmas.Slice.Eq.{bytes_eq-Decides}
 use Rattle.std.specs.List.{flat_map}
-use Rattle.std.specs.Prelude.{bytes_eq}
 use Rattle.txs_value.specs.declared.fault.Span.{Span}
 use Rattle.txs_reader.specs.declared.form.Bracket.{Bracket}
 use Rattle.txs_reader.specs.declared.form.Bracket.TheVariants.{Round, Square}
-use Rattle.txs_reader.specs.Tree.{Leaf, symbol, Tree, leaf, group, Trees, none, first, trees_of, parts, IsNarrow, AreNarrow, place, deref, height, height_within, height_of_all}
+use Rattle.txs_reader.specs.Tree.{symbol, Tree, leaf, group, Trees, none, first, trees_of, parts, IsNarrow, AreNarrow, place, deref, height, height_within}
 use Rattle.txs_reader.specs.Script.{Sign, opens, closes, stands_for, Token, between, spelled, spelled_within, is_sugar, sugar, Open, opened, begun, FitAt, WithinLimits, MayHold, whole, begun_behind}
 
 pub record State : Type 0 where

@@ -1,5 +1,5 @@
 -- One step of a reading, at an offset.
-use Rattle.std.proofs.Common.{◌≡◌, ◌≢◌, ℕ, zero, suc, ◌+◌, ◌-◌, ◌<◌, ◌≤◌, Bool, true, false, not, Option, None, Some, List, [], ◌∷◌, ◌++◌, Ok, Err, length, length-append, get_or, take, drop, refl, sym, ap, ◌∙◌, subst, append_assoc, arith, length-drop, length-take}
+use Rattle.std.proofs.Common.{◌≡◌, ◌≢◌, ℕ, zero, suc, ◌+◌, ◌-◌, ◌<◌, ◌≤◌, true, false, not, Option, Some, List, [], ◌∷◌, ◌++◌, Ok, Err, length, length-append, get_or, take, drop, refl, sym, ap, ◌∙◌, subst, append_assoc, arith, length-drop, length-take}
 use Rattle.std.proofs.lemmas.Bool.{false≢true}
 use Rattle.std.proofs.lemmas.List.{take-append-drop, drop-drop}
 use Rattle.std.proofs.lemmas.Bool.Decides.{nat_tests}
@@ -10,9 +10,9 @@ use Rattle.txs_reader.specs.declared.form.Bracket.{Bracket}
 use Rattle.txs_reader.specs.declared.error.ReadErrorKind.{ReadErrorKind}
 use Rattle.txs_reader.specs.declared.error.ReadErrorKind.TheVariants.{Unclosed, Unopened, BadEscape, TooDeep, TooLarge, LeftOut, Memory}
 use Rattle.txs_reader.specs.Bytes.{is_white, is_line_end, is_left_out_byte, is_mark, is_word_byte, begins_part, begins_with, IsRun, meaning}
-use Rattle.txs_reader.specs.Quoted.{Part, part_text, part_value, IsAtPart}
+use Rattle.txs_reader.specs.Quoted.{part_text, part_value, IsAtPart}
 use Rattle.txs_reader.specs.Tree.{Leaf, text, Tree, leaf, group, trees_of}
-use Rattle.txs_reader.specs.Script.{opening_byte, closing_byte, Quoted, written, IsWord, between, Open, opened, Holds, FitsLast, IsFull, RefusesText, at_text_end, at_backslash, at_quote, Refuses, at_end, at_closing, at_full, at_opening, at_byte, at_text, at_word, StopsWithin}
+use Rattle.txs_reader.specs.Script.{opening_byte, closing_byte, Quoted, written, IsWord, between, Open, opened, Holds, FitsLast, IsFull, at_text_end, at_backslash, at_quote, Refuses, at_end, at_closing, at_full, at_opening, at_byte, at_text, at_word, StopsWithin}
 use Rattle.txs_reader.specs.Completes.{Completes}
 use Rattle.txs_reader.specs.Escapes.{TextUpTo, TextStops, TextStopsAs}
 use Rattle.txs_reader.specs.Refused.{RefusedAs, StopsAs}

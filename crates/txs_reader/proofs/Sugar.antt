@@ -1,15 +1,12 @@
 -- A form that was written with the sign `@`.
-use Rattle.std.proofs.Common.{◌≡◌, ◌≢◌, ℕ, zero, suc, ◌+◌, ◌-◌, ◌<◌, ◌≤◌, max, Bool, true, false, cond, eqb, ltb, List, [], ◌∷◌, ◌++◌, Option, Some, None, length, drop, refl, sym, ap, subst, ◌∙◌, append_assoc, arith, rules}
+use Rattle.std.proofs.Common.{◌≡◌, ℕ, ◌+◌, true, eqb, List, [], ◌∷◌, ◌++◌, None, refl, sym, ap, ◌∙◌, append_assoc, arith}
 use Rattle.std.proofs.lemmas.List.{append-nil}
 use Rattle.std.proofs.lemmas.List.Concat.{flat_map-append}
 use Rattle.std.proofs.lemmas.Bool.Decides.{nat_tests}
 use Rattle.std.specs.List.{flat_map}
-use Rattle.std.specs.Prelude.{codes, bytes_eq}
-use Rattle.txs_value.specs.declared.fault.Span.{Span}
-use Rattle.txs_reader.specs.declared.form.Bracket.{Bracket}
-use Rattle.txs_reader.specs.declared.form.Bracket.TheVariants.{Round, Square}
-use Rattle.txs_reader.specs.Tree.{Leaf, symbol, Tree, leaf, group, Trees, none, first, place, deref, height, height_within, height_of_all}
-use Rattle.txs_reader.specs.Script.{Sign, opens, closes, stands_for, Token, between, spelled, spelled_within, is_sugar, sugar, Open, begun}
+use Rattle.txs_reader.specs.declared.form.Bracket.TheVariants.{Round}
+use Rattle.txs_reader.specs.Tree.{symbol, Tree, leaf, none, first, place, deref}
+use Rattle.txs_reader.specs.Script.{opens, Token, between, spelled, is_sugar, sugar, Open, begun}
 
 eqb_itself : (n : ℕ) → eqb n n ≡ true
 eqb_itself n = grind (arith, nat_tests)

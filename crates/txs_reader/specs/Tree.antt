@@ -1,5 +1,5 @@
 -- What a form is, without where it lies in memory.
-use Rattle.std.specs.Prelude.{ℕ, suc, ◌≤◌, ◌+◌, max, codes, List, [], ◌∷◌, map, ℤ, Bool}
+use Rattle.std.specs.Prelude.{ℕ, suc, ◌≤◌, max, codes, List, [], ◌∷◌, map, ℤ, Bool}
 use Rattle.txs_value.specs.declared.fault.Span.{Span}
 use Rattle.txs_reader.specs.declared.form.Bracket.{Bracket}
 use Rattle.txs_reader.specs.declared.form.Form.{Form, fold-Form}

@@ -1,8 +1,7 @@
-use Rattle.std.proofs.Common.{◌≡◌, ◌≢◌, ℕ, ◌+◌, ◌-◌, ◌<◌, List, drop, get_or, length, sym, subst, ap, ◌∙◌, arith, length-drop}
+use Rattle.std.proofs.Common.{◌≡◌, ◌≢◌, ℕ, ◌+◌, ◌-◌, ◌<◌, get_or, length, sym, subst, ap, ◌∙◌, arith, length-drop}
 use Rattle.std.specs.Prelude.{string_bytes}
 use Rattle.txs_reader.specs.Escapes.{TextUpTo}
-use Rattle.txs_reader.specs.Quoted.{IsAtPart}
-use Rattle.txs_reader.proofs.Escapes.{PlainUpTo, plain_run, plain_rest, mark_small, mark_at, backslash, byte_of, EscapeEnd, head_of_rest, escape_end, escape_more}
+use Rattle.txs_reader.proofs.Escapes.{plain_run, plain_rest, mark_small, mark_at, backslash, byte_of, head_of_rest, escape_end, escape_more}
 use Rattle.txs_reader.proofs.Steps.{text_unclosed, text_bad_escape}
 use Rattle.txs_reader.proofs.quoted.read_quoted.Goals as goal
 

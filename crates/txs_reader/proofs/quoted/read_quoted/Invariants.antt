@@ -1,4 +1,4 @@
-use Rattle.std.proofs.Common.{◌≤◌, ◌<◌, ◌-◌, ◌+◌, length, get_or}
+use Rattle.std.proofs.Common.{◌<◌, ◌-◌, ◌+◌, length, get_or}
 use Rattle.std.specs.Prelude.{string_bytes}
 use Rattle.txs_reader.specs.Escapes.{TextUpTo}
 use Rattle.txs_reader.proofs.quoted.read_quoted.Given as goal

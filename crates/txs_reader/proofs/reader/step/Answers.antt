@@ -1,4 +1,4 @@
-use Rattle.std.proofs.Common.{rules, ◌∙◌, sym}
+use Rattle.std.proofs.Common.{rules}
 use Rattle.txs_reader.specs.OpenForms.{opens}
 use Rattle.txs_reader.specs.Tree.{trees}
 use Rattle.txs_reader.proofs.Steps.{step_white, step_comment, stop_full, part_byte}

@@ -5,7 +5,7 @@ use Rattle.txs_value.specs.declared.fault.Span.{Span}
 use Rattle.txs_reader.specs.declared.form.Form.{Form}
 use Rattle.txs_reader.specs.declared.form.Bracket.TheVariants.{Round}
 use Rattle.txs_reader.specs.OpenForms.{open_of, opens}
-use Rattle.txs_reader.specs.Tree.{Tree, leaf, group, symbol, first, none, tree, trees, trees_of, place}
+use Rattle.txs_reader.specs.Tree.{Tree, leaf, group, symbol, first, none, tree, trees, trees_of}
 use Rattle.txs_reader.specs.Script.{between}
 use Rattle.txs_reader.proofs.Last.{at_deref}
 use Rattle.txs_reader.proofs.Trees.{tree-Group, trees_sugar}
