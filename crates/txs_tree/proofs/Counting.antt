@@ -1,5 +1,5 @@
 -- Counts of nodes and of levels.
-use Rattle.std.proofs.Common.{◌≡◌, ◌≢◌, ◌*◌, length, get_or, ap, ℕ, zero, suc, max, ◌+◌, ◌-◌, ◌<◌, ◌≤◌, ◌↔◌, Bool, true, false, IsTrue, Option, Some, None, MatchOption, List, [], ◌∷◌, sym, ◌∙◌, arith}
+use Rattle.std.proofs.Common.{◌≡◌, ◌≢◌, ◌*◌, length, get_or, ap, ℕ, zero, suc, max, ◌+◌, ◌-◌, ◌<◌, ◌≤◌, Bool, false, IsTrue, Option, Some, None, MatchOption, List, [], ◌∷◌, sym, ◌∙◌, arith}
 use Rattle.std.proofs.lemmas.Bool.{false≢true}
 use Rattle.txs_tree.specs.Sound.{nodes, nodes_in, levels}
 use Rattle.txs_tree.specs.View.{tree_of, trees_of}

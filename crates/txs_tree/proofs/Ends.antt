@@ -13,7 +13,6 @@ use Rattle.txs_tree.specs.declared.evaluate.EvalStop.TheVariants.{Fault}
 use Rattle.txs_value.specs.declared.event.Outcome.TheVariants.{Done, Failed}
 use Rattle.txs_tree.specs.declared.meaning.Needs.TheVariants.{Nothing}
 use Rattle.txs_tree.specs.declared.meaning.ThreadMeaning.{ThreadMeaning}
-use Rattle.txs_tree.specs.declared.node.Node.{Node}
 use Rattle.txs_tree.specs.declared.node.Thread.{Thread}
 use Rattle.txs_tree.proofs.Soundness.{SoundThread-at}
 

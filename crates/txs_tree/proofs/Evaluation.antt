@@ -1,5 +1,5 @@
 -- An evaluation one node at a time: what the whole means is what the rest means.
-use Rattle.std.proofs.Common.{◌≡◌, ℕ, zero, suc, ◌+◌, ◌<◌, ◌≤◌, Bool, false, List, [], ◌∷◌, ◌++◌, length, get_or, take, drop, Some, None, Result, Ok, Err, refl, sym, ap, ◌∙◌, subst, subst₂, append_assoc, arith}
+use Rattle.std.proofs.Common.{◌≡◌, ℕ, zero, suc, ◌+◌, ◌<◌, ◌≤◌, Bool, false, List, [], ◌∷◌, ◌++◌, length, get_or, take, drop, Some, None, Result, Err, refl, sym, ap, ◌∙◌, subst, subst₂, append_assoc, arith}
 use Rattle.std.proofs.lemmas.List.{drop_more, append-nil, length-take, take-append-le}
 use Rattle.txs_value.specs.Core.{core}
 use Rattle.txs_value.specs.Places.{nth}

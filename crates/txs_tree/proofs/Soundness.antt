@@ -1,7 +1,7 @@
 -- What is sound of nodes is sound of those from a place on.
-use Rattle.std.proofs.Common.{◌≡◌, ℕ, zero, suc, ◌+◌, ◌<◌, ◌≤◌, Bool, false, List, [], ◌∷◌, length, get_or, drop, Option, Some, None, refl, sym, ap, ◌∙◌, subst, arith}
+use Rattle.std.proofs.Common.{◌≡◌, ℕ, zero, suc, ◌+◌, ◌<◌, ◌≤◌, Bool, false, List, [], ◌∷◌, length, get_or, drop, None, refl, sym, ap, ◌∙◌, subst, arith}
 use Rattle.txs_tree.specs.Sound.{SoundTree, SoundAll, SoundDo, SoundLet, SoundThread, SoundThreads}
-use Rattle.txs_tree.specs.Tree.{Tree, Trees, none, more, count}
+use Rattle.txs_tree.specs.Tree.{Trees, none, more, count}
 use Rattle.txs_tree.specs.View.{tree_of, trees_of, thread_of, threads_of}
 use Rattle.txs_tree.specs.declared.node.Node.{Node}
 use Rattle.std.proofs.lemmas.List.{drop_more}

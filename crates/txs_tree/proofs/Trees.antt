@@ -1,12 +1,12 @@
 -- A node as a tree, with its children as a list.
-use Rattle.std.proofs.Common.{rules, ◌≡◌, ℕ, List, [], ◌∷◌, refl, sym, ap, ◌∙◌, Vec, Global, Box}
+use Rattle.std.proofs.Common.{rules, ◌≡◌, ℕ, List, refl, sym, ap, ◌∙◌, Vec, Global, Box}
 use Rattle.txs_value.specs.declared.op.Op.{Op}
 use Rattle.txs_value.specs.declared.value.Value.{Value}
 use Rattle.txs_tree.specs.Tree.{Mark, Tree, Trees, more}
 use Rattle.txs_tree.specs.Tree as tree
 use Rattle.txs_tree.specs.View.{kind_tree, row_trees, tree_of, trees_of, mark_of}
 use Rattle.txs_tree.specs.declared.node.Node.{Node}
-use Rattle.txs_tree.specs.declared.node.NodeKind.{NodeKind, Row_of-Node, end_of-Node, more_of-Node, items-the_row-Node, the_lemmas}
+use Rattle.txs_tree.specs.declared.node.NodeKind.{Row_of-Node, end_of-Node, more_of-Node, items-the_row-Node, the_lemmas}
 use Rattle.txs_tree.specs.declared.node.NodeKind.TheVariants.{Const, Local, Do, Let, Core, Println}
 
 pub row_list : {n : _} (row : Row_of-Node n) → row_trees row ≡ trees_of (items-the_row-Node n row)

@@ -1,10 +1,10 @@
 -- What the plain evaluator answers.
-use Rattle.std.specs.Prelude.{◌≡◌, ℕ, zero, suc, false, List, [], ◌∷◌, ◌++◌, Option, Some, None, Result, Ok, Err, ⊤}
+use Rattle.std.specs.Prelude.{◌≡◌, ℕ, false, List, [], ◌++◌, Option, Some, None, Result, Ok, Err, ⊤}
 use Rattle.txs_value.specs.Places.{nth}
 use Rattle.txs_value.specs.declared.event.Outcome.{Outcome}
 use Rattle.txs_value.specs.declared.event.Outcome.TheVariants.{Done, Failed}
 use Rattle.txs_value.specs.declared.value.Value.{Value}
-use Rattle.txs_tree.specs.Meaning.{Completion, Completes, Recurs, Faults, Retries, Waits, OutOfTurns, Invalid, bind, Effects, eval, eval_all, eval_let, eval_do, call_at}
+use Rattle.txs_tree.specs.Meaning.{Completion, Completes, Recurs, Faults, Retries, Waits, OutOfTurns, Invalid, bind, eval, eval_all, eval_let, eval_do, call_at}
 use Rattle.txs_tree.specs.Thread.{ThreadState, on_events}
 use Rattle.txs_tree.specs.Tree.{Tree, Trees, PlainProgram, PlainThread, ThreadSource}
 use Rattle.txs_tree.specs.declared.evaluate.EvalStop.{EvalStop}

@@ -1,5 +1,5 @@
 -- What a thread means on a list of events, each with its world.
-use Rattle.std.specs.Prelude.{ℕ, zero, suc, false, not, Bool, true, List, [], ◌∷◌, ◌++◌, length, if◌then◌else◌, Result, Ok, Err}
+use Rattle.std.specs.Prelude.{ℕ, zero, suc, false, List, [], ◌∷◌, ◌++◌, length, if◌then◌else◌, Result, Ok, Err}
 use Rattle.txs_value.specs.Ask.{Writes, same_writes, same_cell}
 use Rattle.txs_value.specs.Printed.{printed_line}
 use Rattle.txs_value.specs.Limits.{reruns}
@@ -13,7 +13,7 @@ use Rattle.txs_value.specs.declared.value.Value.TheVariants.{Nil}
 use Rattle.txs_value.specs.Cells.{World, any_cell}
 use Rattle.txs_tree.specs.Meaning.{Completion, Completes, Recurs, Faults, Retries, Waits, OutOfTurns, Invalid, closed, Effects, eval, call_at}
 use Rattle.txs_tree.specs.Transaction.{TxState, tx_meaning}
-use Rattle.txs_tree.specs.Tree.{Tree, PlainFunction, ThreadSource}
+use Rattle.txs_tree.specs.Tree.{PlainFunction, ThreadSource}
 
 -- an event as its actor saw it, with its worlds: R at the read point, C at its own place
 pub data SeenEvent : Type 0 where

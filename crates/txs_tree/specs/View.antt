@@ -1,5 +1,5 @@
 -- Nodes as plain trees.
-use Rattle.std.specs.Prelude.{◌≡◌, ℕ, Bool, List, [], ◌∷◌}
+use Rattle.std.specs.Prelude.{Bool, List, [], ◌∷◌}
 use Rattle.txs_value.specs.declared.fault.Span.{Span}
 use Rattle.txs_tree.specs.Tree.{Tree, Trees, Mark, none, more, PlainThread, PlainProgram}
 use Rattle.txs_tree.specs.Tree as tree

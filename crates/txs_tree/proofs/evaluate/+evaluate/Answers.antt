@@ -5,7 +5,7 @@ use Rattle.txs_value.specs.declared.value.Value.{Value}
 use Rattle.txs_value.specs.declared.value.Value.TheVariants.{Nil}
 use Rattle.txs_tree.specs.Evaluated.{Gives, GivesAll, means, all_mean, do_means, let_means, printing}
 use Rattle.txs_tree.specs.Meaning.{call_at}
-use Rattle.txs_tree.specs.Sound.{SoundTree, SoundAll, SoundDo, SoundLet, nodes, nodes_in}
+use Rattle.txs_tree.specs.Sound.{SoundTree, SoundLet, nodes, nodes_in}
 use Rattle.txs_tree.specs.Thread.{on_events}
 use Rattle.txs_tree.specs.Tree.{count}
 use Rattle.txs_tree.specs.View.{tree_of, trees_of, mark_of}

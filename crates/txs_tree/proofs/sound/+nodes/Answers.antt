@@ -1,9 +1,7 @@
-use Rattle.std.proofs.Common.{◌≡◌, ◌<◌, ◌+◌, ◌-◌, drop, length, refl, ap, arith}
-use Rattle.std.proofs.lemmas.List.{drop_all}
+use Rattle.std.proofs.Common.{◌<◌, ◌-◌, refl, ap, arith}
 use Rattle.txs_tree.specs.Sound.{nodes, nodes_in}
 use Rattle.txs_tree.specs.View.{tree_of, trees_of}
 use Rattle.txs_tree.proofs.Counting.{nodes-some, counted, counted-two}
-use Rattle.txs_tree.proofs.Evaluation.{trees_from}
 use Rattle.txs_tree.proofs.Trees.{do_node, let_node, core_node, println_node}
 use Rattle.txs_tree.proofs.sound.+nodes.Goals as goal
 

@@ -1,14 +1,13 @@
-use Rattle.std.proofs.Common.{rules, ◌≡◌, ◌<◌, ◌≤◌, ◌+◌, false, true, None, IsTrue, drop, length, refl, sym, ap, ◌∙◌, subst, arith}
+use Rattle.std.proofs.Common.{rules, ◌≡◌, ◌<◌, ◌≤◌, ◌+◌, false, None, IsTrue, length, refl, sym, ap, ◌∙◌, subst, arith}
 use Rattle.std.proofs.lemmas.Bool.{false≢true}
 use Rattle.std.proofs.lemmas.Bool.Decides.{nat_tests}
 use Rattle.std.proofs.lemmas.List.{drop_all}
 use Rattle.std.proofs.lemmas.Grind.{common_steps}
-use Rattle.txs_value.specs.Core.{takes}
-use Rattle.txs_tree.specs.Sound.{SoundTree, SoundAll, SoundDo, SoundLet}
+use Rattle.txs_tree.specs.Sound.{SoundTree, SoundLet}
 use Rattle.txs_tree.specs.Tree.{count}
 use Rattle.txs_tree.specs.View.{tree_of, trees_of}
 use Rattle.txs_tree.specs.declared.node.NodeKind.{the_lemmas}
-use Rattle.txs_tree.proofs.Soundness.{SoundAll-from_do, SoundAll-from, SoundAll-back, SoundLet-from, SoundLet-back, SoundLet-room, SoundDo-from_all, SoundDo-some, count-from, count-trees_of, takes_nodes}
+use Rattle.txs_tree.proofs.Soundness.{SoundAll-from_do, SoundAll-from, SoundAll-back, SoundLet-from, SoundLet-back, SoundLet-room, SoundDo-from_all, SoundDo-some, count-trees_of, takes_nodes}
 use Rattle.txs_tree.proofs.Trees.{do_node, let_node, core_node, println_node}
 use Rattle.txs_tree.proofs.sound.+sound.Goals as goal
 

@@ -1,4 +1,4 @@
-use Rattle.std.proofs.Common.{drop, refl, subst, sym}
+use Rattle.std.proofs.Common.{refl, subst, sym}
 use Rattle.std.proofs.lemmas.Bool.{false≢true}
 use Rattle.txs_tree.specs.Sound.{SoundThreads}
 use Rattle.txs_tree.proofs.Soundness.{threads_from}
