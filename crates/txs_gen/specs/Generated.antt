@@ -111,29 +111,3 @@ pub record IsCodeOf (code : PlainCode) (p : PlainProgram) : Type 0 where
   pub threads : AreBodiesOf code.constants code.threads p.threads
   pub constants : code.constants ≡ constants_of_threads p.threads
   pub entries : numbers_in_all code.threads ≡ range_with_len 0 (length code.constants)
-
--- each operation has a number of arguments that an instruction can name
-abbrev mutual
-  pub FewArguments : Tree → Type 0
-  FewArguments (Const v m) = Unit {0}
-  FewArguments (Local i m) = Unit {0}
-  FewArguments (If c a b m) = FewArguments c × FewArguments a × FewArguments b
-  FewArguments (Do items m) = FewArgumentsIn items
-  FewArguments (Let values body m) = FewArgumentsIn values × FewArguments body
-  FewArguments (Loop values body m) = FewArgumentsIn values × FewArguments body
-  FewArguments (Recur values m) = FewArgumentsIn values
-  FewArguments (Core op args m) = (count args ≤ 65535) × FewArgumentsIn args
-  FewArguments (Call f args m) = FewArgumentsIn args
-  FewArguments (VectorOf items m) = FewArgumentsIn items
-  FewArguments (Println args m) = FewArgumentsIn args
-  FewArguments (Dosync body m) = FewArguments body
-  FewArguments (Deref cell m) = FewArguments cell
-  FewArguments (Alter cell callee args m) = FewArguments cell × FewArgumentsIn args
-
-  pub FewArgumentsIn : Trees → Type 0
-  FewArgumentsIn none = Unit {0}
-  FewArgumentsIn (more e rest) = FewArguments e × FewArgumentsIn rest
-
-abbrev pub FewArgumentsEach : List PlainThread → Type 0
-FewArgumentsEach [] = Unit {0}
-FewArgumentsEach (t ∷ ts) = FewArguments t.body × FewArgumentsEach ts

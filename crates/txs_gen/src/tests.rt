@@ -1,8 +1,4 @@
 // The code of small programs, instruction by instruction.
-ghost use Rattle.std.specs.Prelude.{◌≤◌, IfOk, IfSome};
-ghost use Rattle.txs_tree.specs.Tree.{count};
-ghost use Rattle.txs_tree.specs.View.{threads_of, tree_of, trees_of};
-ghost use Rattle.txs_gen.specs.Generated.{FewArguments, FewArgumentsEach, FewArgumentsIn};
 
 use crate::generate;
 use std::alloc::{AllocError, Global};
@@ -11,9 +7,7 @@ use txs_code::Instr;
 use txs_tree::{Node, NodeKind, Program, Thread, is_sound};
 use txs_value::{Op, Span, Value, same};
 
-fn number(n: i64, at: Span) -> Node
-    ensures { FewArguments (tree_of result) }
-{
+fn number(n: i64, at: Span) -> Node {
     Node {
         kind: NodeKind::Const(Value::Int(n)),
         span: at,
@@ -21,9 +15,7 @@ fn number(n: i64, at: Span) -> Node
     }
 }
 
-fn local(i: u8, at: Span) -> Node
-    ensures { FewArguments (tree_of result) }
-{
+fn local(i: u8, at: Span) -> Node {
     Node {
         kind: NodeKind::Local(i),
         span: at,
@@ -31,30 +23,20 @@ fn local(i: u8, at: Span) -> Node
     }
 }
 
-fn one(alloc: Global, only: Node) -> Result<Vec<Node>, AllocError>
-    requires { FewArguments (tree_of only) }
-    ensures { IfOk result (λ all. FewArgumentsIn (trees_of all.items) × (count (trees_of all.items) ≤ 65535)) }
-{
+fn one(alloc: Global, only: Node) -> Result<Vec<Node>, AllocError> {
     let mut all = Vec::new(alloc);
     all.push(only)?;
     Ok(all)
 }
 
-fn two(alloc: Global, first: Node, second: Node) -> Result<Vec<Node>, AllocError>
-    requires first { FewArguments (tree_of first) }
-    requires second { FewArguments (tree_of second) }
-    ensures { IfOk result (λ all. FewArgumentsIn (trees_of all.items) × (count (trees_of all.items) ≤ 65535)) }
-{
+fn two(alloc: Global, first: Node, second: Node) -> Result<Vec<Node>, AllocError> {
     let mut all = Vec::new(alloc);
     all.push(first)?;
     all.push(second)?;
     Ok(all)
 }
 
-fn core(op: Op, args: Vec<Node>, at: Span) -> Node
-    requires { FewArgumentsIn (trees_of args.items) × (count (trees_of args.items) ≤ 65535) }
-    ensures { FewArguments (tree_of result) }
-{
+fn core(op: Op, args: Vec<Node>, at: Span) -> Node {
     Node {
         kind: NodeKind::Core(op, args),
         span: at,
@@ -62,10 +44,7 @@ fn core(op: Op, args: Vec<Node>, at: Span) -> Node
     }
 }
 
-fn println(args: Vec<Node>, at: Span) -> Node
-    requires { FewArgumentsIn (trees_of args.items) × (count (trees_of args.items) ≤ 65535) }
-    ensures { FewArguments (tree_of result) }
-{
+fn println(args: Vec<Node>, at: Span) -> Node {
     Node {
         kind: NodeKind::Println(args),
         span: at,
@@ -73,10 +52,7 @@ fn println(args: Vec<Node>, at: Span) -> Node
     }
 }
 
-fn do_all(items: Vec<Node>, at: Span) -> Node
-    requires { FewArgumentsIn (trees_of items.items) × (count (trees_of items.items) ≤ 65535) }
-    ensures { FewArguments (tree_of result) }
-{
+fn do_all(items: Vec<Node>, at: Span) -> Node {
     Node {
         kind: NodeKind::Do(items),
         span: at,
@@ -84,11 +60,7 @@ fn do_all(items: Vec<Node>, at: Span) -> Node
     }
 }
 
-fn bind(values: Vec<Node>, body: Box<Node>, at: Span) -> Node
-    requires values { FewArgumentsIn (trees_of values.items) × (count (trees_of values.items) ≤ 65535) }
-    requires body { FewArguments (tree_of body.value) }
-    ensures { FewArguments (tree_of result) }
-{
+fn bind(values: Vec<Node>, body: Box<Node>, at: Span) -> Node {
     Node {
         kind: NodeKind::Let(values, body),
         span: at,
@@ -96,10 +68,7 @@ fn bind(values: Vec<Node>, body: Box<Node>, at: Span) -> Node
     }
 }
 
-fn program(alloc: Global, body: Node, at: Span) -> Result<Option<Program>, AllocError>
-    requires { FewArguments (tree_of body) }
-    ensures { IfOk result (λ p. IfSome p (λ q. FewArgumentsEach (threads_of q))) }
-{
+fn program(alloc: Global, body: Node, at: Span) -> Result<Option<Program>, AllocError> {
     let mut threads = Vec::new(alloc);
     threads.push(Thread { body, span: at })?;
     if is_sound(&threads) {

@@ -5,7 +5,7 @@ ghost use Rattle.txs_tree.specs.Sound.{nodes};
 ghost use Rattle.txs_tree.specs.View.{tree_of, thread_of, threads_of, program_of};
 ghost use Rattle.txs_gen.specs.Bodies.{finished};
 ghost use Rattle.txs_gen.specs.Emission.{emission, IsPart};
-ghost use Rattle.txs_gen.specs.Generated.{FewArgumentsEach, IsCodeOf};
+ghost use Rattle.txs_gen.specs.Generated.{IsCodeOf};
 
 use crate::emit::{Emitter, emit};
 use std::alloc::{AllocError, Global};
@@ -17,13 +17,10 @@ use txs_value::Value;
 /// then a halt; for each instruction the span of the node that it is made for, and for the halt that of
 /// the future; and the constants, each with an entry of its own, in the order of the code.
 ///
-/// No operation of the program has more than 65,535 arguments.
-///
 /// # Errors
 ///
 /// `AllocError` where there is no memory for the code.
 pub fn generate(alloc: Global, program: &Program) -> Result<Verified, AllocError>
-    requires { FewArgumentsEach (threads_of program.now) }
     ensures { IfOk result (λ code. IsCodeOf code (program_of program.now)) }
 {
     let threads = program.threads();

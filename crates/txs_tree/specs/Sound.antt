@@ -1,9 +1,14 @@
 -- Which programs are sound: those that the checks accept.
 use Rattle.std.specs.Prelude.{◌≡◌, ◌<◌, ◌≤◌, ◌+◌, ℕ, suc, max, Bool, true, false, List, [], ◌∷◌, length, Option, Some, None}
 use Rattle.txs_value.specs.Core.{takes}
+use Rattle.txs_value.specs.declared.op.Op.{Op}
 use Rattle.txs_value.specs.declared.op.Callee.{Callee}
 use Rattle.txs_value.specs.declared.op.Callee.TheVariants.{Core as CoreOp, Function}
 use Rattle.txs_tree.specs.Tree.{Tree, Const, Local, If, Do, Let, Loop, Recur, Core, Call, VectorOf, Println, Dosync, Deref, Alter, Trees, none, more, count, PlainThread, PlainProgram, ThreadSource}
+
+-- an operation takes so many arguments, and an instruction can name as many
+abbrev pub TakesFew : Op → ℕ → Type 0
+TakesFew op n = (takes op n ≡ true) × (n ≤ 65535)
 
 -- a callee of so many arguments, the cell's value among them
 abbrev pub SoundCallee : Callee → ℕ → Type 0
@@ -23,7 +28,7 @@ abbrev mutual
   SoundTree inside d tail (Loop values body m) =
       SoundLet inside d values × SoundTree inside (d + count values) (Some (count values)) body
   SoundTree inside d tail (Recur values m) = (tail ≡ Some (count values)) × SoundAll inside d values
-  SoundTree inside d tail (Core op args m) = (takes op (count args) ≡ true) × SoundAll inside d args
+  SoundTree inside d tail (Core op args m) = TakesFew op (count args) × SoundAll inside d args
   -- no function is defined yet
   SoundTree inside d tail (Call f args m) = ⊥
   SoundTree inside d tail (VectorOf items m) = (count items ≤ 65535) × SoundAll inside d items

@@ -1,12 +1,12 @@
 //! Which programs are sound: the test that a program has to pass.
 
 ghost use Rattle.std.specs.Prelude.{◌≡◌, ◌≤◌, ◌<◌, ◌+◌, ◌↔◌, length, false, None, IsTrue, MatchOption};
-ghost use Rattle.txs_tree.specs.Sound.{Sound, SoundTree, SoundAll, SoundLet, SoundThread, SoundThreads, nodes, nodes_in, nodes_of_all, levels, levels_in};
+ghost use Rattle.txs_tree.specs.Sound.{Sound, TakesFew, SoundTree, SoundAll, SoundLet, SoundThread, SoundThreads, nodes, nodes_in, nodes_of_all, levels, levels_in};
 ghost use Rattle.txs_tree.specs.Tree.{count};
 ghost use Rattle.txs_tree.specs.View.{tree_of, trees_of, thread_of, threads_of, program_of};
 
 use crate::node::{Node, NodeKind, Thread};
-use txs_value::takes;
+use txs_value::{Op, takes};
 
 /// The threads that a program has at most.
 const MAX_THREADS: usize = 64;
@@ -74,6 +74,13 @@ fn have_few_nodes(threads: &[Thread]) -> bool
     true
 }
 
+/// Whether the operation takes so many arguments, and an instruction can name as many.
+fn takes_few(op: Op, count: usize) -> bool
+    ensures { IsTrue result ↔ TakesFew op count }
+{
+    takes(op, count) && count <= MAX_ITEMS
+}
+
 /// Whether the node is sound among so many locals.
 #[cycle(sound)]
 fn is_sound_node(node: &Node, locals: usize) -> bool
@@ -87,7 +94,7 @@ fn is_sound_node(node: &Node, locals: usize) -> bool
         NodeKind::Let(values, body) => {
             are_sound_values(values, locals) && is_sound_node(body, locals + values.len())
         }
-        NodeKind::Core(op, args) => takes(*op, args.len()) && are_sound(args, locals),
+        NodeKind::Core(op, args) => takes_few(*op, args.len()) && are_sound(args, locals),
         NodeKind::Println(args) => args.len() <= MAX_ITEMS && are_sound(args, locals),
     }
 }

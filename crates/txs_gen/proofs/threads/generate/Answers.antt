@@ -4,7 +4,7 @@ use Rattle.txs_tree.specs.Sound.{nodes_of_all, SoundThreads}
 use Rattle.txs_tree.specs.View.{tree_of, thread_of, threads_of, program_of}
 use Rattle.txs_code.specs.WellTyped.{WellTyped}
 use Rattle.txs_gen.specs.Emission.{Emission}
-use Rattle.txs_gen.specs.Generated.{constants_of, constants_of_threads, FewArgumentsEach, IsCodeOf}
+use Rattle.txs_gen.specs.Generated.{constants_of, constants_of_threads, IsCodeOf}
 use Rattle.txs_gen.proofs.Bodies.{bodies_from, body_at, rooms_of, code_of_threads, code_is, code_right, code_well_typed, made_body, finished_body, finished_as_many, finished_constants, finished_room, threads_left, no_threads_left}
 use Rattle.txs_gen.proofs.Emissions.{constants_nodes}
 use Rattle.txs_gen.proofs.Parts.{ArePart, are_part}
@@ -19,7 +19,7 @@ loop-thread-init c =
       bodies = ap (λ l. l ++ bodies_from (threads_of ts) (length c.new-constants.result.items)) c.new-bodies.ensures.items ∙ ap (λ l. bodies_from (threads_of ts) (length l)) n;
       rooms = ap (λ l. l ++ rooms_of (threads_of ts)) c.new-rooms.ensures.items;
       constants = ap (λ l. l ++ constants_of_threads (threads_of ts)) n;
-      part = are_part ts (subst (λ l. SoundThreads (threads_of l)) (sym e) c.threads-threads.ensures.sound.threads) (subst (λ l. FewArgumentsEach (threads_of l)) (sym e) c.requires);
+      part = are_part ts (subst (λ l. SoundThreads (threads_of l)) (sym e) c.threads-threads.ensures.sound.threads);
       few = omega (arith, ap length n, subst (λ l. nodes_of_all (threads_of l) ≤ 200000) (sym e) c.threads-threads.ensures.sound.few_nodes);
     }
 
@@ -72,7 +72,7 @@ pub seal-requires : goal.seal-requires
 seal-requires c =
     let ts = c.threads-threads.result.now in
     let same = c.threads-threads.ensures.value in
-    let p = are_part ts (subst (λ l. SoundThreads (threads_of l)) (sym same) c.threads-threads.ensures.sound.threads) (subst (λ l. FewArgumentsEach (threads_of l)) (sym same) c.requires) in
+    let p = are_part ts (subst (λ l. SoundThreads (threads_of l)) (sym same) c.threads-threads.ensures.sound.threads) in
     let e = no_threads_left ts c.loop-thread.thread-index c.loop-thread-test.false in
     let bs = c.loop-thread.bodies.items in
     let rs = c.loop-thread.rooms.items in
@@ -87,7 +87,7 @@ pub returns : goal.returns
 returns c =
     let ts = c.threads-threads.result.now in
     let same = c.threads-threads.ensures.value in
-    let p = are_part ts (subst (λ l. SoundThreads (threads_of l)) (sym same) c.threads-threads.ensures.sound.threads) (subst (λ l. FewArgumentsEach (threads_of l)) (sym same) c.requires) in
+    let p = are_part ts (subst (λ l. SoundThreads (threads_of l)) (sym same) c.threads-threads.ensures.sound.threads) in
     let e = no_threads_left ts c.loop-thread.thread-index c.loop-thread-test.false in
     let bs = c.loop-thread.bodies.items in
     let cs = c.loop-thread.constants.items in

@@ -49,7 +49,7 @@ evaluate-operate-requires t c =
     let is = core_node c.args.node.now c.in-Core.op c.in-Core.args c.deref-in-Core.result.now c.in-Core.is c.deref-in-Core.ensures.value in
     let sound = subst (λ e. SoundTree false (length c.args.locals.now.items) None e) is c.requires in
     let many = ap length c.deref-in-Core-2.ensures.value ∙ c.in_ok-values-in-Core.ensures.count in
-    subst (λ k. IsTrue (takes c.in-Core.op k)) (sym many) sound.0
+    subst (λ k. IsTrue (takes c.in-Core.op k)) (sym many) sound.0.0
 
 pub evaluate-evaluate_all-requires-in-Println : goal.evaluate-evaluate_all-requires-in-Println
 evaluate-evaluate_all-requires-in-Println t c =

@@ -3,7 +3,7 @@ use Rattle.std.proofs.lemmas.Bool.{false≢true}
 use Rattle.std.proofs.lemmas.Bool.Decides.{nat_tests}
 use Rattle.std.proofs.lemmas.List.{drop_all}
 use Rattle.std.proofs.lemmas.Grind.{common_steps}
-use Rattle.txs_tree.specs.Sound.{SoundTree, SoundLet}
+use Rattle.txs_tree.specs.Sound.{TakesFew, SoundTree, SoundLet}
 use Rattle.txs_tree.specs.Tree.{count}
 use Rattle.txs_tree.specs.View.{tree_of, trees_of}
 use Rattle.txs_tree.specs.declared.node.NodeKind.{the_lemmas}
@@ -96,24 +96,25 @@ is_sound_node-returns-else-are_sound_values t c =
     let is = let_node c.args.node.now c.in-Let.values c.in-Let.body c.deref-in-Let.result.now c.in-Let.body.value c.in-Let.is c.deref-in-Let.ensures.value refl in
     (λ p. absurd (false≢true (sym c.if-are_sound_values.false ∙ p)), λ s. c.are_sound_values.ensures.1 (subst (λ e. SoundTree false c.args.locals None e) is s).0)
 
-pub is_sound_node-returns-then-takes : goal.is_sound_node-returns-then-takes
-is_sound_node-returns-then-takes t c =
-    let ns = c.deref-then-takes.result.now in
+pub is_sound_node-returns-then-takes_few : goal.is_sound_node-returns-then-takes_few
+is_sound_node-returns-then-takes_few t c =
+    let ns = c.deref-then-takes_few.result.now in
     let d = c.args.locals in
-    let r = c.are_sound-then-takes.result in
-    let is = core_node c.args.node.now c.in-Core.op c.in-Core.args ns c.in-Core.is c.deref-then-takes.ensures.value in
+    let r = c.are_sound-then-takes_few.result in
+    let is = core_node c.args.node.now c.in-Core.op c.in-Core.args ns c.in-Core.is c.deref-then-takes_few.ensures.value in
     let many : c.len-in-Core.result ≡ length c.in-Core.args.items = search rules in
-    let taken = sym (takes_nodes c.in-Core.op ns c.len-in-Core.result c.takes.result c.takes.ensures (many ∙ sym (ap length c.deref-then-takes.ensures.value))) ∙ c.if-takes.true in
+    let same : c.len-in-Core.result ≡ count (trees_of ns) = many ∙ sym (ap length c.deref-then-takes_few.ensures.value) ∙ sym (count-trees_of ns) in
+    let few : TakesFew c.in-Core.op (count (trees_of ns)) = subst (λ k. TakesFew c.in-Core.op k) same (c.if-takes_few.ensures.0 refl) in
     subst (λ e. (IsTrue r → SoundTree false d None e) × (SoundTree false d None e → IsTrue r)) (sym is)
-    (λ p. (taken, c.are_sound-then-takes.ensures.0 p), λ s. c.are_sound-then-takes.ensures.1 s.1)
+    (λ p. (few, c.are_sound-then-takes_few.ensures.0 p), λ s. c.are_sound-then-takes_few.ensures.1 s.1)
 
-pub is_sound_node-returns-else-takes : goal.is_sound_node-returns-else-takes
-is_sound_node-returns-else-takes t c =
+pub is_sound_node-returns-else-takes_few : goal.is_sound_node-returns-else-takes_few
+is_sound_node-returns-else-takes_few t c =
     let ns = c.in-Core.args.items in
     let is = core_node c.args.node.now c.in-Core.op c.in-Core.args ns c.in-Core.is refl in
     let many : c.len-in-Core.result ≡ length ns = search rules in
-    let same = takes_nodes c.in-Core.op ns c.len-in-Core.result c.takes.result c.takes.ensures many in
-    (λ p. absurd (false≢true (sym c.if-takes.false ∙ p)), λ s. same ∙ (subst (λ e. SoundTree false c.args.locals None e) is s).0)
+    let same : count (trees_of ns) ≡ c.len-in-Core.result = count-trees_of ns ∙ sym many in
+    (λ p. absurd (false≢true (sym c.if-takes_few.false ∙ p)), λ s. c.takes_few.ensures.1 (subst (λ k. TakesFew c.in-Core.op k) same (subst (λ e. SoundTree false c.args.locals None e) is s).0))
 
 pub is_sound_node-returns-then-len-le-MAX_ITEMS : goal.is_sound_node-returns-then-len-le-MAX_ITEMS
 is_sound_node-returns-then-len-le-MAX_ITEMS t c =

@@ -1,8 +1,0 @@
-use Rattle.std.proofs.Common.{true, sym, subst}
-use Rattle.txs_tree.specs.View.{mark_of}
-use Rattle.txs_tree.proofs.Trees.{do_tree}
-use Rattle.txs_gen.specs.Generated.{FewArguments}
-use Rattle.txs_gen.proofs.tests.do_all.Goals as goal
-
-pub returns : goal.returns
-returns c = subst (λ t. FewArguments t) (sym (do_tree c.args.items (mark_of c.args.at true))) c.requires.0
