@@ -1,0 +1,233 @@
+-- What the resolver's loops have built, and what is left of the definition behind them.
+use Rattle.std.proofs.Common.{◌≡◌, ◌<◌, ◌≤◌, ◌+◌, ◌-◌, ℕ, zero, suc, Bool, true, false, List, [], ◌∷◌, ◌++◌, Option, Some, None, Result, Err, length, drop, get_or, cond, refl, sym, ap, ◌∙◌, subst, arith, length-drop, add-one, drop-cons, Vec, Global}
+use denote.Param.Weighed.{most}
+use Rattle.txs_value.specs.declared.fault.Span.{Span}
+use Rattle.txs_reader.specs.declared.form.Bracket.TheVariants.{Square}
+use Rattle.txs_reader.specs.declared.form.Form.{Form, Symbol, Group}
+use Rattle.txs_reader.proofs.Trees.{tree-Symbol, tree-Group}
+use Rattle.txs_reader.specs.Tree.{tree, trees, trees_of, first, Trees as Forms}
+use Rattle.txs_reader.specs.Tree as form
+use Rattle.txs_tree.specs.Tree.{Tree, Trees, Mark, more, none, Do, Let, Println}
+use Rattle.txs_tree.specs.View.{tree_of, mark_of}
+use Rattle.txs_tree.specs.View as view
+use Rattle.txs_tree.specs.declared.node.Node.{Node}
+use Rattle.txs.specs.Names.{◌>>=◌, Scope, Bound, flag, parts, sum_node, bound_name, named, named_sum, named_sums, named_bindings, named_body, named_all, named_let, named_list, by_head, head_of, local_number}
+use Rattle.txs.specs.declared.names.Head.{Head}
+use Rattle.txs.specs.Refused.{Gives, GivesBound, IsWithin}
+use Rattle.txs.specs.declared.resolve_error.ResolveErrorKind.{ResolveErrorKind}
+use Rattle.txs.specs.declared.resolve_error.ResolveErrorKind.TheVariants.{BadForm, Memory}
+
+-- these nodes, and then these trees
+abbrev pub ahead : List Node → Trees → Trees
+ahead [] ts = ts
+ahead (n ∷ ns) ts = more (tree_of n) (ahead ns ts)
+
+abbrev pub all_after : List Node → Option Trees → Option Trees
+all_after ns None = None
+all_after ns (Some ts) = Some (ahead ns ts)
+
+abbrev pub bound_after : List Node → Option Bound → Option Bound
+bound_after ns None = None
+bound_after ns (Some b) = Some (record { values = ahead ns b.values; scope = b.scope })
+
+-- the forms as the definition sees them
+abbrev pub plain : List Form → Forms
+plain fs = trees_of (trees fs)
+
+ahead_none : (ns : List Node) → ahead ns none ≡ view.trees_of ns
+ahead_none [] = refl
+ahead_none (n ∷ ns) = ap (more (tree_of n)) (ahead_none ns)
+
+ahead_snoc : (ns : List Node) (n : Node) (ts : Trees) → ahead ns (more (tree_of n) ts) ≡ ahead (ns ++ n ∷ []) ts
+ahead_snoc [] n ts = refl
+ahead_snoc (m ∷ ns) n ts = ap (more (tree_of m)) (ahead_snoc ns n ts)
+
+all_snoc : (ns : List Node) (n : Node) (a : Option Trees) → all_after ns (a >>= λ ts. Some (more (tree_of n) ts)) ≡ all_after (ns ++ n ∷ []) a
+all_snoc ns n None = refl
+all_snoc ns n (Some ts) = ap (λ x. Some x) (ahead_snoc ns n ts)
+
+bound_snoc : (ns : List Node) (n : Node) (a : Option Bound) → bound_after ns (a >>= λ b. Some (record { values = more (tree_of n) b.values; scope = b.scope })) ≡ bound_after (ns ++ n ∷ []) a
+bound_snoc ns n None = refl
+bound_snoc ns n (Some b) = ap (λ (x : Trees). Some (record { values = x; scope = b.scope })) (ahead_snoc ns n b.values)
+
+-- a form and what stands behind it
+pub plain_at : (fs : List Form) (i : ℕ) (d : Form) → i < length fs → plain (drop i fs) ≡ first (tree (get_or fs i d)) (plain (drop (i + 1) fs))
+plain_at fs i d lt = ap plain (drop-cons fs i d lt) ∙ ap (λ (k : ℕ). first (tree (get_or fs i d)) (plain (drop k fs))) (sym (add-one i))
+
+pub parts_plain : (fs : List Form) → parts (plain fs) ≡ length fs
+parts_plain [] = refl
+parts_plain (f ∷ fs) = ap suc (parts_plain fs)
+
+drop_all : {X : Type 0} (xs : List X) (i : ℕ) → length xs ≤ i → drop i xs ≡ []
+drop_all [] zero h = refl
+drop_all [] (suc i) h = refl
+drop_all (x ∷ xs) zero h = absurd (omega (arith, h))
+drop_all (x ∷ xs) (suc i) h = drop_all xs i (omega (arith, h))
+
+-- a refusal that was handed on
+pub refused : {A B C D : Type 0} (f : A → B) (g : C → D) (k : ResolveErrorKind) (a : Option B) (b : Option D) → Gives f (Err k) a → (a ≡ None → b ≡ None) → Gives g (Err k) b
+refused f g BadForm a b h go = go h
+refused f g Memory a b h go = tt
+
+-- ---- forms one after the other
+
+pub all_step : (room : ℕ) (scope : Scope) (inner last : Bool) (fs : List Form) (i : ℕ) (d : Form) (n : Node) (ns : List Node) → i < length fs → named room scope (flag inner last (plain (drop (i + 1) fs))) (tree (get_or fs i d)) ≡ Some (tree_of n) → all_after ns (named_all room scope inner last (plain (drop i fs))) ≡ all_after (ns ++ n ∷ []) (named_all room scope inner last (plain (drop (i + 1) fs)))
+all_step room scope inner last fs i d n ns lt e =
+    let rest = named_all room scope inner last (plain (drop (i + 1) fs)) in
+    ap (λ l. all_after ns (named_all room scope inner last l)) (plain_at fs i d lt)
+    ∙ ap (λ (o : Option Tree). all_after ns (o >>= λ node. rest >>= λ nodes. Some (more node nodes))) e
+    ∙ all_snoc ns n rest
+
+pub all_stop : (room : ℕ) (scope : Scope) (inner last : Bool) (fs : List Form) (i : ℕ) (d : Form) (ns : List Node) → i < length fs → named room scope (flag inner last (plain (drop (i + 1) fs))) (tree (get_or fs i d)) ≡ None → all_after ns (named_all room scope inner last (plain (drop i fs))) ≡ None
+all_stop room scope inner last fs i d ns lt e =
+    let rest = named_all room scope inner last (plain (drop (i + 1) fs)) in
+    ap (λ l. all_after ns (named_all room scope inner last l)) (plain_at fs i d lt)
+    ∙ ap (λ (o : Option Tree). all_after ns (o >>= λ node. rest >>= λ nodes. Some (more node nodes))) e
+
+pub all_end : (room : ℕ) (scope : Scope) (inner last : Bool) (fs : List Form) (i : ℕ) (ns : List Node) → length fs ≤ i → all_after ns (named_all room scope inner last (plain (drop i fs))) ≡ Some (view.trees_of ns)
+all_end room scope inner last fs i ns le =
+    ap (λ l. all_after ns (named_all room scope inner last (plain l))) (drop_all fs i le) ∙ ap (λ x. Some x) (ahead_none ns)
+
+-- ---- bindings
+
+pub bindings_step : (room : ℕ) (scope : Scope) (fs : List Form) (i : ℕ) (d e : Form) (name : List ℕ) (n : Node) (ns : List Node) → i + 1 < length fs → bound_name scope (tree (get_or fs i d)) ≡ Some name → named room scope true (tree (get_or fs (i + 1) e)) ≡ Some (tree_of n) → bound_after ns (named_bindings room scope (plain (drop i fs))) ≡ bound_after (ns ++ n ∷ []) (named_bindings room (name ∷ scope) (plain (drop (i + 2) fs)))
+bindings_step room scope fs i d e name n ns lt bind value =
+    let rest = plain (drop (i + 2) fs) in
+    let two : plain (drop i fs) ≡ first (tree (get_or fs i d)) (first (tree (get_or fs (i + 1) e)) rest) =
+    plain_at fs i d (omega arith) ∙ ap (first (tree (get_or fs i d))) (plain_at fs (i + 1) e lt ∙ ap (λ (k : ℕ). first (tree (get_or fs (i + 1) e)) (plain (drop k fs))) (omega arith)) in
+    ap (λ l. bound_after ns (named_bindings room scope l)) two
+    ∙ ap (λ (o : Option (List ℕ)). bound_after ns (o >>= λ s. named room scope true (tree (get_or fs (i + 1) e)) >>= λ value. named_bindings room (s ∷ scope) rest >>= λ bound. Some (record { values = more value bound.values; scope = bound.scope }))) bind
+    ∙ ap (λ (o : Option Tree). bound_after ns (o >>= λ value. named_bindings room (name ∷ scope) rest >>= λ bound. Some (record { values = more value bound.values; scope = bound.scope }))) value
+    ∙ bound_snoc ns n (named_bindings room (name ∷ scope) rest)
+
+pub bindings_unbound : (room : ℕ) (scope : Scope) (fs : List Form) (i : ℕ) (d : Form) (ns : List Node) → i + 1 < length fs → bound_name scope (tree (get_or fs i d)) ≡ None → bound_after ns (named_bindings room scope (plain (drop i fs))) ≡ None
+bindings_unbound room scope fs i d ns lt bind =
+    let rest = plain (drop (i + 1 + 1) fs) in
+    let e = get_or fs (i + 1) d in
+    let two : plain (drop i fs) ≡ first (tree (get_or fs i d)) (first (tree e) rest) =
+    plain_at fs i d (omega arith) ∙ ap (first (tree (get_or fs i d))) (plain_at fs (i + 1) d lt) in
+    ap (λ l. bound_after ns (named_bindings room scope l)) two
+    ∙ ap (λ (o : Option (List ℕ)). bound_after ns (o >>= λ s. named room scope true (tree e) >>= λ value. named_bindings room (s ∷ scope) rest >>= λ bound. Some (record { values = more value bound.values; scope = bound.scope }))) bind
+
+pub bindings_unvalued : (room : ℕ) (scope : Scope) (fs : List Form) (i : ℕ) (d e : Form) (name : List ℕ) (ns : List Node) → i + 1 < length fs → bound_name scope (tree (get_or fs i d)) ≡ Some name → named room scope true (tree (get_or fs (i + 1) e)) ≡ None → bound_after ns (named_bindings room scope (plain (drop i fs))) ≡ None
+bindings_unvalued room scope fs i d e name ns lt bind value =
+    let rest = plain (drop (i + 1 + 1) fs) in
+    let two : plain (drop i fs) ≡ first (tree (get_or fs i d)) (first (tree (get_or fs (i + 1) e)) rest) =
+    plain_at fs i d (omega arith) ∙ ap (first (tree (get_or fs i d))) (plain_at fs (i + 1) e lt) in
+    ap (λ l. bound_after ns (named_bindings room scope l)) two
+    ∙ ap (λ (o : Option (List ℕ)). bound_after ns (o >>= λ s. named room scope true (tree (get_or fs (i + 1) e)) >>= λ value. named_bindings room (s ∷ scope) rest >>= λ bound. Some (record { values = more value bound.values; scope = bound.scope }))) bind
+    ∙ ap (λ (o : Option Tree). bound_after ns (o >>= λ value. named_bindings room (name ∷ scope) rest >>= λ bound. Some (record { values = more value bound.values; scope = bound.scope }))) value
+
+one_left : (room : ℕ) (scope : Scope) (fs : List Form) → length fs ≡ 1 → named_bindings room scope (plain fs) ≡ None
+one_left room scope [] one = absurd (omega (arith, one))
+one_left room scope (f ∷ []) one = refl
+one_left room scope (f ∷ g ∷ fs) one = absurd (omega (arith, one))
+
+pub bindings_odd : (room : ℕ) (scope : Scope) (fs : List Form) (i : ℕ) (ns : List Node) → i + 1 ≡ length fs → bound_after ns (named_bindings room scope (plain (drop i fs))) ≡ None
+bindings_odd room scope fs i ns one = ap (bound_after ns) (one_left room scope (drop i fs) (omega (arith, one, length-drop i fs)))
+
+pub bindings_end : (room : ℕ) (scope : Scope) (fs : List Form) (i : ℕ) (ns : List Node) → length fs ≤ i → bound_after ns (named_bindings room scope (plain (drop i fs))) ≡ Some (record { values = view.trees_of ns; scope = scope })
+bindings_end room scope fs i ns le =
+    ap (λ l. bound_after ns (named_bindings room scope (plain l))) (drop_all fs i le) ∙ ap (λ (x : Trees). Some (record { values = x; scope = scope })) (ahead_none ns)
+
+-- ---- sums
+
+pub sum_short : (room : ℕ) (scope : Scope) (wanted : Bool) (span : Span) (fs : List Form) → length fs < 2 → named_sum room scope wanted span (plain fs) ≡ None
+sum_short room scope wanted span [] lt = refl
+sum_short room scope wanted span (a ∷ []) lt = refl
+sum_short room scope wanted span (a ∷ b ∷ fs) lt = absurd (omega (arith, lt))
+
+pub sum_first : (room : ℕ) (scope : Scope) (wanted : Bool) (span : Span) (fs : List Form) (d : Form) → 2 ≤ length fs → named_sum room scope wanted span (plain fs) ≡ (named (room - (length fs - 1)) scope true (tree (get_or fs 0 d)) >>= λ total. named_sums room scope wanted span total (plain (drop 1 fs)))
+sum_first room scope wanted span [] d le = absurd (omega (arith, le))
+sum_first room scope wanted span (a ∷ []) d le = absurd (omega (arith, le))
+sum_first room scope wanted span (a ∷ b ∷ fs) d le =
+    let count : suc (parts (plain fs)) ≡ length (a ∷ b ∷ fs) - 1 = omega (arith, parts_plain fs) in
+    ap (λ (k : ℕ). named (room - k) scope true (tree a) >>= λ total. named_sums room scope wanted span total (plain (b ∷ fs))) count
+
+sums_at : (room : ℕ) (scope : Scope) (wanted : Bool) (span : Span) (fs : List Form) (i : ℕ) (d : Form) (total : Tree) → i < length fs → named_sums room scope wanted span total (plain (drop i fs)) ≡ (named (room - (length fs - i)) scope true (tree (get_or fs i d)) >>= λ term. named_sums room scope wanted span (sum_node total term (mark_of span (flag true wanted (plain (drop (i + 1) fs))))) (plain (drop (i + 1) fs)))
+sums_at room scope wanted span fs i d total lt =
+    let rest = plain (drop (i + 1) fs) in
+    let count : suc (parts rest) ≡ length fs - i = omega (arith, parts_plain (drop (i + 1) fs), length-drop (i + 1) fs, lt) in
+    ap (named_sums room scope wanted span total) (plain_at fs i d lt)
+    ∙ ap (λ (k : ℕ). named (room - k) scope true (tree (get_or fs i d)) >>= λ term. named_sums room scope wanted span (sum_node total term (mark_of span (flag true wanted rest))) rest) count
+
+pub sums_step : (room : ℕ) (scope : Scope) (wanted : Bool) (span : Span) (fs : List Form) (i : ℕ) (d : Form) (total term : Tree) → i < length fs → named (room - (length fs - i)) scope true (tree (get_or fs i d)) ≡ Some term → named_sums room scope wanted span total (plain (drop i fs)) ≡ named_sums room scope wanted span (sum_node total term (mark_of span (flag true wanted (plain (drop (i + 1) fs))))) (plain (drop (i + 1) fs))
+sums_step room scope wanted span fs i d total term lt e =
+    let rest = plain (drop (i + 1) fs) in
+    sums_at room scope wanted span fs i d total lt
+    ∙ ap (λ (o : Option Tree). o >>= λ term. named_sums room scope wanted span (sum_node total term (mark_of span (flag true wanted rest))) rest) e
+
+pub sums_stop : (room : ℕ) (scope : Scope) (wanted : Bool) (span : Span) (fs : List Form) (i : ℕ) (d : Form) (total : Tree) → i < length fs → named (room - (length fs - i)) scope true (tree (get_or fs i d)) ≡ None → named_sums room scope wanted span total (plain (drop i fs)) ≡ None
+sums_stop room scope wanted span fs i d total lt e =
+    let rest = plain (drop (i + 1) fs) in
+    sums_at room scope wanted span fs i d total lt
+    ∙ ap (λ (o : Option Tree). o >>= λ term. named_sums room scope wanted span (sum_node total term (mark_of span (flag true wanted rest))) rest) e
+
+-- ---- bodies
+
+do_assoc : (a : Option Tree) (b : Option Trees) (m : Mark) → (a >>= λ n. b >>= λ ns. Some (Do (more n ns) m)) ≡ ((a >>= λ n. b >>= λ ns. Some (more n ns)) >>= λ items. Some (Do items m))
+do_assoc None b m = refl
+do_assoc (Some n) None m = refl
+do_assoc (Some n) (Some ns) m = refl
+
+pub body_one : (room : ℕ) (scope : Scope) (wanted : Bool) (span : Span) (fs : List Form) (d : Form) → (room ≡ 0 → ⊥) → length fs ≡ 1 → named_body room scope wanted span (plain fs) ≡ named room scope wanted (tree (get_or fs 0 d))
+body_one zero scope wanted span fs d some one = absurd (some refl)
+body_one (suc room) scope wanted span [] d some one = absurd (omega (arith, one))
+body_one (suc room) scope wanted span (f ∷ []) d some one = refl
+body_one (suc room) scope wanted span (f ∷ g ∷ fs) d some one = absurd (omega (arith, one))
+
+pub body_several : (room : ℕ) (scope : Scope) (wanted : Bool) (span : Span) (fs : List Form) → (room ≡ 0 → ⊥) → 2 ≤ length fs → named_body room scope wanted span (plain fs) ≡ (named_all (room - 1) scope false wanted (plain fs) >>= λ items. Some (Do items (mark_of span wanted)))
+body_several zero scope wanted span fs some le = absurd (some refl)
+body_several (suc room) scope wanted span [] some le = absurd (omega (arith, le))
+body_several (suc room) scope wanted span (f ∷ []) some le = absurd (omega (arith, le))
+body_several (suc room) scope wanted span (f ∷ g ∷ fs) some le =
+    let below : room ≡ suc room - 1 = omega arith in
+    do_assoc (named room scope false (tree f)) (named_all room scope false wanted (plain (g ∷ fs))) (mark_of span wanted)
+    ∙ ap (λ (k : ℕ). named_all k scope false wanted (plain (f ∷ g ∷ fs)) >>= λ items. Some (Do items (mark_of span wanted))) below
+
+-- ---- lists
+
+-- what a list with this head is
+abbrev pub by : ℕ → Scope → Bool → Span → Forms → Head → Option ℕ → Option Tree
+by room scope wanted span args h local =
+    by_head h local
+    (named_sum room scope wanted span args)
+    (named_let room scope wanted span args)
+    (named_body room scope wanted span args)
+    (named_all (room - 1) scope true true args >>= λ nodes. Some (Println nodes (mark_of span wanted)))
+
+pub list_head : (room : ℕ) (scope : Scope) (wanted : Bool) (span : Span) (fs : List Form) (f : Form) (args : List Form) (name : List ℕ) (at : Span) (h : Head) → fs ≡ f ∷ args → f ≡ Symbol name at → head_of name ≡ h → named_list room scope wanted span (plain fs) ≡ by room scope wanted span (plain args) h (local_number name scope)
+list_head room scope wanted span fs f args name at h cons sym_is head =
+    ap (λ l. named_list room scope wanted span (plain l)) cons
+    ∙ ap (λ t. named_list room scope wanted span (first t (plain args))) (ap tree sym_is ∙ tree-Symbol name at)
+    ∙ ap (λ k. by room scope wanted span (plain args) k (local_number name scope)) head
+
+-- what a `let` is behind its bindings
+abbrev pub let_rest : ℕ → Bool → Span → Forms → Option Bound → Option Tree
+let_rest room wanted span forms o = o >>= λ bound. named_body (room - 1) bound.scope wanted span forms >>= λ node. Some (Let bound.values node (mark_of span wanted))
+
+pub let_parts : (room : ℕ) (scope : Scope) (wanted : Bool) (span : Span) (fs : List Form) (f : Form) (forms : List Form) (pairs : Vec Form Global) (at : Span) (ps : List Form) → fs ≡ f ∷ forms → f ≡ Group Square pairs at → ps ≡ pairs.items → named_let room scope wanted span (plain fs) ≡ let_rest room wanted span (plain forms) (named_bindings (room - 1) scope (plain ps))
+let_parts room scope wanted span fs f forms pairs at ps cons is items =
+    ap (λ l. named_let room scope wanted span (plain l)) cons
+    ∙ ap (λ t. named_let room scope wanted span (first t (plain forms))) (ap tree is ∙ tree-Group Square pairs at)
+    ∙ ap (λ l. let_rest room wanted span (plain forms) (named_bindings (room - 1) scope (plain l))) (sym items)
+
+-- ---- scopes
+
+pub within_push : (outer inner : Scope) (name : List ℕ) → IsWithin outer inner → IsWithin outer (name ∷ inner)
+within_push outer inner name w =
+    let count : suc (length inner) - length outer ≡ suc (length inner - length outer) = omega (arith, w.0) in
+    (omega (arith, w.0), ap (λ (k : ℕ). drop k (name ∷ inner)) count ∙ w.1)
+
+-- ---- refusals and sizes
+
+pub refused_let : {A B : Type 0} (g : A → B) (k : ResolveErrorKind) (scope : Scope) (a : Option Bound) (b : Option B) → GivesBound (Err k) scope a → (a ≡ None → b ≡ None) → Gives g (Err k) b
+refused_let g BadForm scope a b h go = go h
+refused_let g Memory scope a b h go = tt
+
+pub refused_bound : {A B : Type 0} (f : A → B) (k : ResolveErrorKind) (scope : Scope) (a : Option B) (b : Option Bound) → Gives f (Err k) a → (a ≡ None → b ≡ None) → GivesBound (Err k) scope b
+refused_bound f BadForm scope a b h go = go h
+refused_bound f Memory scope a b h go = tt
+
+pub tail_most : {X : Type 0} (size : X → ℕ) (xs : List X) (x : X) (rest : List X) → xs ≡ x ∷ rest → most size rest ≤ most size xs
+tail_most size xs x rest e = subst (λ l. most size rest ≤ most size l) (sym e) (omega arith)

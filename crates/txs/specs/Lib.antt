@@ -1,0 +1,4 @@
+pub mod Names
+pub mod Refused
+pub mod Reported
+pub mod Compiled

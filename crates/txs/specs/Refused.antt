@@ -1,0 +1,33 @@
+-- What a resolver's answer says.
+use Rattle.std.specs.Prelude.{◌≡◌, ◌≤◌, ◌<◌, ◌-◌, ℕ, List, drop, length, Option, Some, None, Result, Ok, Err}
+use Rattle.std.specs.Prelude.{Vec}
+use Rattle.std.specs.Global.{Global}
+use Rattle.std.specs.Borrow.{Bor}
+use Rattle.txs_tree.specs.declared.node.Node.{Node}
+use Rattle.txs_tree.specs.View.{trees_of}
+use Rattle.txs_reader.specs.Tree.{Tree as Form}
+use Rattle.txs.specs.Names.{Scope, Bound, bound_name}
+use Rattle.txs.specs.declared.resolve_error.ResolveErrorKind.{ResolveErrorKind}
+use Rattle.txs.specs.declared.resolve_error.ResolveErrorKind.TheVariants.{BadForm, Memory}
+
+-- the answer is what the definition gives, or it gives nothing, unless memory ran out
+abbrev pub Gives : {A B : Type 0} → (A → B) → Result A ResolveErrorKind → Option B → Type 0
+Gives view (Ok x) wanted = wanted ≡ Some (view x)
+Gives view (Err BadForm) wanted = wanted ≡ None
+Gives view (Err Memory) wanted = Unit {0}
+
+-- the same of the values of a `let`, behind which these names are in scope
+abbrev pub GivesBound : Result (Vec Node Global) ResolveErrorKind → Scope → Option Bound → Type 0
+GivesBound (Ok v) scope wanted = wanted ≡ Some (record { values = trees_of v.items; scope = scope })
+GivesBound (Err BadForm) scope wanted = wanted ≡ None
+GivesBound (Err Memory) scope wanted = Unit {0}
+
+-- the inner scope has the outer one's names behind its own
+abbrev pub IsWithin : Scope → Scope → Type 0
+IsWithin outer inner = (length outer ≤ length inner) × (drop (length inner - length outer) inner ≡ outer)
+
+-- the answer is the name that the form binds
+abbrev pub BindsName : Result (Bor (List ℕ)) ResolveErrorKind → Scope → Form → Type 0
+BindsName (Ok name) scope form = (length scope < 200) × (bound_name scope form ≡ Some name.now)
+BindsName (Err BadForm) scope form = bound_name scope form ≡ None
+BindsName (Err Memory) scope form = ⊥

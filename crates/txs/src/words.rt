@@ -1,0 +1,76 @@
+//! The words of the command line.
+
+use clap::error::ErrorKind;
+use clap::{Arg, ArgAction, ArgMatches, Command, Error, value_parser};
+use std::alloc::{AllocError, Global};
+
+/// How many steps an actor makes at most, where the words don't say it.
+const DEFAULT_STEPS: u64 = 100_000_000;
+
+/// What the words ask for.
+#[derive(Debug, Drop)]
+pub enum Words {
+    /// To run a script: its file, where it is named, and how many steps an actor makes at most.
+    Run { file: Option<String>, steps: u64 },
+    /// A text for the standard output.
+    Shown(String),
+    /// A text for the standard error, for a usage fault.
+    Faulty(String),
+}
+
+/// The commands and their options.
+fn command<'a>(alloc: Global) -> Result<Command<'a>, AllocError> {
+    let file = Arg::new(alloc, "FILE").help("The script; without it, standard input");
+    let steps = Arg::new(alloc, "steps")
+        .long("steps")
+        .help("How many steps an actor makes at most")
+        .action(ArgAction::Set)
+        .value_parser(value_parser!(u64).range(1..=1_000_000_000_000));
+    let run = Command::new(alloc, "run")
+        .about("Runs a script")
+        .arg(steps)?
+        .arg(file)?;
+    Command::new(alloc, "txs")
+        .about("Compiles and runs transaction scripts")
+        .subcommand_required(true)
+        .disable_help_subcommand(true)
+        .subcommand(run)
+}
+
+/// What the matched words ask for.
+fn asked(alloc: Global, matches: &ArgMatches<'_>) -> Result<Words, AllocError> {
+    let Some((_, run)) = matches.subcommand() else {
+        return Ok(Words::Faulty(String::new(alloc)));
+    };
+    let file = match run.get_str("FILE") {
+        Some(name) => Some(String::from_str(alloc, name)?),
+        None => None,
+    };
+    let steps = run.get_one::<u64>("steps").unwrap_or(DEFAULT_STEPS);
+    Ok(Words::Run { file, steps })
+}
+
+/// The text of what isn't run: help, or a usage fault.
+fn told(alloc: Global, error: &Error) -> Result<Words, AllocError> {
+    if error.kind() == ErrorKind::OutOfMemory {
+        return Err(AllocError);
+    }
+    let text = format!(in alloc; "{error}")?;
+    Ok(if error.use_stderr() {
+        Words::Faulty(text)
+    } else {
+        Words::Shown(text)
+    })
+}
+
+/// What the words after the program's name ask for.
+pub fn parse_words(alloc: Global, args: &[String]) -> Result<Words, AllocError> {
+    let mut all = vec![in alloc; "txs"]?;
+    for arg in args {
+        all.push(arg.as_str())?;
+    }
+    match command(alloc)?.try_get_matches_from(all.as_slice()) {
+        Ok(matches) => asked(alloc, &matches),
+        Err(error) => told(alloc, &error),
+    }
+}
