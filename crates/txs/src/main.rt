@@ -9,6 +9,8 @@ pub mod resolve;
 pub mod resolve_error;
 mod run;
 mod streams;
+#[cfg(test)]
+mod tests;
 mod words;
 
 use play::play;

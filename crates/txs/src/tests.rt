@@ -1,0 +1,357 @@
+// What no clause says: the rows of the program, through its streams.
+use crate::compile::compile;
+use crate::play::play;
+use crate::run::run_thread;
+use std::alloc::Global;
+use std::io;
+use std::io::{ErrorKind, Read, Write};
+use std::test::Fail;
+use txs_tree::eval_thread;
+
+// Gives at most three bytes a call, and fails at the call of this number, counted from 0.
+#[derive(Drop)]
+struct Source<'a> {
+    text: &'a [u8],
+    calls: usize,
+    bad: Option<usize>,
+    kind: ErrorKind,
+}
+
+impl<'a> Read for Source<'a> {
+    fn read(&mut self, buf: &mut [u8]) -> io::Result<usize> {
+        let call = self.calls;
+        self.calls = call.saturating_add(1);
+        if self.bad == Some(call) {
+            return Err(io::Error::from(self.kind));
+        }
+        let most = self.text.len().min(buf.len()).min(3);
+        let (now, later) = self.text.split_at(most);
+        buf[..most].copy_from_slice(now);
+        self.text = later;
+        Ok(most)
+    }
+}
+
+// Takes at most three bytes a call, and fails at the call of this number, counted from 0.
+#[derive(Drop)]
+struct Sink {
+    got: Vec<u8>,
+    calls: usize,
+    bad: Option<usize>,
+    kind: ErrorKind,
+}
+
+impl Write for Sink {
+    fn write(&mut self, buf: &[u8]) -> io::Result<usize> {
+        let call = self.calls;
+        self.calls = call.saturating_add(1);
+        if self.bad == Some(call) {
+            return Err(io::Error::from(self.kind));
+        }
+        let most = buf.len().min(3);
+        self.got.extend_from_slice(&buf[..most])?;
+        Ok(most)
+    }
+
+    fn flush(&mut self) -> io::Result<()> {
+        Ok(())
+    }
+}
+
+fn make_source(text: &str) -> Source<'_> {
+    Source {
+        text: text.as_bytes(),
+        calls: 0,
+        bad: None,
+        kind: ErrorKind::BrokenPipe,
+    }
+}
+
+fn make_sink(alloc: Global) -> Sink {
+    Sink {
+        got: Vec::new(alloc),
+        calls: 0,
+        bad: None,
+        kind: ErrorKind::BrokenPipe,
+    }
+}
+
+// One row: a script, what it prints, what stands on standard error, and the status.
+fn row(alloc: Global, script: &str, out: &str, err: &str, status: u8) -> Result<bool, Fail> {
+    let args = vec![in alloc; String::from_str(alloc, "run")?]?;
+    let mut writer = make_sink(alloc);
+    let mut faults = make_sink(alloc);
+    let got = play(
+        alloc,
+        args.as_slice(),
+        &mut make_source(script),
+        &mut writer,
+        &mut faults,
+    );
+    Ok(
+        got == status
+            && writer.got.as_slice() == out.as_bytes()
+            && faults.got.as_slice() == err.as_bytes(),
+    )
+}
+
+const ROWS: [(&str, &str, &str, u8); 10] = [
+    ("(future (println (+ 1 2)))", "3\n", "", 0),
+    ("", "", "", 0),
+    ("; nothing", "", "", 0),
+    ("(future (println (let [] (println 7))))", "7\nnil\n", "", 0),
+    (
+        "(future (println (+ 9223372036854775807 1)))",
+        "",
+        "thread 0 failed: Overflow at 17..42\n",
+        3,
+    ),
+    (
+        "(future (let [a 1 b (+ a 1)] (do (println a b) (println (+ a b 10)))))",
+        "1 2\n13\n",
+        "",
+        0,
+    ),
+    (
+        "(future (println -9223372036854775808))",
+        "-9223372036854775808\n",
+        "",
+        0,
+    ),
+    (
+        "(future (println 9223372036854775808))",
+        "",
+        "refused 5 NumberTooLarge at 17..36\n",
+        1,
+    ),
+    ("(future [1 2)", "", "refused 3 Unopened at 12..13\n", 1),
+    (
+        "(future (println (inc 1)))",
+        "",
+        "refused 13 BadForm at 0..0\n",
+        1,
+    ),
+];
+
+#[test]
+fn rows(rt: HostRuntime) -> Result<(), Fail> {
+    for (script, out, err, status) in ROWS {
+        assert!(rt; row(rt.alloc(), script, out, err, status)?, "{script}");
+    }
+    Ok(())
+}
+
+#[test]
+fn each_read_may_fail(rt: HostRuntime) -> Result<(), Fail> {
+    let alloc = rt.alloc();
+    let args = vec![in alloc; String::from_str(alloc, "run")?]?;
+    for bad in 0..10 {
+        let mut reader = make_source("(future (println (+ 1 2)))");
+        reader.bad = Some(bad);
+        let mut writer = make_sink(alloc);
+        let mut faults = make_sink(alloc);
+        let status = play(
+            alloc,
+            args.as_slice(),
+            &mut reader,
+            &mut writer,
+            &mut faults,
+        );
+        assert_eq!(rt; status, 2, "read {bad}");
+        assert!(rt; writer.got.is_empty());
+        assert_eq!(rt; faults.got.as_slice(), b"read failed\n".as_slice());
+    }
+    Ok(())
+}
+
+#[test]
+fn a_read_that_was_interrupted_is_made_again(rt: HostRuntime) -> Result<(), Fail> {
+    let alloc = rt.alloc();
+    let args = vec![in alloc; String::from_str(alloc, "run")?]?;
+    let mut reader = make_source("(future (println (+ 1 2)))");
+    reader.bad = Some(2);
+    reader.kind = ErrorKind::Interrupted;
+    let mut writer = make_sink(alloc);
+    let mut faults = make_sink(alloc);
+    let status = play(
+        alloc,
+        args.as_slice(),
+        &mut reader,
+        &mut writer,
+        &mut faults,
+    );
+    assert_eq!(rt; status, 0);
+    assert_eq!(rt; writer.got.as_slice(), b"3\n".as_slice());
+    Ok(())
+}
+
+#[test]
+fn each_write_may_fail(rt: HostRuntime) -> Result<(), Fail> {
+    let alloc = rt.alloc();
+    let args = vec![in alloc; String::from_str(alloc, "run")?]?;
+    for bad in 0..4 {
+        let mut reader = make_source("(future (println 1234567890))");
+        let mut writer = make_sink(alloc);
+        writer.bad = Some(bad);
+        let mut faults = make_sink(alloc);
+        let status = play(
+            alloc,
+            args.as_slice(),
+            &mut reader,
+            &mut writer,
+            &mut faults,
+        );
+        assert_eq!(rt; status, 2, "write {bad}");
+        assert_eq!(rt; writer.got.len(), bad * 3);
+        assert_eq!(rt; faults.got.as_slice(), b"write failed\n".as_slice());
+    }
+    Ok(())
+}
+
+#[test]
+fn a_fault_that_cannot_be_written_is_status_two(rt: HostRuntime) -> Result<(), Fail> {
+    let alloc = rt.alloc();
+    let args = vec![in alloc; String::from_str(alloc, "run")?]?;
+    let mut writer = make_sink(alloc);
+    let mut faults = make_sink(alloc);
+    faults.bad = Some(1);
+    let status = play(
+        alloc,
+        args.as_slice(),
+        &mut make_source("("),
+        &mut writer,
+        &mut faults,
+    );
+    assert_eq!(rt; status, 2);
+    Ok(())
+}
+
+// The status and the two outputs of these words on a script.
+fn with_words(
+    alloc: Global,
+    words: &[&str],
+    script: &str,
+    out: &mut Vec<u8>,
+    err: &mut Vec<u8>,
+) -> Result<u8, Fail> {
+    let mut args = Vec::new(alloc);
+    for word in words {
+        args.push(String::from_str(alloc, word)?)?;
+    }
+    let mut writer = make_sink(alloc);
+    let mut faults = make_sink(alloc);
+    let status = play(
+        alloc,
+        args.as_slice(),
+        &mut make_source(script),
+        &mut writer,
+        &mut faults,
+    );
+    out.extend_from_slice(writer.got.as_slice())?;
+    err.extend_from_slice(faults.got.as_slice())?;
+    Ok(status)
+}
+
+#[test]
+fn words_that_cannot_be_used(rt: HostRuntime) -> Result<(), Fail> {
+    let alloc = rt.alloc();
+    let bad: [&[&str]; 5] = [
+        &[],
+        &["walk"],
+        &["run", "--steps", "0"],
+        &["run", "--steps", "1000000000001"],
+        &["run", "a", "b"],
+    ];
+    for words in bad {
+        let mut out = Vec::new(alloc);
+        let mut err = Vec::new(alloc);
+        let status = with_words(alloc, words, "(future (println 1))", &mut out, &mut err)?;
+        assert_eq!(rt; status, 2, "{words:?}");
+        assert!(rt; out.is_empty());
+        assert!(rt; !err.is_empty());
+    }
+    Ok(())
+}
+
+#[test]
+fn steps_are_counted(rt: HostRuntime) -> Result<(), Fail> {
+    let alloc = rt.alloc();
+    let mut out = Vec::new(alloc);
+    let mut err = Vec::new(alloc);
+    let words = ["run", "--steps", "3"];
+    let script = "(future (println 1) (println 2))";
+    let status = with_words(alloc, words.as_slice(), script, &mut out, &mut err)?;
+    assert_eq!(rt; status, 4);
+    assert_eq!(rt; out.as_slice(), b"1\n".as_slice());
+    assert_eq!(rt;
+        err.as_slice(),
+        b"thread 0 stopped: StepsSpent\n".as_slice()
+    );
+    Ok(())
+}
+
+// Whether the compiled run of the script prints and ends as the thread's meaning does.
+fn agrees(alloc: Global, script: &str) -> Result<bool, Fail> {
+    let (program, code) = compile(alloc, script.as_bytes())?;
+    if program.threads().is_empty() || code.code().threads().is_empty() {
+        return Ok(program.threads().is_empty() && code.code().threads().is_empty());
+    }
+    let meaning = eval_thread(alloc, &program, 0, 0)?;
+    let ran = run_thread(alloc, &code, 0, 100_000_000)?;
+    Ok(meaning.outcome == Some(ran.outcome) && meaning.printed.as_slice() == ran.printed.as_slice())
+}
+
+const SCRIPTS: [&str; 44] = [
+    "",
+    "; a comment",
+    " , \n",
+    "(future)",
+    "(future 1)",
+    "(future 1 2)",
+    "(future (println))",
+    "(future (println 0))",
+    "(future (println -0 +0))",
+    "(future (println +7 -7))",
+    "(future (println 9223372036854775807 -9223372036854775808))",
+    "(future (println (+ 1 2)))",
+    "(future (println (+ 1 2 3)))",
+    "(future (println (+ 1 2 3 4 5 6 7 8 9 10)))",
+    "(future (println (+ (+ 1 2) (+ 3 4))))",
+    "(future (println (+ 1 (+ 2 (+ 3 (+ 4 5))))))",
+    "(future (println (+ -1 1)))",
+    "(future (println (+ 9223372036854775807 -1)))",
+    "(future (println (+ 9223372036854775807 1)))",
+    "(future (println (+ -9223372036854775808 -1)))",
+    "(future (println 1) (println (+ 9223372036854775807 1)) (println 2))",
+    "(future (+ 9223372036854775807 1 (println 3)))",
+    "(future (+ 1 9223372036854775807 -1))",
+    "(future (println (+ 1 9223372036854775807 -1)))",
+    "(future (println (+ (println 1) 1)))",
+    "(future (println (do)))",
+    "(future (println (do 1)))",
+    "(future (println (do 1 2)))",
+    "(future (do (println 1) (do (println 2) (println 3))))",
+    "(future (println (let [])))",
+    "(future (println (let [] 4)))",
+    "(future (println (let [a 1] a)))",
+    "(future (println (let [a 1 b (+ a 1)] b)))",
+    "(future (println (let [a 1 a 2] a)))",
+    "(future (println (let [a 1 a (+ a 1) a (+ a a)] a)))",
+    "(future (let [a 1] (println (let [a 2] a) a)))",
+    "(future (let [a 1] (let [b 2] (let [c 3] (println a b c (+ a b c))))))",
+    "(future (println (let [a (let [b 5] b)] (+ a a))))",
+    "(future (println (+ (let [a 1] a) (let [a 2] a))))",
+    "(future (println (let [+ 1] +)))",
+    "(future (let [a (println 1) b (println 2)] (println a b)))",
+    "(future (let [x' 1 y? 2 z! 3 *w* 4 <= 5] (println x' y? z! *w* <=)))",
+    "(future (println (println) (println (println 1))))",
+    "(future (println 1 ; one\n 2) ; two\n)",
+];
+
+#[test]
+fn runs_agree_with_meanings(rt: HostRuntime) -> Result<(), Fail> {
+    for script in SCRIPTS {
+        assert!(rt; agrees(rt.alloc(), script)?, "{script}");
+    }
+    Ok(())
+}
