@@ -1,4 +1,5 @@
-//! The compiler of scripts to code, and the program that runs them: `txs run [FILE]`.
+//! The compiler of scripts to code, and the program that runs them: `txs run [FILE]` and
+//! `txs check [FILE]`.
 #![tactic(auto)]
 
 mod compile;
@@ -43,7 +44,7 @@ fn args_of(rt: &HostRuntime) -> io::Result<Vec<String>> {
 /// The file that the words name, if they name one.
 fn file_of(rt: &HostRuntime, args: &[String]) -> Result<Option<String>, AllocError> {
     match parse_words(rt.alloc(), args)? {
-        Words::Run { file, steps: _ } => Ok(file),
+        Words::Check { file } | Words::Run { file, steps: _ } => Ok(file),
         Words::Shown(_) | Words::Faulty(_) => Ok(None),
     }
 }

@@ -105,10 +105,31 @@ fn run_script(alloc: Global, bytes: &[u8], steps: u64) -> Result<Told, AllocErro
     of_thread(alloc, 0, run_thread(alloc, &code, 0, steps)?)
 }
 
-/// Reads the script and runs it.
-fn run_stream<R: Read>(alloc: Global, reader: &mut R, steps: u64) -> Result<Told, AllocError> {
+/// Compiles the script in these bytes, and runs nothing.
+fn check_script(alloc: Global, bytes: &[u8]) -> Result<Told, AllocError> {
+    if let Err(error) = compile(alloc, bytes) {
+        return refused(alloc, &error);
+    }
+    let mut output = Vec::new(alloc);
+    output.extend_from_slice(b"ok\n")?;
+    Ok(Told {
+        output,
+        errors: Vec::new(alloc),
+        status: DONE,
+    })
+}
+
+/// Reads the script and runs it for so many steps at most; without a number it is only checked.
+fn play_stream<R: Read>(
+    alloc: Global,
+    reader: &mut R,
+    steps: Option<u64>,
+) -> Result<Told, AllocError> {
     match read_bytes(alloc, reader) {
-        Ok(bytes) => run_script(alloc, bytes.as_slice(), steps),
+        Ok(bytes) => match steps {
+            Some(steps) => run_script(alloc, bytes.as_slice(), steps),
+            None => check_script(alloc, bytes.as_slice()),
+        },
         Err(ReadFault::Failed) => complaint(alloc, UNUSABLE, "read failed"),
         Err(ReadFault::Memory) => Err(AllocError),
     }
@@ -117,7 +138,8 @@ fn run_stream<R: Read>(alloc: Global, reader: &mut R, steps: u64) -> Result<Told
 /// What the program does with its words and its script.
 fn work<R: Read>(alloc: Global, args: &[String], reader: &mut R) -> Result<Told, AllocError> {
     match parse_words(alloc, args)? {
-        Words::Run { file: _, steps } => run_stream(alloc, reader, steps),
+        Words::Check { file: _ } => play_stream(alloc, reader, None),
+        Words::Run { file: _, steps } => play_stream(alloc, reader, Some(steps)),
         Words::Shown(text) => Ok(Told {
             output: text.into_bytes(),
             errors: Vec::new(alloc),

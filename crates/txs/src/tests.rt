@@ -274,6 +274,43 @@ fn words_that_cannot_be_used(rt: HostRuntime) -> Result<(), Fail> {
 }
 
 #[test]
+fn scripts_are_checked(rt: HostRuntime) -> Result<(), Fail> {
+    let alloc = rt.alloc();
+    let rows = [
+        ("(future (println 1))", "ok\n", "", 0),
+        ("", "ok\n", "", 0),
+        ("\"abc", "", "refused 2 Unclosed at 0..1\n", 1),
+        (
+            "(future (println \"a\\q\"))",
+            "",
+            "refused 6 BadEscape at 19..20\n",
+            1,
+        ),
+        (
+            "(future (println @))",
+            "",
+            "refused 3 Unopened at 18..19\n",
+            1,
+        ),
+        (
+            "(future (println \"text\"))",
+            "",
+            "refused 13 BadForm at 0..0\n",
+            1,
+        ),
+    ];
+    for (script, wanted, refusal, status) in rows {
+        let mut out = Vec::new(alloc);
+        let mut err = Vec::new(alloc);
+        let got = with_words(alloc, ["check"].as_slice(), script, &mut out, &mut err)?;
+        assert_eq!(rt; got, status, "{script}");
+        assert_eq!(rt; out.as_slice(), wanted.as_bytes());
+        assert_eq!(rt; err.as_slice(), refusal.as_bytes());
+    }
+    Ok(())
+}
+
+#[test]
 fn steps_are_counted(rt: HostRuntime) -> Result<(), Fail> {
     let alloc = rt.alloc();
     let mut out = Vec::new(alloc);

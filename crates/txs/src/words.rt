@@ -10,6 +10,8 @@ const DEFAULT_STEPS: u64 = 100_000_000;
 /// What the words ask for.
 #[derive(Debug, Drop)]
 pub enum Words {
+    /// To check a script: its file, where it is named.
+    Check { file: Option<String> },
     /// To run a script: its file, where it is named, and how many steps an actor makes at most.
     Run { file: Option<String>, steps: u64 },
     /// A text for the standard output.
@@ -18,9 +20,16 @@ pub enum Words {
     Faulty(String),
 }
 
+/// The file of a command.
+fn file_arg<'a>(alloc: Global) -> Arg<'a> {
+    Arg::new(alloc, "FILE").help("The script; without it, standard input")
+}
+
 /// The commands and their options.
 fn command<'a>(alloc: Global) -> Result<Command<'a>, AllocError> {
-    let file = Arg::new(alloc, "FILE").help("The script; without it, standard input");
+    let check = Command::new(alloc, "check")
+        .about("Checks a script without running it")
+        .arg(file_arg(alloc))?;
     let steps = Arg::new(alloc, "steps")
         .long("steps")
         .help("How many steps an actor makes at most")
@@ -29,24 +38,33 @@ fn command<'a>(alloc: Global) -> Result<Command<'a>, AllocError> {
     let run = Command::new(alloc, "run")
         .about("Runs a script")
         .arg(steps)?
-        .arg(file)?;
+        .arg(file_arg(alloc))?;
     Command::new(alloc, "txs")
         .about("Compiles and runs transaction scripts")
         .subcommand_required(true)
         .disable_help_subcommand(true)
+        .subcommand(check)?
         .subcommand(run)
+}
+
+/// The file that a command's words name, if they name one.
+fn named_file(alloc: Global, matches: &ArgMatches<'_>) -> Result<Option<String>, AllocError> {
+    match matches.get_str("FILE") {
+        Some(name) => Ok(Some(String::from_str(alloc, name)?)),
+        None => Ok(None),
+    }
 }
 
 /// What the matched words ask for.
 fn asked(alloc: Global, matches: &ArgMatches<'_>) -> Result<Words, AllocError> {
-    let Some((_, run)) = matches.subcommand() else {
+    let Some((name, words)) = matches.subcommand() else {
         return Ok(Words::Faulty(String::new(alloc)));
     };
-    let file = match run.get_str("FILE") {
-        Some(name) => Some(String::from_str(alloc, name)?),
-        None => None,
-    };
-    let steps = run.get_one::<u64>("steps").unwrap_or(DEFAULT_STEPS);
+    let file = named_file(alloc, words)?;
+    if name == "check" {
+        return Ok(Words::Check { file });
+    }
+    let steps = words.get_one::<u64>("steps").unwrap_or(DEFAULT_STEPS);
     Ok(Words::Run { file, steps })
 }
 
