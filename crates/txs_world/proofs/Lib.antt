@@ -1,0 +1,4 @@
+pub mod Growth
+pub mod Kept
+pub mod Older
+pub mod Serves

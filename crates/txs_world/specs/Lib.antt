@@ -1,0 +1,5 @@
+pub mod Book
+pub mod History
+pub mod Kept
+pub mod Laws
+pub mod Store
