@@ -3,6 +3,7 @@ pub mod Texts
 pub mod Escapes
 pub mod Running
 pub mod Pieces
+pub mod Rows
 pub mod Last
 pub mod OneAnswer
 pub mod Decided

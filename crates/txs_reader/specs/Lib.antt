@@ -6,5 +6,6 @@ pub mod OpenForms
 pub mod Quoted
 pub mod Reached
 pub mod Refused
+pub mod Rows
 pub mod Script
 pub mod Tree

@@ -1,14 +1,13 @@
 -- What a step of the reading keeps.
 use Rattle.std.specs.Prelude.{ℕ, List, drop}
 use Rattle.txs_reader.specs.declared.open_forms.OpenForms.{OpenForms}
-use Rattle.txs_reader.specs.OpenForms.{opens}
-use Rattle.txs_reader.specs.Tree.{trees}
+use Rattle.txs_reader.specs.OpenForms.{opens, inner}
 use Rattle.txs_reader.specs.Script.{Holds, IsFull}
 
 -- the open forms hold what stands before the offset
 abbrev pub Reached : List ℕ → OpenForms → ℕ → Type 0
-Reached bytes state at = Holds bytes (opens state) (trees state.forms.items) (drop at bytes)
+Reached bytes state at = Holds bytes (opens state) (inner state) (drop at bytes)
 
 -- one part more may begin
 abbrev pub HasRoom : OpenForms → Type 0
-HasRoom state = ¬ IsFull (opens state) (trees state.forms.items)
+HasRoom state = ¬ IsFull (opens state) (inner state)

@@ -2,15 +2,16 @@
 
 ghost use Rattle.std.specs.Prelude.{◌+◌, ◌^◌, ◌<◌};
 
-use crate::form::{Bracket, Form};
+use crate::form::Bracket;
 
-/// An opening byte whose form isn't whole yet, and the forms before it in what it stands in.
-#[derive(Debug, Drop)]
+/// An opening byte whose form isn't whole yet.
+#[derive(Clone, Copy, Debug)]
 pub struct OpenForm {
     /// The bracket, or none for the sign `@`.
     pub bracket: Option<Bracket>,
     /// The offset of the opening byte.
     pub from: u32,
-    pub before: Vec<Form>,
+    /// How many forms stand before it in what it stands in.
+    pub before: usize,
     ghost small: { from + 1 < 2 ^ 32 },
 }

@@ -1,10 +1,10 @@
 //! What has been read so far: whole forms, and those whose end hasn't come yet.
 
-ghost use Rattle.std.specs.Prelude.{◌≡◌, ◌+◌, ◌^◌, ◌++◌, ◌∷◌, ◌<◌, [], List, ℕ, None, Some, true, false, length, IfOk, IsTrue, ◌↔◌};
+ghost use Rattle.std.specs.Prelude.{◌≡◌, ◌+◌, ◌^◌, ◌++◌, ◌∷◌, ◌<◌, ◌≤◌, [], List, ℕ, None, Some, true, false, length, IfOk, IsTrue, ◌↔◌};
 ghost use Rattle.txs_reader.specs.Completes.{Completes};
-ghost use Rattle.txs_reader.specs.OpenForms.{open_of, opens, Closes, Folds};
+ghost use Rattle.txs_reader.specs.Rows.{before_all};
 ghost use Rattle.txs_reader.specs.Script.{Holds, FitsLast, HasAll, IsFull, EndsWithDeref, opened};
-ghost use Rattle.txs_reader.specs.Tree.{tree, trees};
+ghost use Rattle.txs_reader.specs.Tree.{tree};
 
 use crate::form::{Bracket, Form};
 use crate::open_form::OpenForm;
@@ -14,11 +14,17 @@ use txs_value::{Name, Span};
 /// How many parts a list or vector may have.
 const MAX_PARTS: usize = 65_535;
 
-/// What has been read: the forms behind the innermost opening, and the openings around them.
+/// What has been read: the openings, and all whole forms in one row, first those before the outermost
+/// opening, then those between it and the next, and so on. So a list takes memory only where it closes,
+/// when the number of its parts is known.
 #[derive(Debug, Drop)]
 pub struct OpenForms {
     pub open: Vec<OpenForm>,
     pub forms: Vec<Form>,
+    /// How many forms of the row stand before the innermost opening.
+    pub start: usize,
+    ghost counted: { start ≡ before_all open.items },
+    ghost within: { start ≤ length forms.items },
 }
 
 /// Whether an opening has this bracket.
@@ -52,35 +58,33 @@ fn has_all(opening: Option<Bracket>, parts: usize) -> bool
 }
 
 impl OpenForms {
+    ghost use Rattle.txs_reader.specs.OpenForms.{opens, inner, Closes, Folds};
+
     /// Nothing yet.
     pub fn new(alloc: Global) -> OpenForms
         ensures open { opens result ≡ [] }
-        ensures forms { trees result.forms.items ≡ [] }
+        ensures forms { inner result ≡ [] }
     {
         OpenForms {
             open: Vec::new(alloc),
             forms: Vec::new(alloc),
+            start: 0,
         }
     }
 
     /// Opens a bracket, or a `@`, at an offset.
-    pub fn open(
-        &mut self,
-        alloc: Global,
-        bracket: Option<Bracket>,
-        from: u32,
-    ) -> Result<(), AllocError>
+    pub fn open(&mut self, bracket: Option<Bracket>, from: u32) -> Result<(), AllocError>
         requires { from + 1 < 2 ^ 32 }
-        ensures open { IfOk result (λ _. opens self.new
-            ≡ opens self.old ++ opened bracket from (trees self.old.forms.items) ∷ []) }
-        ensures forms { IfOk result (λ _. trees self.new.forms.items ≡ []) }
+        ensures open { IfOk result (λ _. opens self.new ≡ opens self.old ++ opened bracket from (inner self.old) ∷ []) }
+        ensures forms { IfOk result (λ _. inner self.new ≡ []) }
     {
-        let before = std::mem::replace(&mut self.forms, Vec::new(alloc));
+        let len = self.forms.len();
         self.open.push(OpenForm {
             bracket,
             from,
-            before,
+            before: len - self.start,
         })?;
+        self.start = len;
         Ok(())
     }
 
@@ -108,24 +112,25 @@ impl OpenForms {
 
     /// Whether the innermost opening is a bracket with all the parts that it may have.
     pub fn is_full(&self) -> bool
-        ensures yes { result ≡ true → IsFull (opens self.now) (trees self.now.forms.items) }
-        ensures no { result ≡ false → ¬ IsFull (opens self.now) (trees self.now.forms.items) }
+        ensures yes { result ≡ true → IsFull (opens self.now) (inner self.now) }
+        ensures no { result ≡ false → ¬ IsFull (opens self.now) (inner self.now) }
     {
         match self.open.last() {
-            Some(last) => has_all(last.bracket, self.forms.len()),
+            Some(last) => has_all(last.bracket, self.forms.len() - self.start),
             None => false,
         }
     }
 
     /// Takes the innermost bracket off, and makes a form of it.
-    pub fn close(&mut self, bracket: Bracket, to: u32) -> Form
+    pub fn close(&mut self, bracket: Bracket, to: u32) -> Result<Form, AllocError>
         requires { FitsLast (opens self.old) bracket }
-        ensures { Closes self.old self.new bracket (tree result) to }
+        ensures { IfOk result (λ form. Closes self.old self.new bracket (tree form) to) }
     {
+        let parts = self.forms.split_off(self.start)?;
         match self.open.pop() {
             Some(OpenForm { from, before, .. }) => {
-                let forms = std::mem::replace(&mut self.forms, before);
-                Form::Group(bracket, forms, Span { from, to })
+                self.start -= before;
+                Ok(Form::Group(bracket, parts, Span { from, to }))
             }
             None => unreachable!(),
         }
@@ -136,11 +141,12 @@ impl OpenForms {
         requires { EndsWithDeref (opens self.old) }
         ensures { IfOk result (λ list. Folds self.old self.new (tree form) (tree list)) }
     {
+        let name = Name::from_bytes(alloc, b"deref")?;
+        let mut parts = Vec::with_capacity(alloc, 2)?;
         match self.open.pop() {
             Some(OpenForm { from, before, .. }) => {
+                self.start -= before;
                 let to = form.span().to;
-                let name = Name::from_bytes(alloc, b"deref")?;
-                let mut parts = std::mem::replace(&mut self.forms, before);
                 parts.push(Form::Symbol(name, Span { from, to: from + 1 }))?;
                 parts.push(form)?;
                 Ok(Form::Group(Bracket::Round, parts, Span { from, to }))
@@ -151,8 +157,8 @@ impl OpenForms {
 
     /// Adds a whole form; each `@` right before it becomes whole with it.
     pub fn add(&mut self, alloc: Global, form: Form) -> Result<(), AllocError>
-        ensures { IfOk result (λ _. (bytes rest : List ℕ) → Completes bytes (opens self.old) (trees self.old.forms.items) (tree form) rest
-            → Holds bytes (opens self.new) (trees self.new.forms.items) rest) }
+        ensures { IfOk result (λ _. (bytes rest : List ℕ) → Completes bytes (opens self.old) (inner self.old) (tree form) rest
+            → Holds bytes (opens self.new) (inner self.new) rest) }
     {
         let mut form = form;
         while self.ends_with_deref() {

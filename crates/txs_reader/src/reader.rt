@@ -28,7 +28,6 @@ const MAX_DEPTH: usize = 100;
 
 /// Reads an opening bracket, or a `@`.
 fn open(
-    alloc: Global,
     state: &mut OpenForms,
     script: &str,
     at: usize,
@@ -49,7 +48,7 @@ fn open(
             at: span_of(at, at + 1),
         });
     }
-    state.open(alloc, bracket, at as u32)?;
+    state.open(bracket, at as u32)?;
     Ok(at + 1)
 }
 
@@ -75,7 +74,7 @@ fn close(
             at: span_of(at, at + 1),
         });
     }
-    let form = state.close(bracket, at as u32 + 1);
+    let form = state.close(bracket, at as u32 + 1)?;
     state.add(alloc, form)?;
     Ok(at + 1)
 }
@@ -142,9 +141,9 @@ fn part(alloc: Global, state: &mut OpenForms, script: &str, at: usize) -> Result
         });
     }
     match byte {
-        b'(' => open(alloc, state, script, at, Some(Bracket::Round)),
-        b'[' => open(alloc, state, script, at, Some(Bracket::Square)),
-        b'@' => open(alloc, state, script, at, None),
+        b'(' => open(state, script, at, Some(Bracket::Round)),
+        b'[' => open(state, script, at, Some(Bracket::Square)),
+        b'@' => open(state, script, at, None),
         b'"' => text(alloc, state, script, at),
         _ => word(alloc, state, script, at),
     }
@@ -190,7 +189,11 @@ fn read_forms(alloc: Global, script: &str) -> Result<Vec<Form>, ReadError>
     while at < script.len() {
         at = step(alloc, &mut state, script, at)?;
     }
-    let OpenForms { mut open, forms } = state;
+    let OpenForms {
+        mut open,
+        forms,
+        ..
+    } = state;
     match open.pop() {
         Some(last) => Err(ReadError {
             kind: ReadErrorKind::Unclosed,

@@ -21,9 +21,11 @@ fn all_stop(rows: &[(&[u8], u8, u32, u32)], rt: &HostRuntime) -> bool {
 
 #[test]
 fn refusals(rt: HostRuntime) -> Result<(), Fail> {
-    let brackets: [(&[u8], u8, u32, u32); 18] = [
+    let brackets: [(&[u8], u8, u32, u32); 20] = [
         (b"a\xff", 1, 1, 2),
         (b"\xef\xbb\xbfa", 4, 0, 4),
+        (b"(a \xef\xbb\xbf)", 4, 3, 6),
+        (b"\"\xc3\xa9\" \xe2\x82", 1, 5, 6),
         (b"(a) \x80", 1, 4, 5),
         (b"a \xc0\xaf", 1, 2, 3),
         (b"\xed\xa0\x80", 1, 0, 1),
@@ -42,12 +44,13 @@ fn refusals(rt: HostRuntime) -> Result<(), Fail> {
         (b"a {", 9, 2, 3),
     ];
     assert!(rt; all_stop(&brackets, &rt));
-    let words: [(&[u8], u8, u32, u32); 14] = [
+    let words: [(&[u8], u8, u32, u32); 15] = [
         (b"\"ab\\q\"", 6, 3, 4),
         (b"\"\\ud800\"", 6, 1, 2),
         (b"\"\\u12", 6, 1, 2),
         (b"\"\\", 6, 1, 2),
         (b"01", 9, 0, 2),
+        (b"00", 9, 0, 2),
         (b"[00 1]", 9, 1, 3),
         (b"-00", 9, 0, 3),
         (b"1a", 9, 0, 2),
@@ -77,9 +80,21 @@ fn limits(rt: HostRuntime) -> Result<(), Fail> {
     assert!(rt; stop(&openings(1_048_576, &rt)?, &rt) == (7, 100, 101));
     assert!(rt; stop(&openings(101, &rt)?, &rt) == (7, 100, 101));
     assert!(rt; stop(&openings(100, &rt)?, &rt) == (2, 99, 100));
+    assert!(rt; stop(&signs(101, &rt)?, &rt) == (7, 100, 101));
+    assert!(rt; stop(&signs(100, &rt)?, &rt) == (0, 0, 0));
     assert!(rt; stop(&[b'a'; 255], &rt) == (0, 0, 0));
     assert!(rt; stop(&[b'a'; 256], &rt) == (8, 0, 256));
     Ok(())
+}
+
+/// So many signs `@`, and a name behind them.
+fn signs(count: usize, rt: &HostRuntime) -> Result<Vec<u8>, AllocError> {
+    let mut script = Vec::new(rt.alloc());
+    for _ in 0..count {
+        script.push(b'@')?;
+    }
+    script.push(b'a')?;
+    Ok(script)
 }
 
 /// A vector of so many parts, each with a space behind it, and not closed.
@@ -185,5 +200,20 @@ fn reads(rt: HostRuntime) -> Result<(), Fail> {
     }
     assert!(rt; matches!(&forms[5], Form::Text(_, Span { from: 34, to: 44 })));
     assert_eq!(rt; ReadErrorKind::Memory.name(), "Memory");
+    Ok(())
+}
+
+#[test]
+fn values(rt: HostRuntime) -> Result<(), Fail> {
+    let script = b"+1 -0 \"a\rb\\u0041\\\"\\\\\" :k a.b true @ ; comment\n x";
+    let forms = read_script(rt.alloc(), script).ok().ok_or("refused")?;
+    assert_eq!(rt; forms.len(), 7);
+    assert!(rt; matches!(&forms[0], Form::Number(1, Span { from: 0, to: 2 })));
+    assert!(rt; matches!(&forms[1], Form::Number(0, _)));
+    assert!(rt; matches!(&forms[2], Form::Text(text, _) if text.as_str() == "a\rbA\"\\"));
+    assert!(rt; matches!(&forms[3], Form::Keyword(name, _) if name.as_bytes() == b"k".as_slice()));
+    assert!(rt; matches!(&forms[4], Form::Symbol(name, _) if name.as_bytes() == b"a.b".as_slice()));
+    assert!(rt; matches!(&forms[5], Form::Truth(true, _)));
+    assert!(rt; matches!(&forms[6], Form::Group(Bracket::Round, parts, _) if parts.len() == 2));
     Ok(())
 }

@@ -1,6 +1,5 @@
 use Rattle.std.proofs.Common.{rules}
-use Rattle.txs_reader.specs.OpenForms.{opens}
-use Rattle.txs_reader.specs.Tree.{trees}
+use Rattle.txs_reader.specs.OpenForms.{opens, inner}
 use Rattle.txs_reader.proofs.Steps.{stop_left_out, word_byte}
 use Rattle.txs_reader.proofs.reader.part.Goals as goal
 
@@ -9,4 +8,4 @@ word-requires-clause-byte c = let h = c.in_default in word_byte _ c.requires.byt
 
 pub returns-then-is_left_out_byte-clause-err : goal.returns-then-is_left_out_byte-clause-err
 returns-then-is_left_out_byte-clause-err c =
-    rw c.span_of.ensures (stop_left_out c.args.script.now (opens c.args.state.now) (trees c.args.state.now.forms.items) c.args.at c.requires.reached c.requires.inside (search rules) c.requires.room)
+    rw c.span_of.ensures (stop_left_out c.args.script.now (opens c.args.state.now) (inner c.args.state.now) c.args.at c.requires.reached c.requires.inside (search rules) c.requires.room)
