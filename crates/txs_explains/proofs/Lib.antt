@@ -1,0 +1,9 @@
+pub mod Acts
+pub mod Later
+pub mod Staged
+pub mod Served
+pub mod Steps
+pub mod CoreKnown
+pub mod Known
+pub mod Asks
+pub mod Whole

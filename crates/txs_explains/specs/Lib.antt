@@ -1,0 +1,6 @@
+pub mod Run
+pub mod Stages
+pub mod Explains
+pub mod Laws
+pub mod Invariant
+pub mod Lawful

@@ -1,0 +1,93 @@
+//! Runs of several actors over one store, a turn at a time, and what the sources of their threads say of
+//! them. For every list of turns the book is legal, no ref that a commit set was written between its read
+//! point and its place, and each thread means just what its actor did in the book, with what it printed
+//! and how it ended. Each law stands on a function of its own, which does nothing when it runs.
+#![tactic(auto)]
+
+ghost use Rattle.txs_explains.specs.Explains.{ProgramExplained, RunExplained};
+ghost use Rattle.txs_explains.specs.Invariant.{InvariantExplains, OpeningHolds, PlayHolds};
+ghost use Rattle.txs_explains.specs.Laws.{OthersLeaveTold, ServedAskFits, TurnsAreStaged};
+ghost use Rattle.txs_explains.specs.Lawful.{RunAsksLawful};
+
+use txs_follows::{one_more_fits, replies_fit};
+use txs_world::law::{history_grows, serve_keeps, worlds_stay};
+
+/// Every run is explained: its book is legal and its commits undisturbed, and each source that an actor's
+/// code follows means just what the actor did, with what it printed and how it ended.
+pub fn every_run_is_explained()
+    ensures { RunExplained }
+{
+    worlds_stay();
+    history_grows();
+    serve_keeps();
+    one_more_fits();
+    replies_fit();
+}
+
+/// Each program that the code follows explains every run of the code.
+pub fn every_program_explains_its_runs()
+    ensures { ProgramExplained }
+{
+    worlds_stay();
+    history_grows();
+    serve_keeps();
+    one_more_fits();
+    replies_fit();
+}
+
+/// Where the constants of all code and the opening values name cells of the store alone, every ask of a
+/// run is lawful: so no actor is stopped for what it asks.
+pub fn every_ask_is_lawful()
+    ensures { RunAsksLawful }
+{
+    worlds_stay();
+    history_grows();
+    serve_keeps();
+    one_more_fits();
+}
+
+/// An ask in its stage, answered by the store: with this exchange behind them, an actor's exchanges fit
+/// what it has done, up to the stage after it.
+pub fn served_ask_fits()
+    ensures { ServedAskFits }
+{
+    worlds_stay();
+    history_grows();
+    one_more_fits();
+}
+
+/// What another actor adds to the book leaves what an actor was told.
+pub fn others_leave_told()
+    ensures { OthersLeaveTold }
+{
+    worlds_stay();
+    history_grows();
+    one_more_fits();
+}
+
+/// An instruction makes at most one ask, which comes in its stage.
+pub fn turns_are_staged()
+    ensures { TurnsAreStaged }
+{}
+
+/// What holds between the plays of a run holds before the first.
+pub fn opening_holds()
+    ensures { OpeningHolds }
+{}
+
+/// Each play keeps what holds between plays.
+pub fn play_holds()
+    ensures { PlayHolds }
+{
+    worlds_stay();
+    history_grows();
+    serve_keeps();
+    one_more_fits();
+}
+
+/// Where this holds, the run so far is explained.
+pub fn invariant_explains()
+    ensures { InvariantExplains }
+{
+    replies_fit();
+}
