@@ -4,11 +4,13 @@ use Rattle.txs_value.specs.Places.{nth}
 use Rattle.txs_value.specs.declared.event.Outcome.{Outcome}
 use Rattle.txs_value.specs.declared.event.Outcome.TheVariants.{Done, Failed}
 use Rattle.txs_value.specs.declared.value.Value.{Value}
-use Rattle.txs_tree.specs.Meaning.{Completion, Completes, Recurs, Faults, Retries, Waits, OutOfTurns, Invalid, bind, eval, eval_all, eval_let, eval_do, call_at}
+use Rattle.txs_tree.specs.Meaning.{Completion, Completes, Recurs, Faults, Retries, Waits, OutOfTurns, Invalid, bind, turns, eval, eval_all, eval_let, eval_do, call_at}
 use Rattle.txs_tree.specs.Thread.{ThreadState, on_events}
-use Rattle.txs_tree.specs.Tree.{Tree, Trees, PlainProgram, PlainThread, ThreadSource}
+use Rattle.txs_tree.specs.Tree.{Tree, Trees, count, PlainProgram, PlainThread, ThreadSource}
 use Rattle.txs_tree.specs.declared.evaluate.EvalStop.{EvalStop}
-use Rattle.txs_tree.specs.declared.evaluate.EvalStop.TheVariants.{Fault, Memory}
+use Rattle.txs_tree.specs.declared.evaluate.EvalStop.TheVariants.{Fault, Turns as NoTurns, Memory}
+use Rattle.txs_tree.specs.declared.evaluate.Step.{Step}
+use Rattle.txs_tree.specs.declared.evaluate.Step.TheVariants.{Value as AValue, Recur as ARecur}
 use Rattle.txs_tree.specs.declared.meaning.Needs.{Needs}
 use Rattle.txs_tree.specs.declared.meaning.Needs.TheVariants.{Nothing, Event, Turns, Wrong}
 use Rattle.txs_tree.specs.declared.meaning.ThreadMeaning.{ThreadMeaning}
@@ -60,14 +62,40 @@ let_means n es body env out =
     bind (eval_let (on_events n [] 0) (call_at (on_events n []) n [] 0) n false es env (printing out))
     (λ vs s. eval (on_events n [] 0) (call_at (on_events n []) n [] 0) n false body (env ++ vs) s)
 
--- the result and the printed bytes are those of the meaning, or there was no memory for them
+-- the locals with the new ones behind them
+abbrev pub locals_mean : ℕ → Trees → List Value → List ℕ → Completion ThreadState (List Value)
+locals_mean n es env out =
+    bind (eval_let (on_events n [] 0) (call_at (on_events n []) n [] 0) n false es env (printing out)) (λ vs s. Completes (env ++ vs) s)
+
+-- at most k turns of a body, each of which has d locals of its own
+abbrev pub turns_mean : ℕ → ℕ → ℕ → Tree → List Value → List Value → List ℕ → Completion ThreadState Value
+turns_mean n k d body env vs out =
+    turns k d (λ ws s. eval (on_events n [] 0) (call_at (on_events n []) n [] 0) n false body (env ++ ws) s) vs (printing out)
+
+-- the turns of a body after its new locals
+abbrev pub loop_means : ℕ → Trees → Tree → List Value → List ℕ → Completion ThreadState Value
+loop_means n es body env out =
+    bind (eval_let (on_events n [] 0) (call_at (on_events n []) n [] 0) n false es env (printing out))
+    (λ vs s. turns n (count es) (λ ws s1. eval (on_events n [] 0) (call_at (on_events n []) n [] 0) n false body (env ++ ws) s1) vs s)
+
+-- a stop and the printed bytes are those of the meaning, or there was no memory for them
+abbrev pub Stops : {A : Type 0} → EvalStop → List ℕ → Completion ThreadState A → Type 0
+Stops (Fault f) out c = c ≡ Faults f (printing out)
+Stops NoTurns out c = c ≡ OutOfTurns (printing out)
+Stops Memory out c = ⊤
+
+-- the value and the printed bytes are those of the meaning, or it stops so
 abbrev pub Gives : {A : Type 0} → Result A EvalStop → List ℕ → Completion ThreadState A → Type 0
 Gives (Ok v) out c = c ≡ Completes v (printing out)
-Gives (Err (Fault f)) out c = c ≡ Faults f (printing out)
-Gives (Err Memory) out c = ⊤
+Gives (Err e) out c = Stops e out c
 
 -- the same of a list of values
 abbrev pub GivesAll : {V : Type 0} → (V → List Value) → Result V EvalStop → List ℕ → Completion ThreadState (List Value) → Type 0
 GivesAll items (Ok v) out c = c ≡ Completes (items v) (printing out)
-GivesAll items (Err (Fault f)) out c = c ≡ Faults f (printing out)
-GivesAll items (Err Memory) out c = ⊤
+GivesAll items (Err e) out c = Stops e out c
+
+-- the same of a node in tail position, which may recur
+abbrev pub Steps : Result Step EvalStop → List ℕ → Completion ThreadState Value → Type 0
+Steps (Ok (AValue v)) out c = c ≡ Completes v (printing out)
+Steps (Ok (ARecur vs)) out c = c ≡ Recurs vs.items (printing out)
+Steps (Err e) out c = Stops e out c

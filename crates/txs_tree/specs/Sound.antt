@@ -56,6 +56,11 @@ abbrev mutual
   SoundDo inside d tail (more e none) = SoundTree inside d tail e
   SoundDo inside d tail (more e (more f rest)) = SoundTree inside d None e × SoundDo inside d tail (more f rest)
 
+-- in tail position of some loop, or of none
+pub record InSomeTail (P : Option ℕ → Type 0) : Type 0 where
+  pub tail : Option ℕ
+  pub sound : P tail
+
 -- how many nodes there are
 abbrev mutual
   pub nodes : Tree → ℕ

@@ -4,7 +4,7 @@ use Rattle.txs_value.specs.declared.fault.Span.{Span}
 use Rattle.txs_tree.specs.Tree.{Tree, Trees, Mark, none, more, PlainThread, PlainProgram}
 use Rattle.txs_tree.specs.Tree as tree
 use Rattle.txs_tree.specs.declared.node.Node.{Node}
-use Rattle.txs_tree.specs.declared.node.NodeKind.{NodeKind, Const, Local, Do', Let', Core', Println', Row_of-Node, end_of-Node, more_of-Node}
+use Rattle.txs_tree.specs.declared.node.NodeKind.{NodeKind, Const, Local, If', Do', Let', Loop', Recur', Core', Vector', Println', Row_of-Node, end_of-Node, more_of-Node}
 use Rattle.txs_tree.specs.declared.node.Thread.{Thread}
 
 abbrev pub mark_of : Span → Bool → Mark
@@ -15,9 +15,14 @@ abbrev mutual
   pub kind_tree : NodeKind → Mark → Tree
   kind_tree (Const v) m = tree.Const v m
   kind_tree (Local i) m = tree.Local i m
+  kind_tree (If' q test span wanted r first span1 wanted1 s second span2 wanted2) m =
+      tree.If (kind_tree test (mark_of span wanted)) (kind_tree first (mark_of span1 wanted1)) (kind_tree second (mark_of span2 wanted2)) m
   kind_tree (Do' shape items) m = tree.Do (row_trees items) m
   kind_tree (Let' shape values q body span wanted) m = tree.Let (row_trees values) (kind_tree body (mark_of span wanted)) m
+  kind_tree (Loop' shape values q body span wanted) m = tree.Loop (row_trees values) (kind_tree body (mark_of span wanted)) m
+  kind_tree (Recur' shape values) m = tree.Recur (row_trees values) m
   kind_tree (Core' op shape args) m = tree.Core op (row_trees args) m
+  kind_tree (Vector' shape items) m = tree.VectorOf (row_trees items) m
   kind_tree (Println' shape args) m = tree.Println (row_trees args) m
 
   pub row_trees : {n : _} → Row_of-Node n → Trees

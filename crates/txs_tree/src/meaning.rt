@@ -1,9 +1,9 @@
 //! What a thread means.
 
-ghost use Rattle.std.specs.Prelude.{◌≡◌, ◌<◌, length, IfOk, IfSome, Some, []};
+ghost use Rattle.std.specs.Prelude.{◌≡◌, ◌<◌, length, IfOk, IfSome, Some, None, []};
 ghost use Rattle.txs_tree.specs.Evaluated.{Account, Tells, thread_source};
 ghost use Rattle.txs_tree.specs.Thread.{thread_meaning};
-ghost use Rattle.txs_tree.specs.declared.meaning.Needs.TheVariants.{Nothing};
+ghost use Rattle.txs_tree.specs.declared.meaning.Needs.TheVariants.{Nothing, Turns};
 ghost use Rattle.txs_tree.specs.View.{program_of};
 
 use crate::evaluate::{EvalStop, evaluate};
@@ -44,6 +44,17 @@ fn ended(printed: Vec<u8>, outcome: Outcome) -> ThreadMeaning
     }
 }
 
+/// The meaning of a thread that printed these bytes and needs more turns of a loop.
+fn short_of_turns(printed: Vec<u8>) -> ThreadMeaning
+    ensures { Account result printed.items Turns None }
+{
+    ThreadMeaning {
+        printed: Listed::from_vec(printed),
+        needs: Needs::Turns,
+        outcome: None,
+    }
+}
+
 /// The meaning of the program's thread at this place, counted from 0, where each loop makes at most
 /// `turns` turns. An error where there is no memory for it.
 pub fn eval_thread(
@@ -62,6 +73,7 @@ pub fn eval_thread(
     match evaluate(alloc, body, turns, &mut locals, &mut printed) {
         Ok(_) => Ok(ended(printed, Outcome::Done)),
         Err(EvalStop::Fault(fault)) => Ok(ended(printed, Outcome::Failed(fault))),
+        Err(EvalStop::Turns) => Ok(short_of_turns(printed)),
         Err(EvalStop::Memory) => Err(AllocError),
     }
 }

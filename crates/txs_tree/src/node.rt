@@ -10,12 +10,20 @@ pub enum NodeKind {
     Const(Value),
     /// A local, by its number: locals are numbered by nesting, from 0.
     Local(u8),
+    /// The test, and then one branch alone: the first, or where the test's value is nil or false the second.
+    If(Box<Node>, Box<Node>, Box<Node>),
     /// The items in order, with the last one's result. There is at least one.
     Do(Vec<Node>),
     /// The values in order, each of which sees the earlier ones as locals, and then the body.
     Let(Vec<Node>, Box<Node>),
+    /// A let whose body a recur runs again.
+    Loop(Vec<Node>, Box<Node>),
+    /// The values in order, for the next turn of the nearest loop, in whose tail position it stands.
+    Recur(Vec<Node>),
     /// A core operation on its arguments.
     Core(Op, Vec<Node>),
+    /// The vector of the items.
+    Vector(Vec<Node>),
     /// Prints its arguments as a line.
     Println(Vec<Node>),
 }

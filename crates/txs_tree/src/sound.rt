@@ -1,7 +1,7 @@
 //! Which programs are sound: the test that a program has to pass.
 
-ghost use Rattle.std.specs.Prelude.{◌≡◌, ◌≤◌, ◌<◌, ◌+◌, ◌↔◌, length, false, None, IsTrue, MatchOption};
-ghost use Rattle.txs_tree.specs.Sound.{Sound, TakesFew, SoundTree, SoundAll, SoundLet, SoundThread, SoundThreads, nodes, nodes_in, nodes_of_all, levels, levels_in};
+ghost use Rattle.std.specs.Prelude.{◌≡◌, ◌≤◌, ◌<◌, ◌+◌, ◌↔◌, length, false, None, Some, IsTrue, MatchOption};
+ghost use Rattle.txs_tree.specs.Sound.{Sound, TakesFew, SoundTree, SoundAll, SoundDo, SoundLet, SoundThread, SoundThreads, nodes, nodes_in, nodes_of_all, levels, levels_in};
 ghost use Rattle.txs_tree.specs.Tree.{count};
 ghost use Rattle.txs_tree.specs.View.{tree_of, trees_of, thread_of, threads_of, program_of};
 
@@ -57,7 +57,7 @@ fn is_sound_thread(thread: &Thread) -> bool
     if !is_within(&thread.body, MAX_LEVELS) {
         return false;
     }
-    is_sound_node(&thread.body, 0)
+    is_sound_node(&thread.body, false, 0, None)
 }
 
 /// Whether all threads together have few nodes.
@@ -81,50 +81,91 @@ fn takes_few(op: Op, count: usize) -> bool
     takes(op, count) && count <= MAX_ITEMS
 }
 
-/// Whether the node is sound among so many locals.
+/// Whether a recur of so many values may stand here: in tail position of a loop with as many.
+fn is_tail_of(tail: Option<usize>, count: usize) -> bool
+    ensures { IsTrue result ↔ (tail ≡ Some count) }
+{
+    match tail {
+        None => false,
+        Some(values) => values == count,
+    }
+}
+
+/// Whether the node is sound among so many locals, inside a transaction or outside, and in tail position
+/// of a loop with so many values, if of any.
 #[cycle(sound)]
-fn is_sound_node(node: &Node, locals: usize) -> bool
+fn is_sound_node(node: &Node, inside: bool, locals: usize, tail: Option<usize>) -> bool
     requires { locals ≤ 200 }
-    ensures { IsTrue result ↔ SoundTree false locals None (tree_of node.now) }
+    ensures { IsTrue result ↔ SoundTree inside locals tail (tree_of node.now) }
 {
     match &node.kind {
         NodeKind::Const(_) => true,
         NodeKind::Local(place) => usize::from(*place) < locals,
-        NodeKind::Do(items) => !items.is_empty() && are_sound(items, locals),
-        NodeKind::Let(values, body) => {
-            are_sound_values(values, locals) && is_sound_node(body, locals + values.len())
+        NodeKind::If(test, yes, no) => {
+            is_sound_node(test, inside, locals, None)
+                && is_sound_node(yes, inside, locals, tail)
+                && is_sound_node(no, inside, locals, tail)
         }
-        NodeKind::Core(op, args) => takes_few(*op, args.len()) && are_sound(args, locals),
-        NodeKind::Println(args) => args.len() <= MAX_ITEMS && are_sound(args, locals),
+        NodeKind::Do(items) => is_sound_do(items, inside, locals, tail),
+        NodeKind::Let(values, body) => {
+            are_sound_values(values, inside, locals)
+                && is_sound_node(body, inside, locals + values.len(), tail)
+        }
+        NodeKind::Loop(values, body) => {
+            are_sound_values(values, inside, locals)
+                && is_sound_node(body, inside, locals + values.len(), Some(values.len()))
+        }
+        NodeKind::Recur(values) => {
+            is_tail_of(tail, values.len()) && are_sound(values, inside, locals)
+        }
+        NodeKind::Core(op, args) => takes_few(*op, args.len()) && are_sound(args, inside, locals),
+        NodeKind::Vector(items) => items.len() <= MAX_ITEMS && are_sound(items, inside, locals),
+        NodeKind::Println(args) => {
+            !inside && args.len() <= MAX_ITEMS && are_sound(args, inside, locals)
+        }
     }
 }
 
 /// Whether each node is sound among so many locals.
 #[cycle(sound)]
-fn are_sound(nodes: &[Node], locals: usize) -> bool
+fn are_sound(nodes: &[Node], inside: bool, locals: usize) -> bool
     requires { locals ≤ 200 }
-    ensures { IsTrue result ↔ SoundAll false locals (trees_of nodes.now) }
+    ensures { IsTrue result ↔ SoundAll inside locals (trees_of nodes.now) }
 {
     for node in nodes {
-        if !is_sound_node(node, locals) {
+        if !is_sound_node(node, inside, locals, None) {
             return false;
         }
     }
     true
 }
 
+/// Whether there is a node, each but the last is sound, and the last one is sound in tail position.
+#[cycle(sound)]
+fn is_sound_do(nodes: &[Node], inside: bool, locals: usize, tail: Option<usize>) -> bool
+    requires { locals ≤ 200 }
+    ensures { IsTrue result ↔ SoundDo inside locals tail (trees_of nodes.now) }
+{
+    match nodes.split_last() {
+        None => false,
+        Some((last, before)) => {
+            are_sound(before, inside, locals) && is_sound_node(last, inside, locals, tail)
+        }
+    }
+}
+
 /// Whether the nodes are sound among so many locals, where each is a further local for those after it.
 #[cycle(sound)]
-fn are_sound_values(nodes: &[Node], locals: usize) -> bool
+fn are_sound_values(nodes: &[Node], inside: bool, locals: usize) -> bool
     requires { locals ≤ 200 }
-    ensures { IsTrue result ↔ SoundLet false locals (trees_of nodes.now) }
+    ensures { IsTrue result ↔ SoundLet inside locals (trees_of nodes.now) }
 {
     if nodes.len() > MAX_LOCALS - locals {
         return false;
     }
     let mut bound = locals;
     for node in nodes {
-        if !is_sound_node(node, bound) {
+        if !is_sound_node(node, inside, bound, None) {
             return false;
         }
         bound += 1;
@@ -143,9 +184,15 @@ fn is_within(node: &Node, limit: u16) -> bool
     match &node.kind {
         NodeKind::Const(_) => true,
         NodeKind::Local(_) => true,
+        NodeKind::If(test, yes, no) => {
+            is_within(test, limit - 1) && is_within(yes, limit - 1) && is_within(no, limit - 1)
+        }
         NodeKind::Do(items) => are_within(items, limit - 1),
         NodeKind::Let(values, body) => are_within(values, limit - 1) && is_within(body, limit - 1),
+        NodeKind::Loop(values, body) => are_within(values, limit - 1) && is_within(body, limit - 1),
+        NodeKind::Recur(values) => are_within(values, limit - 1),
         NodeKind::Core(_, args) => are_within(args, limit - 1),
+        NodeKind::Vector(items) => are_within(items, limit - 1),
         NodeKind::Println(args) => are_within(args, limit - 1),
     }
 }
@@ -175,12 +222,23 @@ fn nodes_left(node: &Node, limit: u32) -> Option<u32>
     match &node.kind {
         NodeKind::Const(_) => Some(limit - 1),
         NodeKind::Local(_) => Some(limit - 1),
+        NodeKind::If(test, yes, no) => {
+            let left = nodes_left(test, limit - 1)?;
+            let left = nodes_left(yes, left)?;
+            nodes_left(no, left)
+        }
         NodeKind::Do(items) => all_nodes_left(items, limit - 1),
-        NodeKind::Let(values, body) => match all_nodes_left(values, limit - 1) {
-            None => None,
-            Some(left) => nodes_left(body, left),
-        },
+        NodeKind::Let(values, body) => {
+            let left = all_nodes_left(values, limit - 1)?;
+            nodes_left(body, left)
+        }
+        NodeKind::Loop(values, body) => {
+            let left = all_nodes_left(values, limit - 1)?;
+            nodes_left(body, left)
+        }
+        NodeKind::Recur(values) => all_nodes_left(values, limit - 1),
         NodeKind::Core(_, args) => all_nodes_left(args, limit - 1),
+        NodeKind::Vector(items) => all_nodes_left(items, limit - 1),
         NodeKind::Println(args) => all_nodes_left(args, limit - 1),
     }
 }
