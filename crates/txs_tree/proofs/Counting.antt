@@ -1,5 +1,5 @@
 -- Counts of nodes and of levels.
-use Rattle.std.proofs.Common.{◌≡◌, ◌≢◌, ◌*◌, length, get_or, ap, ℕ, zero, suc, max, ◌+◌, ◌-◌, ◌<◌, ◌≤◌, Bool, false, IsTrue, Option, Some, None, MatchOption, List, [], ◌∷◌, sym, ◌∙◌, arith}
+use Rattle.std.proofs.Common.{◌≡◌, ◌≢◌, ◌*◌, length, get_or, ap, ℕ, zero, suc, max, ◌+◌, ◌-◌, ◌<◌, ◌≤◌, Bool, false, IsTrue, Option, Some, None, MatchOption, List, [], ◌∷◌, ◌++◌, sym, ◌∙◌, arith}
 use Rattle.std.proofs.lemmas.Bool.{false≢true}
 use Rattle.txs_tree.specs.Sound.{nodes, nodes_in, levels}
 use Rattle.txs_tree.specs.View.{tree_of, trees_of}
@@ -50,6 +50,17 @@ within-max r l a b limit e ne low h = (λ p. omega (arith, e, h.0 p, ne, low), �
 pub within-not : (r : Bool) (l a b limit : ℕ) → l ≡ suc (max a b) → r ≡ false → (a ≤ limit - 1 → IsTrue r) → (IsTrue r → l ≤ limit) × (l ≤ limit → IsTrue r)
 within-not r l a b limit e f h = (λ p. absurd (false≢true (sym f ∙ p)), λ le. h (omega (arith, e, le)))
 
+-- one level above three
+pub within-three : (r : Bool) (l a b c limit : ℕ) → l ≡ suc (max a (max b c)) → limit ≢ 0 → a ≤ limit - 1 → b ≤ limit - 1 → (IsTrue r → c ≤ limit - 1) × (c ≤ limit - 1 → IsTrue r) → (IsTrue r → l ≤ limit) × (l ≤ limit → IsTrue r)
+within-three r l a b c limit e ne low_a low_b h = (λ p. omega (arith, e, h.0 p, ne, low_a, low_b), λ le. h.1 (omega (arith, e, le)))
+
+-- one level above three, of which one is too high
+pub within-not_first : (r : Bool) (l a b c limit : ℕ) → l ≡ suc (max a (max b c)) → r ≡ false → (a ≤ limit - 1 → IsTrue r) → (IsTrue r → l ≤ limit) × (l ≤ limit → IsTrue r)
+within-not_first r l a b c limit e f h = (λ p. absurd (false≢true (sym f ∙ p)), λ le. h (omega (arith, e, le)))
+
+pub within-not_second : (r : Bool) (l a b c limit : ℕ) → l ≡ suc (max a (max b c)) → r ≡ false → (b ≤ limit - 1 → IsTrue r) → (IsTrue r → l ≤ limit) × (l ≤ limit → IsTrue r)
+within-not_second r l a b c limit e f h = (λ p. absurd (false≢true (sym f ∙ p)), λ le. h (omega (arith, e, le)))
+
 -- one node more than others
 pub counted : (r : Option ℕ) (l k limit : ℕ) → l ≡ suc k → limit ≢ 0 → MatchOption r (limit - 1 < k) (λ left. left + k ≡ limit - 1) → MatchOption r (limit < l) (λ left. left + l ≡ limit)
 counted None l k limit e ne h = omega (arith, e, h, ne)
@@ -66,5 +77,13 @@ nodes-at [] i x lt is = absurd (omega arith)
 nodes-at (n ∷ ns) zero x lt is = omega (arith, ap (λ y. nodes (tree_of y)) is)
 nodes-at (n ∷ ns) (suc i) x lt is = omega (arith, nodes-at ns i x (omega arith) is)
 
-pub item_smaller : (ns : List Node) (i : ℕ) (x : Node) → i < length ns → x ≡ get_or ns i x → 2 * nodes (tree_of x) < 2 * nodes_in (trees_of ns) + 1
+pub item_smaller : (ns : List Node) (i : ℕ) (x : Node) → i < length ns → x ≡ get_or ns i x → 3 * nodes (tree_of x) + 1 < 3 * nodes_in (trees_of ns) + 2
 item_smaller ns i x lt is = omega (arith, nodes-at ns i x lt is)
+
+nodes-behind : (before : List Node) (x : Node) → nodes_in (trees_of (before ++ x ∷ [])) ≡ nodes_in (trees_of before) + nodes (tree_of x)
+nodes-behind [] x = omega arith
+nodes-behind (n ∷ ns) x = omega (arith, nodes-behind ns x)
+
+-- the last node and those before it
+pub nodes-last : (ns before : List Node) (x : Node) → ns ≡ before ++ x ∷ [] → nodes_in (trees_of ns) ≡ nodes_in (trees_of before) + nodes (tree_of x)
+nodes-last ns before x is = ap (λ l. nodes_in (trees_of l)) is ∙ nodes-behind before x

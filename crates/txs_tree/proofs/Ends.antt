@@ -4,14 +4,14 @@ use Rattle.txs_value.specs.Places.{nth}
 use Rattle.txs_value.specs.declared.fault.Fault as fault
 use Rattle.txs_value.specs.declared.value.Value.{Value}
 use Rattle.txs_tree.specs.Evaluated.{Account, Gives, Tells, thread_source, source_in, means, printing}
-use Rattle.txs_tree.specs.Meaning.{Completion, Completes, Faults, closed}
+use Rattle.txs_tree.specs.Meaning.{Completion, Completes, Faults, OutOfTurns, closed}
 use Rattle.txs_tree.specs.Sound.{Sound, SoundTree}
 use Rattle.txs_tree.specs.Thread.{ThreadState, thread_meaning}
 use Rattle.txs_tree.specs.View.{tree_of, thread_of, threads_of, program_of}
 use Rattle.txs_tree.specs.declared.evaluate.EvalStop.{EvalStop}
-use Rattle.txs_tree.specs.declared.evaluate.EvalStop.TheVariants.{Fault}
+use Rattle.txs_tree.specs.declared.evaluate.EvalStop.TheVariants.{Fault, Turns as NoTurns}
 use Rattle.txs_value.specs.declared.event.Outcome.TheVariants.{Done, Failed}
-use Rattle.txs_tree.specs.declared.meaning.Needs.TheVariants.{Nothing}
+use Rattle.txs_tree.specs.declared.meaning.Needs.TheVariants.{Nothing, Turns}
 use Rattle.txs_tree.specs.declared.meaning.ThreadMeaning.{ThreadMeaning}
 use Rattle.txs_tree.specs.declared.node.Thread.{Thread}
 use Rattle.txs_tree.proofs.Soundness.{SoundThread-at}
@@ -45,3 +45,9 @@ module _ (us ts : List Thread) (k : ℕ) (r : Thread) (same : us ≡ ts) (lt : k
     told_fault y f e g a =
         let h : means n (tree_of (get_or us k r).body) env before ≡ Faults f (printing out) = subst (λ x. Gives {A = Value} (Err x) out (means n (tree_of (get_or us k r).body) env before)) e g in
         told n m (subst (λ c. Tells m (closed c)) (sym (from (Faults f (printing out)) h)) a)
+
+    pub told_turns : (y : EvalStop) → y ≡ NoTurns → Gives {A = Value} (Err y) out (means n (tree_of (get_or us k r).body) env before) → Account m out Turns None
+        → IfSome (thread_source (program_of ts) k) (λ p. Tells m (thread_meaning p n []))
+    told_turns y e g a =
+        let h : means n (tree_of (get_or us k r).body) env before ≡ OutOfTurns (printing out) = subst (λ x. Gives {A = Value} (Err x) out (means n (tree_of (get_or us k r).body) env before)) e g in
+        told n m (subst (λ c. Tells m (closed c)) (sym (from (OutOfTurns (printing out)) h)) a)

@@ -1,21 +1,24 @@
 -- An evaluation one node at a time: what the whole means is what the rest means.
-use Rattle.std.proofs.Common.{◌≡◌, ℕ, zero, suc, ◌+◌, ◌<◌, ◌≤◌, Bool, false, List, [], ◌∷◌, ◌++◌, length, get_or, take, drop, Some, None, Result, Err, refl, sym, ap, ◌∙◌, subst, subst₂, append_assoc, arith}
-use Rattle.std.proofs.lemmas.List.{drop_more, append-nil, length-take, take-append-le}
-use Rattle.txs_value.specs.Core.{core}
+use Rattle.std.proofs.Common.{◌≡◌, ℕ, zero, suc, ◌+◌, ◌-◌, ◌<◌, ◌≤◌, Bool, true, false, not, if◌then◌else◌, nat_eq, List, [], ◌∷◌, ◌++◌, length, get_or, take, drop, Some, None, Result, Ok, Err, refl, sym, ap, ◌∙◌, subst, subst₂, append_assoc, length-append, arith}
+use Rattle.std.proofs.Math.Seq.{drop-append_seam, take-append_seam}
+use Rattle.std.proofs.lemmas.Bool.{eq-eqb}
+use Rattle.std.proofs.lemmas.List.{drop_more, append-nil, length-take, take-append-le, take-append-drop}
+use Rattle.txs_value.specs.Core.{core, vector_of, is_false}
 use Rattle.txs_value.specs.Places.{nth}
 use Rattle.txs_value.specs.Printed.{printed_line}
-use Rattle.txs_value.specs.declared.fault.Fault as fault
+use Rattle.txs_value.specs.Truth.{choose}
 use Rattle.txs_value.specs.declared.op.Op.{Op}
 use Rattle.txs_value.specs.declared.value.Value.{Value}
-use Rattle.txs_value.specs.declared.value.Value.TheVariants.{Nil}
-use Rattle.txs_tree.specs.Evaluated.{Gives, GivesAll, means, all_mean, do_means, let_means, printing}
-use Rattle.txs_tree.specs.Meaning.{Completion, Completes, Recurs, Faults, Retries, Waits, OutOfTurns, Invalid, bind, give, result_of, Effects, eval, eval_all, eval_let, eval_do, call_at}
-use Rattle.txs_tree.specs.Sound.{SoundDo}
+use Rattle.txs_value.specs.declared.value.Value.TheVariants.{Nil, Truth, Int, Key, Text, Vector, Cell}
+use Rattle.txs_tree.specs.Evaluated.{Stops, Gives, GivesAll, Steps, means, all_mean, do_means, let_means, locals_mean, loop_means, turns_mean, printing}
+use Rattle.txs_tree.specs.Meaning.{Completion, Completes, Recurs, Faults, Retries, Waits, OutOfTurns, Invalid, bind, again, give, result_of, turns, Effects, eval, eval_all, eval_let, eval_do, call_at}
 use Rattle.txs_tree.specs.Thread.{ThreadState, on_events}
-use Rattle.txs_tree.specs.Tree.{Mark, Tree, Local, Do, Let, Core, Println, Trees, none, more}
+use Rattle.txs_tree.specs.Tree.{Mark, Tree, Const, Local, If, Do, Let, Loop, Recur, Core, VectorOf, Println, Trees, none, more, count}
 use Rattle.txs_tree.specs.View.{tree_of, trees_of}
 use Rattle.txs_tree.specs.declared.evaluate.EvalStop.{EvalStop}
-use Rattle.txs_tree.specs.declared.evaluate.EvalStop.TheVariants.{Fault, Memory}
+use Rattle.txs_tree.specs.declared.evaluate.EvalStop.TheVariants.{Fault, Turns, Memory}
+use Rattle.txs_tree.specs.declared.evaluate.Step.{Step}
+use Rattle.txs_tree.specs.declared.evaluate.Step.TheVariants.{Value as AValue, Recur as ARecur}
 use Rattle.txs_tree.specs.declared.node.Node.{Node}
 
 pub nth_at : (vs : List Value) (i : ℕ) (v : Value) → i < length vs → v ≡ get_or vs i v → nth vs i ≡ Some v
@@ -53,48 +56,76 @@ module _ {S : Type 0} (fx : Effects S) (call : Bool → ℕ → List Value → S
   pub collects-start : (vs : List Value) (es : Trees) (env : List Value) (s : S) → vs ≡ [] → eval_all fx call n inside es env s ≡ collects vs es env s
   collects-start vs es env s is = collects-nil es env s ∙ ap (λ ws. collects ws es env s) (sym is)
 
-  pub collects-more : (vs : List Value) (e : Tree) (rest : Trees) (env : List Value) (s s1 : S) (v : Value) → eval fx call n inside e env s ≡ Completes v s1 → collects vs (more e rest) env s ≡ collects (vs ++ v ∷ []) rest env s1
-  collects-more vs e rest env s s1 v h =
+  pub collects-more : (vs : List Value) (e : Tree) (rest : Trees) (env : List Value) (s : S) → collects vs (more e rest) env s ≡ bind (eval fx call n inside e env s) (λ v s1. collects (vs ++ v ∷ []) rest env s1)
+  collects-more vs e rest env s =
       let done : List Value → S → Completion S (List Value) = λ ws s2. Completes (vs ++ ws) s2 in
-      let one : (ws : List Value) → vs ++ v ∷ ws ≡ (vs ++ v ∷ []) ++ ws = λ ws. sym (append_assoc vs (v ∷ []) ws) in
-      ap (λ c. bind (bind c (λ w s2. bind (eval_all fx call n inside rest env s2) (λ ws s3. Completes (w ∷ ws) s3))) done) h
-      ∙ bind-bind (eval_all fx call n inside rest env s1) (λ ws s3. Completes (v ∷ ws) s3) done
-      ∙ (λ i. bind (eval_all fx call n inside rest env s1) (λ ws s3. Completes (one ws i) s3))
+      let go : Value → S → Completion S (List Value) = λ v s1. bind (eval_all fx call n inside rest env s1) (λ ws s2. Completes (v ∷ ws) s2) in
+      let one : (v : Value) (ws : List Value) → vs ++ v ∷ ws ≡ (vs ++ v ∷ []) ++ ws = λ v ws. sym (append_assoc vs (v ∷ []) ws) in
+      let each : (v : Value) (s1 : S) → bind (go v s1) done ≡ collects (vs ++ v ∷ []) rest env s1 = λ v s1.
+      bind-bind (eval_all fx call n inside rest env s1) (λ ws s2. Completes (v ∷ ws) s2) done
+      ∙ (λ i. bind (eval_all fx call n inside rest env s1) (λ ws s2. Completes (one v ws i) s2)) in
+      bind-bind (eval fx call n inside e env s) go done ∙ (λ i. bind (eval fx call n inside e env s) (λ v s1. each v s1 i))
 
-  pub collects-fault : (vs : List Value) (e : Tree) (rest : Trees) (env : List Value) (s s1 : S) (f : fault.Fault) → eval fx call n inside e env s ≡ Faults f s1 → collects vs (more e rest) env s ≡ Faults f s1
-  collects-fault vs e rest env s s1 f h = ap (λ c. bind (bind c (λ w s2. bind (eval_all fx call n inside rest env s2) (λ ws s3. Completes (w ∷ ws) s3))) (λ ws s2. Completes (vs ++ ws) s2)) h
+  -- the locals with the new ones behind them
+  abbrev pub locals_after : Trees → List Value → S → Completion S (List Value)
+  locals_after es env s = bind (eval_let fx call n inside es env s) (λ vs s1. Completes (env ++ vs) s1)
 
-  -- a body after the new locals
-  abbrev pub after_let : Trees → Tree → List Value → S → Completion S Value
-  after_let es body env s = bind (eval_let fx call n inside es env s) (λ vs s1. eval fx call n inside body (env ++ vs) s1)
+  pub locals_after-none : (env : List Value) (s : S) → locals_after none env s ≡ Completes env s
+  locals_after-none env s = ap (λ vs. Completes vs s) (append-nil env)
 
-  pub after_let-none : (body : Tree) (env : List Value) (s : S) → after_let none body env s ≡ eval fx call n inside body env s
-  after_let-none body env s = ap (λ vs. eval fx call n inside body vs s) (append-nil env)
+  pub locals_after-more : (e : Tree) (rest : Trees) (env : List Value) (s : S) → locals_after (more e rest) env s ≡ bind (eval fx call n inside e env s) (λ v s1. locals_after rest (env ++ v ∷ []) s1)
+  locals_after-more e rest env s =
+      let done : List Value → S → Completion S (List Value) = λ ws s2. Completes (env ++ ws) s2 in
+      let go : Value → S → Completion S (List Value) = λ v s1. bind (eval_let fx call n inside rest (env ++ v ∷ []) s1) (λ ws s2. Completes (v ∷ ws) s2) in
+      let one : (v : Value) (ws : List Value) → env ++ v ∷ ws ≡ (env ++ v ∷ []) ++ ws = λ v ws. sym (append_assoc env (v ∷ []) ws) in
+      let each : (v : Value) (s1 : S) → bind (go v s1) done ≡ locals_after rest (env ++ v ∷ []) s1 = λ v s1.
+      bind-bind (eval_let fx call n inside rest (env ++ v ∷ []) s1) (λ ws s2. Completes (v ∷ ws) s2) done
+      ∙ (λ i. bind (eval_let fx call n inside rest (env ++ v ∷ []) s1) (λ ws s2. Completes (one v ws i) s2)) in
+      bind-bind (eval fx call n inside e env s) go done ∙ (λ i. bind (eval fx call n inside e env s) (λ v s1. each v s1 i))
 
-  pub after_let-more : (e : Tree) (rest : Trees) (body : Tree) (env : List Value) (s s1 : S) (v : Value) → eval fx call n inside e env s ≡ Completes v s1 → after_let (more e rest) body env s ≡ after_let rest body (env ++ v ∷ []) s1
-  after_let-more e rest body env s s1 v h =
-      let go : List Value → S → Completion S Value = λ vs s2. eval fx call n inside body (env ++ vs) s2 in
-      let one : (ws : List Value) → env ++ v ∷ ws ≡ (env ++ v ∷ []) ++ ws = λ ws. sym (append_assoc env (v ∷ []) ws) in
-      ap (λ c. bind (bind c (λ w s2. bind (eval_let fx call n inside rest (env ++ w ∷ []) s2) (λ ws s3. Completes (w ∷ ws) s3))) go) h
-      ∙ bind-bind (eval_let fx call n inside rest (env ++ v ∷ []) s1) (λ ws s3. Completes (v ∷ ws) s3) go
-      ∙ (λ i. bind (eval_let fx call n inside rest (env ++ v ∷ []) s1) (λ ws s3. eval fx call n inside body (one ws i) s3))
+  -- what goes on from the new locals goes on from all of them
+  pub after_locals : (es : Trees) (env : List Value) (s : S) (go : List Value → S → Completion S Value)
+      → bind (eval_let fx call n inside es env s) go ≡ bind (locals_after es env s) (λ ls s1. go (drop (length env) ls) s1)
+  after_locals es env s go =
+      let new : (vs : List Value) → vs ≡ drop (length env) (env ++ vs) = λ vs. sym (drop-append_seam env vs) in
+      (λ i. bind (eval_let fx call n inside es env s) (λ vs s1. go (new vs i) s1))
+      ∙ sym (bind-bind (eval_let fx call n inside es env s) (λ vs s1. Completes (env ++ vs) s1) (λ ls s1. go (drop (length env) ls) s1))
 
-  pub after_let-fault : (e : Tree) (rest : Trees) (body : Tree) (env : List Value) (s s1 : S) (f : fault.Fault) → eval fx call n inside e env s ≡ Faults f s1 → after_let (more e rest) body env s ≡ Faults f s1
-  after_let-fault e rest body env s s1 f h =
-      ap (λ c. bind (bind c (λ w s2. bind (eval_let fx call n inside rest (env ++ w ∷ []) s2) (λ ws s3. Completes (w ∷ ws) s3))) (λ vs s2. eval fx call n inside body (env ++ vs) s2)) h
+  -- nodes for their effects, and then a last one
+  abbrev pub then_last : Trees → Tree → List Value → S → Completion S Value
+  then_last none last env s = eval fx call n inside last env s
+  then_last (more e rest) last env s = bind (eval fx call n inside e env s) (λ v s1. then_last rest last env s1)
 
-  -- the last value so far, or that of the rest
-  abbrev pub do_after : Value → Trees → List Value → S → Completion S Value
-  do_after v none env s = Completes v s
-  do_after v (more e rest) env s = eval_do fx call n inside (more e rest) env s
+  pub do-then_last : (ns : List Node) (x : Node) (env : List Value) (s : S) → eval_do fx call n inside (trees_of (ns ++ x ∷ [])) env s ≡ then_last (trees_of ns) (tree_of x) env s
+  do-then_last [] x env s = refl
+  do-then_last (m ∷ []) x env s = refl
+  do-then_last (m ∷ k ∷ ns) x env s = λ i. bind (eval fx call n inside (tree_of m) env s) (λ v s1. do-then_last (k ∷ ns) x env s1 i)
 
-  pub do_after-more : (u : Value) (e : Tree) (rest : Trees) (env : List Value) (s s1 : S) (v : Value) → eval fx call n inside e env s ≡ Completes v s1 → do_after u (more e rest) env s ≡ do_after v rest env s1
-  do_after-more u e none env s s1 v h = h
-  do_after-more u e (more x rest) env s s1 v h = ap (λ c. bind c (λ w s2. eval_do fx call n inside (more x rest) env s2)) h
+-- one turn more
+pub turns-more : {S : Type 0} (k d : ℕ) (f : List Value → S → Completion S Value) (vs : List Value) (s : S) → length vs ≡ d → turns (suc k) d f vs s ≡ again (f vs s) (turns k d f)
+turns-more k d f vs s many = ap (λ (b : Bool). if b then again (f vs s) (turns k d f) else Invalid) (eq-eqb (length vs) d many)
 
-  pub do_after-fault : (u : Value) (e : Tree) (rest : Trees) (env : List Value) (s s1 : S) (f : fault.Fault) → eval fx call n inside e env s ≡ Faults f s1 → do_after u (more e rest) env s ≡ Faults f s1
-  do_after-fault u e none env s s1 f h = h
-  do_after-fault u e (more x rest) env s s1 f h = ap (λ c. bind c (λ w s2. eval_do fx call n inside (more x rest) env s2)) h
+-- ---- a stop of a part is one of the whole
+
+pub stops_bind : {A B : Type 0} (y : EvalStop) (out : List ℕ) (c : Completion ThreadState A) (go : A → ThreadState → Completion ThreadState B) → Stops y out c → Stops y out (bind c go)
+stops_bind (Fault f) out c go h = ap (λ d. bind d go) h
+stops_bind Turns out c go h = ap (λ d. bind d go) h
+stops_bind Memory out c go h = h
+
+pub stops_again : (y : EvalStop) (out : List ℕ) (c : Completion ThreadState Value) (go : List Value → ThreadState → Completion ThreadState Value) → Stops y out c → Stops y out (again c go)
+stops_again (Fault f) out c go h = ap (λ d. again d go) h
+stops_again Turns out c go h = ap (λ d. again d go) h
+stops_again Memory out c go h = h
+
+-- a part's stop, by the equation of the whole
+pub stops_whole : {A B : Type 0} (y : EvalStop) (out : List ℕ) (whole : Completion ThreadState B) (c : Completion ThreadState A) (go : A → ThreadState → Completion ThreadState B) → whole ≡ bind c go → Stops y out c → Stops y out whole
+stops_whole y out whole c go is h = subst (λ w. Stops y out w) (sym is) (stops_bind y out c go h)
+
+pub stops_steps : (r : Result Step EvalStop) (y : EvalStop) (out : List ℕ) (c : Completion ThreadState Value) → r ≡ Err y → Stops y out c → Steps r out c
+stops_steps r y out c err h = subst (λ x. Steps x out c) (sym err) h
+
+pub stops_all : {V : Type 0} (f : V → List Value) (r : Result V EvalStop) (y : EvalStop) (out : List ℕ) (c : Completion ThreadState (List Value)) → r ≡ Err y → Stops y out c → GivesAll f r out c
+stops_all f r y out c err h = subst (λ x. GivesAll f x out c) (sym err) h
 
 -- ---- outside every transaction
 
@@ -105,92 +136,200 @@ module _ (n : ℕ) where
   abbrev call : Bool → ℕ → List Value → ThreadState → Completion ThreadState Value
   call = call_at (on_events n []) n [] 0
 
-  pub local_done : (e : Tree) (i j : ℕ) (m : Mark) (env : List Value) (out : List ℕ) (v w : Value) → e ≡ Local i m → j ≡ i → i < length env → w ≡ get_or env j w → v ≡ w → means n e env out ≡ Completes v (printing out)
-  local_done e i j m env out v w is same lt at copy =
-      let there : w ≡ get_or env i w = subst (λ k. w ≡ get_or env k w) same at in
-      ap (λ x. means n x env out) is ∙ ap (λ o. give o (printing out)) (nth_at env i w lt there) ∙ ap (λ x. Completes x (printing out)) (sym copy)
+  -- nodes for their effects, and then a last one
+  abbrev pub do_then : Trees → Tree → List Value → List ℕ → Completion ThreadState Value
+  do_then es last env out = then_last fx call n false es last env (printing out)
 
-  pub gives_do : (e : Tree) (es : Trees) (m : Mark) (env : List Value) (out out1 : List ℕ) (r : Result Value EvalStop) → e ≡ Do es m → Gives r out1 (do_means n es env out) → Gives r out1 (means n e env out)
-  gives_do e es m env out out1 r is h = subst (λ x. Gives r out1 (means n x env out)) (sym is) h
+  module _ (e : Tree) (m : Mark) (env : List Value) (out : List ℕ) where
+    pub const_done : (v w : Value) → e ≡ Const v m → w ≡ v → means n e env out ≡ Completes w (printing out)
+    const_done v w is copy = ap (λ x. means n x env out) is ∙ ap (λ x. Completes x (printing out)) (sym copy)
 
-  pub gives_let : (e : Tree) (es : Trees) (b : Tree) (m : Mark) (env : List Value) (out out1 : List ℕ) (r : Result Value EvalStop) → e ≡ Let es b m → Gives r out1 (let_means n es b env out) → Gives r out1 (means n e env out)
-  gives_let e es b m env out out1 r is h = subst (λ x. Gives r out1 (means n x env out)) (sym is) h
+    pub local_done : (i j : ℕ) (v w : Value) → e ≡ Local i m → j ≡ i → i < length env → w ≡ get_or env j w → v ≡ w → means n e env out ≡ Completes v (printing out)
+    local_done i j v w is same lt at copy =
+        let there : w ≡ get_or env i w = subst (λ k. w ≡ get_or env k w) same at in
+        ap (λ x. means n x env out) is ∙ ap (λ o. give o (printing out)) (nth_at env i w lt there) ∙ ap (λ x. Completes x (printing out)) (sym copy)
 
-  -- the arguments' fault is the whole's
-  stop_all : {V : Type 0} (f : V → List Value) (x : EvalStop) (out1 : List ℕ) (c : Completion ThreadState (List Value)) (go : List Value → ThreadState → Completion ThreadState Value) → GivesAll f (Err x) out1 c → Gives (Err x) out1 (bind c go)
-  stop_all f (Fault y) out1 c go h = ap (λ d. bind d go) h
-  stop_all f Memory out1 c go h = h
+    module _ (out1 : List ℕ) (r : Result Step EvalStop) where
+      pub steps_do : (es : Trees) → e ≡ Do es m → Steps r out1 (do_means n es env out) → Steps r out1 (means n e env out)
+      steps_do es is h = subst (λ x. Steps r out1 (means n x env out)) (sym is) h
 
-  pub core_stop : {V : Type 0} (f : V → List Value) (x : EvalStop) (e : Tree) (op : Op) (es : Trees) (m : Mark) (env : List Value) (out out1 : List ℕ) → e ≡ Core op es m → GivesAll f (Err x) out1 (all_mean n es env out) → Gives {A = Value} (Err x) out1 (means n e env out)
-  core_stop f x e op es m env out out1 is h =
-      subst (λ y. Gives {A = Value} (Err x) out1 (means n y env out)) (sym is) (stop_all f x out1 (all_mean n es env out) (λ vs s1. result_of (core op vs) m.span s1) h)
+      pub steps_let : (es : Trees) (b : Tree) → e ≡ Let es b m → Steps r out1 (let_means n es b env out) → Steps r out1 (means n e env out)
+      steps_let es b is h = subst (λ x. Steps r out1 (means n x env out)) (sym is) h
 
-  pub println_stop : {V : Type 0} (f : V → List Value) (x : EvalStop) (e : Tree) (es : Trees) (m : Mark) (env : List Value) (out out1 : List ℕ) → e ≡ Println es m → GivesAll f (Err x) out1 (all_mean n es env out) → Gives {A = Value} (Err x) out1 (means n e env out)
-  println_stop f x e es m env out out1 is h =
-      subst (λ y. Gives {A = Value} (Err x) out1 (means n y env out)) (sym is) (stop_all f x out1 (all_mean n es env out) (λ vs s1. fx.print false vs s1) h)
+      pub steps_loop : (es : Trees) (b : Tree) → e ≡ Loop es b m → Steps r out1 (loop_means n es b env out) → Steps r out1 (means n e env out)
+      steps_loop es b is h = subst (λ x. Steps r out1 (means n x env out)) (sym is) h
 
-  pub core_done : (e : Tree) (op : Op) (es : Trees) (m : Mark) (env vs ws : List Value) (out out1 out2 : List ℕ) (r : Result Value EvalStop) → e ≡ Core op es m → all_mean n es env out ≡ Completes vs (printing out1) → ws ≡ vs → out2 ≡ out1
-      → Gives r out2 (result_of (core op ws) m.span (printing out2)) → Gives r out1 (means n e env out)
-  core_done e op es m env vs ws out out1 out2 r is h same same_out g =
-      let step : means n e env out ≡ result_of (core op vs) m.span (printing out1) = ap (λ x. means n x env out) is ∙ ap (λ c. bind c (λ us s1. result_of (core op us) m.span s1)) h in
-      let there : Gives r out1 (result_of (core op vs) m.span (printing out1)) = subst₂ (λ us o. Gives r o (result_of (core op us) m.span (printing o))) same same_out g in
-      subst (λ c. Gives r out1 c) (sym step) there
+    -- the branch that the test chooses
+    if_branch : (v : Value) (b : Bool) (p q : Completion ThreadState Value) → b ≡ is_false v → choose v p q ≡ (if b then q else p)
+    if_branch Nil b p q t = ap (λ (x : Bool). if x then q else p) (sym t)
+    if_branch (Truth true) b p q t = ap (λ (x : Bool). if x then q else p) (sym t)
+    if_branch (Truth false) b p q t = ap (λ (x : Bool). if x then q else p) (sym t)
+    if_branch (Int z) b p q t = ap (λ (x : Bool). if x then q else p) (sym t)
+    if_branch (Key bs) b p q t = ap (λ (x : Bool). if x then q else p) (sym t)
+    if_branch (Text bs) b p q t = ap (λ (x : Bool). if x then q else p) (sym t)
+    if_branch (Vector ds) b p q t = ap (λ (x : Bool). if x then q else p) (sym t)
+    if_branch (Cell c) b p q t = ap (λ (x : Bool). if x then q else p) (sym t)
 
-  pub println_done : (e : Tree) (es : Trees) (m : Mark) (env vs ws : List Value) (out out1 out2 : List ℕ) → e ≡ Println es m → all_mean n es env out ≡ Completes vs (printing out1) → ws ≡ vs → out2 ≡ out1 ++ printed_line ws
-      → means n e env out ≡ Completes Nil (printing out2)
-  println_done e es m env vs ws out out1 out2 is h same g =
-      ap (λ x. means n x env out) is ∙ ap (λ c. bind c (λ us s1. fx.print false us s1)) h
-      ∙ ap (λ us. Completes Nil (printing (out1 ++ printed_line us))) (sym same) ∙ ap (λ o. Completes Nil (printing o)) (sym g)
+    module _ (test first second : Tree) (is : e ≡ If test first second m) where
+      if_is : means n e env out ≡ bind (means n test env out) (λ v s1. choose v (eval fx call n false first env s1) (eval fx call n false second env s1))
+      if_is = ap (λ x. means n x env out) is
+
+      both : (out1 : List ℕ) (b : Bool) → (if b then means n second env out1 else means n first env out1) ≡ means n (if b then second else first) env out1
+      both out1 true = refl
+      both out1 false = refl
+
+      pub if_stop : (y : EvalStop) (out1 : List ℕ) → Stops y out1 (means n test env out) → Stops y out1 (means n e env out)
+      if_stop y out1 h = stops_whole y out1 (means n e env out) (means n test env out) (λ v s1. choose v (eval fx call n false first env s1) (eval fx call n false second env s1)) if_is h
+
+      pub if_goes : (v : Value) (b : Bool) (now : List Value) (out1 out2 : List ℕ) (r : Result Step EvalStop) → means n test env out ≡ Completes v (printing out1) → b ≡ is_false v → now ≡ env
+          → Steps r out2 (means n (if b then second else first) now out1) → Steps r out2 (means n e env out)
+      if_goes v b now out1 out2 r h t same g =
+          let whole : means n e env out ≡ means n (if b then second else first) env out1 =
+          if_is ∙ ap (λ c. bind c (λ w s1. choose w (eval fx call n false first env s1) (eval fx call n false second env s1))) h
+          ∙ if_branch v b (means n first env out1) (means n second env out1) t ∙ both out1 b in
+          subst (λ c. Steps r out2 c) (sym whole) (subst (λ l. Steps r out2 (means n (if b then second else first) l out1)) same g)
+
+    -- the arguments' stop is the whole's
+    module _ {V : Type 0} (f : V → List Value) (y : EvalStop) (es : Trees) (out1 : List ℕ) (h : GivesAll f (Err y) out1 (all_mean n es env out)) where
+      pub recur_stop : e ≡ Recur es m → Stops y out1 (means n e env out)
+      recur_stop is = stops_whole y out1 (means n e env out) (all_mean n es env out) (λ vs s1. Recurs vs s1) (ap (λ x. means n x env out) is) h
+
+      pub core_stop : (op : Op) → e ≡ Core op es m → Stops y out1 (means n e env out)
+      core_stop op is = stops_whole y out1 (means n e env out) (all_mean n es env out) (λ vs s1. result_of (core op vs) m.span s1) (ap (λ x. means n x env out) is) h
+
+      pub vector_stop : e ≡ VectorOf es m → Stops y out1 (means n e env out)
+      vector_stop is = stops_whole y out1 (means n e env out) (all_mean n es env out) (λ vs s1. result_of (vector_of vs) m.span s1) (ap (λ x. means n x env out) is) h
+
+      pub println_stop : e ≡ Println es m → Stops y out1 (means n e env out)
+      println_stop is = stops_whole y out1 (means n e env out) (all_mean n es env out) (λ vs s1. fx.print false vs s1) (ap (λ x. means n x env out) is) h
+
+    module _ (es : Trees) (vs ws : List Value) (out1 out2 : List ℕ) (h : all_mean n es env out ≡ Completes vs (printing out1)) (same : ws ≡ vs) where
+      pub recur_done : e ≡ Recur es m → means n e env out ≡ Recurs ws (printing out1)
+      recur_done is = ap (λ x. means n x env out) is ∙ ap (λ c. bind c (λ us s1. Recurs us s1)) h ∙ ap (λ us. Recurs us (printing out1)) (sym same)
+
+      pub core_done : (op : Op) (r : Result Step EvalStop) → e ≡ Core op es m → out2 ≡ out1 → Steps r out2 (result_of (core op ws) m.span (printing out2)) → Steps r out1 (means n e env out)
+      core_done op r is same_out g =
+          let step : means n e env out ≡ result_of (core op vs) m.span (printing out1) = ap (λ x. means n x env out) is ∙ ap (λ c. bind c (λ us s1. result_of (core op us) m.span s1)) h in
+          let there : Steps r out1 (result_of (core op vs) m.span (printing out1)) = subst₂ (λ us o. Steps r o (result_of (core op us) m.span (printing o))) same same_out g in
+          subst (λ c. Steps r out1 c) (sym step) there
+
+      pub vector_done : (r : Result Step EvalStop) → e ≡ VectorOf es m → out2 ≡ out1 → Steps r out2 (result_of (vector_of ws) m.span (printing out2)) → Steps r out1 (means n e env out)
+      vector_done r is same_out g =
+          let step : means n e env out ≡ result_of (vector_of vs) m.span (printing out1) = ap (λ x. means n x env out) is ∙ ap (λ c. bind c (λ us s1. result_of (vector_of us) m.span s1)) h in
+          let there : Steps r out1 (result_of (vector_of vs) m.span (printing out1)) = subst₂ (λ us o. Steps r o (result_of (vector_of us) m.span (printing o))) same same_out g in
+          subst (λ c. Steps r out1 c) (sym step) there
+
+      pub println_done : e ≡ Println es m → out2 ≡ out1 ++ printed_line ws → means n e env out ≡ Completes Nil (printing out2)
+      println_done is g =
+          ap (λ x. means n x env out) is ∙ ap (λ c. bind c (λ us s1. fx.print false us s1)) h
+          ∙ ap (λ us. Completes Nil (printing (out1 ++ printed_line us))) (sym same) ∙ ap (λ o. Completes Nil (printing o)) (sym g)
 
   -- one node more
   module _ (ns : List Node) (i : ℕ) (x : Node) (lt : i < length ns) (is : x ≡ get_or ns i x) (env now : List Value) (out out1 : List ℕ) (same : now ≡ env) where
-    here : (c : Completion ThreadState Value) → means n (tree_of x) now out ≡ c → means n (tree_of x) env out ≡ c
-    here c h = subst (λ l. means n (tree_of x) l out ≡ c) same h
+    rest : Trees
+    rest = trees_of (drop (i + 1) ns)
+
+    here : {A : Type 0} (go : Value → ThreadState → Completion ThreadState A) (v : Value) → means n (tree_of x) now out ≡ Completes v (printing out1) → bind (means n (tree_of x) env out) go ≡ go v (printing out1)
+    here go v h = ap (λ c. bind c go) (subst (λ l. means n (tree_of x) l out ≡ Completes v (printing out1)) same h)
+
+    stops_here : (y : EvalStop) → Stops y out1 (means n (tree_of x) now out) → Stops y out1 (means n (tree_of x) env out)
+    stops_here y h = subst (λ l. Stops y out1 (means n (tree_of x) l out)) same h
+
+    all_next : (vs : List Value) → collects fx call n false vs (trees_of (drop i ns)) env (printing out) ≡ bind (means n (tree_of x) env out) (λ v s1. collects fx call n false (vs ++ v ∷ []) (trees_of (drop (i + 1) ns)) env s1)
+    all_next vs = ap (λ es. collects fx call n false vs es env (printing out)) (trees_from ns i x lt is) ∙ collects-more fx call n false vs (tree_of x) (trees_of (drop (i + 1) ns)) env (printing out)
 
     pub all_more : (vs us : List Value) (v : Value) → means n (tree_of x) now out ≡ Completes v (printing out1) → us ≡ vs ++ v ∷ []
         → collects fx call n false vs (trees_of (drop i ns)) env (printing out) ≡ collects fx call n false us (trees_of (drop (i + 1) ns)) env (printing out1)
     all_more vs us v h pushed =
-        let rest = trees_of (drop (i + 1) ns) in
-        ap (λ es. collects fx call n false vs es env (printing out)) (trees_from ns i x lt is)
-        ∙ collects-more fx call n false vs (tree_of x) rest env (printing out) (printing out1) v (here (Completes v (printing out1)) h)
-        ∙ ap (λ ws. collects fx call n false ws rest env (printing out1)) (sym pushed)
+        all_next vs ∙ here (λ w s1. collects fx call n false (vs ++ w ∷ []) (trees_of (drop (i + 1) ns)) env s1) v h
+        ∙ ap (λ ws. collects fx call n false ws (trees_of (drop (i + 1) ns)) env (printing out1)) (sym pushed)
 
-    pub all_stop : {V : Type 0} (f : V → List Value) (vs : List Value) (y : EvalStop) → Gives {A = Value} (Err y) out1 (means n (tree_of x) now out) → GivesAll f (Err y) out1 (collects fx call n false vs (trees_of (drop i ns)) env (printing out))
-    all_stop f vs (Fault z) h =
-        ap (λ es. collects fx call n false vs es env (printing out)) (trees_from ns i x lt is)
-        ∙ collects-fault fx call n false vs (tree_of x) (trees_of (drop (i + 1) ns)) env (printing out) (printing out1) z (here (Faults z (printing out1)) h)
-    all_stop f vs Memory h = h
+    pub all_stop : (vs : List Value) (y : EvalStop) → Stops y out1 (means n (tree_of x) now out) → Stops y out1 (collects fx call n false vs (trees_of (drop i ns)) env (printing out))
+    all_stop vs y h =
+        stops_whole y out1 (collects fx call n false vs (trees_of (drop i ns)) env (printing out)) (means n (tree_of x) env out) (λ v s1. collects fx call n false (vs ++ v ∷ []) (trees_of (drop (i + 1) ns)) env s1) (all_next vs) (stops_here y h)
 
-    pub do_more : (u v : Value) → means n (tree_of x) now out ≡ Completes v (printing out1)
-        → do_after fx call n false u (trees_of (drop i ns)) env (printing out) ≡ do_after fx call n false v (trees_of (drop (i + 1) ns)) env (printing out1)
-    do_more u v h =
-        ap (λ es. do_after fx call n false u es env (printing out)) (trees_from ns i x lt is)
-        ∙ do_after-more fx call n false u (tree_of x) (trees_of (drop (i + 1) ns)) env (printing out) (printing out1) v (here (Completes v (printing out1)) h)
+    do_next : (last : Tree) → do_then (trees_of (drop i ns)) last env out ≡ bind (means n (tree_of x) env out) (λ v s1. then_last fx call n false (trees_of (drop (i + 1) ns)) last env s1)
+    do_next last = ap (λ es. do_then es last env out) (trees_from ns i x lt is)
 
-    pub do_stop : (u : Value) (y : EvalStop) → Gives {A = Value} (Err y) out1 (means n (tree_of x) now out) → Gives {A = Value} (Err y) out1 (do_after fx call n false u (trees_of (drop i ns)) env (printing out))
-    do_stop u (Fault z) h =
-        ap (λ es. do_after fx call n false u es env (printing out)) (trees_from ns i x lt is)
-        ∙ do_after-fault fx call n false u (tree_of x) (trees_of (drop (i + 1) ns)) env (printing out) (printing out1) z (here (Faults z (printing out1)) h)
-    do_stop u Memory h = h
+    pub do_more : (last : Tree) (v : Value) → means n (tree_of x) now out ≡ Completes v (printing out1) → do_then (trees_of (drop i ns)) last env out ≡ do_then (trees_of (drop (i + 1) ns)) last env out1
+    do_more last v h = do_next last ∙ here (λ w s1. then_last fx call n false (trees_of (drop (i + 1) ns)) last env s1) v h
 
-  pub do_start : (v : Value) (d : ℕ) (es : Trees) (env : List Value) (out : List ℕ) → SoundDo false d None es → do_means n es env out ≡ do_after fx call n false v es env (printing out)
-  do_start v d none env out h = absurd h
-  do_start v d (more e rest) env out h = refl
+    pub do_stop : (last : Tree) (y : EvalStop) → Stops y out1 (means n (tree_of x) now out) → Stops y out1 (do_then (trees_of (drop i ns)) last env out)
+    do_stop last y h =
+        stops_whole y out1 (do_then (trees_of (drop i ns)) last env out) (means n (tree_of x) env out) (λ v s1. then_last fx call n false (trees_of (drop (i + 1) ns)) last env s1) (do_next last) (stops_here y h)
 
-  module _ (ns : List Node) (i : ℕ) (x : Node) (lt : i < length ns) (is : x ≡ get_or ns i x) (body : Tree) (env : List Value) (out out1 : List ℕ) where
-    pub let_more : (v : Value) (longer : List Value) → means n (tree_of x) env out ≡ Completes v (printing out1) → longer ≡ env ++ v ∷ []
-        → let_means n (trees_of (drop i ns)) body env out ≡ let_means n (trees_of (drop (i + 1) ns)) body longer out1
-    let_more v longer h pushed =
-        let rest = trees_of (drop (i + 1) ns) in
-        ap (λ es. let_means n es body env out) (trees_from ns i x lt is)
-        ∙ after_let-more fx call n false (tree_of x) rest body env (printing out) (printing out1) v h
-        ∙ ap (λ l. let_means n rest body l out1) (sym pushed)
+    locals_next : locals_mean n (trees_of (drop i ns)) env out ≡ bind (means n (tree_of x) env out) (λ v s1. locals_after fx call n false (trees_of (drop (i + 1) ns)) (env ++ v ∷ []) s1)
+    locals_next = ap (λ es. locals_mean n es env out) (trees_from ns i x lt is) ∙ locals_after-more fx call n false (tree_of x) (trees_of (drop (i + 1) ns)) env (printing out)
 
-    pub let_stop : (y : EvalStop) → Gives {A = Value} (Err y) out1 (means n (tree_of x) env out) → Gives {A = Value} (Err y) out1 (let_means n (trees_of (drop i ns)) body env out)
-    let_stop (Fault z) h =
-        ap (λ es. let_means n es body env out) (trees_from ns i x lt is)
-        ∙ after_let-fault fx call n false (tree_of x) (trees_of (drop (i + 1) ns)) body env (printing out) (printing out1) z h
-    let_stop Memory h = h
+    pub locals_more : (v : Value) (longer : List Value) → means n (tree_of x) now out ≡ Completes v (printing out1) → longer ≡ env ++ v ∷ []
+        → locals_mean n (trees_of (drop i ns)) env out ≡ locals_mean n (trees_of (drop (i + 1) ns)) longer out1
+    locals_more v longer h pushed =
+        locals_next ∙ here (λ w s1. locals_after fx call n false (trees_of (drop (i + 1) ns)) (env ++ w ∷ []) s1) v h
+        ∙ ap (λ l. locals_mean n (trees_of (drop (i + 1) ns)) l out1) (sym pushed)
+
+    pub locals_stop : (y : EvalStop) → Stops y out1 (means n (tree_of x) now out) → Stops y out1 (locals_mean n (trees_of (drop i ns)) env out)
+    locals_stop y h =
+        stops_whole y out1 (locals_mean n (trees_of (drop i ns)) env out) (means n (tree_of x) env out) (λ v s1. locals_after fx call n false (trees_of (drop (i + 1) ns)) (env ++ v ∷ []) s1) locals_next (stops_here y h)
+
+  pub do_start : (before ns : List Node) (last : Node) (env : List Value) (out : List ℕ) → ns ≡ before ++ last ∷ [] → do_means n (trees_of ns) env out ≡ do_then (trees_of before) (tree_of last) env out
+  do_start before ns last env out is = ap (λ l. do_means n (trees_of l) env out) is ∙ do-then_last fx call n false before last env (printing out)
+
+  -- a body after its new locals
+  module _ (es : Trees) (body : Tree) (env : List Value) (out : List ℕ) where
+    one_turn : List Value → ThreadState → Completion ThreadState Value
+    one_turn = λ ws s. eval fx call n false body (env ++ ws) s
+
+    let_is : let_means n es body env out ≡ bind (locals_mean n es env out) (λ ls s1. eval fx call n false body ls s1)
+    let_is = sym (bind-bind (eval_let fx call n false es env (printing out)) (λ vs s1. Completes (env ++ vs) s1) (λ ls s1. eval fx call n false body ls s1))
+
+    loop_is : loop_means n es body env out ≡ bind (locals_mean n es env out) (λ ls s1. turns n (count es) (λ ws s2. eval fx call n false body (env ++ ws) s2) (drop (length env) ls) s1)
+    loop_is = after_locals fx call n false es env (printing out) (λ vs s1. turns n (count es) (λ ws s2. eval fx call n false body (env ++ ws) s2) vs s1)
+
+    pub let_stop : (y : EvalStop) (out1 : List ℕ) → Stops y out1 (locals_mean n es env out) → Stops y out1 (let_means n es body env out)
+    let_stop y out1 h = stops_whole y out1 (let_means n es body env out) (locals_mean n es env out) (λ ls s1. eval fx call n false body ls s1) let_is h
+
+    pub loop_stop : (y : EvalStop) (out1 : List ℕ) → Stops y out1 (locals_mean n es env out) → Stops y out1 (loop_means n es body env out)
+    loop_stop y out1 h =
+        stops_whole y out1 (loop_means n es body env out) (locals_mean n es env out) (λ ls s1. turns n (count es) (λ ws s2. eval fx call n false body (env ++ ws) s2) (drop (length env) ls) s1) loop_is h
+
+    module _ (now : List Value) (out1 out2 : List ℕ) (r : Result Step EvalStop) (h : locals_mean n es env out ≡ Completes now (printing out1)) where
+      pub let_done : Steps r out2 (means n body now out1) → Steps r out2 (let_means n es body env out)
+      let_done g = subst (λ c. Steps r out2 c) (sym (let_is ∙ ap (λ c. bind c (λ ls s1. eval fx call n false body ls s1)) h)) g
+
+      pub loop_done : (b d : ℕ) → b ≡ length env → d ≡ count es → take b now ≡ env → Steps r out2 (turns_mean n n d body (take b now) (drop b now) out1) → Steps r out2 (loop_means n es body env out)
+      loop_done b d place many kept g =
+          let there : Steps r out2 (turns_mean n n (count es) body env (drop (length env) now) out1) =
+          subst₂ (λ j l. Steps r out2 (turns_mean n n (count es) body l (drop j now) out1)) place kept (subst (λ k. Steps r out2 (turns_mean n n k body (take b now) (drop b now) out1)) many g) in
+          subst (λ c. Steps r out2 c) (sym (loop_is ∙ ap (λ c. bind c (λ ls s1. turns n (count es) (λ ws s2. eval fx call n false body (env ++ ws) s2) (drop (length env) ls) s1)) h)) there
+
+  -- one turn of a loop, with these locals and as many turns after it
+  module _ (body : Tree) (b d k m : ℕ) (env now : List Value) (out out1 : List ℕ) (left : k ≡ suc m) (kept : take b now ≡ env) (many : length (drop b now) ≡ d) where
+    turn_next : turns_mean n k d body env (drop b now) out ≡ again (means n body now out) (turns m d (λ ws s. eval fx call n false body (env ++ ws) s))
+    turn_next =
+        let joined : env ++ drop b now ≡ now = ap (λ l. l ++ drop b now) (sym kept) ∙ take-append-drop b now in
+        ap (λ j. turns_mean n j d body env (drop b now) out) left
+        ∙ turns-more m d (λ ws s. eval fx call n false body (env ++ ws) s) (drop b now) (printing out) many
+        ∙ ap (λ l. again (means n body l out) (turns m d (λ ws s. eval fx call n false body (env ++ ws) s))) joined
+
+    pub turn_value : (v : Value) → means n body now out ≡ Completes v (printing out1) → turns_mean n k d body env (drop b now) out ≡ Completes v (printing out1)
+    turn_value v h = turn_next ∙ ap (λ c. again c (turns m d (λ ws s. eval fx call n false body (env ++ ws) s))) h
+
+    pub turn_stop : (y : EvalStop) → Stops y out1 (means n body now out) → Stops y out1 (turns_mean n k d body env (drop b now) out)
+    turn_stop y h = subst (λ c. Stops y out1 c) (sym turn_next) (stops_again y out1 (means n body now out) (turns m d (λ ws s. eval fx call n false body (env ++ ws) s)) h)
+
+    pub turn_recur : (ws later : List Value) → means n body now out ≡ Recurs ws (printing out1) → drop b later ≡ ws → turns_mean n k d body env (drop b now) out ≡ turns_mean n m d body env (drop b later) out1
+    turn_recur ws later h rebound =
+        turn_next ∙ ap (λ c. again c (turns m d (λ us s. eval fx call n false body (env ++ us) s))) h
+        ∙ ap (λ us. turns m d (λ us s. eval fx call n false body (env ++ us) s) us (printing out1)) (sym rebound)
+
+-- the values of the next turn behind the locals before them
+pub rebound : (b : ℕ) (now later ws : List Value) → b ≤ length now → later ≡ take b now ++ ws → (take b later ≡ take b now) × (length later ≡ b + length ws) × (drop b later ≡ ws)
+rebound b now later ws le is =
+    let short : length (take b now) ≡ b = omega (arith, length-take b now, le) in (
+      subst (λ k. take k later ≡ take b now) short (ap (λ l. take (length (take b now)) l) is ∙ take-append_seam (take b now) ws),
+      ap length is ∙ length-append (take b now) ws ∙ ap (λ k. k + length ws) short,
+      subst (λ k. drop k later ≡ ws) short (ap (λ l. drop (length (take b now)) l) is ∙ drop-append_seam (take b now) ws),
+    )
 
 -- the locals that were there stay in front
 pub take_kept : (env now longer : List Value) (v : Value) → take (length env) now ≡ env → longer ≡ now ++ v ∷ [] → take (length env) longer ≡ env

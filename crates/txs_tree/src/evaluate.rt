@@ -79,15 +79,11 @@ fn collect(items: Vec<Value>, span: Span, printed: &[u8]) -> Result<Step, EvalSt
 }
 
 /// Puts the values in the place of the locals from there on.
-fn rebind(locals: &mut Vec<Value>, from: usize, values: Vec<Value>) -> Result<(), EvalStop>
-    requires { from ≤ length locals.old.items }
+fn rebind(locals: &mut Vec<Value>, from: usize, mut values: Vec<Value>) -> Result<(), AllocError>
     ensures { OnOk result (locals.new.items ≡ take from locals.old.items ++ values.items) }
 {
     locals.truncate(from);
-    for value in values {
-        locals.push(value)?;
-    }
-    Ok(())
+    locals.append(&mut values)
 }
 
 /// The node's value with these locals. What it prints is appended.
@@ -131,8 +127,10 @@ fn evaluate_tail(
         }
         NodeKind::If(test, yes, no) => {
             let value = evaluate(alloc, test, turns, locals, printed)?;
-            let branch = if is_false(&value) { no } else { yes };
-            evaluate_tail(alloc, branch, turns, locals, printed)
+            if is_false(&value) {
+                return evaluate_tail(alloc, no, turns, locals, printed);
+            }
+            evaluate_tail(alloc, yes, turns, locals, printed)
         }
         NodeKind::Do(items) => evaluate_do(alloc, items, turns, locals, printed),
         NodeKind::Let(values, body) => evaluate_let(alloc, values, body, turns, locals, printed),

@@ -1,7 +1,7 @@
 //! Which programs are sound: the test that a program has to pass.
 
 ghost use Rattle.std.specs.Prelude.{◌≡◌, ◌≤◌, ◌<◌, ◌+◌, ◌↔◌, length, false, None, Some, IsTrue, MatchOption};
-ghost use Rattle.txs_tree.specs.Sound.{Sound, TakesFew, SoundTree, SoundAll, SoundDo, SoundLet, SoundThread, SoundThreads, nodes, nodes_in, nodes_of_all, levels, levels_in};
+ghost use Rattle.txs_tree.specs.Sound.{Sound, TakesFew, SoundTree, SoundAll, SoundLet, SoundThread, SoundThreads, nodes, nodes_in, nodes_of_all, levels, levels_in};
 ghost use Rattle.txs_tree.specs.Tree.{count};
 ghost use Rattle.txs_tree.specs.View.{tree_of, trees_of, thread_of, threads_of, program_of};
 
@@ -81,6 +81,13 @@ fn takes_few(op: Op, count: usize) -> bool
     takes(op, count) && count <= MAX_ITEMS
 }
 
+/// Whether a line of so many arguments may be printed here: outside every transaction, and few enough.
+fn prints_few(inside: bool, count: usize) -> bool
+    ensures { IsTrue result ↔ ((inside ≡ false) × (count ≤ 65535)) }
+{
+    !inside && count <= MAX_ITEMS
+}
+
 /// Whether a recur of so many values may stand here: in tail position of a loop with as many.
 fn is_tail_of(tail: Option<usize>, count: usize) -> bool
     ensures { IsTrue result ↔ (tail ≡ Some count) }
@@ -102,18 +109,25 @@ fn is_sound_node(node: &Node, inside: bool, locals: usize, tail: Option<usize>) 
         NodeKind::Const(_) => true,
         NodeKind::Local(place) => usize::from(*place) < locals,
         NodeKind::If(test, yes, no) => {
-            is_sound_node(test, inside, locals, None)
-                && is_sound_node(yes, inside, locals, tail)
-                && is_sound_node(no, inside, locals, tail)
+            if !is_sound_node(test, inside, locals, None) {
+                return false;
+            }
+            is_sound_node(yes, inside, locals, tail) && is_sound_node(no, inside, locals, tail)
         }
-        NodeKind::Do(items) => is_sound_do(items, inside, locals, tail),
+        NodeKind::Do(items) => match items.split_last() {
+            None => false,
+            Some((last, before)) => {
+                are_sound(before, inside, locals) && is_sound_node(last, inside, locals, tail)
+            }
+        },
         NodeKind::Let(values, body) => {
             are_sound_values(values, inside, locals)
                 && is_sound_node(body, inside, locals + values.len(), tail)
         }
         NodeKind::Loop(values, body) => {
+            let count = values.len();
             are_sound_values(values, inside, locals)
-                && is_sound_node(body, inside, locals + values.len(), Some(values.len()))
+                && is_sound_node(body, inside, locals + count, Some(count))
         }
         NodeKind::Recur(values) => {
             is_tail_of(tail, values.len()) && are_sound(values, inside, locals)
@@ -121,7 +135,7 @@ fn is_sound_node(node: &Node, inside: bool, locals: usize, tail: Option<usize>) 
         NodeKind::Core(op, args) => takes_few(*op, args.len()) && are_sound(args, inside, locals),
         NodeKind::Vector(items) => items.len() <= MAX_ITEMS && are_sound(items, inside, locals),
         NodeKind::Println(args) => {
-            !inside && args.len() <= MAX_ITEMS && are_sound(args, inside, locals)
+            prints_few(inside, args.len()) && are_sound(args, inside, locals)
         }
     }
 }
@@ -138,20 +152,6 @@ fn are_sound(nodes: &[Node], inside: bool, locals: usize) -> bool
         }
     }
     true
-}
-
-/// Whether there is a node, each but the last is sound, and the last one is sound in tail position.
-#[cycle(sound)]
-fn is_sound_do(nodes: &[Node], inside: bool, locals: usize, tail: Option<usize>) -> bool
-    requires { locals ≤ 200 }
-    ensures { IsTrue result ↔ SoundDo inside locals tail (trees_of nodes.now) }
-{
-    match nodes.split_last() {
-        None => false,
-        Some((last, before)) => {
-            are_sound(before, inside, locals) && is_sound_node(last, inside, locals, tail)
-        }
-    }
 }
 
 /// Whether the nodes are sound among so many locals, where each is a further local for those after it.
@@ -185,7 +185,10 @@ fn is_within(node: &Node, limit: u16) -> bool
         NodeKind::Const(_) => true,
         NodeKind::Local(_) => true,
         NodeKind::If(test, yes, no) => {
-            is_within(test, limit - 1) && is_within(yes, limit - 1) && is_within(no, limit - 1)
+            if !is_within(test, limit - 1) {
+                return false;
+            }
+            is_within(yes, limit - 1) && is_within(no, limit - 1)
         }
         NodeKind::Do(items) => are_within(items, limit - 1),
         NodeKind::Let(values, body) => are_within(values, limit - 1) && is_within(body, limit - 1),

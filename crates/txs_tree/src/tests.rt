@@ -1,5 +1,5 @@
 // What no clause says: that the calls succeed with ample memory, and what whole programs print.
-use crate::{Needs, Node, NodeKind, Program, Thread, eval_thread, is_sound};
+use crate::{Needs, Node, NodeKind, Program, Thread, ThreadMeaning, eval_thread, is_sound};
 use std::alloc::{AllocError, Global};
 use std::test::Fail;
 use txs_value::{Fault, FaultKind, Op, Outcome, Span, Value};
@@ -60,6 +60,79 @@ fn overflows(alloc: Global) -> Result<Vec<Thread>, AllocError> {
     one_thread(alloc, node(NodeKind::Do(nodes(alloc, line, sum)?), 0, 44))
 }
 
+fn branch(alloc: Global, test: Node, yes: Node, no: Node) -> Result<Node, AllocError> {
+    let kind = NodeKind::If(
+        Box::new(alloc, test)?,
+        Box::new(alloc, yes)?,
+        Box::new(alloc, no)?,
+    );
+    Ok(node(kind, 0, 9))
+}
+
+fn operation(alloc: Global, op: Op, first: Node, second: Node) -> Result<Node, AllocError> {
+    Ok(node(NodeKind::Core(op, nodes(alloc, first, second)?), 0, 9))
+}
+
+/// `(loop [i 0 s 0] (if (< i 10) (recur (+ i 1) (- s i)) s))`
+fn sums_down(alloc: Global) -> Result<Node, AllocError> {
+    let next = operation(alloc, Op::Add, local(0), int(1))?;
+    let sum = operation(alloc, Op::Subtract, local(1), local(0))?;
+    let recur = node(NodeKind::Recur(nodes(alloc, next, sum)?), 0, 9);
+    let test = operation(alloc, Op::Less, local(0), int(10))?;
+    let body = branch(alloc, test, recur, local(1))?;
+    let values = nodes(alloc, int(0), int(0))?;
+    Ok(node(NodeKind::Loop(values, Box::new(alloc, body)?), 0, 57))
+}
+
+/// What a thread prints that prints these two, and what it needs.
+fn printed(
+    alloc: Global,
+    first: Node,
+    second: Node,
+    turns: u32,
+) -> Result<Option<ThreadMeaning>, AllocError> {
+    let line = node(NodeKind::Println(nodes(alloc, first, second)?), 0, 9);
+    let threads = one_thread(alloc, line)?;
+    if !is_sound(&threads) {
+        return Ok(None);
+    }
+    let program = Program::new(threads);
+    if program.threads().len() != 1 {
+        return Ok(None);
+    }
+    Ok(Some(eval_thread(alloc, &program, 0, turns)?))
+}
+
+#[test]
+fn evaluates_a_loop(rt: HostRuntime) -> Result<(), Fail> {
+    let alloc = rt.alloc();
+    let Some(meaning) = printed(alloc, sums_down(alloc)?, int(1), 11)? else {
+        panic!(rt; "a sound program");
+    };
+    assert_eq!(rt; meaning.printed.as_slice(), b"-45 1\n".as_slice());
+    assert!(rt; meaning.outcome == Some(Outcome::Done));
+    let Some(short) = printed(alloc, sums_down(alloc)?, int(1), 10)? else {
+        panic!(rt; "a sound program");
+    };
+    assert_eq!(rt; short.printed.as_slice(), b"".as_slice());
+    assert!(rt; short.needs == Needs::Turns);
+    assert!(rt; short.outcome == None);
+    Ok(())
+}
+
+#[test]
+fn evaluates_a_branch_and_a_vector(rt: HostRuntime) -> Result<(), Fail> {
+    let alloc = rt.alloc();
+    let test = node(NodeKind::Const(Value::Nil), 0, 9);
+    let two = branch(alloc, test, int(1), int(2))?;
+    let pair = node(NodeKind::Vector(nodes(alloc, int(3), int(4))?), 0, 9);
+    let Some(meaning) = printed(alloc, two, pair, 1)? else {
+        panic!(rt; "a sound program");
+    };
+    assert_eq!(rt; meaning.printed.as_slice(), b"2 [3 4]\n".as_slice());
+    Ok(())
+}
+
 #[test]
 fn evaluates_a_let(rt: HostRuntime) -> Result<(), Fail> {
     let threads = prints_a_sum(rt.alloc())?;
@@ -101,6 +174,9 @@ fn evaluates_a_fault(rt: HostRuntime) -> Result<(), Fail> {
 fn tells_sound_programs(rt: HostRuntime) -> Result<(), Fail> {
     let unbound = one_thread(rt.alloc(), local(0))?;
     assert!(rt; !is_sound(&unbound));
+    let values = nodes(rt.alloc(), int(1), int(2))?;
+    let astray = one_thread(rt.alloc(), node(NodeKind::Recur(values), 0, 9))?;
+    assert!(rt; !is_sound(&astray));
     assert!(rt; is_sound(&[]));
     Ok(())
 }

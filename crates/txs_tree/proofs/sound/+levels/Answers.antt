@@ -4,7 +4,7 @@ use Rattle.txs_tree.specs.Sound.{levels, levels_in}
 use Rattle.txs_tree.specs.View.{tree_of, trees_of}
 use Rattle.txs_tree.proofs.Counting.{levels-some, within-suc, within-max, within-not}
 use Rattle.txs_tree.proofs.Evaluation.{trees_from}
-use Rattle.txs_tree.proofs.Trees.{do_node, let_node, core_node, println_node}
+use Rattle.txs_tree.proofs.Trees.{do_node, let_node, loop_node, recur_node, core_node, vector_node, println_node}
 use Rattle.txs_tree.proofs.sound.+levels.Goals as goal
 
 pub is_within-returns-then-limit-eq0 : goal.is_within-returns-then-limit-eq0
@@ -13,15 +13,15 @@ is_within-returns-then-limit-eq0 t c =
 
 pub is_within-returns-in-Do : goal.is_within-returns-in-Do
 is_within-returns-in-Do t c =
-    within-suc c.are_within.result (levels (tree_of c.args.node.now)) (levels_in (trees_of c.deref.result.now)) c.args.limit
-    (ap levels (do_node c.args.node.now c.in-Do.items c.deref.result.now c.in-Do.is c.deref.ensures.value)) c.if-limit-eq0.false c.are_within.ensures
+    within-suc c.are_within.result (levels (tree_of c.args.node.now)) (levels_in (trees_of c.deref-in-Do.result.now)) c.args.limit
+    (ap levels (do_node c.args.node.now c.in-Do.items c.deref-in-Do.result.now c.in-Do.is c.deref-in-Do.ensures.value)) c.if-limit-eq0.false c.are_within.ensures
 
 pub is_within-returns-then-are_within : goal.is_within-returns-then-are_within
 is_within-returns-then-are_within t c =
     let b = c.deref-then-are_within.result.now in
     let ns = c.deref-in-Let.result.now in
-    within-max c.is_within.result (levels (tree_of c.args.node.now)) (levels_in (trees_of ns)) (levels (tree_of b)) c.args.limit
-    (ap levels (let_node c.args.node.now c.in-Let.values c.in-Let.body ns b c.in-Let.is c.deref-in-Let.ensures.value c.deref-then-are_within.ensures)) c.if-limit-eq0.false (c.if-are_within.ensures.0 refl) c.is_within.ensures
+    within-max c.is_within-then-are_within.result (levels (tree_of c.args.node.now)) (levels_in (trees_of ns)) (levels (tree_of b)) c.args.limit
+    (ap levels (let_node c.args.node.now c.in-Let.values c.in-Let.body ns b c.in-Let.is c.deref-in-Let.ensures.value c.deref-then-are_within.ensures)) c.if-limit-eq0.false (c.if-are_within.ensures.0 refl) c.is_within-then-are_within.ensures
 
 pub is_within-returns-else-are_within : goal.is_within-returns-else-are_within
 is_within-returns-else-are_within t c =
@@ -30,10 +30,34 @@ is_within-returns-else-are_within t c =
     within-not c.are_within-in-Let.result (levels (tree_of c.args.node.now)) (levels_in (trees_of ns)) (levels (tree_of b)) c.args.limit
     (ap levels (let_node c.args.node.now c.in-Let.values c.in-Let.body ns b c.in-Let.is c.deref-in-Let.ensures.value refl)) c.if-are_within.false c.are_within-in-Let.ensures.1
 
+pub is_within-returns-then-are_within-2 : goal.is_within-returns-then-are_within-2
+is_within-returns-then-are_within-2 t c =
+    let b = c.deref-then-are_within-2.result.now in
+    let ns = c.deref-in-Loop.result.now in
+    within-max c.is_within-then-are_within-2.result (levels (tree_of c.args.node.now)) (levels_in (trees_of ns)) (levels (tree_of b)) c.args.limit
+    (ap levels (loop_node c.args.node.now c.in-Loop.values c.in-Loop.body ns b c.in-Loop.is c.deref-in-Loop.ensures.value c.deref-then-are_within-2.ensures)) c.if-limit-eq0.false (c.if-are_within-2.ensures.0 refl) c.is_within-then-are_within-2.ensures
+
+pub is_within-returns-else-are_within-2 : goal.is_within-returns-else-are_within-2
+is_within-returns-else-are_within-2 t c =
+    let b = c.in-Loop.body.value in
+    let ns = c.deref-in-Loop.result.now in
+    within-not c.are_within-in-Loop.result (levels (tree_of c.args.node.now)) (levels_in (trees_of ns)) (levels (tree_of b)) c.args.limit
+    (ap levels (loop_node c.args.node.now c.in-Loop.values c.in-Loop.body ns b c.in-Loop.is c.deref-in-Loop.ensures.value refl)) c.if-are_within-2.false c.are_within-in-Loop.ensures.1
+
+pub is_within-returns-in-Recur : goal.is_within-returns-in-Recur
+is_within-returns-in-Recur t c =
+    within-suc c.are_within-in-Recur.result (levels (tree_of c.args.node.now)) (levels_in (trees_of c.deref-in-Recur.result.now)) c.args.limit
+    (ap levels (recur_node c.args.node.now c.in-Recur.values c.deref-in-Recur.result.now c.in-Recur.is c.deref-in-Recur.ensures.value)) c.if-limit-eq0.false c.are_within-in-Recur.ensures
+
 pub is_within-returns-in-Core : goal.is_within-returns-in-Core
 is_within-returns-in-Core t c =
     within-suc c.are_within-in-Core.result (levels (tree_of c.args.node.now)) (levels_in (trees_of c.deref-in-Core.result.now)) c.args.limit
     (ap levels (core_node c.args.node.now c.in-Core.field-0 c.in-Core.args c.deref-in-Core.result.now c.in-Core.is c.deref-in-Core.ensures.value)) c.if-limit-eq0.false c.are_within-in-Core.ensures
+
+pub is_within-returns-in-Vector : goal.is_within-returns-in-Vector
+is_within-returns-in-Vector t c =
+    within-suc c.are_within-in-Vector.result (levels (tree_of c.args.node.now)) (levels_in (trees_of c.deref-in-Vector.result.now)) c.args.limit
+    (ap levels (vector_node c.args.node.now c.in-Vector.items c.deref-in-Vector.result.now c.in-Vector.is c.deref-in-Vector.ensures.value)) c.if-limit-eq0.false c.are_within-in-Vector.ensures
 
 pub is_within-returns-in-Println : goal.is_within-returns-in-Println
 is_within-returns-in-Println t c =
