@@ -1,5 +1,5 @@
 -- The bodies of threads are theirs, and well typed.
-use Rattle.std.proofs.Common.{◌≡◌, ℕ, suc, ◌+◌, ◌<◌, ◌≤◌, max, List, [], ◌∷◌, ◌++◌, length, get_or, drop, refl, sym, ap, ◌∙◌, subst, length-append, arith}
+use Rattle.std.proofs.Common.{◌≡◌, ℕ, suc, ◌+◌, ◌<◌, ◌≤◌, max, List, [], ◌∷◌, ◌++◌, length, get_or, drop, None, refl, sym, ap, ◌∙◌, subst, length-append, arith}
 use Rattle.std.proofs.Math.Seq.{drop-cons}
 use Rattle.std.proofs.lemmas.List.{append-nil, drop_all}
 use Rattle.std.specs.List.{range_with_len}
@@ -19,13 +19,13 @@ use Rattle.txs_gen.specs.Emission.{Emission, emits, instrs_of, stored, top, IsPa
 use Rattle.txs_gen.specs.Gen.{gen, locals_in}
 use Rattle.txs_gen.specs.Generated.{spans_of, constants_of, constants_of_threads, numbers_in, numbers_in_all, IsBodyOf, AreBodiesOf, IsCodeOf}
 use Rattle.txs_gen.proofs.Emissions.{make}
-use Rattle.txs_gen.proofs.Generation.{tree_segment, locals_stored}
+use Rattle.txs_gen.proofs.Generation.{afters, tree_segment, locals_stored}
 use Rattle.txs_gen.proofs.Parts.{ArePart}
-use Rattle.txs_gen.proofs.Segments.{At, at_first, at_rest, at_middle, plain_append, numbers_append, range_append, straight_well_typed}
+use Rattle.txs_gen.proofs.Segments.{At, at_first, at_rest, at_middle, lawful_append, plain_append, numbers_append, range_append, Setting, table, table_length, table_on, stand_append, stand_well_typed}
 
 -- the body of a thread, where so many constants are there already
 abbrev pub body_at : PlainThread → ℕ → CodeBody
-body_at t k = record { locals = max 0 (stored t.body 0); instrs = instrs_of t.body 0 k ++ Halt ∷ []; spans = spans_of t.body ++ t.span ∷ [] }
+body_at t k = record { locals = max 0 (stored t.body 0); instrs = instrs_of t.body 0 0 0 0 k ++ Halt ∷ []; spans = spans_of t.body ++ t.span ∷ [] }
 
 abbrev pub bodies_from : List PlainThread → ℕ → List CodeBody
 bodies_from [] k = []
@@ -38,15 +38,19 @@ rooms_of (t ∷ ts) = max 0 (top t.body 0) ∷ rooms_of ts
 body : ℕ → List PlainInstr → PlainBody
 body n is = record { locals = n; instrs = is }
 
-body_right : (ks : List Value) (t : PlainThread) (k : ℕ) → IsPart 0 t.body → At ks k (constants_of t.body) →
+body_right : (ks : List Value) (t : PlainThread) (k : ℕ) → IsPart 0 None t.body → At ks k (constants_of t.body) →
     IsBodyOf ks (body_at t k) t × WellTypedBody ks (body_at t k) (max 0 (top t.body 0)) × (numbers_in (body_at t k).instrs ≡ range_with_len k (length (constants_of t.body)))
 unfolding body
 body_right ks t k p a =
     let b = body_at t k in
-    let most = max 0 (top t.body 0) in
-    let s = tree_segment ks b most t.body 0 k 0 0 0 0 p a (omega arith) (omega arith) (omega arith) (omega arith) in
-    let is = instrs_of t.body 0 k in
-    let l : max 0 (stored t.body 0) ≡ locals_in t.body 0 = sym (locals_stored t.body 0 p) in
+    let hs = 0 ∷ afters t.body 0 in
+    let x : Setting = record { constants = ks; body = b; most = max 0 (top t.body 0); depths = table hs } in
+    let o = table_on hs in
+    let s = tree_segment x t.body 0 k 0 0 0 0 None p a (omega arith) (omega arith) (omega arith) (omega arith) o.0 o.1 tt in
+    let is = instrs_of t.body 0 0 0 0 k in
+    let same : length x.depths ≡ length b.instrs = omega (arith, table_length hs, s.places, length-append is (Halt ∷ [])) in
+    let stand = stand_append x.most x.depths 0 is (Halt ∷ []) s.stand ((1, s.leaves, s.high, refl), tt) in
+    let l : max 0 (stored t.body 0) ≡ locals_in t.body 0 = sym (locals_stored t.body 0 None p) in
     let code : plain_instrs ks (is ++ Halt ∷ []) (spans_of t.body ++ t.span ∷ []) ≡ gen t.body 0 0 0 0 ++ machine.Halt ∷ [] =
     plain_append ks is (Halt ∷ []) (spans_of t.body) (t.span ∷ []) s.as_many ∙ ap (λ x. x ++ machine.Halt ∷ []) s.seen in (
       record {
@@ -54,7 +58,7 @@ body_right ks t k p a =
         spans = refl;
         as_many = omega (arith, length-append (spans_of t.body) (t.span ∷ []), length-append is (Halt ∷ []), s.as_many);
       },
-      straight_well_typed ks b most is refl s.straight s.lawful,
+      stand_well_typed x same o.0 stand (lawful_append ks b is (Halt ∷ []) (s.lawful same) (tt, tt)),
       numbers_append is (Halt ∷ []) ∙ append-nil (numbers_in is) ∙ s.numbers,
     )
 
@@ -87,7 +91,7 @@ code_well_typed ts p =
     (bodies_right (constants_of_threads (threads_of ts)) (threads_of ts) 0 p (at_whole (constants_of_threads (threads_of ts)))).1
 
 -- what is made of a thread
-pub finished_instrs : (t : PlainThread) (cs : List Value) → (finished t cs).instrs ≡ instrs_of t.body 0 (length cs) ++ Halt ∷ []
+pub finished_instrs : (t : PlainThread) (cs : List Value) → (finished t cs).instrs ≡ instrs_of t.body 0 0 0 0 (length cs) ++ Halt ∷ []
 unfolding finished emits
 finished_instrs t cs = refl
 
@@ -128,7 +132,7 @@ pub finished_body : (t : PlainThread) (cs : List Value) → made_body (finished 
 unfolding finished emits
 finished_body t cs = refl
 
-pub finished_as_many : (t : PlainThread) (cs : List Value) → IsPart 0 t.body → length (finished t cs).spans ≡ length (finished t cs).instrs
+pub finished_as_many : (t : PlainThread) (cs : List Value) → IsPart 0 None t.body → length (finished t cs).spans ≡ length (finished t cs).instrs
 unfolding finished emits
 finished_as_many t cs p =
     (body_right (cs ++ (constants_of t.body ++ [])) t (length cs) p (at_middle cs (constants_of t.body) [])).0.as_many

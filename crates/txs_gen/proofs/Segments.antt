@@ -1,5 +1,5 @@
 -- A run of instructions: what the machine sees of it, its constants, and its depths.
-use Rattle.std.proofs.Common.{◌≡◌, ℕ, zero, suc, ◌+◌, ◌-◌, ◌<◌, ◌≤◌, List, [], ◌∷◌, ◌++◌, length, refl, sym, ap, ◌∙◌, subst, length-append, arith, Option, Some, slice_index_or}
+use Rattle.std.proofs.Common.{◌≡◌, ℕ, zero, suc, ◌+◌, ◌<◌, ◌≤◌, List, [], ◌∷◌, ◌++◌, length, refl, sym, ap, ◌∙◌, subst, length-append, arith, Option, Some, slice_index_or}
 use Rattle.std.specs.List.{range_with_len}
 use Rattle.txs_value.specs.Places.{nth}
 use Rattle.txs_value.specs.declared.fault.Span.{Span}
@@ -10,6 +10,7 @@ use Rattle.txs_code.specs.declared.instr.Instr.TheVariants.{Const, Local, Store,
 use Rattle.txs_code.specs.Machine.{PlainInstr}
 use Rattle.txs_code.specs.PlainCode.{CodeBody, plain_instr, plain_instrs}
 use Rattle.txs_code.specs.WellTyped.{Depths, depth_at, IsLawful, Fits, WellTypedBody}
+use Rattle.txs_gen.specs.Gen.{then_code}
 use Rattle.txs_gen.specs.Generated.{numbers_in}
 
 -- the constants stand in the list from a place on
@@ -44,44 +45,66 @@ pub at_middle : (us vs ws : List Value) → At (us ++ (vs ++ ws)) (length us) vs
 at_middle [] vs ws = at_self vs ws
 at_middle (u ∷ us) vs ws = at_cons u (us ++ (vs ++ ws)) (length us) vs (at_middle us vs ws)
 
--- the depth after an instruction
-abbrev pub after : Instr → ℕ → ℕ
-after (Const k) d = d + 1
-after (Local i) d = d + 1
-after (Store i) d = d - 1
-after Pop d = d - 1
-after (Jump t) d = d
-after (JumpFalse t) d = d
-after (Core op n) d = d - n + 1
-after (Vector n) d = d - n + 1
-after (Print n) d = d - n + 1
-after Halt d = d
+-- the depths at the places from one on
+abbrev pub On : Depths → ℕ → List ℕ → Type 0
+On ds at [] = Unit {0}
+On ds at (d ∷ hs) = (depth_at ds at ≡ Some d) × On ds (at + 1) hs
 
--- the instruction finds what it takes and has room, and goes on at the next place
-abbrev pub Goes : ℕ → ℕ → Instr → Type 0
-Goes most d (Const k) = d < most
-Goes most d (Local i) = d < most
-Goes most d (Store i) = 0 < d
-Goes most d Pop = 0 < d
-Goes most d (Jump t) = ⊥
-Goes most d (JumpFalse t) = ⊥
-Goes most d (Core op n) = (n ≤ d) × (0 < n)
-Goes most d (Vector n) = (n ≤ d) × (d - n < most)
-Goes most d (Print n) = (n ≤ d) × (d - n < most)
-Goes most d Halt = ⊥
+pub on_first : (ds : Depths) (at : ℕ) (hs gs : List ℕ) → On ds at (hs ++ gs) → On ds at hs
+on_first ds at [] gs p = tt
+on_first ds at (d ∷ hs) gs p = (p.0, on_first ds (at + 1) hs gs p.1)
 
--- instructions without jumps, from one depth to another
-abbrev pub Straight : ℕ → ℕ → List Instr → ℕ → Type 0
-Straight most d [] to = (d ≡ to) × (d ≤ most)
-Straight most d (i ∷ is) to = (d ≤ most) × Goes most d i × Straight most (after i d) is to
+pub on_rest : (ds : Depths) (at : ℕ) (hs gs : List ℕ) → On ds at (hs ++ gs) → On ds (at + length hs) gs
+on_rest ds at [] gs p = let e : at ≡ at + 0 = omega arith in subst (λ n. On ds n gs) e p
+on_rest ds at (d ∷ hs) gs p =
+    let e : at + 1 + length hs ≡ at + suc (length hs) = omega arith in subst (λ n. On ds n gs) e (on_rest ds (at + 1) hs gs p.1)
 
-pub straight_append : (most d : ℕ) (is : List Instr) (mid : ℕ) (js : List Instr) (to : ℕ) → Straight most d is mid → Straight most mid js to → Straight most d (is ++ js) to
-straight_append most d [] mid js to p q = subst (λ n. Straight most n js to) (sym p.0) q
-straight_append most d (i ∷ is) mid js to p q = (p.0, p.1, straight_append most (after i d) is mid js to p.2 q)
+-- where there is a depth, there is a place
+pub depth_within : (ds : Depths) (at d : ℕ) → depth_at ds at ≡ Some d → at < length ds
+depth_within [] at d e = cc
+depth_within (x ∷ ds) zero d e = omega arith
+depth_within (x ∷ ds) (suc at) d e = omega (arith, depth_within ds at d e)
 
-pub straight_end : (most d : ℕ) (is : List Instr) (to : ℕ) → Straight most d is to → to ≤ most
-straight_end most d [] to p = omega (arith, p.0, p.1)
-straight_end most d (i ∷ is) to p = straight_end most (after i d) is to p.2
+-- a table of these depths
+abbrev pub table : List ℕ → Depths
+table [] = []
+table (d ∷ hs) = Some d ∷ table hs
+
+pub table_length : (hs : List ℕ) → length (table hs) ≡ length hs
+table_length [] = refl
+table_length (d ∷ hs) = ap suc (table_length hs)
+
+on_cons : (x : Option ℕ) (ds : Depths) (at : ℕ) (hs : List ℕ) → On ds at hs → On (x ∷ ds) (suc at) hs
+on_cons x ds at [] p = tt
+on_cons x ds at (d ∷ hs) p = let e : suc (at + 1) ≡ suc at + 1 = omega arith in (p.0, subst (λ n. On (x ∷ ds) n hs) e (on_cons x ds (at + 1) hs p.1))
+
+pub table_on : (hs : List ℕ) → On (table hs) 0 hs
+table_on [] = tt
+table_on (d ∷ hs) = (refl, on_cons (Some d) (table hs) 0 hs (table_on hs))
+
+-- the instruction at this place fits the table
+abbrev pub StandsAt : ℕ → Depths → ℕ → Instr → Type 0
+StandsAt most ds at i = (d : ℕ) × (depth_at ds at ≡ Some d) × (d ≤ most) × Fits ds most at d i
+
+-- the instructions from this place on fit the table
+abbrev pub Stand : ℕ → Depths → ℕ → List Instr → Type 0
+Stand most ds at [] = Unit {0}
+Stand most ds at (i ∷ is) = StandsAt most ds at i × Stand most ds (at + 1) is
+
+pub stand_append : (most : ℕ) (ds : Depths) (at : ℕ) (is js : List Instr) → Stand most ds at is → Stand most ds (at + length is) js → Stand most ds at (is ++ js)
+stand_append most ds at [] js p q = let e : at + 0 ≡ at = omega arith in subst (λ n. Stand most ds n js) e q
+stand_append most ds at (i ∷ is) js p q =
+    let e : at + suc (length is) ≡ at + 1 + length is = omega arith in
+    (p.0, stand_append most ds (at + 1) is js p.1 (subst (λ n. Stand most ds n js) e q))
+
+pub stand_at : (most : ℕ) (ds : Depths) (from : ℕ) (is : List Instr) (at : ℕ) → Stand most ds from is → at < length is → (i : Instr) × (nth is at ≡ Some i) × StandsAt most ds (from + at) i
+stand_at most ds from [] at p l = absurd (omega (arith, l))
+stand_at most ds from (i ∷ is) zero p l =
+    let e : from ≡ from + 0 = omega arith in (i, refl, subst (λ n. StandsAt most ds n i) e p.0)
+stand_at most ds from (i ∷ is) (suc at) p l =
+    let e : from + 1 + at ≡ from + suc at = omega arith in
+    let r = stand_at most ds (from + 1) is at p.1 (omega (arith, l)) in
+    (r.0, r.1, subst (λ n. StandsAt most ds n r.0) e r.2)
 
 -- each instruction is lawful
 abbrev pub Lawful : List Value → CodeBody → List Instr → Type 0
@@ -124,134 +147,144 @@ range_append k (suc m) n =
     let e : k + suc m ≡ k + 1 + m = omega arith in let f : suc (m + n) ≡ suc m + n = omega arith in
     ap (λ x. k ∷ (range_with_len (k + 1) m ++ range_with_len x n)) e ∙ ap (λ l. k ∷ l) (range_append (k + 1) m n) ∙ ap (λ x. range_with_len k x) f
 
--- A run of instructions with their spans: what the machine sees, n constants from k on, and the depths.
-pub record Segment (ks : List Value) (b : CodeBody) (most k n d to : ℕ) (is : List Instr) (ss : List Span) (code : List PlainInstr) : Type 0 where
+stands_at : (most : ℕ) (ds : Depths) (is : List Instr) (at : ℕ) → Stand most ds 0 is → at < length is → (i : Instr) × (nth is at ≡ Some i) × StandsAt most ds at i
+stands_at most ds is at p l =
+    let e : 0 + at ≡ at = omega arith in
+    let r = stand_at most ds 0 is at p l in
+    (r.0, r.1, subst (λ n. StandsAt most ds n r.0) e r.2)
+
+-- the constants, the body that the instructions are of, the room for its stack, and a table for it
+pub record Setting : Type 0 where
+  pub constants : List Value
+  pub body : CodeBody
+  pub most : ℕ
+  pub depths : Depths
+
+-- A run of instructions with their spans, at a place: what the machine sees, n constants from k on, and that they fit the
+-- table, which has the depth to behind them. hs: as many as there are depths behind each.
+pub record Segment (x : Setting) (k n at to : ℕ) (hs : List ℕ) (is : List Instr) (ss : List Span) (code : List PlainInstr) : Type 0 where
   pub as_many : length ss ≡ length is
-  pub seen : plain_instrs ks is ss ≡ code
+  pub places : length hs ≡ length is
+  pub seen : plain_instrs x.constants is ss ≡ code
   pub numbers : numbers_in is ≡ range_with_len k n
-  pub straight : Straight most d is to
-  pub lawful : Lawful ks b is
+  pub stand : Stand x.most x.depths at is
+  pub leaves : depth_at x.depths (at + length is) ≡ Some to
+  pub high : to ≤ x.most
+  pub lawful : length x.depths ≡ length x.body.instrs → Lawful x.constants x.body is
 
-pub segment_nil : (ks : List Value) (b : CodeBody) (most k d : ℕ) → d ≤ most → Segment ks b most k 0 d d [] [] []
-segment_nil ks b most k d l = record { as_many = refl; seen = refl; numbers = refl; straight = (refl, l); lawful = tt }
+pub segment_nil : (x : Setting) (k at to : ℕ) → depth_at x.depths at ≡ Some to → to ≤ x.most → Segment x k 0 at to [] [] [] []
+segment_nil x k at to e l =
+    let f : at ≡ at + 0 = omega arith in
+    record {
+      as_many = refl;
+      places = refl;
+      seen = refl;
+      numbers = refl;
+      stand = tt;
+      leaves = subst (λ n. depth_at x.depths n ≡ Some to) f e;
+      high = l;
+      lawful = λ same. tt;
+    }
 
--- one after the other
-pub segment_join : (ks : List Value) (b : CodeBody) (most k m n d mid to : ℕ) (is js : List Instr) (ss ts : List Span) (x y : List PlainInstr) →
-    Segment ks b most k m d mid is ss x → Segment ks b most (k + m) n mid to js ts y → Segment ks b most k (m + n) d to (is ++ js) (ss ++ ts) (x ++ y)
-segment_join ks b most k m n d mid to is js ss ts x y p q = record {
-  as_many = omega (arith, length-append is js, length-append ss ts, p.as_many, q.as_many);
-  seen = plain_append ks is js ss ts p.as_many ∙ ap (λ l. l ++ plain_instrs ks js ts) p.seen ∙ ap (λ l. x ++ l) q.seen;
-  numbers = numbers_append is js ∙ ap (λ l. l ++ numbers_in js) p.numbers ∙ ap (λ l. range_with_len k m ++ l) q.numbers ∙ range_append k m n;
-  straight = straight_append most d is mid js to p.straight q.straight;
-  lawful = lawful_append ks b is js p.lawful q.lawful;
+-- an instruction that pushes these constants
+pub segment_one : (x : Setting) (k n at d to : ℕ) (i : Instr) (s : Span) →
+    numbers_in (i ∷ []) ≡ range_with_len k n → depth_at x.depths at ≡ Some d → d ≤ x.most → Fits x.depths x.most at d i →
+    depth_at x.depths (at + 1) ≡ Some to → to ≤ x.most → (length x.depths ≡ length x.body.instrs → IsLawful x.constants x.body i) →
+    Segment x k n at to (to ∷ []) (i ∷ []) (s ∷ []) (plain_instr x.constants i s ∷ [])
+segment_one x k n at d to i s numbers e l fits f g w = record {
+  as_many = refl;
+  places = refl;
+  seen = refl;
+  numbers = numbers;
+  stand = ((d, e, l, fits), tt);
+  leaves = f;
+  high = g;
+  lawful = λ same. (w same, tt);
 }
 
 -- an instruction that pushes no constant, and then more
-pub segment_cons : (ks : List Value) (b : CodeBody) (most k n d mid to : ℕ) (i : Instr) (js : List Instr) (s : Span) (ts : List Span) (y : List PlainInstr) →
-    numbers_in (i ∷ js) ≡ numbers_in js → mid ≡ after i d → d ≤ most → Goes most d i → IsLawful ks b i →
-    Segment ks b most k n mid to js ts y → Segment ks b most k n d to (i ∷ js) (s ∷ ts) (plain_instr ks i s ∷ y)
-segment_cons ks b most k n d mid to i js s ts y e m l g w q = record {
-  as_many = ap suc q.as_many;
-  seen = ap (λ x. plain_instr ks i s ∷ x) q.seen;
-  numbers = e ∙ q.numbers;
-  straight = (l, g, subst (λ x. Straight most x js to) m q.straight);
-  lawful = (w, q.lawful);
-}
+pub segment_cons : (x : Setting) (k n at d mid to : ℕ) (i : Instr) (gs : List ℕ) (js : List Instr) (s : Span) (ts : List Span) (c : List PlainInstr) →
+    numbers_in (i ∷ js) ≡ numbers_in js → depth_at x.depths at ≡ Some d → d ≤ x.most → Fits x.depths x.most at d i →
+    (length x.depths ≡ length x.body.instrs → IsLawful x.constants x.body i) →
+    Segment x k n (at + 1) to gs js ts c → Segment x k n at to (mid ∷ gs) (i ∷ js) (s ∷ ts) (plain_instr x.constants i s ∷ c)
+segment_cons x k n at d mid to i gs js s ts c numbers e l fits w q =
+    let f : at + 1 + length js ≡ at + suc (length js) = omega arith in
+    record {
+      as_many = ap suc q.as_many;
+      places = ap suc q.places;
+      seen = ap (λ y. plain_instr x.constants i s ∷ y) q.seen;
+      numbers = numbers ∙ q.numbers;
+      stand = ((d, e, l, fits), q.stand);
+      leaves = subst (λ n'. depth_at x.depths n' ≡ Some to) f q.leaves;
+      high = q.high;
+      lawful = λ same. (w same, q.lawful same);
+    }
 
--- the same segment, counted otherwise
-pub segment_is : (ks : List Value) (b : CodeBody) (most k m n d mid to : ℕ) (is : List Instr) (ss : List Span) (x : List PlainInstr) →
-    m ≡ n → mid ≡ to → Segment ks b most k m d mid is ss x → Segment ks b most k n d to is ss x
-segment_is ks b most k m n d mid to is ss x e f p = record {
+-- one after the other
+pub segment_join : (x : Setting) (k m n at mid to : ℕ) (hs gs : List ℕ) (is js : List Instr) (ss ts : List Span) (c e : List PlainInstr) →
+    Segment x k m at mid hs is ss c → Segment x (k + m) n (at + length is) to gs js ts e → Segment x k (m + n) at to (hs ++ gs) (is ++ js) (ss ++ ts) (c ++ e)
+segment_join x k m n at mid to hs gs is js ss ts c e p q =
+    let f : at + length is + length js ≡ at + length (is ++ js) = omega (arith, length-append is js) in
+    record {
+      as_many = omega (arith, length-append is js, length-append ss ts, p.as_many, q.as_many);
+      places = omega (arith, length-append is js, length-append hs gs, p.places, q.places);
+      seen = plain_append x.constants is js ss ts p.as_many ∙ ap (λ l. l ++ plain_instrs x.constants js ts) p.seen ∙ ap (λ l. c ++ l) q.seen;
+      numbers = numbers_append is js ∙ ap (λ l. l ++ numbers_in js) p.numbers ∙ ap (λ l. range_with_len k m ++ l) q.numbers ∙ range_append k m n;
+      stand = stand_append x.most x.depths at is js p.stand q.stand;
+      leaves = subst (λ n'. depth_at x.depths n' ≡ Some to) f q.leaves;
+      high = q.high;
+      lawful = λ same. lawful_append x.constants x.body is js (p.lawful same) (q.lawful same);
+    }
+
+-- the same segment, counted and seen otherwise
+pub segment_is : (x : Setting) (k m n at d to : ℕ) (hs : List ℕ) (is : List Instr) (ss : List Span) (c e : List PlainInstr) →
+    m ≡ n → d ≡ to → c ≡ e → Segment x k m at d hs is ss c → Segment x k n at to hs is ss e
+segment_is x k m n at d to hs is ss c e f g s p = record {
   as_many = p.as_many;
-  seen = p.seen;
-  numbers = p.numbers ∙ ap (λ v. range_with_len k v) e;
-  straight = subst (λ v. Straight most d is v) f p.straight;
+  places = p.places;
+  seen = p.seen ∙ s;
+  numbers = p.numbers ∙ ap (λ v. range_with_len k v) f;
+  stand = p.stand;
+  leaves = p.leaves ∙ ap (λ v. Some v) g;
+  high = omega (arith, g, p.high);
   lawful = p.lawful;
 }
 
--- the table of straight instructions, with a halt
-abbrev pub table : ℕ → List Instr → Depths
-table d [] = Some d ∷ []
-table d (i ∷ is) = Some d ∷ table (after i d) is
+pub plain_length : (ks : List Value) (is : List Instr) (ss : List Span) → length ss ≡ length is → length (plain_instrs ks is ss) ≡ length is
+plain_length ks [] ss e = refl
+plain_length ks (i ∷ is) [] e = absurd (let f : 0 ≡ suc (length is) = e in omega (arith, f))
+plain_length ks (i ∷ is) (s ∷ ss) e = ap suc (plain_length ks is ss (omega (arith, e)))
 
-table_first : (d : ℕ) (is : List Instr) → depth_at (table d is) 0 ≡ Some d
-table_first d [] = refl
-table_first d (i ∷ is) = refl
+module _ (x : Setting) (k n at to : ℕ) (hs : List ℕ) (is : List Instr) (ss : List Span) (code : List PlainInstr) (p : Segment x k n at to hs is ss code) where
+  -- the machine sees as many
+  pub seen_length : length is ≡ length code
+  seen_length = sym (plain_length x.constants is ss p.as_many) ∙ ap length p.seen
 
--- an instruction of the table: a halt at depth 1, or one that goes on
-abbrev Stands : ℕ → Depths → ℕ → ℕ → Instr → Type 0
-Stands most ds at d (Const k) = Goes most d (Const k) × (depth_at ds (suc at) ≡ Some (after (Const k) d))
-Stands most ds at d (Local i) = Goes most d (Local i) × (depth_at ds (suc at) ≡ Some (after (Local i) d))
-Stands most ds at d (Store i) = Goes most d (Store i) × (depth_at ds (suc at) ≡ Some (after (Store i) d))
-Stands most ds at d Pop = Goes most d Pop × (depth_at ds (suc at) ≡ Some (after Pop d))
-Stands most ds at d (Jump t) = ⊥
-Stands most ds at d (JumpFalse t) = ⊥
-Stands most ds at d (Core op n) = Goes most d (Core op n) × (depth_at ds (suc at) ≡ Some (after (Core op n) d))
-Stands most ds at d (Vector n) = Goes most d (Vector n) × (depth_at ds (suc at) ≡ Some (after (Vector n) d))
-Stands most ds at d (Print n) = Goes most d (Print n) × (depth_at ds (suc at) ≡ Some (after (Print n) d))
-Stands most ds at d Halt = d ≡ 1
+  -- the depths behind what follows
+  pub depths_rest : (gs : List ℕ) → On x.depths (at + 1) (hs ++ gs) → On x.depths (at + length is + 1) gs
+  depths_rest gs o =
+      let e : at + 1 + length hs ≡ at + length is + 1 = omega (arith, p.places) in
+      subst (λ m. On x.depths m gs) e (on_rest x.depths (at + 1) hs gs o)
 
-stands_of : (most : ℕ) (ds : Depths) (at d : ℕ) (i : Instr) → Goes most d i → depth_at ds (suc at) ≡ Some (after i d) → Stands most ds at d i
-stands_of most ds at d (Const k) g e = (g, e)
-stands_of most ds at d (Local i) g e = (g, e)
-stands_of most ds at d (Store i) g e = (g, e)
-stands_of most ds at d Pop g e = (g, e)
-stands_of most ds at d (Jump t) g e = g
-stands_of most ds at d (JumpFalse t) g e = g
-stands_of most ds at d (Core op n) g e = (g, e)
-stands_of most ds at d (Vector n) g e = (g, e)
-stands_of most ds at d (Print n) g e = (g, e)
-stands_of most ds at d Halt g e = absurd g
+  -- code that follows, as the machine sees it
+  pub seen_then : (f : ℕ → List PlainInstr) → code ++ f (at + length is) ≡ then_code at code f
+  seen_then f = ap (λ m. code ++ f (at + m)) seen_length
 
-stands_suc : (most : ℕ) (x : Option ℕ) (ds : Depths) (at d : ℕ) (i : Instr) → Stands most ds at d i → Stands most (x ∷ ds) (suc at) d i
-stands_suc most x ds at d (Const k) p = (p.0, p.1)
-stands_suc most x ds at d (Local i) p = (p.0, p.1)
-stands_suc most x ds at d (Store i) p = (p.0, p.1)
-stands_suc most x ds at d Pop p = (p.0, p.1)
-stands_suc most x ds at d (Jump t) p = p
-stands_suc most x ds at d (JumpFalse t) p = p
-stands_suc most x ds at d (Core op n) p = (p.0, p.1)
-stands_suc most x ds at d (Vector n) p = (p.0, p.1)
-stands_suc most x ds at d (Print n) p = (p.0, p.1)
-stands_suc most x ds at d Halt p = p
+some_same : (m n : ℕ) → Some m ≡ Some n → m ≡ n
+some_same m n e = cc
 
-fits_of : (most : ℕ) (ds : Depths) (at d : ℕ) (i : Instr) → Stands most ds at d i → Fits ds most at d i
-fits_of most ds at d (Const k) p = let e : suc at ≡ at + 1 = omega arith in (p.0, subst (λ n. depth_at ds n ≡ Some (d + 1)) e p.1)
-fits_of most ds at d (Local i) p = let e : suc at ≡ at + 1 = omega arith in (p.0, subst (λ n. depth_at ds n ≡ Some (d + 1)) e p.1)
-fits_of most ds at d (Store i) p = let e : suc at ≡ at + 1 = omega arith in (p.0, subst (λ n. depth_at ds n ≡ Some (d - 1)) e p.1)
-fits_of most ds at d Pop p = let e : suc at ≡ at + 1 = omega arith in (p.0, subst (λ n. depth_at ds n ≡ Some (d - 1)) e p.1)
-fits_of most ds at d (Jump t) p = absurd p
-fits_of most ds at d (JumpFalse t) p = absurd p
-fits_of most ds at d (Core op n) p = let e : suc at ≡ at + 1 = omega arith in (p.0.0, p.0.1, subst (λ n'. depth_at ds n' ≡ Some (d - n + 1)) e p.1)
-fits_of most ds at d (Vector n) p = let e : suc at ≡ at + 1 = omega arith in (p.0.0, p.0.1, subst (λ n'. depth_at ds n' ≡ Some (d - n + 1)) e p.1)
-fits_of most ds at d (Print n) p = let e : suc at ≡ at + 1 = omega arith in (p.0.0, p.0.1, subst (λ n'. depth_at ds n' ≡ Some (d - n + 1)) e p.1)
-fits_of most ds at d Halt p = p
-
-table_within : (most d : ℕ) (is : List Instr) → Straight most d is 1 → (at e : ℕ) → depth_at (table d is) at ≡ Some e → e ≤ most
-table_within most d [] p zero e q = let f : d ≡ e = cc in omega (arith, f, p.1)
-table_within most d [] p (suc at) e q = cc
-table_within most d (i ∷ is) p zero e q = let f : d ≡ e = cc in omega (arith, f, p.0)
-table_within most d (i ∷ is) p (suc at) e q = table_within most (after i d) is p.2 at e q
-
-table_stands : (most d : ℕ) (is : List Instr) → Straight most d is 1 → (at e : ℕ) → depth_at (table d is) at ≡ Some e → (i : Instr) × (nth (is ++ Halt ∷ []) at ≡ Some i) × Stands most (table d is) at e i
-table_stands most d [] p zero e q = let f : e ≡ 1 = (let g : d ≡ e = cc in omega (arith, g, p.0)) in (Halt, refl, f)
-table_stands most d [] p (suc at) e q = cc
-table_stands most d (i ∷ is) p zero e q =
-    let f : d ≡ e = cc in
-    (i, refl, subst (λ n. Stands most (table d (i ∷ is)) 0 n i) f (stands_of most (table d (i ∷ is)) 0 d i p.1 (table_first (after i d) is)))
-table_stands most d (i ∷ is) p (suc at) e q =
-    let r = table_stands most (after i d) is p.2 at e q in (r.0, r.1, stands_suc most (Some d) (table (after i d) is) at e r.0 r.2)
-
--- straight instructions to depth 1 and a halt are well typed
-pub straight_well_typed : (ks : List Value) (b : CodeBody) (most : ℕ) (is : List Instr) → b.instrs ≡ is ++ Halt ∷ [] → Straight most 0 is 1 → Lawful ks b is → WellTypedBody ks b most
-straight_well_typed ks b most is e p w = record {
-  lawful = λ at i h. lawful_at ks b (is ++ Halt ∷ []) (lawful_append ks b is (Halt ∷ []) w (tt, tt)) at i (ap (λ l. nth l at) (sym e) ∙ h);
-  table = (
-    table 0 is,
+-- instructions that fit a table of their length are well typed
+pub stand_well_typed : (x : Setting) → length x.depths ≡ length x.body.instrs → depth_at x.depths 0 ≡ Some 0 → Stand x.most x.depths 0 x.body.instrs → Lawful x.constants x.body x.body.instrs → WellTypedBody x.constants x.body x.most
+stand_well_typed x same first p w =
+    let found = λ (at : ℕ) (d : ℕ) (e : depth_at x.depths at ≡ Some d). stands_at x.most x.depths x.body.instrs at p (omega (arith, same, depth_within x.depths at d e)) in
     record {
-      first = table_first 0 is;
-      within = table_within most 0 is p;
-      fits = λ at d h. let r = table_stands most 0 is p at d h in (r.0, ap (λ l. nth l at) e ∙ r.1, fits_of most (table 0 is) at d r.0 r.2);
-    },
-  );
-}
+      lawful = lawful_at x.constants x.body x.body.instrs w;
+      table = (
+        x.depths,
+        record {
+          first = first;
+          within = λ at d e. let r = found at d e in let f : r.2.0 ≡ d = some_same r.2.0 d (sym r.2.1 ∙ e) in omega (arith, f, r.2.2);
+          fits = λ at d e. let r = found at d e in let f : r.2.0 ≡ d = some_same r.2.0 d (sym r.2.1 ∙ e) in (r.0, r.1, subst (λ n. Fits x.depths x.most at n r.0) f r.2.3);
+        },
+      );
+    }

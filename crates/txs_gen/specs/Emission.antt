@@ -1,12 +1,13 @@
 -- What an emitter has made so far, and what it makes of a tree.
-use Rattle.std.specs.Prelude.{◌≡◌, ℕ, ◌+◌, ◌<◌, ◌≤◌, max, Bool, true, false, List, [], ◌∷◌, ◌++◌, length}
-use Rattle.txs_value.specs.Core.{takes}
+use Rattle.std.specs.Prelude.{◌≡◌, ℕ, zero, suc, ◌+◌, ◌<◌, ◌≤◌, max, Bool, true, false, List, [], ◌∷◌, ◌++◌, length, Option, Some, None, slice_set}
 use Rattle.txs_value.specs.declared.fault.Span.{Span}
 use Rattle.txs_value.specs.declared.value.Value.{Value}
+use Rattle.txs_tree.specs.Sound.{TakesFew}
 use Rattle.txs_tree.specs.Tree.{Tree, Const, Local, If, Do, Let, Loop, Recur, Core, Call, VectorOf, Println, Dosync, Deref, Alter, Trees, none, more, count}
 use Rattle.txs_code.specs.declared.instr.Instr.{Instr}
 use Rattle.txs_code.specs.declared.instr.Instr.TheVariants as instr
-use Rattle.txs_gen.specs.Generated.{spans_of, spans_of_all, spans_of_let, spans_of_do, constants_of, constants_in}
+use Rattle.txs_gen.specs.Generated.{copies, spans_of, spans_of_all, spans_of_let, spans_of_do, constants_of, constants_in}
+use Rattle.txs_gen.specs.declared.emit.Around.{Around}
 use Rattle.txs_gen.specs.declared.emit.Emitter.{Emitter}
 
 -- instructions with their spans, the constants that they push, and how many locals and how much stack they use
@@ -20,81 +21,124 @@ pub record Emission : Type 0 where
 abbrev pub emission : Emitter → Emission
 emission e = record { instrs = e.instrs.items; spans = e.spans.items; constants = e.constants.items; locals = e.locals; room = e.room }
 
--- A sound tree of the kinds that there are, with so many locals.
+-- A sound tree of the kinds that there are, outside every transaction, with so many locals. In tail position of a loop
+-- the number of the loop's values is given.
 abbrev mutual
-  pub IsPart : ℕ → Tree → Type 0
-  IsPart d (Const v m) = Unit {0}
-  IsPart d (Local i m) = i < d
-  IsPart d (If c a b m) = ⊥
-  IsPart d (Do items m) = IsPartDo d items
-  IsPart d (Let values body m) = IsPartLet d values × IsPart (d + count values) body
-  IsPart d (Loop values body m) = ⊥
-  IsPart d (Recur values m) = ⊥
-  IsPart d (Core op args m) = (takes op (count args) ≡ true) × (count args ≤ 65535) × IsPartAll d args
-  IsPart d (Call f args m) = ⊥
-  IsPart d (VectorOf items m) = ⊥
-  IsPart d (Println args m) = (count args ≤ 65535) × IsPartAll d args
-  IsPart d (Dosync body m) = ⊥
-  IsPart d (Deref cell m) = ⊥
-  IsPart d (Alter cell callee args m) = ⊥
+  pub IsPart : ℕ → Option ℕ → Tree → Type 0
+  IsPart d tail (Const v m) = Unit {0}
+  IsPart d tail (Local i m) = i < d
+  IsPart d tail (If c a b m) = IsPart d None c × IsPart d tail a × IsPart d tail b
+  IsPart d tail (Do items m) = IsPartDo d tail items
+  IsPart d tail (Let values body m) = IsPartLet d values × IsPart (d + count values) tail body
+  IsPart d tail (Loop values body m) = IsPartLet d values × IsPart (d + count values) (Some (count values)) body
+  IsPart d tail (Recur values m) = (tail ≡ Some (count values)) × IsPartAll d values
+  IsPart d tail (Core op args m) = TakesFew op (count args) × IsPartAll d args
+  IsPart d tail (Call f args m) = ⊥
+  IsPart d tail (VectorOf items m) = (count items ≤ 65535) × IsPartAll d items
+  IsPart d tail (Println args m) = (count args ≤ 65535) × IsPartAll d args
+  IsPart d tail (Dosync body m) = ⊥
+  IsPart d tail (Deref cell m) = ⊥
+  IsPart d tail (Alter cell callee args m) = ⊥
 
   pub IsPartAll : ℕ → Trees → Type 0
   IsPartAll d none = Unit {0}
-  IsPartAll d (more e rest) = IsPart d e × IsPartAll d rest
+  IsPartAll d (more e rest) = IsPart d None e × IsPartAll d rest
 
   pub IsPartLet : ℕ → Trees → Type 0
   IsPartLet d none = d ≤ 200
-  IsPartLet d (more e rest) = IsPart d e × IsPartLet (d + 1) rest
+  IsPartLet d (more e rest) = IsPart d None e × IsPartLet (d + 1) rest
 
-  pub IsPartDo : ℕ → Trees → Type 0
-  IsPartDo d none = ⊥
-  IsPartDo d (more e none) = IsPart d e
-  IsPartDo d (more e (more f rest)) = IsPart d e × IsPartDo d (more f rest)
+  pub IsPartDo : ℕ → Option ℕ → Trees → Type 0
+  IsPartDo d tail none = ⊥
+  IsPartDo d tail (more e none) = IsPart d tail e
+  IsPartDo d tail (more e (more f rest)) = IsPart d None e × IsPartDo d tail (more f rest)
 
--- The instructions of a tree with so many locals, where so many constants are there already.
+-- the locals of the nearest loop, from base on, are among those that there are
+abbrev pub IsWithin : ℕ → Option ℕ → ℕ → Type 0
+IsWithin base None d = Unit {0}
+IsWithin base (Some n) d = (base + n ≤ d) × (d ≤ 200)
+
+-- such a tree where the nearest loop's locals begin at base
+abbrev pub IsPlaced : ℕ → ℕ → Tree → Type 0
+IsPlaced d base t = (tail : Option ℕ) × IsWithin base tail d × IsPart d tail t
+
+abbrev pub IsPlacedDo : ℕ → ℕ → Trees → Type 0
+IsPlacedDo d base ts = (tail : Option ℕ) × IsWithin base tail d × IsPartDo d tail ts
+
+-- instructions that begin at a place, and what follows them
+abbrev pub then_instrs : ℕ → List Instr → (ℕ → List Instr) → List Instr
+then_instrs pc is rest = is ++ rest (pc + length is)
+
+-- a choice, after its test: where it fails, past the first branch and the jump over the second
+abbrev pub if_instrs : ℕ → List Instr → (ℕ → List Instr) → List Instr
+if_instrs pc a b =
+    instr.JumpFalse (pc + 1 + length a + 1) ∷ (a ++ instr.Jump (pc + 1 + length a + 1 + length (b (pc + 1 + length a + 1))) ∷ b (pc + 1 + length a + 1))
+
+-- the topmost values become the locals from i on, the last one first
+abbrev pub stores_from : ℕ → ℕ → List Instr
+stores_from i zero = []
+stores_from i (suc n) = instr.Store (i + n) ∷ stores_from i n
+
+-- The instructions of a tree with so many locals, from a place of the body on. base and start: the first local of the
+-- nearest loop, and the place of its body. So many constants are there already.
 abbrev mutual
-  pub instrs_of : Tree → ℕ → ℕ → List Instr
-  instrs_of (Const v m) d k = instr.Const k ∷ []
-  instrs_of (Local i m) d k = instr.Local i ∷ []
-  instrs_of (If c a b m) d k = []
-  instrs_of (Do items m) d k = instrs_of_do items d k
-  instrs_of (Let values body m) d k = instrs_of_let values d k ++ instrs_of body (d + count values) (k + length (constants_in values))
-  instrs_of (Loop values body m) d k = []
-  instrs_of (Recur values m) d k = []
-  instrs_of (Core op args m) d k = instrs_of_all args d k ++ instr.Core op (count args) ∷ []
-  instrs_of (Call f args m) d k = []
-  instrs_of (VectorOf items m) d k = []
-  instrs_of (Println args m) d k = instrs_of_all args d k ++ instr.Print (count args) ∷ []
-  instrs_of (Dosync body m) d k = []
-  instrs_of (Deref cell m) d k = []
-  instrs_of (Alter cell callee args m) d k = []
+  pub instrs_of : Tree → ℕ → ℕ → ℕ → ℕ → ℕ → List Instr
+  instrs_of (Const v m) d base start pc k = instr.Const k ∷ []
+  instrs_of (Local i m) d base start pc k = instr.Local i ∷ []
+  instrs_of (If c a b m) d base start pc k =
+      then_instrs pc (instrs_of c d base start pc k) (λ p.
+      if_instrs p (instrs_of a d base start (p + 1) (k + length (constants_of c))) (λ q.
+      instrs_of b d base start q (k + length (constants_of c) + length (constants_of a))))
+  instrs_of (Do items m) d base start pc k = instrs_of_do items d base start pc k
+  instrs_of (Let values body m) d base start pc k =
+      then_instrs pc (instrs_of_let values d base start pc k) (λ p.
+      instrs_of body (d + count values) base start p (k + length (constants_in values)))
+  instrs_of (Loop values body m) d base start pc k =
+      then_instrs pc (instrs_of_let values d base start pc k) (λ p.
+      instrs_of body (d + count values) d p p (k + length (constants_in values)))
+  instrs_of (Recur values m) d base start pc k =
+      instrs_of_all values d base start pc k ++ (stores_from base (count values) ++ instr.Jump start ∷ [])
+  instrs_of (Core op args m) d base start pc k = instrs_of_all args d base start pc k ++ instr.Core op (count args) ∷ []
+  instrs_of (Call f args m) d base start pc k = []
+  instrs_of (VectorOf items m) d base start pc k = instrs_of_all items d base start pc k ++ instr.Vector (count items) ∷ []
+  instrs_of (Println args m) d base start pc k = instrs_of_all args d base start pc k ++ instr.Print (count args) ∷ []
+  instrs_of (Dosync body m) d base start pc k = []
+  instrs_of (Deref cell m) d base start pc k = []
+  instrs_of (Alter cell callee args m) d base start pc k = []
 
-  pub instrs_of_all : Trees → ℕ → ℕ → List Instr
-  instrs_of_all none d k = []
-  instrs_of_all (more e rest) d k = instrs_of e d k ++ instrs_of_all rest d (k + length (constants_of e))
+  pub instrs_of_all : Trees → ℕ → ℕ → ℕ → ℕ → ℕ → List Instr
+  instrs_of_all none d base start pc k = []
+  instrs_of_all (more e rest) d base start pc k =
+      then_instrs pc (instrs_of e d base start pc k) (λ p. instrs_of_all rest d base start p (k + length (constants_of e)))
 
-  pub instrs_of_let : Trees → ℕ → ℕ → List Instr
-  instrs_of_let none d k = []
-  instrs_of_let (more e rest) d k = instrs_of e d k ++ instr.Store d ∷ instrs_of_let rest (d + 1) (k + length (constants_of e))
+  -- each value is stored
+  pub instrs_of_let : Trees → ℕ → ℕ → ℕ → ℕ → ℕ → List Instr
+  instrs_of_let none d base start pc k = []
+  instrs_of_let (more e rest) d base start pc k =
+      then_instrs pc (instrs_of e d base start pc k) (λ p.
+      instr.Store d ∷ instrs_of_let rest (d + 1) base start (p + 1) (k + length (constants_of e)))
 
-  pub instrs_of_do : Trees → ℕ → ℕ → List Instr
-  instrs_of_do none d k = []
-  instrs_of_do (more e none) d k = instrs_of e d k
-  instrs_of_do (more e (more f rest)) d k = instrs_of e d k ++ instr.Pop ∷ instrs_of_do (more f rest) d (k + length (constants_of e))
+  -- each item but the last is popped
+  pub instrs_of_do : Trees → ℕ → ℕ → ℕ → ℕ → ℕ → List Instr
+  instrs_of_do none d base start pc k = []
+  instrs_of_do (more e none) d base start pc k = instrs_of e d base start pc k
+  instrs_of_do (more e (more f rest)) d base start pc k =
+      then_instrs pc (instrs_of e d base start pc k) (λ p.
+      instr.Pop ∷ instrs_of_do (more f rest) d base start (p + 1) (k + length (constants_of e)))
 
--- one past the last local that is stored, or 0
+-- one past the last local that is stored, or 0; a recur stores into locals of its loop, which are there
 abbrev mutual
   pub stored : Tree → ℕ → ℕ
   stored (Const v m) d = 0
   stored (Local i m) d = 0
-  stored (If c a b m) d = 0
+  stored (If c a b m) d = max (stored c d) (max (stored a d) (stored b d))
   stored (Do items m) d = stored_in items d
   stored (Let values body m) d = max (stored_let values d) (stored body (d + count values))
-  stored (Loop values body m) d = 0
-  stored (Recur values m) d = 0
+  stored (Loop values body m) d = max (stored_let values d) (stored body (d + count values))
+  stored (Recur values m) d = stored_in values d
   stored (Core op args m) d = stored_in args d
   stored (Call f args m) d = 0
-  stored (VectorOf items m) d = 0
+  stored (VectorOf items m) d = stored_in items d
   stored (Println args m) d = stored_in args d
   stored (Dosync body m) d = 0
   stored (Deref cell m) d = 0
@@ -108,19 +152,20 @@ abbrev mutual
   stored_let none d = 0
   stored_let (more e rest) d = max (stored e d) (max (d + 1) (stored_let rest (d + 1)))
 
--- how high the stack is at most, where so many values are on it already; 0 where nothing is pushed
+-- How much room a tree's code is given on the stack, where so many values are on it already: as high as it is at most.
+-- A recur is given the room of a value too, as if it left one. 0 where nothing is pushed.
 abbrev mutual
   pub top : Tree → ℕ → ℕ
   top (Const v m) h = h + 1
   top (Local i m) h = h + 1
-  top (If c a b m) h = 0
+  top (If c a b m) h = max (top c h) (max (top a h) (top b h))
   top (Do items m) h = top_in items h
   top (Let values body m) h = max (top_in values h) (top body h)
-  top (Loop values body m) h = 0
-  top (Recur values m) h = 0
+  top (Loop values body m) h = max (top_in values h) (top body h)
+  top (Recur values m) h = max (top_args values h) (h + 1)
   top (Core op args m) h = top_args args h
   top (Call f args m) h = 0
-  top (VectorOf items m) h = 0
+  top (VectorOf items m) h = max (top_args items h) (h + 1)
   top (Println args m) h = max (top_args args h) (h + 1)
   top (Dosync body m) h = 0
   top (Deref cell m) h = 0
@@ -137,41 +182,51 @@ abbrev mutual
   top_args (more e rest) h = max (top e h) (top_args rest (h + 1))
 
 -- what there is with so much more
-unfoldable pub emits : Tree → ℕ → ℕ → Emission → Emission
-emits t d h e = record {
-  instrs = e.instrs ++ instrs_of t d (length e.constants);
+unfoldable pub emits : Tree → Around → Emission → Emission
+emits t at e = record {
+  instrs = e.instrs ++ instrs_of t at.depth at.base at.start (length e.instrs) (length e.constants);
   spans = e.spans ++ spans_of t;
   constants = e.constants ++ constants_of t;
-  locals = max e.locals (stored t d);
-  room = max e.room (top t h);
+  locals = max e.locals (stored t at.depth);
+  room = max e.room (top t at.height);
 }
 
-unfoldable pub emits_all : Trees → ℕ → ℕ → Emission → Emission
-emits_all ts d h e = record {
-  instrs = e.instrs ++ instrs_of_all ts d (length e.constants);
+unfoldable pub emits_all : Trees → Around → Emission → Emission
+emits_all ts at e = record {
+  instrs = e.instrs ++ instrs_of_all ts at.depth at.base at.start (length e.instrs) (length e.constants);
   spans = e.spans ++ spans_of_all ts;
   constants = e.constants ++ constants_in ts;
-  locals = max e.locals (stored_in ts d);
-  room = max e.room (top_args ts h);
+  locals = max e.locals (stored_in ts at.depth);
+  room = max e.room (top_args ts at.height);
 }
 
-unfoldable pub emits_let : Trees → Span → ℕ → ℕ → Emission → Emission
-emits_let ts span d h e = record {
-  instrs = e.instrs ++ instrs_of_let ts d (length e.constants);
+unfoldable pub emits_let : Trees → Span → Around → Emission → Emission
+emits_let ts span at e = record {
+  instrs = e.instrs ++ instrs_of_let ts at.depth at.base at.start (length e.instrs) (length e.constants);
   spans = e.spans ++ spans_of_let span ts;
   constants = e.constants ++ constants_in ts;
-  locals = max e.locals (stored_let ts d);
-  room = max e.room (top_in ts h);
+  locals = max e.locals (stored_let ts at.depth);
+  room = max e.room (top_in ts at.height);
 }
 
-unfoldable pub emits_do : Trees → Span → ℕ → ℕ → Emission → Emission
-emits_do ts span d h e = record {
-  instrs = e.instrs ++ instrs_of_do ts d (length e.constants);
+unfoldable pub emits_do : Trees → Span → Around → Emission → Emission
+emits_do ts span at e = record {
+  instrs = e.instrs ++ instrs_of_do ts at.depth at.base at.start (length e.instrs) (length e.constants);
   spans = e.spans ++ spans_of_do span ts;
   constants = e.constants ++ constants_in ts;
-  locals = max e.locals (stored_in ts d);
-  room = max e.room (top_in ts h);
+  locals = max e.locals (stored_in ts at.depth);
+  room = max e.room (top_in ts at.height);
 }
+
+-- a choice, a loop and a recur; whether their results are wanted changes nothing
+unfoldable pub emits_if : Tree → Tree → Tree → Span → Around → Emission → Emission
+emits_if c a b span at e = emits (If c a b (record { span = span; wanted = true })) at e
+
+unfoldable pub emits_loop : Trees → Tree → Span → Around → Emission → Emission
+emits_loop values body span at e = emits (Loop values body (record { span = span; wanted = true })) at e
+
+unfoldable pub emits_recur : Trees → Span → Around → Emission → Emission
+emits_recur values span at e = emits (Recur values (record { span = span; wanted = true })) at e
 
 -- one more instruction
 abbrev pub with_instr : Instr → Span → Emission → Emission
@@ -193,3 +248,11 @@ with_locals n e = record e { locals = max e.locals n }
 abbrev pub with_pop : Bool → Span → Emission → Emission
 with_pop true span e = e
 with_pop false span e = with_instr instr.Pop span e
+
+-- the topmost values are stored as locals from i on
+abbrev pub with_stores : ℕ → ℕ → Span → Emission → Emission
+with_stores i n span e = record e { instrs = e.instrs ++ stores_from i n; spans = e.spans ++ copies n span }
+
+-- another instruction at a place
+abbrev pub with_set : ℕ → Instr → Emission → Emission
+with_set place i e = record e { instrs = slice_set e.instrs place i }

@@ -1,15 +1,25 @@
 //! The code of a thread's tree.
 
-ghost use Rattle.std.specs.Prelude.{◌≡◌, ◌+◌, ◌<◌, ◌≤◌, OnOk, MatchResult, length, IfOk, [], ◌∷◌};
+ghost use Rattle.std.specs.Prelude.{◌≡◌, ◌+◌, ◌*◌, ◌<◌, ◌≤◌, OnOk, MatchResult, length, IfOk, [], ◌∷◌, None, Some};
 ghost use Rattle.txs_tree.specs.Sound.{nodes, nodes_in};
 ghost use Rattle.txs_tree.specs.Tree.{count};
 ghost use Rattle.txs_tree.specs.View.{tree_of, trees_of};
-ghost use Rattle.txs_gen.specs.Emission.{emission, emits, emits_all, emits_do, emits_let, IsPart, IsPartAll, IsPartDo, IsPartLet, with_constant, with_instr, with_locals, with_pop, with_room};
+ghost use Rattle.txs_gen.specs.Emission.{emission, emits, emits_all, emits_do, emits_let, emits_if, emits_loop, emits_recur, IsWithin, IsPlaced, IsPlacedDo, IsPart, IsPartAll, IsPartLet, with_constant, with_instr, with_locals, with_pop, with_room, with_set, with_stores};
 
 use std::alloc::{AllocError, Global};
 use txs_code::Instr;
 use txs_tree::{Node, NodeKind};
 use txs_value::{Span, Value, copy_value};
+
+/// Where a node's code stands: how many locals there are, how many values are on the stack, and what a
+/// recur does there: from which local on it stores its values, and where it goes on.
+#[derive(Clone, Copy)]
+pub struct Around {
+    pub depth: u8,
+    pub height: u32,
+    pub base: u8,
+    pub start: u32,
+}
 
 /// The code that was made so far: instructions with their spans, the constants that they push, how many
 /// locals they use, and how many values they have on the stack at most.
@@ -62,6 +72,35 @@ impl Emitter {
         }
     }
 
+    /// The values on top of the stack become the locals from this one on, the last one first.
+    fn store_all(&mut self, from: u8, count: u8, span: Span) -> Result<(), AllocError>
+        requires { from + count ≤ 255 }
+        ensures { OnOk result (emission self.new ≡ with_stores from count span (emission self.old)) }
+    {
+        let mut left = count;
+        for _ in 0..count {
+            left -= 1;
+            self.put(Instr::Store(from + left), span)?;
+        }
+        Ok(())
+    }
+
+    /// The place of the next instruction.
+    fn place(&self) -> u32
+        requires { length self.now.instrs.items ≤ 600000 }
+        ensures { result ≡ length self.now.instrs.items }
+    {
+        self.instrs.len() as u32
+    }
+
+    /// Another instruction at a place.
+    fn set(&mut self, place: u32, instr: Instr)
+        requires { place < length self.old.instrs.items }
+        ensures { emission self.new ≡ with_set place instr (emission self.old) }
+    {
+        self.instrs[place as usize] = instr;
+    }
+
     /// So many values are on the stack.
     fn rise(&mut self, height: u32)
         ensures { emission self.new ≡ with_room height (emission self.old) }
@@ -70,41 +109,46 @@ impl Emitter {
     }
 }
 
-/// The code of a node, where there are so many locals, and so many values on the stack.
+/// The code of a node.
 #[cycle(emit)]
-pub fn emit(
-    alloc: Global,
-    to: &mut Emitter,
-    node: &Node,
-    depth: u8,
-    height: u32,
-) -> Result<(), AllocError>
-    requires part { IsPart depth (tree_of node.now) }
+pub fn emit(alloc: Global, to: &mut Emitter, node: &Node, at: Around) -> Result<(), AllocError>
+    requires part { IsPlaced at.depth at.base (tree_of node.now) }
     requires few_constants { length to.old.constants.items + nodes (tree_of node.now) ≤ 200000 }
-    requires low { height + nodes (tree_of node.now) ≤ 200000 }
-    ensures { OnOk result (emission to.new ≡ emits (tree_of node.now) depth height (emission to.old)) }
+    requires few_instrs { length to.old.instrs.items + 3 * nodes (tree_of node.now) ≤ 600000 }
+    requires low { at.height + nodes (tree_of node.now) ≤ 200000 }
+    ensures { OnOk result (emission to.new ≡ emits (tree_of node.now) at (emission to.old)) }
 {
     match &node.kind {
         NodeKind::Const(value) => {
-            to.rise(height + 1);
+            to.rise(at.height + 1);
             to.constant(alloc, value, node.span)
         }
         NodeKind::Local(local) => {
-            to.rise(height + 1);
+            to.rise(at.height + 1);
             to.put(Instr::Local(*local), node.span)
         }
-        NodeKind::Do(items) => emit_do(alloc, to, items, node.span, depth, height),
-        NodeKind::Let(values, body) => {
-            let inner = emit_let(alloc, to, values, node.span, depth, height)?;
-            emit(alloc, to, body, inner, height)
+        NodeKind::If(test, first, second) => {
+            emit_if(alloc, to, test, first, second, node.span, at)
         }
+        NodeKind::Do(items) => emit_do(alloc, to, items, node.span, at),
+        NodeKind::Let(values, body) => {
+            let depth = emit_let(alloc, to, values, node.span, at)?;
+            emit(alloc, to, body, Around { depth, ..at })
+        }
+        NodeKind::Loop(values, body) => emit_loop(alloc, to, values, body, node.span, at),
+        NodeKind::Recur(values) => emit_recur(alloc, to, values, node.span, at),
         NodeKind::Core(op, args) => {
-            emit_all(alloc, to, args, depth, height)?;
+            emit_all(alloc, to, args, at)?;
             to.put(Instr::Core(*op, args.len() as u16), node.span)
         }
+        NodeKind::Vector(items) => {
+            emit_all(alloc, to, items, at)?;
+            to.rise(at.height + 1);
+            to.put(Instr::Vector(items.len() as u16), node.span)
+        }
         NodeKind::Println(args) => {
-            emit_all(alloc, to, args, depth, height)?;
-            to.rise(height + 1);
+            emit_all(alloc, to, args, at)?;
+            to.rise(at.height + 1);
             to.put(Instr::Print(args.len() as u16), node.span)
         }
     }
@@ -112,22 +156,17 @@ pub fn emit(
 
 /// The code of arguments, each of which leaves its value on the stack.
 #[cycle(emit)]
-fn emit_all(
-    alloc: Global,
-    to: &mut Emitter,
-    args: &[Node],
-    depth: u8,
-    height: u32,
-) -> Result<(), AllocError>
-    requires part { IsPartAll depth (trees_of args.now) }
+fn emit_all(alloc: Global, to: &mut Emitter, args: &[Node], at: Around) -> Result<(), AllocError>
+    requires part { IsPartAll at.depth (trees_of args.now) }
     requires few_constants { length to.old.constants.items + nodes_in (trees_of args.now) ≤ 200000 }
-    requires low { height + nodes_in (trees_of args.now) ≤ 200000 }
-    ensures { OnOk result (emission to.new ≡ emits_all (trees_of args.now) depth height (emission to.old)) }
+    requires few_instrs { length to.old.instrs.items + 3 * nodes_in (trees_of args.now) ≤ 600000 }
+    requires low { at.height + nodes_in (trees_of args.now) ≤ 200000 }
+    ensures { OnOk result (emission to.new ≡ emits_all (trees_of args.now) at (emission to.old)) }
 {
-    let mut top = height;
+    let mut height = at.height;
     for arg in args {
-        emit(alloc, to, arg, depth, top)?;
-        top += 1;
+        emit(alloc, to, arg, Around { height, ..at })?;
+        height += 1;
     }
     Ok(())
 }
@@ -139,17 +178,17 @@ fn emit_do(
     to: &mut Emitter,
     items: &[Node],
     span: Span,
-    depth: u8,
-    height: u32,
+    at: Around,
 ) -> Result<(), AllocError>
-    requires part { IsPartDo depth (trees_of items.now) }
+    requires part { IsPlacedDo at.depth at.base (trees_of items.now) }
     requires few_constants { length to.old.constants.items + nodes_in (trees_of items.now) ≤ 200000 }
-    requires low { height + nodes_in (trees_of items.now) ≤ 200000 }
-    ensures { OnOk result (emission to.new ≡ emits_do (trees_of items.now) span depth height (emission to.old)) }
+    requires few_instrs { length to.old.instrs.items + 3 * nodes_in (trees_of items.now) ≤ 600000 }
+    requires low { at.height + nodes_in (trees_of items.now) ≤ 200000 }
+    ensures { OnOk result (emission to.new ≡ emits_do (trees_of items.now) span at (emission to.old)) }
 {
     let mut left = items.len();
     for item in items {
-        emit(alloc, to, item, depth, height)?;
+        emit(alloc, to, item, at)?;
         left -= 1;
         to.pop_unless(left == 0, span)?;
     }
@@ -163,20 +202,100 @@ fn emit_let(
     to: &mut Emitter,
     values: &[Node],
     span: Span,
-    depth: u8,
-    height: u32,
+    at: Around,
 ) -> Result<u8, AllocError>
-    requires part { IsPartLet depth (trees_of values.now) }
+    requires part { IsPartLet at.depth (trees_of values.now) }
     requires few_constants { length to.old.constants.items + nodes_in (trees_of values.now) ≤ 200000 }
-    requires low { height + nodes_in (trees_of values.now) ≤ 200000 }
-    ensures locals { IfOk result (λ inner. inner ≡ depth + count (trees_of values.now)) }
-    ensures code { OnOk result (emission to.new ≡ emits_let (trees_of values.now) span depth height (emission to.old)) }
+    requires few_instrs { length to.old.instrs.items + 3 * nodes_in (trees_of values.now) ≤ 600000 }
+    requires low { at.height + nodes_in (trees_of values.now) ≤ 200000 }
+    ensures locals { IfOk result (λ depth. depth ≡ at.depth + count (trees_of values.now)) }
+    ensures code { OnOk result (emission to.new ≡ emits_let (trees_of values.now) span at (emission to.old)) }
 {
-    let mut local = depth;
+    let mut depth = at.depth;
     for value in values {
-        emit(alloc, to, value, local, height)?;
-        to.store(local, span)?;
-        local += 1;
+        emit(alloc, to, value, Around { depth, ..at })?;
+        to.store(depth, span)?;
+        depth += 1;
     }
-    Ok(local)
+    Ok(depth)
+}
+
+/// The code of a choice: the test, and the branches, of which the machine jumps over one.
+#[cycle(emit)]
+fn emit_if(
+    alloc: Global,
+    to: &mut Emitter,
+    test: &Node,
+    first: &Node,
+    second: &Node,
+    span: Span,
+    at: Around,
+) -> Result<(), AllocError>
+    requires test { IsPart at.depth None (tree_of test.now) }
+    requires first { IsPlaced at.depth at.base (tree_of first.now) }
+    requires second { IsPlaced at.depth at.base (tree_of second.now) }
+    requires few_constants { length to.old.constants.items + (nodes (tree_of test.now) + (nodes (tree_of first.now) + nodes (tree_of second.now))) < 200000 }
+    requires few_instrs { length to.old.instrs.items + 3 * (nodes (tree_of test.now) + (nodes (tree_of first.now) + nodes (tree_of second.now))) < 599998 }
+    requires low { at.height + (nodes (tree_of test.now) + (nodes (tree_of first.now) + nodes (tree_of second.now))) < 200000 }
+    ensures { OnOk result (emission to.new ≡ emits_if (tree_of test.now) (tree_of first.now) (tree_of second.now) span at (emission to.old)) }
+{
+    emit(alloc, to, test, at)?;
+    let to_second = to.place();
+    to.put(Instr::JumpFalse(0), span)?;
+    emit(alloc, to, first, at)?;
+    let to_end = to.place();
+    to.put(Instr::Jump(0), span)?;
+    to.set(to_second, Instr::JumpFalse(to.place()));
+    emit(alloc, to, second, at)?;
+    to.set(to_end, Instr::Jump(to.place()));
+    Ok(())
+}
+
+/// The code of a loop: its values become locals, and what follows them is where a recur goes on.
+#[cycle(emit)]
+fn emit_loop(
+    alloc: Global,
+    to: &mut Emitter,
+    values: &[Node],
+    body: &Node,
+    span: Span,
+    at: Around,
+) -> Result<(), AllocError>
+    requires part { IsPartLet at.depth (trees_of values.now) }
+    requires body { IsPart (at.depth + count (trees_of values.now)) (Some (count (trees_of values.now))) (tree_of body.now) }
+    requires few_constants { length to.old.constants.items + (nodes_in (trees_of values.now) + nodes (tree_of body.now)) < 200000 }
+    requires few_instrs { length to.old.instrs.items + 3 * (nodes_in (trees_of values.now) + nodes (tree_of body.now)) < 599998 }
+    requires low { at.height + (nodes_in (trees_of values.now) + nodes (tree_of body.now)) < 200000 }
+    ensures { OnOk result (emission to.new ≡ emits_loop (trees_of values.now) (tree_of body.now) span at (emission to.old)) }
+{
+    let depth = emit_let(alloc, to, values, span, at)?;
+    let inner = Around {
+        depth,
+        height: at.height,
+        base: at.depth,
+        start: to.place(),
+    };
+    emit(alloc, to, body, inner)
+}
+
+/// The code of a recur: its values become the loop's locals, and the loop goes on.
+#[cycle(emit)]
+fn emit_recur(
+    alloc: Global,
+    to: &mut Emitter,
+    values: &[Node],
+    span: Span,
+    at: Around,
+) -> Result<(), AllocError>
+    requires part { IsPartAll at.depth (trees_of values.now) }
+    requires within { IsWithin at.base (Some (count (trees_of values.now))) at.depth }
+    requires few_constants { length to.old.constants.items + nodes_in (trees_of values.now) < 200000 }
+    requires few_instrs { length to.old.instrs.items + 3 * nodes_in (trees_of values.now) < 599998 }
+    requires low { at.height + nodes_in (trees_of values.now) < 200000 }
+    ensures { OnOk result (emission to.new ≡ emits_recur (trees_of values.now) span at (emission to.old)) }
+{
+    emit_all(alloc, to, values, at)?;
+    to.rise(at.height + 1);
+    to.store_all(at.base, values.len() as u8, span)?;
+    to.put(Instr::Jump(at.start), span)
 }

@@ -1,13 +1,13 @@
 //! The code of a program.
 
-ghost use Rattle.std.specs.Prelude.{◌≡◌, ◌+◌, ◌≤◌, length, IfOk};
+ghost use Rattle.std.specs.Prelude.{◌≡◌, ◌+◌, ◌≤◌, length, IfOk, None};
 ghost use Rattle.txs_tree.specs.Sound.{nodes};
 ghost use Rattle.txs_tree.specs.View.{tree_of, thread_of, threads_of, program_of};
 ghost use Rattle.txs_gen.specs.Bodies.{finished};
 ghost use Rattle.txs_gen.specs.Emission.{emission, IsPart};
 ghost use Rattle.txs_gen.specs.Generated.{IsCodeOf};
 
-use crate::emit::{Emitter, emit};
+use crate::emit::{Around, Emitter, emit};
 use std::alloc::{AllocError, Global};
 use txs_code::{Body, Code, Instr, Verified};
 use txs_tree::{Program, Thread};
@@ -38,7 +38,7 @@ pub fn generate(alloc: Global, program: &Program) -> Result<Verified, AllocError
 
 /// The code of a thread, after these constants.
 fn thread_code(alloc: Global, constants: Vec<Value>, thread: &Thread) -> Result<Emitter, AllocError>
-    requires part { IsPart 0 (tree_of thread.now.body) }
+    requires part { IsPart 0 None (tree_of thread.now.body) }
     requires few_constants { length constants.items + nodes (tree_of thread.now.body) ≤ 200000 }
     ensures { IfOk result (λ made. emission made ≡ finished (thread_of thread.now) constants.items) }
 {
@@ -49,7 +49,13 @@ fn thread_code(alloc: Global, constants: Vec<Value>, thread: &Thread) -> Result<
         locals: 0,
         room: 0,
     };
-    emit(alloc, &mut made, &thread.body, 0, 0)?;
+    let outermost = Around {
+        depth: 0,
+        height: 0,
+        base: 0,
+        start: 0,
+    };
+    emit(alloc, &mut made, &thread.body, outermost)?;
     made.put(Instr::Halt, thread.span)?;
     Ok(made)
 }
