@@ -140,3 +140,118 @@ fn a_local_is_stored_and_a_value_dropped(rt: HostRuntime) -> Result<(), Fail> {
     assert!(rt; verified.rooms() == [1].as_slice());
     Ok(())
 }
+
+fn choice(
+    alloc: Global,
+    test: Node,
+    first: Node,
+    second: Node,
+    at: Span,
+) -> Result<Node, AllocError> {
+    let test = Box::new(alloc, test)?;
+    let first = Box::new(alloc, first)?;
+    let second = Box::new(alloc, second)?;
+    Ok(Node {
+        kind: NodeKind::If(test, first, second),
+        span: at,
+        wanted: true,
+    })
+}
+
+#[test]
+fn a_choice_jumps_over_one_branch(rt: HostRuntime) -> Result<(), Fail> {
+    let alloc = rt.alloc();
+    let items = Node {
+        kind: NodeKind::Vector(one(alloc, number(1, at(12, 13)))?),
+        span: at(11, 14),
+        wanted: true,
+    };
+    let body = choice(
+        alloc,
+        number(0, at(9, 10)),
+        items,
+        number(2, at(15, 16)),
+        at(5, 17),
+    )?;
+    let program = program(alloc, body, at(0, 18))?.expect(&rt, "sound");
+    let verified = generate(alloc, &program)?;
+    for thread in verified.code().threads() {
+        let instrs = [
+            Instr::Const(0),
+            Instr::JumpFalse(5),
+            Instr::Const(1),
+            Instr::Vector(1),
+            Instr::Jump(6),
+            Instr::Const(2),
+            Instr::Halt,
+        ];
+        assert!(rt; thread.instrs() == instrs.as_slice());
+        let spans = [
+            at(9, 10),
+            at(5, 17),
+            at(12, 13),
+            at(11, 14),
+            at(5, 17),
+            at(15, 16),
+            at(0, 18),
+        ];
+        assert!(rt; thread.spans() == spans.as_slice());
+    }
+    assert!(rt; verified.rooms() == [1].as_slice());
+    Ok(())
+}
+
+/// `(loop [i 0 s 0] (if (= i 3) s (recur (inc i) (+ s i))))`
+fn sum_below_three(alloc: Global) -> Result<Node, AllocError> {
+    let limit = two(alloc, local(0, at(26, 27)), number(3, at(28, 29)))?;
+    let next = core(Op::Inc, one(alloc, local(0, at(45, 46)))?, at(40, 47));
+    let terms = two(alloc, local(1, at(51, 52)), local(0, at(53, 54)))?;
+    let again = Node {
+        kind: NodeKind::Recur(two(alloc, next, core(Op::Add, terms, at(48, 55)))?),
+        span: at(33, 56),
+        wanted: true,
+    };
+    let test = core(Op::Equal, limit, at(23, 30));
+    let body = choice(alloc, test, local(1, at(31, 32)), again, at(19, 57))?;
+    let values = two(alloc, number(0, at(9, 10)), number(0, at(13, 14)))?;
+    Ok(Node {
+        kind: NodeKind::Loop(values, Box::new(alloc, body)?),
+        span: at(1, 58),
+        wanted: true,
+    })
+}
+
+#[test]
+fn a_loop_goes_on_behind_its_stores(rt: HostRuntime) -> Result<(), Fail> {
+    let alloc = rt.alloc();
+    let body = sum_below_three(alloc)?;
+    let program = program(alloc, body, at(0, 59))?.expect(&rt, "sound");
+    let verified = generate(alloc, &program)?;
+    for thread in verified.code().threads() {
+        assert_eq!(rt; thread.locals(), 2);
+        let instrs = [
+            Instr::Const(0),
+            Instr::Store(0),
+            Instr::Const(1),
+            Instr::Store(1),
+            Instr::Local(0),
+            Instr::Const(2),
+            Instr::Core(Op::Equal, 2),
+            Instr::JumpFalse(10),
+            Instr::Local(1),
+            Instr::Jump(18),
+            Instr::Local(0),
+            Instr::Core(Op::Inc, 1),
+            Instr::Local(1),
+            Instr::Local(0),
+            Instr::Core(Op::Add, 2),
+            Instr::Store(1),
+            Instr::Store(0),
+            Instr::Jump(4),
+            Instr::Halt,
+        ];
+        assert!(rt; thread.instrs() == instrs.as_slice());
+    }
+    assert!(rt; verified.rooms() == [3].as_slice());
+    Ok(())
+}
