@@ -1,9 +1,12 @@
 pub mod Acts
 pub mod Later
 pub mod Staged
+pub mod Sample
 pub mod Served
 pub mod Steps
 pub mod CoreKnown
 pub mod Known
+pub mod Keeping
+pub mod Lasts
 pub mod Asks
 pub mod Whole

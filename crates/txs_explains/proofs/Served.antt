@@ -84,6 +84,14 @@ module _ (stay : WorldsStay) (grows : HistoryGrows) (more : OneMoreFits) (w : Wo
   seen_more : (e : Event) → seen_by w a (es ++ e ∷ []) ≡ seen_by w a es ++ map seen_as (before (e.actor == a) (past_of w es e.kind) [])
   seen_more e = ap (map seen_as) (grows w a es e) ∙ map_append seen_as (history_of w a es) (before (e.actor == a) (past_of w es e.kind) [])
 
+  -- another actor's event leaves what an actor has seen
+  pub other_seen : (e : Event) → (e.actor ≡ a → ⊥) → seen_by w a (es ++ e ∷ []) ≡ seen_by w a es
+  other_seen e n = seen_more e ∙ ap (λ b. seen_by w a es ++ map seen_as (before b (past_of w es e.kind) [])) (differ e.actor a n) ∙ append-nil (seen_by w a es)
+
+  -- an event of its own is the last that it has seen
+  pub own_seen : (kind : EventKind) → seen_by w a (es ++ event_of a kind ∷ []) ≡ seen_by w a es ++ seen_as (past_of w es kind) ∷ []
+  own_seen kind = seen_more (event_of a kind) ∙ ap (λ b. seen_by w a es ++ map seen_as (before b (past_of w es kind) [])) (number-itself a)
+
   other_phase : (e : Event) (st : Stage) → MayName es a st → phase_of w (es ++ e ∷ []) st ≡ phase_of w es st
   other_phase e Idle n = refl
   other_phase e (Open p) n = ap In (stay w es (e ∷ []) p (named_place es a p n))
@@ -95,12 +103,9 @@ module _ (stay : WorldsStay) (grows : HistoryGrows) (more : OneMoreFits) (w : Wo
   -- by another actor's event
   pub other_told : (e : Event) (xs : List Exchange) (st : Stage) → (e.actor ≡ a → ⊥) → ToldBy w a es xs st → ToldBy w a (es ++ e ∷ []) xs st
   other_told e xs st n t = record {
-    fits = subst (λ l. RepliesFitTo Out xs l (phase_of w (es ++ e ∷ []) st)) (sym same) (subst (λ q. RepliesFitTo Out xs (seen_by w a es) q) (sym (other_phase e st t.names)) t.fits);
+    fits = subst (λ l. RepliesFitTo Out xs l (phase_of w (es ++ e ∷ []) st)) (sym (other_seen e n)) (subst (λ q. RepliesFitTo Out xs (seen_by w a es) q) (sym (other_phase e st t.names)) t.fits);
     names = other_names e st (differ e.actor a n) t.names;
   }
-    where
-      same : seen_by w a (es ++ e ∷ []) ≡ seen_by w a es
-      same = seen_more e ∙ ap (λ b. seen_by w a es ++ map seen_as (before b (past_of w es e.kind) [])) (differ e.actor a n) ∙ append-nil (seen_by w a es)
 
   module _ (xs : List Exchange) where
     -- what was served fits
@@ -110,12 +115,9 @@ module _ (stay : WorldsStay) (grows : HistoryGrows) (more : OneMoreFits) (w : Wo
     -- by an event of its own
     own_told : (kind : EventKind) (q : Ask) (r : Reply) (st : Stage) → ToldBy w a es xs st → ReplyFitsTo (phase_of w es st) (exchange q r) (seen_as (past_of w es kind) ∷ []) Out → ToldBy w a (es ++ event_of a kind ∷ []) (xs ++ exchange q r ∷ []) Idle
     own_told kind q r st t m = record {
-      fits = subst (λ l. RepliesFitTo Out (xs ++ exchange q r ∷ []) l Out) (sym same) (more Out xs (seen_by w a es) (phase_of w es st) (exchange q r) (seen_as (past_of w es kind) ∷ []) Out t.fits m);
+      fits = subst (λ l. RepliesFitTo Out (xs ++ exchange q r ∷ []) l Out) (sym (own_seen kind)) (more Out xs (seen_by w a es) (phase_of w es st) (exchange q r) (seen_as (past_of w es kind) ∷ []) Out t.fits m);
       names = tt;
     }
-      where
-        same : seen_by w a (es ++ event_of a kind ∷ []) ≡ seen_by w a es ++ seen_as (past_of w es kind) ∷ []
-        same = seen_more (event_of a kind) ∙ ap (λ b. seen_by w a es ++ map seen_as (before b (past_of w es kind) [])) (number-itself a)
 
     -- an event, if there is room for it
     added_fits : (b : Bool) (kind : EventKind) (q : Ask) (r : Reply) (st : Stage) → ToldBy w a es xs st → ReplyFitsTo (phase_of w es st) (exchange q r) (seen_as (past_of w es kind) ∷ []) Out → stage_after st q r ≡ Idle → ServedFits st q (added b a kind r es)

@@ -141,7 +141,7 @@ module _ (by : Lower) (cells : List StoreCell) where
         go b true e = subst (λ i. ActorInvariant (codes i) w i m.book m.actor) (numbers a b e) g.known
         go b false e = others (codes b) a b st.book m.book (st.actors b) (λ s. false≢true (sym e ∙ ap (λ i. a == i) (sym s) ∙ number-itself a)) g.grown (h.actors b)
 
-    moves_well : (y : Play) (st : State) → RunInvariant cells codes st → MovedWell (codes (actor_of y)) (actor_of y) st.book (moves cells codes y st)
+    pub moves_well : (y : Play) (st : State) → RunInvariant cells codes st → MovedWell (codes (actor_of y)) (actor_of y) st.book (moves cells codes y st)
     moves_well (TakesTurn a) st h = turns_well (codes a) a st.book (st.actors a) h.legal h.undisturbed (h.actors a) (st.actors a).at (st.actors a).stopped refl
     moves_well (IsStopped a why) st h = stops_well (codes a) a st.book (st.actors a) h.legal h.undisturbed (h.actors a) why (st.actors a).at (st.actors a).stopped
 

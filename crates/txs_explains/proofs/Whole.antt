@@ -17,10 +17,12 @@ use Rattle.txs_world.specs.declared.cell.StoreCell.{StoreCell}
 use Rattle.txs_explains.specs.Explains.{outcome_at, ActorExplained, RunExplained, code_or_none, code_of, ProgramExplained}
 use Rattle.txs_explains.specs.Invariant.{ActorInvariant, RunInvariant, OpeningHolds, PlayHolds, InvariantExplains}
 use Rattle.txs_explains.specs.Lawful.{RunAsksLawful}
-use Rattle.txs_explains.specs.Run.{Actor, State, Play, opens, play, plays_from}
+use Rattle.txs_explains.specs.Printed.{RunPrints}
+use Rattle.txs_explains.specs.Run.{Actor, State, Play, opens, play, plays, plays_from}
 use Rattle.txs_explains.specs.Stages.{seen_by, Stage, Idle, IsStaged, phase_of}
 use Rattle.txs_explains.proofs.Acts.{and_then, stated, exec_run}
 use Rattle.txs_explains.proofs.Asks.{opens_known, all_lawful}
+use Rattle.txs_explains.proofs.Lasts.{plays_last, printed_before}
 use Rattle.txs_explains.proofs.Steps.{Lower, play_holds}
 
 pub opening_holds : OpeningHolds
@@ -97,3 +99,7 @@ program_explained by fit cells codes p ys f =
       undisturbed = h.undisturbed;
       threads = λ i t e. (let c = has_code codes p.threads i t f.as_many e in (h.actors i).means (source_of p t) (subst (λ k. Follows k (source_of p t)) (sym (ap code_or_none c.1)) (f.each i c.0 t c.1 e)));
     }
+
+pub run_prints : Lower → FittingToFits → RunPrints
+run_prints by fit cells codes ys a =
+    printed_before by fit cells (codes a) a (plays cells codes ys).book ((plays cells codes ys).actors a) (plays_last by fit cells codes ys (opening_holds cells codes) a)

@@ -4,3 +4,4 @@ pub mod Explains
 pub mod Laws
 pub mod Invariant
 pub mod Lawful
+pub mod Printed

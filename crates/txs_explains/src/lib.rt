@@ -8,6 +8,7 @@ ghost use Rattle.txs_explains.specs.Explains.{ProgramExplained, RunExplained};
 ghost use Rattle.txs_explains.specs.Invariant.{InvariantExplains, OpeningHolds, PlayHolds};
 ghost use Rattle.txs_explains.specs.Laws.{OthersLeaveTold, ServedAskFits, TurnsAreStaged};
 ghost use Rattle.txs_explains.specs.Lawful.{RunAsksLawful};
+ghost use Rattle.txs_explains.specs.Printed.{RunPrints};
 
 use txs_follows::{one_more_fits, replies_fit};
 use txs_world::law::{history_grows, serve_keeps, worlds_stay};
@@ -27,6 +28,18 @@ pub fn every_run_is_explained()
 /// Each program that the code follows explains every run of the code.
 pub fn every_program_explains_its_runs()
     ensures { ProgramExplained }
+{
+    worlds_stay();
+    history_grows();
+    serve_keeps();
+    one_more_fits();
+    replies_fit();
+}
+
+/// Each actor, also one that was stopped, has printed at least what each source that its code follows
+/// means on all that the actor did but the last.
+pub fn every_actor_has_printed()
+    ensures { RunPrints }
 {
     worlds_stay();
     history_grows();
