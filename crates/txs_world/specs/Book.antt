@@ -15,12 +15,14 @@ use Rattle.txs_world.specs.declared.cell.StoreCell.{StoreCell}
 
 -- ---- cells
 
+-- whether two kinds of cells are the same
 abbrev pub same_kind : CellKind → CellKind → Bool
 same_kind Ref Ref = true
 same_kind Atom Atom = true
 same_kind Agent Agent = true
 same_kind _ _ = false
 
+-- whether there is a cell, and it is of this kind
 abbrev pub is_of_kind : CellKind → Option StoreCell → Bool
 is_of_kind k None = false
 is_of_kind k (Some s) = same_kind k s.kind
@@ -43,6 +45,7 @@ abbrev pub ascend_from : ℕ → Writes → Bool
 ascend_from n [] = true
 ascend_from n (w ∷ ws) = nat_le n w.0.number && ascend_from (suc w.0.number) ws
 
+-- the value that a cell opened with, nil where there is no cell
 abbrev pub opened : Option StoreCell → Value
 opened None = Nil
 opened (Some s) = s.opening
@@ -53,6 +56,7 @@ opening cells k = opened (nth cells k)
 
 -- ---- the replay
 
+-- the value that is there, else another one
 abbrev pub value_or : Option Value → Value → Value
 value_or None v = v
 value_or (Some w) v = w
@@ -70,6 +74,7 @@ after R [] k = R
 after R (e ∷ es) zero = R
 after R (e ∷ es) (suc k) = after (changed e.kind R) es k
 
+-- whether there is a value
 abbrev pub is_there : Option Value → Bool
 is_there None = false
 is_there (Some v) = true
@@ -125,6 +130,7 @@ abbrev pub Untouched : List Event → ℕ → Writes → Type 0
 Untouched done p [] = Unit {0}
 Untouched done p (w ∷ ws) = (written w.0.number p done ≡ false) × Untouched done p ws
 
+-- after these events a commit finds none of its refs written since its read point
 abbrev pub Guarded : List Event → EventKind → Type 0
 Guarded done (Read c) = Unit {0}
 Guarded done (Commit at ws) = Untouched done at ws

@@ -22,6 +22,7 @@ past_of w done (Commit at ws) = Committed (after w done at) ws
 past_of w done (Retry since c) = Retried
 past_of w done (Fail at) = Aborted (after w done at)
 
+-- an event before others, where it is wanted
 abbrev pub before : Bool → PastEvent → List PastEvent → List PastEvent
 before true e es = e ∷ es
 before false e es = es

@@ -12,9 +12,11 @@ use Rattle.txs_world.specs.Book.{opening, after, written, all_before, Legal, Und
 use Rattle.txs_world.specs.declared.cell.StoreCell.{StoreCell}
 use Rattle.txs_world.specs.declared.slot.Slot.{Slot}
 
+-- a value, and how many events there are up to the one that wrote it
 abbrev pub slot_of : Value → ℕ → Slot
 slot_of v n = record { value = v; written = n }
 
+-- what stands for a slot that is not there
 abbrev pub no_slot : Slot
 no_slot = slot_of Nil 0
 

@@ -19,6 +19,7 @@ pub record PlainStore : Type 0 where
   pub cells : List StoreCell
   pub book : List Event
 
+-- the store of these cells with this book
 abbrev pub store_with : List StoreCell → List Event → PlainStore
 store_with cells book = record { cells = cells; book = book }
 
@@ -39,9 +40,11 @@ pub record Served : Type 0 where
   pub reply : Reply
   pub book : List Event
 
+-- this reply, with this book after it
 abbrev pub served : Reply → List Event → Served
 served r book = record { reply = r; book = book }
 
+-- what an actor did, as an event
 abbrev pub event_of : ℕ → EventKind → Event
 event_of a kind = record { actor = a; kind = kind }
 
@@ -54,14 +57,17 @@ abbrev pub disturbed : List Event → ℕ → Writes → Option CellId
 disturbed book p [] = None
 disturbed book p (w ∷ ws) = if written w.0.number p book then Some w.0 else disturbed book p ws
 
+-- a read in a transaction: that it has to run again where the ref was written since, else the value at the read point
 abbrev pub looks : Bool → World → ℕ → CellId → ℕ → List Event → Served
 looks true w a c p book = adds a (Retry p c) (reply.Retry c) book
 looks false w a c p book = served (reply.Is (after w book p c.number)) book
 
+-- the end of a transaction: that it has to run again where a ref was written since, else its writes
 abbrev pub commits : Option CellId → ℕ → ℕ → Writes → List Event → Served
 commits None a p ws book = adds a (Commit p ws) reply.Done book
 commits (Some c) a p ws book = adds a (Retry p c) (reply.Retry c) book
 
+-- what the store answers an actor, and its book after that, over the values that the refs opened with
 abbrev pub serve : World → ℕ → Ask → List Event → Served
 -- the read point is the number of events
 serve w a ask.Begin book = served (reply.At (length book)) book
