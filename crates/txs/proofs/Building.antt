@@ -1,18 +1,20 @@
 -- What the resolver's loops have built, and what is left of the definition behind them.
-use Rattle.std.proofs.Common.{◌≡◌, ◌<◌, ◌≤◌, ◌+◌, ◌-◌, ℕ, zero, suc, Bool, true, false, List, [], ◌∷◌, ◌++◌, Option, Some, None, Result, Err, length, drop, get_or, cond, refl, sym, ap, ◌∙◌, subst, arith, length-drop, add-one, drop-cons, Vec, Global}
+use Rattle.std.proofs.Common.{◌≡◌, ◌<◌, ◌≤◌, ◌+◌, ◌-◌, ℕ, zero, suc, Bool, true, false, List, [], ◌∷◌, ◌++◌, Option, Some, None, Err, length, drop, get_or, cond, refl, sym, ap, ◌∙◌, subst, arith, length-drop, add-one, drop-cons, Vec, Global}
 use denote.Param.Weighed.{most}
 use Rattle.txs_value.specs.declared.fault.Span.{Span}
 use Rattle.txs_reader.specs.declared.form.Bracket.TheVariants.{Square}
 use Rattle.txs_reader.specs.declared.form.Form.{Form, Symbol, Group}
 use Rattle.txs_reader.proofs.Trees.{tree-Symbol, tree-Group}
 use Rattle.txs_reader.specs.Tree.{tree, trees, trees_of, first, Trees as Forms}
-use Rattle.txs_reader.specs.Tree as form
-use Rattle.txs_tree.specs.Tree.{Tree, Trees, Mark, more, none, Do, Let, Println}
+use Rattle.txs_tree.specs.Tree.{Tree, Trees, Mark, Const, more, none, If, Do, Core}
+use Rattle.txs_value.specs.declared.op.Op.{Op}
+use Rattle.txs_value.specs.declared.value.Value.TheVariants.{Nil}
 use Rattle.txs_tree.specs.View.{tree_of, mark_of}
 use Rattle.txs_tree.specs.View as view
 use Rattle.txs_tree.specs.declared.node.Node.{Node}
-use Rattle.txs.specs.Names.{◌>>=◌, Scope, Bound, flag, parts, sum_node, bound_name, named, named_sum, named_sums, named_bindings, named_body, named_all, named_let, named_list, by_head, head_of, local_number}
+use Rattle.txs.specs.Names.{◌>>=◌, Scope, Bound, Binding, flag, parts, pair_node, is_chain, operation_node, let_node, loop_node, recur_node, println_node, bound_name, named, named_chain, named_pairs, named_if, named_else, named_binding, named_bindings, named_body, named_all, named_list, by_head, head_of, local_number}
 use Rattle.txs.specs.declared.names.Head.{Head}
+use Rattle.txs.specs.declared.names.Head.TheVariants.{Operation}
 use Rattle.txs.specs.Refused.{Gives, GivesBound, IsWithin}
 use Rattle.txs.specs.declared.resolve_error.ResolveErrorKind.{ResolveErrorKind}
 use Rattle.txs.specs.declared.resolve_error.ResolveErrorKind.TheVariants.{BadForm, Memory}
@@ -130,38 +132,89 @@ pub bindings_end : (room : ℕ) (scope : Scope) (fs : List Form) (i : ℕ) (ns :
 bindings_end room scope fs i ns le =
     ap (λ l. bound_after ns (named_bindings room scope (plain l))) (drop_all fs i le) ∙ ap (λ (x : Trees). Some (record { values = x; scope = scope })) (ahead_none ns)
 
--- ---- sums
+-- ---- chains
 
-pub sum_short : (room : ℕ) (scope : Scope) (wanted : Bool) (span : Span) (fs : List Form) → length fs < 2 → named_sum room scope wanted span (plain fs) ≡ None
-sum_short room scope wanted span [] lt = refl
-sum_short room scope wanted span (a ∷ []) lt = refl
-sum_short room scope wanted span (a ∷ b ∷ fs) lt = absurd (omega (arith, lt))
-
-pub sum_first : (room : ℕ) (scope : Scope) (wanted : Bool) (span : Span) (fs : List Form) (d : Form) → 2 ≤ length fs → named_sum room scope wanted span (plain fs) ≡ (named (room - (length fs - 1)) scope true (tree (get_or fs 0 d)) >>= λ total. named_sums room scope wanted span total (plain (drop 1 fs)))
-sum_first room scope wanted span [] d le = absurd (omega (arith, le))
-sum_first room scope wanted span (a ∷ []) d le = absurd (omega (arith, le))
-sum_first room scope wanted span (a ∷ b ∷ fs) d le =
+pub chain_first : (op : Op) (room : ℕ) (scope : Scope) (wanted : Bool) (span : Span) (fs : List Form) (d : Form) → 2 ≤ length fs → named_chain op room scope wanted span (plain fs) ≡ (named (room - (length fs - 1)) scope true (tree (get_or fs 0 d)) >>= λ total. named_pairs op room scope wanted span total (plain (drop 1 fs)))
+chain_first op room scope wanted span [] d le = absurd (omega (arith, le))
+chain_first op room scope wanted span (a ∷ []) d le = absurd (omega (arith, le))
+chain_first op room scope wanted span (a ∷ b ∷ fs) d le =
     let count : suc (parts (plain fs)) ≡ length (a ∷ b ∷ fs) - 1 = omega (arith, parts_plain fs) in
-    ap (λ (k : ℕ). named (room - k) scope true (tree a) >>= λ total. named_sums room scope wanted span total (plain (b ∷ fs))) count
+    ap (λ (k : ℕ). named (room - k) scope true (tree a) >>= λ total. named_pairs op room scope wanted span total (plain (b ∷ fs))) count
 
-sums_at : (room : ℕ) (scope : Scope) (wanted : Bool) (span : Span) (fs : List Form) (i : ℕ) (d : Form) (total : Tree) → i < length fs → named_sums room scope wanted span total (plain (drop i fs)) ≡ (named (room - (length fs - i)) scope true (tree (get_or fs i d)) >>= λ term. named_sums room scope wanted span (sum_node total term (mark_of span (flag true wanted (plain (drop (i + 1) fs))))) (plain (drop (i + 1) fs)))
-sums_at room scope wanted span fs i d total lt =
+pairs_at : (op : Op) (room : ℕ) (scope : Scope) (wanted : Bool) (span : Span) (fs : List Form) (i : ℕ) (d : Form) (total : Tree) → i < length fs → named_pairs op room scope wanted span total (plain (drop i fs)) ≡ (named (room - (length fs - i)) scope true (tree (get_or fs i d)) >>= λ term. named_pairs op room scope wanted span (pair_node op total term (mark_of span (flag true wanted (plain (drop (i + 1) fs))))) (plain (drop (i + 1) fs)))
+pairs_at op room scope wanted span fs i d total lt =
     let rest = plain (drop (i + 1) fs) in
     let count : suc (parts rest) ≡ length fs - i = omega (arith, parts_plain (drop (i + 1) fs), length-drop (i + 1) fs, lt) in
-    ap (named_sums room scope wanted span total) (plain_at fs i d lt)
-    ∙ ap (λ (k : ℕ). named (room - k) scope true (tree (get_or fs i d)) >>= λ term. named_sums room scope wanted span (sum_node total term (mark_of span (flag true wanted rest))) rest) count
+    ap (named_pairs op room scope wanted span total) (plain_at fs i d lt)
+    ∙ ap (λ (k : ℕ). named (room - k) scope true (tree (get_or fs i d)) >>= λ term. named_pairs op room scope wanted span (pair_node op total term (mark_of span (flag true wanted rest))) rest) count
 
-pub sums_step : (room : ℕ) (scope : Scope) (wanted : Bool) (span : Span) (fs : List Form) (i : ℕ) (d : Form) (total term : Tree) → i < length fs → named (room - (length fs - i)) scope true (tree (get_or fs i d)) ≡ Some term → named_sums room scope wanted span total (plain (drop i fs)) ≡ named_sums room scope wanted span (sum_node total term (mark_of span (flag true wanted (plain (drop (i + 1) fs))))) (plain (drop (i + 1) fs))
-sums_step room scope wanted span fs i d total term lt e =
+pub pairs_step : (op : Op) (room : ℕ) (scope : Scope) (wanted : Bool) (span : Span) (fs : List Form) (i : ℕ) (d : Form) (total term : Tree) → i < length fs → named (room - (length fs - i)) scope true (tree (get_or fs i d)) ≡ Some term → named_pairs op room scope wanted span total (plain (drop i fs)) ≡ named_pairs op room scope wanted span (pair_node op total term (mark_of span (flag true wanted (plain (drop (i + 1) fs))))) (plain (drop (i + 1) fs))
+pairs_step op room scope wanted span fs i d total term lt e =
     let rest = plain (drop (i + 1) fs) in
-    sums_at room scope wanted span fs i d total lt
-    ∙ ap (λ (o : Option Tree). o >>= λ term. named_sums room scope wanted span (sum_node total term (mark_of span (flag true wanted rest))) rest) e
+    pairs_at op room scope wanted span fs i d total lt
+    ∙ ap (λ (o : Option Tree). o >>= λ term. named_pairs op room scope wanted span (pair_node op total term (mark_of span (flag true wanted rest))) rest) e
 
-pub sums_stop : (room : ℕ) (scope : Scope) (wanted : Bool) (span : Span) (fs : List Form) (i : ℕ) (d : Form) (total : Tree) → i < length fs → named (room - (length fs - i)) scope true (tree (get_or fs i d)) ≡ None → named_sums room scope wanted span total (plain (drop i fs)) ≡ None
-sums_stop room scope wanted span fs i d total lt e =
+pub pairs_stop : (op : Op) (room : ℕ) (scope : Scope) (wanted : Bool) (span : Span) (fs : List Form) (i : ℕ) (d : Form) (total : Tree) → i < length fs → named (room - (length fs - i)) scope true (tree (get_or fs i d)) ≡ None → named_pairs op room scope wanted span total (plain (drop i fs)) ≡ None
+pairs_stop op room scope wanted span fs i d total lt e =
     let rest = plain (drop (i + 1) fs) in
-    sums_at room scope wanted span fs i d total lt
-    ∙ ap (λ (o : Option Tree). o >>= λ term. named_sums room scope wanted span (sum_node total term (mark_of span (flag true wanted rest))) rest) e
+    pairs_at op room scope wanted span fs i d total lt
+    ∙ ap (λ (o : Option Tree). o >>= λ term. named_pairs op room scope wanted span (pair_node op total term (mark_of span (flag true wanted rest))) rest) e
+
+-- ---- operations
+
+pub operation_plain : (op : Op) (n : ℕ) (m : Mark) (chain : Option Tree) (args : Option Trees) → is_chain op n ≡ false → operation_node op n m chain args ≡ (args >>= λ nodes. Some (Core op nodes m))
+operation_plain op n m chain args e = ap (λ b. cond b chain (args >>= λ nodes. Some (Core op nodes m))) e
+
+-- ---- branches
+
+pub if_short : (room : ℕ) (scope : Scope) (wanted : Bool) (span : Span) (fs : List Form) → length fs < 2 → named_if room scope wanted span (plain fs) ≡ None
+if_short room scope wanted span [] lt = refl
+if_short room scope wanted span (a ∷ []) lt = refl
+if_short room scope wanted span (a ∷ b ∷ fs) lt = absurd (omega (arith, lt))
+
+-- what an `if` is, by its parts
+abbrev pub if_of : Mark → Option Tree → Option Tree → Option Tree → Option Tree
+if_of m a b c = a >>= λ test. b >>= λ taken. c >>= λ other. Some (If test taken other m)
+
+pub if_none : (m : Mark) (a b c : Option Tree) → (a ≡ None) → if_of m a b c ≡ None
+if_none m a b c e = ap (λ o. if_of m o b c) e
+
+pub if_none_yes : (m : Mark) (a b c : Option Tree) → (b ≡ None) → if_of m a b c ≡ None
+if_none_yes m None b c e = refl
+if_none_yes m (Some t) b c e = ap (λ o. if_of m (Some t) o c) e
+
+pub if_none_no : (m : Mark) (a b c : Option Tree) → (c ≡ None) → if_of m a b c ≡ None
+if_none_no m None b c e = refl
+if_none_no m (Some t) None c e = refl
+if_none_no m (Some t) (Some u) c e = ap (λ o. if_of m (Some t) (Some u) o) e
+
+pub if_parts : (room : ℕ) (scope : Scope) (wanted : Bool) (span : Span) (fs : List Form) (d e : Form) → 2 ≤ length fs → named_if room scope wanted span (plain fs) ≡ if_of (mark_of span wanted) (named (room - 1) scope true (tree (get_or fs 0 d))) (named (room - 1) scope wanted (tree (get_or fs 1 e))) (named_else (room - 1) scope wanted span (plain (drop 2 fs)))
+if_parts room scope wanted span [] d e le = absurd (omega (arith, le))
+if_parts room scope wanted span (a ∷ []) d e le = absurd (omega (arith, le))
+if_parts room scope wanted span (a ∷ b ∷ fs) d e le = refl
+
+pub if_some : (m : Mark) (a b c : Option Tree) (x y z : Tree) → a ≡ Some x → b ≡ Some y → c ≡ Some z → if_of m a b c ≡ Some (If x y z m)
+if_some m a b c x y z p q r = ap (λ o. if_of m o b c) p ∙ ap (λ o. if_of m (Some x) o c) q ∙ ap (λ o. if_of m (Some x) (Some y) o) r
+
+pub else_none : (room : ℕ) (scope : Scope) (wanted : Bool) (span : Span) (fs : List Form) → length fs ≡ 2 → named_else room scope wanted span (plain (drop 2 fs)) ≡ Some (Const Nil (mark_of span wanted))
+else_none room scope wanted span [] e = absurd (omega (arith, e))
+else_none room scope wanted span (a ∷ []) e = absurd (omega (arith, e))
+else_none room scope wanted span (a ∷ b ∷ []) e = refl
+else_none room scope wanted span (a ∷ b ∷ c ∷ fs) e = absurd (omega (arith, e))
+
+pub else_one : (room : ℕ) (scope : Scope) (wanted : Bool) (span : Span) (fs : List Form) (d : Form) → length fs ≡ 3 → named_else room scope wanted span (plain (drop 2 fs)) ≡ named room scope wanted (tree (get_or fs 2 d))
+else_one room scope wanted span [] d e = absurd (omega (arith, e))
+else_one room scope wanted span (a ∷ []) d e = absurd (omega (arith, e))
+else_one room scope wanted span (a ∷ b ∷ []) d e = absurd (omega (arith, e))
+else_one room scope wanted span (a ∷ b ∷ c ∷ []) d e = refl
+else_one room scope wanted span (a ∷ b ∷ c ∷ f ∷ fs) d e = absurd (omega (arith, e))
+
+pub else_many : (room : ℕ) (scope : Scope) (wanted : Bool) (span : Span) (fs : List Form) → 3 < length fs → named_else room scope wanted span (plain (drop 2 fs)) ≡ None
+else_many room scope wanted span [] lt = absurd (omega (arith, lt))
+else_many room scope wanted span (a ∷ []) lt = absurd (omega (arith, lt))
+else_many room scope wanted span (a ∷ b ∷ []) lt = absurd (omega (arith, lt))
+else_many room scope wanted span (a ∷ b ∷ c ∷ []) lt = absurd (omega (arith, lt))
+else_many room scope wanted span (a ∷ b ∷ c ∷ f ∷ fs) lt = refl
 
 -- ---- bodies
 
@@ -191,10 +244,15 @@ body_several (suc room) scope wanted span (f ∷ g ∷ fs) some le =
 abbrev pub by : ℕ → Scope → Bool → Span → Forms → Head → Option ℕ → Option Tree
 by room scope wanted span args h local =
     by_head h local
-    (named_sum room scope wanted span args)
-    (named_let room scope wanted span args)
-    (named_body room scope wanted span args)
-    (named_all (room - 1) scope true true args >>= λ nodes. Some (Println nodes (mark_of span wanted)))
+    (λ op. operation_node op (parts args) (mark_of span wanted) (named_chain op room scope wanted span args) (named_all (room - 1) scope true true args))
+    (record {
+      branches = named_if room scope wanted span args;
+      block = named_body room scope wanted span args;
+      bindings = let_node (named_binding room scope wanted span args) (mark_of span wanted);
+      turns = loop_node (named_binding room scope wanted span args) (mark_of span wanted);
+      turn = recur_node (named_all (room - 1) scope true true args) (mark_of span wanted);
+      line = println_node (named_all (room - 1) scope true true args) (mark_of span wanted);
+    })
 
 pub list_head : (room : ℕ) (scope : Scope) (wanted : Bool) (span : Span) (fs : List Form) (f : Form) (args : List Form) (name : List ℕ) (at : Span) (h : Head) → fs ≡ f ∷ args → f ≡ Symbol name at → head_of name ≡ h → named_list room scope wanted span (plain fs) ≡ by room scope wanted span (plain args) h (local_number name scope)
 list_head room scope wanted span fs f args name at h cons sym_is head =
@@ -202,15 +260,21 @@ list_head room scope wanted span fs f args name at h cons sym_is head =
     ∙ ap (λ t. named_list room scope wanted span (first t (plain args))) (ap tree sym_is ∙ tree-Symbol name at)
     ∙ ap (λ k. by room scope wanted span (plain args) k (local_number name scope)) head
 
--- what a `let` is behind its bindings
-abbrev pub let_rest : ℕ → Bool → Span → Forms → Option Bound → Option Tree
-let_rest room wanted span forms o = o >>= λ bound. named_body (room - 1) bound.scope wanted span forms >>= λ node. Some (Let bound.values node (mark_of span wanted))
+pub list_operation : (room : ℕ) (scope : Scope) (wanted : Bool) (span : Span) (fs : List Form) (f : Form) (args : List Form) (name : List ℕ) (at : Span) (op : Op) → fs ≡ f ∷ args → f ≡ Symbol name at → head_of name ≡ Operation op → local_number name scope ≡ None → named_list room scope wanted span (plain fs) ≡ operation_node op (length args) (mark_of span wanted) (named_chain op room scope wanted span (plain args)) (named_all (room - 1) scope true true (plain args))
+list_operation room scope wanted span fs f args name at op cons sym_is head unbound =
+    list_head room scope wanted span fs f args name at (Operation op) cons sym_is head
+    ∙ ap (by room scope wanted span (plain args) (Operation op)) unbound
+    ∙ ap (λ (n : ℕ). operation_node op n (mark_of span wanted) (named_chain op room scope wanted span (plain args)) (named_all (room - 1) scope true true (plain args))) (parts_plain args)
 
-pub let_parts : (room : ℕ) (scope : Scope) (wanted : Bool) (span : Span) (fs : List Form) (f : Form) (forms : List Form) (pairs : Vec Form Global) (at : Span) (ps : List Form) → fs ≡ f ∷ forms → f ≡ Group Square pairs at → ps ≡ pairs.items → named_let room scope wanted span (plain fs) ≡ let_rest room wanted span (plain forms) (named_bindings (room - 1) scope (plain ps))
-let_parts room scope wanted span fs f forms pairs at ps cons is items =
-    ap (λ l. named_let room scope wanted span (plain l)) cons
-    ∙ ap (λ t. named_let room scope wanted span (first t (plain forms))) (ap tree is ∙ tree-Group Square pairs at)
-    ∙ ap (λ l. let_rest room wanted span (plain forms) (named_bindings (room - 1) scope (plain l))) (sym items)
+-- what a `let` or a `loop` is behind its bindings
+abbrev pub binding_rest : ℕ → Bool → Span → Forms → Option Bound → Option Binding
+binding_rest room wanted span forms o = o >>= λ bound. named_body (room - 1) bound.scope wanted span forms >>= λ node. Some (record { values = bound.values; body = node })
+
+pub binding_parts : (room : ℕ) (scope : Scope) (wanted : Bool) (span : Span) (fs : List Form) (f : Form) (forms : List Form) (pairs : Vec Form Global) (at : Span) (ps : List Form) → fs ≡ f ∷ forms → f ≡ Group Square pairs at → ps ≡ pairs.items → named_binding room scope wanted span (plain fs) ≡ binding_rest room wanted span (plain forms) (named_bindings (room - 1) scope (plain ps))
+binding_parts room scope wanted span fs f forms pairs at ps cons is items =
+    ap (λ l. named_binding room scope wanted span (plain l)) cons
+    ∙ ap (λ t. named_binding room scope wanted span (first t (plain forms))) (ap tree is ∙ tree-Group Square pairs at)
+    ∙ ap (λ l. binding_rest room wanted span (plain forms) (named_bindings (room - 1) scope (plain l))) (sym items)
 
 -- ---- scopes
 

@@ -1,7 +1,7 @@
 -- The names in scope as a list whose nearest is first.
-use Rattle.std.proofs.Common.{◌≡◌, ◌≤◌, ◌<◌, ◌+◌, ◌-◌, ℕ, suc, List, [], ◌∷◌, ◌++◌, Option, Some, length, take, drop, get_or, map, reverse, cond, bytes_eq, refl, sym, ap, ◌∙◌, arith, length-drop}
+use Rattle.std.proofs.Common.{◌≡◌, ◌<◌, ◌+◌, ◌-◌, ℕ, List, [], ◌∷◌, ◌++◌, Some, length, take, drop, get_or, map, reverse, cond, bytes_eq, refl, sym, ap, ◌∙◌, arith, length-drop}
 use Rattle.std.proofs.lemmas.List.{reverse-append, length-reverse, take-append-drop, take-map, map_more, length-map, length-take-le}
-use Rattle.txs.specs.Names.{local_number, Scope}
+use Rattle.txs.specs.Names.{local_number}
 
 drop_front : {X : Type 0} (a b : List X) → drop (length a) (a ++ b) ≡ b
 drop_front [] b = refl

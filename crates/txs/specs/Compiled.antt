@@ -1,5 +1,5 @@
 -- What compiling a script gives.
-use Rattle.std.specs.Prelude.{◌≡◌, ◌≢◌, ℕ, List, map, Option, Some}
+use Rattle.std.specs.Prelude.{◌≡◌, ◌≢◌, ℕ, List, map, Some}
 use Rattle.txs_reader.specs.Script.{Reads, ReadStops}
 use Rattle.txs_reader.specs.Tree.{Tree as Form}
 use Rattle.txs_reader.specs.declared.error.ReadErrorKind.TheVariants.{Memory as Unread}

@@ -2,15 +2,19 @@
 use Rattle.std.specs.Prelude.{ℕ, zero, suc, ◌-◌, Bool, true, false, not, ◌&&◌, ◌==◌, nat_lt, bytes_eq, codes, List, [], ◌∷◌, length, Option, Some, None, if◌then◌else◌}
 use Rattle.std.specs.List.{list_any}
 use Rattle.txs_value.specs.declared.fault.Span.{Span}
-use Rattle.txs_value.specs.declared.op.Op.TheVariants.{Add}
-use Rattle.txs_value.specs.declared.value.Value.TheVariants.{Nil, Int}
+use Rattle.txs_value.specs.Operations.{op_name}
+use Rattle.txs_value.specs.declared.op.Op.{Op}
+use Rattle.txs_value.specs.declared.op.Op.TheVariants.{Add, Subtract, Multiply, Inc, Dec, Quot, Rem, Mod, Equal, NotEqual, Less, Greater, LessOrEqual, GreaterOrEqual, Max, Min, Not, IsNil, IsZero, IsPositive, IsNegative, Count, Nth, Conj, Assoc, Peek, Pop}
+use Rattle.txs_value.specs.declared.value.Value.TheVariants.{Nil, Truth, Int}
 use Rattle.txs_reader.specs.declared.form.Bracket.TheVariants.{Round, Square}
 use Rattle.txs_reader.specs.Tree.{Tree as Form, Trees as Forms, Leaf, leaf, group, first, number, symbol, nil, truth, text, keyword}
 use Rattle.txs_reader.specs.Tree.{none as no_forms}
-use Rattle.txs_tree.specs.Tree.{Tree, Trees, Mark, Const, Local, Do, Let, Core, Println, none, more, PlainThread, PlainProgram}
-use Rattle.txs.specs.declared.names.Head.{Head}
-use Rattle.txs.specs.declared.names.Head.TheVariants.{Sum, Bindings, Block, Line, Other}
+use Rattle.txs_tree.specs.Tree.{Tree, Trees, Mark, Const, Local, If, Do, Let, Loop, Recur, Core, Println, none, more, PlainThread, PlainProgram}
 use Rattle.txs_tree.specs.View.{mark_of}
+use Rattle.txs.specs.declared.names.FormName.{FormName}
+use Rattle.txs.specs.declared.names.FormName.TheVariants as kind
+use Rattle.txs.specs.declared.names.Head.{Head}
+use Rattle.txs.specs.declared.names.Head.TheVariants.{Operation, Form as AForm, Other}
 
 -- an answer, if there is one, and what is made of it
 infixl 10 ◌>>=◌
@@ -42,23 +46,63 @@ is_dot b = b == 46
 unfoldable pub may_bind : List ℕ → Bool
 may_bind name = not (list_any (bytes_eq name) form_names) && not (list_any is_dot name)
 
--- the form that a name at the head of a list is
-unfoldable pub head_of : List ℕ → Head
-head_of name =
-    if bytes_eq name (codes "+") then Sum
-    else (if bytes_eq name (codes "let") then Bindings
-    else (if bytes_eq name (codes "do") then Block
-    else (if bytes_eq name (codes "println") then Line
-    else Other)))
+-- the name of a form
+abbrev pub form_name : FormName → List ℕ
+form_name kind.If = codes "if"
+form_name kind.Do = codes "do"
+form_name kind.Let = codes "let"
+form_name kind.Loop = codes "loop"
+form_name kind.Recur = codes "recur"
+form_name kind.Println = codes "println"
 
--- what is made of a list with this head, where the head may be a local
-abbrev pub by_head : {A : Type 0} → Head → Option ℕ → Option A → Option A → Option A → Option A → Option A
-by_head Sum (Some i) sum bindings block line = None
-by_head Sum None sum bindings block line = sum
-by_head Bindings local sum bindings block line = bindings
-by_head Block local sum bindings block line = block
-by_head Line local sum bindings block line = line
-by_head Other local sum bindings block line = None
+-- the forms that a list may be
+abbrev pub list_forms : List FormName
+list_forms = kind.If ∷ kind.Do ∷ kind.Let ∷ kind.Loop ∷ kind.Recur ∷ kind.Println ∷ []
+
+-- the core operations
+abbrev pub operations : List Op
+operations =
+    Add ∷ Subtract ∷ Multiply ∷ Inc ∷ Dec ∷ Quot ∷ Rem ∷ Mod ∷ Equal ∷ NotEqual ∷ Less ∷ Greater ∷ LessOrEqual ∷ GreaterOrEqual
+    ∷ Max ∷ Min ∷ Not ∷ IsNil ∷ IsZero ∷ IsPositive ∷ IsNegative ∷ Count ∷ Nth ∷ Conj ∷ Assoc ∷ Peek ∷ Pop ∷ []
+
+-- the first of these with this name
+abbrev pub with_name : {A : Type 0} → (A → List ℕ) → List ℕ → List A → Option A
+with_name name_of name [] = None
+with_name name_of name (x ∷ xs) = if bytes_eq (name_of x) name then Some x else with_name name_of name xs
+
+-- a form, else an operation
+abbrev pub head : Option FormName → Option Op → Head
+head (Some f) op = AForm f
+head None (Some op) = Operation op
+head None None = Other
+
+-- what a name at the head of a list stands for, where it is no local
+unfoldable pub head_of : List ℕ → Head
+head_of name = head (with_name form_name name list_forms) (with_name op_name name operations)
+
+-- what is made of a list, by the form that it is
+pub record ByForm (A : Type 0) : Type 0 where
+  pub branches : A
+  pub block : A
+  pub bindings : A
+  pub turns : A
+  pub turn : A
+  pub line : A
+
+abbrev pub of_form : {A : Type 0} → FormName → ByForm A → A
+of_form kind.If made = made.branches
+of_form kind.Do made = made.block
+of_form kind.Let made = made.bindings
+of_form kind.Loop made = made.turns
+of_form kind.Recur made = made.turn
+of_form kind.Println made = made.line
+
+-- what is made of a list with this head: a local of an operation's name is called by nobody
+abbrev pub by_head : {A : Type 0} → Head → Option ℕ → (Op → Option A) → ByForm (Option A) → Option A
+by_head (Operation op) None operation made = operation op
+by_head (Operation op) (Some i) operation made = None
+by_head (AForm f) local operation made = of_form f made
+by_head Other local operation made = None
 
 -- how many forms there are
 abbrev pub parts : Forms → ℕ
@@ -79,19 +123,52 @@ local_node (Some i) mark = Some (Local i mark)
 abbrev pub leaf_node : Scope → Leaf → Mark → Option Tree
 leaf_node scope (number z) mark = Some (Const (Int z) mark)
 leaf_node scope (symbol name) mark = local_node (local_number name scope) mark
-leaf_node scope nil mark = None
-leaf_node scope (truth b) mark = None
+leaf_node scope nil mark = Some (Const Nil mark)
+leaf_node scope (truth b) mark = Some (Const (Truth b) mark)
 leaf_node scope (text bytes) mark = None
 leaf_node scope (keyword name) mark = None
 
--- the values of a `let`, and the names in scope behind them
+-- the values of a `let` or `loop`, and the names in scope behind them
 pub record Bound : Type 0 where
   pub values : Trees
   pub scope : Scope
 
--- `(+ a b)`
-abbrev pub sum_node : Tree → Tree → Mark → Tree
-sum_node a b mark = Core Add (more a (more b none)) mark
+-- the values of a `let` or `loop`, and its body
+pub record Binding : Type 0 where
+  pub values : Trees
+  pub body : Tree
+
+-- an operation on two arguments
+abbrev pub pair_node : Op → Tree → Tree → Mark → Tree
+pair_node op a b mark = Core op (more a (more b none)) mark
+
+-- the operations that fold any number of arguments from the left
+abbrev pub folds : Op → Bool
+folds Add = true
+folds Subtract = true
+folds Multiply = true
+folds _ = false
+
+-- whether an operation on so many arguments is the chain of its pairs
+abbrev pub is_chain : Op → ℕ → Bool
+is_chain op n = folds op && nat_lt 2 n
+
+-- an operation on so many arguments, of the chain of its pairs or of the arguments
+abbrev pub operation_node : Op → ℕ → Mark → Option Tree → Option Trees → Option Tree
+operation_node op n mark chain args = if is_chain op n then chain else (args >>= λ nodes. Some (Core op nodes mark))
+
+-- the nodes of a `let`, a `loop`, a `recur` and a `println`, of their parts
+abbrev pub let_node : Option Binding → Mark → Option Tree
+let_node made mark = made >>= λ b. Some (Let b.values b.body mark)
+
+abbrev pub loop_node : Option Binding → Mark → Option Tree
+loop_node made mark = made >>= λ b. Some (Loop b.values b.body mark)
+
+abbrev pub recur_node : Option Trees → Mark → Option Tree
+recur_node made mark = made >>= λ nodes. Some (Recur nodes mark)
+
+abbrev pub println_node : Option Trees → Mark → Option Tree
+println_node made mark = made >>= λ nodes. Some (Println nodes mark)
 
 -- the name that a form binds, where one more local may be in scope: there are at most 200
 abbrev pub bound_name : Scope → Form → Option (List ℕ)
@@ -110,31 +187,51 @@ abbrev mutual
   pub named_list : ℕ → Scope → Bool → Span → Forms → Option Tree
   named_list room scope wanted span (first (leaf (symbol name) at) args) =
       by_head (head_of name) (local_number name scope)
-      (named_sum room scope wanted span args)
-      (named_let room scope wanted span args)
-      (named_body room scope wanted span args)
-      (named_all (room - 1) scope true true args >>= λ nodes. Some (Println nodes (mark_of span wanted)))
+      (λ op. operation_node op (parts args) (mark_of span wanted) (named_chain op room scope wanted span args) (named_all (room - 1) scope true true args))
+      (record {
+        branches = named_if room scope wanted span args;
+        block = named_body room scope wanted span args;
+        bindings = let_node (named_binding room scope wanted span args) (mark_of span wanted);
+        turns = loop_node (named_binding room scope wanted span args) (mark_of span wanted);
+        turn = recur_node (named_all (room - 1) scope true true args) (mark_of span wanted);
+        line = println_node (named_all (room - 1) scope true true args) (mark_of span wanted);
+      })
   named_list room scope wanted span _ = None
 
-  -- two arguments or more, of which each sum is the first argument of the next
-  pub named_sum : ℕ → Scope → Bool → Span → Forms → Option Tree
-  named_sum room scope wanted span (first a (first b rest)) =
-      named (room - suc (parts rest)) scope true a >>= λ total. named_sums room scope wanted span total (first b rest)
-  named_sum room scope wanted span _ = None
+  -- two arguments or more, of which each pair is the first argument of the next
+  pub named_chain : Op → ℕ → Scope → Bool → Span → Forms → Option Tree
+  named_chain op room scope wanted span (first a (first b rest)) =
+      named (room - suc (parts rest)) scope true a >>= λ total. named_pairs op room scope wanted span total (first b rest)
+  named_chain op room scope wanted span _ = None
 
-  pub named_sums : ℕ → Scope → Bool → Span → Tree → Forms → Option Tree
-  named_sums room scope wanted span total no_forms = Some total
-  named_sums room scope wanted span total (first e rest) =
+  pub named_pairs : Op → ℕ → Scope → Bool → Span → Tree → Forms → Option Tree
+  named_pairs op room scope wanted span total no_forms = Some total
+  named_pairs op room scope wanted span total (first e rest) =
       named (room - suc (parts rest)) scope true e >>= λ term.
-      named_sums room scope wanted span (sum_node total term (mark_of span (flag true wanted rest))) rest
+      named_pairs op room scope wanted span (pair_node op total term (mark_of span (flag true wanted rest))) rest
+
+  -- a test, a branch, and another or none
+  pub named_if : ℕ → Scope → Bool → Span → Forms → Option Tree
+  named_if room scope wanted span (first c (first a rest)) =
+      named (room - 1) scope true c >>= λ test.
+      named (room - 1) scope wanted a >>= λ taken.
+      named_else (room - 1) scope wanted span rest >>= λ other.
+      Some (If test taken other (mark_of span wanted))
+  named_if room scope wanted span _ = None
+
+  -- without another branch it is nil
+  pub named_else : ℕ → Scope → Bool → Span → Forms → Option Tree
+  named_else room scope wanted span no_forms = Some (Const Nil (mark_of span wanted))
+  named_else room scope wanted span (first e no_forms) = named room scope wanted e
+  named_else room scope wanted span (first e (first f rest)) = None
 
   -- the bindings, and a body that sees them
-  pub named_let : ℕ → Scope → Bool → Span → Forms → Option Tree
-  named_let room scope wanted span (first (group Square bindings at) body) =
+  pub named_binding : ℕ → Scope → Bool → Span → Forms → Option Binding
+  named_binding room scope wanted span (first (group Square bindings at) body) =
       named_bindings (room - 1) scope bindings >>= λ bound.
       named_body (room - 1) bound.scope wanted span body >>= λ node.
-      Some (Let bound.values node (mark_of span wanted))
-  named_let room scope wanted span _ = None
+      Some (record { values = bound.values; body = node })
+  named_binding room scope wanted span _ = None
 
   -- names and values in turn, of which each value sees the names before it
   pub named_bindings : ℕ → Scope → Forms → Option Bound

@@ -1,12 +1,12 @@
 -- What a resolver's answer says.
 use Rattle.std.specs.Prelude.{◌≡◌, ◌≤◌, ◌<◌, ◌-◌, ℕ, List, drop, length, Option, Some, None, Result, Ok, Err}
-use Rattle.std.specs.Prelude.{Vec}
+use Rattle.std.specs.Prelude.{Vec, Box}
 use Rattle.std.specs.Global.{Global}
 use Rattle.std.specs.Borrow.{Bor}
 use Rattle.txs_tree.specs.declared.node.Node.{Node}
-use Rattle.txs_tree.specs.View.{trees_of}
+use Rattle.txs_tree.specs.View.{tree_of, trees_of}
 use Rattle.txs_reader.specs.Tree.{Tree as Form}
-use Rattle.txs.specs.Names.{Scope, Bound, bound_name}
+use Rattle.txs.specs.Names.{Scope, Bound, Binding, bound_name}
 use Rattle.txs.specs.declared.resolve_error.ResolveErrorKind.{ResolveErrorKind}
 use Rattle.txs.specs.declared.resolve_error.ResolveErrorKind.TheVariants.{BadForm, Memory}
 
@@ -21,6 +21,10 @@ abbrev pub GivesBound : Result (Vec Node Global) ResolveErrorKind → Scope → 
 GivesBound (Ok v) scope wanted = wanted ≡ Some (record { values = trees_of v.items; scope = scope })
 GivesBound (Err BadForm) scope wanted = wanted ≡ None
 GivesBound (Err Memory) scope wanted = Unit {0}
+
+-- the values and the body of a `let` or `loop`
+abbrev pub binding_of : Vec Node Global × Box Node Global → Binding
+binding_of parts = record { values = trees_of parts.0.items; body = tree_of parts.1.value }
 
 -- the inner scope has the outer one's names behind its own
 abbrev pub IsWithin : Scope → Scope → Type 0

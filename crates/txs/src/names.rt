@@ -2,42 +2,91 @@
 
 ghost use Rattle.std.specs.Prelude.{◌≡◌, [], ◌∷◌, ◌<◌, ◌-◌, bytes_eq, drop, length, OnOk};
 ghost use Rattle.std.specs.List.{list_any};
-ghost use Rattle.txs.specs.Names.{head_of, may_bind, local_number, is_dot};
+ghost use Rattle.txs_value.specs.Operations.{op_name};
+ghost use Rattle.txs.specs.Names.{form_name, list_forms, operations, with_name, head_of, may_bind, local_number, is_dot};
 
 use std::alloc::{AllocError, Global};
 use std::marker::Model;
-use txs_value::Name;
+use txs_value::{Name, Op};
 
-/// The forms that a list may be, by the name at its head.
+/// The forms that a list may be.
+#[derive(Clone, Copy, Debug, PartialEq, Eq)]
+pub enum FormName {
+    If,
+    Do,
+    Let,
+    Loop,
+    Recur,
+    Println,
+}
+
+/// All of them.
+const FORMS: [FormName; 6] = [
+    FormName::If,
+    FormName::Do,
+    FormName::Let,
+    FormName::Loop,
+    FormName::Recur,
+    FormName::Println,
+];
+
+impl FormName {
+    /// The name at the head of the list.
+    fn name(self) -> &'static [u8]
+        ensures { result.now ≡ form_name self }
+    {
+        match self {
+            FormName::If => b"if",
+            FormName::Do => b"do",
+            FormName::Let => b"let",
+            FormName::Loop => b"loop",
+            FormName::Recur => b"recur",
+            FormName::Println => b"println",
+        }
+    }
+}
+
+/// The form of this name, if there is one.
+fn form_of(name: &[u8]) -> Option<FormName>
+    ensures { result ≡ with_name form_name name.now list_forms }
+{
+    for form in &FORMS {
+        if form.name() == name {
+            return Some(*form);
+        }
+    }
+    None
+}
+
+/// The operation of this name, if there is one.
+fn operation_of(name: &[u8]) -> Option<Op>
+    ensures { result ≡ with_name op_name name.now operations }
+{
+    Op::from_name(name)
+}
+
+/// What the name at the head of a list stands for.
 #[derive(Clone, Copy, Debug, PartialEq, Eq)]
 pub enum Head {
-    /// `+`, which may also be the name of a local.
-    Sum,
-    /// `let`
-    Bindings,
-    /// `do`
-    Block,
-    /// `println`
-    Line,
-    /// Any other name.
+    /// An operation, where no local has its name.
+    Operation(Op),
+    /// A form.
+    Form(FormName),
+    /// Anything else.
     Other,
 }
 
-/// The form that a name at the head of a list is.
+/// What a name at the head of a list stands for, where it is no local.
 #[tactic(auto, unfolding(crate::specs::Names::head_of))]
 pub fn head_of(name: &[u8]) -> Head
     ensures { result ≡ head_of name.now }
 {
-    if name == b"+".as_slice() {
-        Head::Sum
-    } else if name == b"let".as_slice() {
-        Head::Bindings
-    } else if name == b"do".as_slice() {
-        Head::Block
-    } else if name == b"println".as_slice() {
-        Head::Line
-    } else {
-        Head::Other
+    match form_of(name) {
+        Some(form) => Head::Form(form),
+        None => match operation_of(name) {
+            Some(op) => Head::Operation(op),
+            None => Head::Other,
+        },
     }
 }
 

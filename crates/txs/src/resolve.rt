@@ -1,13 +1,13 @@
 //! Resolution of names: forms to the program that they are.
 
-ghost use Rattle.std.specs.Prelude.{◌≡◌, ◌∷◌, [], ◌<◌, ◌≤◌, ◌-◌, ◌+◌, drop, length, Some, None, OnOk, IfOk, IfErr};
-ghost use Rattle.txs.specs.Names.{local_number, named, named_list, named_sum, named_let, named_bindings, named_body, named_all, named_future, named_script, sum_node, flag, local_node};
-ghost use Rattle.txs.specs.Refused.{Gives, GivesBound, BindsName, IsWithin};
+ghost use Rattle.std.specs.Prelude.{◌≡◌, ◌∷◌, [], ◌<◌, ◌≤◌, ◌-◌, ◌+◌, true, drop, length, Some, None, OnOk, IfOk, IfErr};
+ghost use Rattle.txs.specs.Names.{local_number, named, named_list, named_chain, named_if, named_else, named_binding, named_bindings, named_body, named_all, named_future, named_script, pair_node, operation_node, folds, is_chain, let_node, loop_node, recur_node, println_node, flag, local_node};
+ghost use Rattle.txs.specs.Refused.{Gives, GivesBound, BindsName, IsWithin, binding_of};
 ghost use Rattle.txs.specs.declared.resolve_error.ResolveErrorKind.TheVariants.{BadForm};
 ghost use Rattle.txs_reader.specs.Tree.{tree, trees, trees_of};
 ghost use Rattle.txs_tree.specs.View.{tree_of, trees_of as nodes_tree, thread_of, program_of, mark_of};
 
-use crate::names::{Head, Scope, head_of, may_bind};
+use crate::names::{FormName, Head, Scope, head_of, may_bind};
 use crate::resolve_error::{ResolveError, ResolveErrorKind};
 use std::alloc::{AllocError, Global};
 use txs_reader::{Bracket, Form};
@@ -32,16 +32,37 @@ fn local(scope: &Scope<'_>, name: &Name, span: Span, wanted: bool) -> Result<Nod
     })
 }
 
-/// The sum of two nodes.
-fn sum_of(alloc: Global, a: Node, b: Node, span: Span, wanted: bool) -> Result<Node, AllocError>
-    ensures { IfOk result (λ n. tree_of n ≡ sum_node (tree_of a) (tree_of b) (mark_of span wanted)) }
+/// The operation on two nodes.
+fn pair_of(
+    alloc: Global,
+    op: Op,
+    a: Node,
+    b: Node,
+    span: Span,
+    wanted: bool,
+) -> Result<Node, AllocError>
+    ensures { IfOk result (λ n. tree_of n ≡ pair_node op (tree_of a) (tree_of b) (mark_of span wanted)) }
 {
     let args = vec![in alloc; a, b]?;
     Ok(Node {
-        kind: NodeKind::Core(Op::Add, args),
+        kind: NodeKind::Core(op, args),
         span,
         wanted,
     })
+}
+
+/// Whether the operation folds any number of arguments from the left.
+fn folds(op: Op) -> bool
+    ensures { result ≡ folds op }
+{
+    matches!(op, Op::Add | Op::Subtract | Op::Multiply)
+}
+
+/// Whether the operation on so many arguments is the chain of its pairs.
+fn is_chain(op: Op, count: usize) -> bool
+    ensures { result ≡ is_chain op count }
+{
+    folds(op) && count > 2
 }
 
 /// The flag of the form at this index, by whether forms stand behind it.
@@ -78,6 +99,16 @@ fn expression<'a>(
         return Err(ResolveErrorKind::BadForm);
     }
     match form {
+        Form::Nil(span) => Ok(Node {
+            kind: NodeKind::Const(Value::Nil),
+            span: *span,
+            wanted,
+        }),
+        Form::Truth(b, span) => Ok(Node {
+            kind: NodeKind::Const(Value::Truth(*b)),
+            span: *span,
+            wanted,
+        }),
         Form::Number(n, span) => Ok(Node {
             kind: NodeKind::Const(Value::Int(*n)),
             span: *span,
@@ -109,27 +140,76 @@ fn list<'a>(
         return Err(ResolveErrorKind::BadForm);
     };
     match head_of(name.as_bytes()) {
-        Head::Sum => match scope.find(name) {
+        Head::Operation(op) => match scope.find(name) {
             Some(_) => Err(ResolveErrorKind::BadForm),
-            None => sum(alloc, scope, room, wanted, span, args),
+            None => operation(alloc, scope, room, wanted, span, op, args),
         },
-        Head::Bindings => let_form(alloc, scope, room, wanted, span, args),
-        Head::Block => body(alloc, scope, room, wanted, span, args),
-        Head::Line => {
-            let nodes = all(alloc, scope, room - 1, true, true, args)?;
-            Ok(Node {
-                kind: NodeKind::Println(nodes),
-                span,
-                wanted,
-            })
-        }
+        Head::Form(FormName::If) => if_form(alloc, scope, room, wanted, span, args),
+        Head::Form(FormName::Do) => body(alloc, scope, room, wanted, span, args),
+        Head::Form(FormName::Let) => let_form(alloc, scope, room, wanted, span, args),
+        Head::Form(FormName::Loop) => loop_form(alloc, scope, room, wanted, span, args),
+        Head::Form(FormName::Recur) => recur_form(alloc, scope, room, wanted, span, args),
+        Head::Form(FormName::Println) => println_form(alloc, scope, room, wanted, span, args),
         Head::Other => Err(ResolveErrorKind::BadForm),
     }
 }
 
-/// The node of a sum of two arguments or more.
+/// The node of an operation on so many arguments.
 #[cycle(resolve)]
-fn sum<'a>(
+fn operation<'a>(
+    alloc: Global,
+    scope: &mut Scope<'a>,
+    room: usize,
+    wanted: bool,
+    span: Span,
+    op: Op,
+    args: &'a [Form],
+) -> Result<Node, ResolveErrorKind>
+    requires { 0 < room }
+    ensures node { Gives tree_of result (operation_node op (length args.now) (mark_of span wanted)
+        (named_chain op room scope.old wanted span (trees_of (trees args.now)))
+        (named_all (room - 1) scope.old true true (trees_of (trees args.now)))) }
+    ensures kept { OnOk result (scope.new ≡ scope.old) }
+{
+    if is_chain(op, args.len()) {
+        return chain(alloc, scope, room, wanted, span, op, args);
+    }
+    let nodes = all(alloc, scope, room - 1, true, true, args)?;
+    Ok(Node {
+        kind: NodeKind::Core(op, nodes),
+        span,
+        wanted,
+    })
+}
+
+/// The node of an operation on two arguments or more, from the left.
+#[cycle(resolve)]
+fn chain<'a>(
+    alloc: Global,
+    scope: &mut Scope<'a>,
+    room: usize,
+    wanted: bool,
+    span: Span,
+    op: Op,
+    args: &'a [Form],
+) -> Result<Node, ResolveErrorKind>
+    requires { 2 ≤ length args.now }
+    ensures node { Gives tree_of result (named_chain op room scope.old wanted span (trees_of (trees args.now))) }
+    ensures kept { OnOk result (scope.new ≡ scope.old) }
+{
+    let below = room.saturating_sub(args.len() - 1);
+    let mut total = expression(alloc, scope, below, true, &args[0])?;
+    for i in 1..args.len() {
+        let below = room.saturating_sub(args.len() - i);
+        let term = expression(alloc, scope, below, true, &args[i])?;
+        total = pair_of(alloc, op, total, term, span, flag_at(true, wanted, args, i))?;
+    }
+    Ok(total)
+}
+
+/// The node of an `if`.
+#[cycle(resolve)]
+fn if_form<'a>(
     alloc: Global,
     scope: &mut Scope<'a>,
     room: usize,
@@ -137,20 +217,51 @@ fn sum<'a>(
     span: Span,
     args: &'a [Form],
 ) -> Result<Node, ResolveErrorKind>
-    ensures node { Gives tree_of result (named_sum room scope.old wanted span (trees_of (trees args.now))) }
+    requires { 0 < room }
+    ensures node { Gives tree_of result (named_if room scope.old wanted span (trees_of (trees args.now))) }
     ensures kept { OnOk result (scope.new ≡ scope.old) }
 {
     if args.len() < 2 {
         return Err(ResolveErrorKind::BadForm);
     }
-    let below = room.saturating_sub(args.len() - 1);
-    let mut total = expression(alloc, scope, below, true, &args[0])?;
-    for i in 1..args.len() {
-        let below = room.saturating_sub(args.len() - i);
-        let term = expression(alloc, scope, below, true, &args[i])?;
-        total = sum_of(alloc, total, term, span, flag_at(true, wanted, args, i))?;
+    let test = expression(alloc, scope, room - 1, true, &args[0])?;
+    let yes = expression(alloc, scope, room - 1, wanted, &args[1])?;
+    let no = otherwise(alloc, scope, room - 1, wanted, span, args)?;
+    let test = Box::new(alloc, test)?;
+    let yes = Box::new(alloc, yes)?;
+    let no = Box::new(alloc, no)?;
+    Ok(Node {
+        kind: NodeKind::If(test, yes, no),
+        span,
+        wanted,
+    })
+}
+
+/// The node of the other branch of an `if` with these arguments: nil where there is none.
+#[cycle(resolve)]
+fn otherwise<'a>(
+    alloc: Global,
+    scope: &mut Scope<'a>,
+    room: usize,
+    wanted: bool,
+    span: Span,
+    args: &'a [Form],
+) -> Result<Node, ResolveErrorKind>
+    requires { 2 ≤ length args.now }
+    ensures node { Gives tree_of result (named_else room scope.old wanted span (trees_of (trees (drop 2 args.now)))) }
+    ensures kept { OnOk result (scope.new ≡ scope.old) }
+{
+    if args.len() == 2 {
+        return Ok(Node {
+            kind: NodeKind::Const(Value::Nil),
+            span,
+            wanted,
+        });
     }
-    Ok(total)
+    if args.len() > 3 {
+        return Err(ResolveErrorKind::BadForm);
+    }
+    expression(alloc, scope, room, wanted, &args[2])
 }
 
 /// The node of a `let`.
@@ -164,7 +275,95 @@ fn let_form<'a>(
     args: &'a [Form],
 ) -> Result<Node, ResolveErrorKind>
     requires { 0 < room }
-    ensures node { Gives tree_of result (named_let room scope.old wanted span (trees_of (trees args.now))) }
+    ensures node { Gives tree_of result (let_node (named_binding room scope.old wanted span (trees_of (trees args.now))) (mark_of span wanted)) }
+    ensures kept { OnOk result (scope.new ≡ scope.old) }
+{
+    let (values, inner) = binding(alloc, scope, room, wanted, span, args)?;
+    Ok(Node {
+        kind: NodeKind::Let(values, inner),
+        span,
+        wanted,
+    })
+}
+
+/// The node of a `loop`.
+#[cycle(resolve)]
+fn loop_form<'a>(
+    alloc: Global,
+    scope: &mut Scope<'a>,
+    room: usize,
+    wanted: bool,
+    span: Span,
+    args: &'a [Form],
+) -> Result<Node, ResolveErrorKind>
+    requires { 0 < room }
+    ensures node { Gives tree_of result (loop_node (named_binding room scope.old wanted span (trees_of (trees args.now))) (mark_of span wanted)) }
+    ensures kept { OnOk result (scope.new ≡ scope.old) }
+{
+    let (values, inner) = binding(alloc, scope, room, wanted, span, args)?;
+    Ok(Node {
+        kind: NodeKind::Loop(values, inner),
+        span,
+        wanted,
+    })
+}
+
+/// The node of a `recur`.
+#[cycle(resolve)]
+fn recur_form<'a>(
+    alloc: Global,
+    scope: &mut Scope<'a>,
+    room: usize,
+    wanted: bool,
+    span: Span,
+    args: &'a [Form],
+) -> Result<Node, ResolveErrorKind>
+    requires { 0 < room }
+    ensures node { Gives tree_of result (recur_node (named_all (room - 1) scope.old true true (trees_of (trees args.now))) (mark_of span wanted)) }
+    ensures kept { OnOk result (scope.new ≡ scope.old) }
+{
+    let nodes = all(alloc, scope, room - 1, true, true, args)?;
+    Ok(Node {
+        kind: NodeKind::Recur(nodes),
+        span,
+        wanted,
+    })
+}
+
+/// The node of a `println`.
+#[cycle(resolve)]
+fn println_form<'a>(
+    alloc: Global,
+    scope: &mut Scope<'a>,
+    room: usize,
+    wanted: bool,
+    span: Span,
+    args: &'a [Form],
+) -> Result<Node, ResolveErrorKind>
+    requires { 0 < room }
+    ensures node { Gives tree_of result (println_node (named_all (room - 1) scope.old true true (trees_of (trees args.now))) (mark_of span wanted)) }
+    ensures kept { OnOk result (scope.new ≡ scope.old) }
+{
+    let nodes = all(alloc, scope, room - 1, true, true, args)?;
+    Ok(Node {
+        kind: NodeKind::Println(nodes),
+        span,
+        wanted,
+    })
+}
+
+/// The values of a `let` or a `loop`, and its body.
+#[cycle(resolve)]
+fn binding<'a>(
+    alloc: Global,
+    scope: &mut Scope<'a>,
+    room: usize,
+    wanted: bool,
+    span: Span,
+    args: &'a [Form],
+) -> Result<(Vec<Node>, Box<Node>), ResolveErrorKind>
+    requires { 0 < room }
+    ensures parts { Gives binding_of result (named_binding room scope.old wanted span (trees_of (trees args.now))) }
     ensures kept { OnOk result (scope.new ≡ scope.old) }
 {
     let Some((Form::Group(Bracket::Square, pairs, _), forms)) = args.split_first() else {
@@ -175,14 +374,10 @@ fn let_form<'a>(
     let inner = body(alloc, scope, room - 1, wanted, span, forms)?;
     scope.truncate(outer);
     let inner = Box::new(alloc, inner)?;
-    Ok(Node {
-        kind: NodeKind::Let(values, inner),
-        span,
-        wanted,
-    })
+    Ok((values, inner))
 }
 
-/// The values of a `let`, with its names in scope.
+/// The values of a `let` or a `loop`, with its names in scope.
 #[cycle(resolve)]
 fn bindings<'a>(
     alloc: Global,

@@ -95,7 +95,7 @@ fn row(alloc: Global, script: &str, out: &str, err: &str, status: u8) -> Result<
     )
 }
 
-const ROWS: [(&str, &str, &str, u8); 10] = [
+const ROWS: [(&str, &str, &str, u8); 22] = [
     ("(future (println (+ 1 2)))", "3\n", "", 0),
     ("", "", "", 0),
     ("; nothing", "", "", 0),
@@ -125,8 +125,70 @@ const ROWS: [(&str, &str, &str, u8); 10] = [
         1,
     ),
     ("(future [1 2)", "", "refused 3 Unopened at 12..13\n", 1),
+    ("(future (println (if false (quot 1 0) 5)))", "5\n", "", 0),
     (
-        "(future (println (inc 1)))",
+        "(future (println (loop [a 1 b 2] (if (= a 2) b (recur b a)))))",
+        "1\n",
+        "",
+        0,
+    ),
+    (
+        "(future (println (loop [i 0 s 0] (if (< i 10) (recur (inc i) (- s i)) s))))",
+        "-45\n",
+        "",
+        0,
+    ),
+    (
+        "(future (println (inc 9223372036854775807)))",
+        "",
+        "thread 0 failed: Overflow at 17..42\n",
+        3,
+    ),
+    (
+        "(future (println 1) (println (quot 1 0)))",
+        "1\n",
+        "thread 0 failed: DivideByZero at 29..39\n",
+        3,
+    ),
+    (
+        "(future (println (< 1 nil)))",
+        "",
+        "thread 0 failed: NotANumber at 17..26\n",
+        3,
+    ),
+    (
+        "(future (println nil true false))",
+        "nil true false\n",
+        "",
+        0,
+    ),
+    (
+        "(future (loop [a 1] (+ 1 (recur a))))",
+        "",
+        "refused 13 BadForm at 0..0\n",
+        1,
+    ),
+    (
+        "(future (loop [a 1] (recur a 2)))",
+        "",
+        "refused 13 BadForm at 0..0\n",
+        1,
+    ),
+    ("(future (recur))", "", "refused 13 BadForm at 0..0\n", 1),
+    (
+        "(future (let [inc 1] (println (inc 1))))",
+        "",
+        "refused 13 BadForm at 0..0\n",
+        1,
+    ),
+    (
+        "(future (println (inc 1 2)))",
+        "",
+        "refused 13 BadForm at 0..0\n",
+        1,
+    ),
+    (
+        "(future (println [1 2]))",
         "",
         "refused 13 BadForm at 0..0\n",
         1,
@@ -327,18 +389,35 @@ fn steps_are_counted(rt: HostRuntime) -> Result<(), Fail> {
     Ok(())
 }
 
+#[test]
+fn an_endless_loop_is_stopped(rt: HostRuntime) -> Result<(), Fail> {
+    let alloc = rt.alloc();
+    let mut out = Vec::new(alloc);
+    let mut err = Vec::new(alloc);
+    let words = ["run", "--steps", "1000"];
+    let script = "(future (loop [] (recur)))";
+    let status = with_words(alloc, words.as_slice(), script, &mut out, &mut err)?;
+    assert_eq!(rt; status, 4);
+    assert!(rt; out.is_empty());
+    assert_eq!(rt;
+        err.as_slice(),
+        b"thread 0 stopped: StepsSpent\n".as_slice()
+    );
+    Ok(())
+}
+
 // Whether the compiled run of the script prints and ends as the thread's meaning does.
 fn agrees(alloc: Global, script: &str) -> Result<bool, Fail> {
     let (program, code) = compile(alloc, script.as_bytes())?;
     if program.threads().is_empty() || code.code().threads().is_empty() {
         return Ok(program.threads().is_empty() && code.code().threads().is_empty());
     }
-    let meaning = eval_thread(alloc, &program, 0, 0)?;
+    let meaning = eval_thread(alloc, &program, 0, 10_000)?;
     let ran = run_thread(alloc, &code, 0, 100_000_000)?;
     Ok(meaning.outcome == Some(ran.outcome) && meaning.printed.as_slice() == ran.printed.as_slice())
 }
 
-const SCRIPTS: [&str; 44] = [
+const SCRIPTS: [&str; 79] = [
     "",
     "; a comment",
     " , \n",
@@ -383,6 +462,41 @@ const SCRIPTS: [&str; 44] = [
     "(future (let [x' 1 y? 2 z! 3 *w* 4 <= 5] (println x' y? z! *w* <=)))",
     "(future (println (println) (println (println 1))))",
     "(future (println 1 ; one\n 2) ; two\n)",
+    "(future (println nil true false))",
+    "(future (println (if nil 1 2) (if false 1 2) (if true 1 2) (if 0 1 2)))",
+    "(future (println (if false 1)))",
+    "(future (if true (println 1) (println 2)) (if nil (println 3)) (println 4))",
+    "(future (println (if (if true false true) 1 (if 1 2 3))))",
+    "(future (println (- 5) (- 5 3) (- 10 1 2 3) (* 2 3) (* 2 3 4 5)))",
+    "(future (println (- -9223372036854775808)))",
+    "(future (println (* 3037000500 3037000500 0)))",
+    "(future (println (* 0 3037000500 3037000500)))",
+    "(future (println (- 1 nil (println 2))))",
+    "(future (println (inc 1) (dec 1) (quot 7 -2) (rem 7 -2) (mod 7 -2)))",
+    "(future (println (mod -7 2) (rem -7 2) (quot -7 2)))",
+    "(future (println (quot 1 0)))",
+    "(future (println (rem 1 0)))",
+    "(future (println (mod nil 0)))",
+    "(future (println (quot -9223372036854775808 -1)))",
+    "(future (println (= 1 1) (= nil false) (not= 1 2) (= true true)))",
+    "(future (println (< 1 2) (> 1 2) (<= 2 2) (>= 1 2) (max 1 2) (min 1 2)))",
+    "(future (println (not nil) (not 0) (nil? nil) (nil? false)))",
+    "(future (println (zero? 0) (pos? 0) (neg? -1)))",
+    "(future (println (zero? true)))",
+    "(future (println (count nil)))",
+    "(future (println (count 1)))",
+    "(future (println (conj nil 1)))",
+    "(future (println (nth 1 0)))",
+    "(future (println (assoc nil 0 1) (peek nil) (pop nil)))",
+    "(future (println (loop [] 1)))",
+    "(future (println (loop [a 1 b 2] (if (= a 2) b (recur b a)))))",
+    "(future (println (loop [i 0 s 0] (if (< i 10) (recur (inc i) (- s i)) s))))",
+    "(future (loop [i 0] (if (< i 3) (do (println i) (recur (+ i 1))))))",
+    "(future (println (loop [i 0] (let [j (inc i)] (if (< j 5) (recur j) (* i j))))))",
+    "(future (loop [i 0] (if (< i 3) (do (loop [j 0] (if (< j i) (do (println i j) (recur (inc j))))) (recur (inc i))))))",
+    "(future (println (loop [i 0] (if (< i 9) (recur (loop [j i] (if (< j 5) (recur (+ j 2)) (inc j)))) i))))",
+    "(future (loop [i 3] (println (quot 6 i)) (recur (dec i))))",
+    "(future (println (let [if' 1 nil' 2] (+ if' nil'))))",
 ];
 
 #[test]

@@ -1,4 +1,4 @@
-use Rattle.std.proofs.Common.{◌≡◌, ◌<◌, ◌-◌, ◌+◌, bytes_eq, ℕ, Bool, List, length, Option, Some, cond, map, take, reverse, get_or, sym, ap, ◌∙◌, arith}
+use Rattle.std.proofs.Common.{◌≡◌, ◌<◌, ◌-◌, ◌+◌, bytes_eq, length, Some, cond, map, take, reverse, get_or, sym, ap, ◌∙◌, arith}
 use Rattle.txs.specs.Names.{local_number}
 use Rattle.txs.proofs.Scopes.{local_more}
 use Rattle.txs.proofs.names.Scope.find.Goals as goal
