@@ -1,18 +1,24 @@
 -- What the resolver's loops have built, and what is left of the definition behind them.
-use Rattle.std.proofs.Common.{◌≡◌, ◌<◌, ◌≤◌, ◌+◌, ◌-◌, ℕ, zero, suc, Bool, true, false, List, [], ◌∷◌, ◌++◌, Option, Some, None, Err, length, drop, get_or, cond, refl, sym, ap, ◌∙◌, subst, arith, length-drop, add-one, drop-cons, Vec, Global}
+use Rattle.std.proofs.Common.{◌≡◌, ◌<◌, ◌≤◌, ◌+◌, ◌-◌, ℕ, zero, suc, Bool, true, false, List, [], ◌∷◌, ◌++◌, Option, Some, None, Result, Err, bytes_eq, append_assoc, length, drop, get_or, cond, refl, sym, ap, ◌∙◌, subst, arith, length-drop, add-one, drop-cons, Vec, Global}
 use denote.Param.Weighed.{most}
 use Rattle.txs_value.specs.declared.fault.Span.{Span}
 use Rattle.txs_reader.specs.declared.form.Bracket.TheVariants.{Square}
 use Rattle.txs_reader.specs.declared.form.Form.{Form, Symbol, Group}
 use Rattle.txs_reader.proofs.Trees.{tree-Symbol, tree-Group}
 use Rattle.txs_reader.specs.Tree.{tree, trees, trees_of, first, Trees as Forms}
-use Rattle.txs_tree.specs.Tree.{Tree, Trees, Mark, Const, more, none, If, Do, Core}
+use Rattle.txs_reader.specs.Tree as form
+use Rattle.txs_tree.specs.Tree.{Tree, Trees, Mark, Const, more, none, If, Do, Core, Deref, Alter}
+use Rattle.txs_value.specs.declared.op.Callee.TheVariants.{Core as CoreOp}
 use Rattle.txs_value.specs.declared.op.Op.{Op}
 use Rattle.txs_value.specs.declared.value.Value.TheVariants.{Nil}
 use Rattle.txs_tree.specs.View.{tree_of, mark_of}
 use Rattle.txs_tree.specs.View as view
 use Rattle.txs_tree.specs.declared.node.Node.{Node}
-use Rattle.txs.specs.Names.{◌>>=◌, Scope, Bound, Binding, flag, parts, pair_node, is_chain, operation_node, let_node, loop_node, recur_node, println_node, bound_name, named, named_chain, named_pairs, named_if, named_else, named_binding, named_bindings, named_body, named_all, named_list, by_head, head_of, local_number}
+use Rattle.txs.specs.Names.{◌>>=◌, Scope, scope_of, with_local, Bound, Binding, flag, parts, pair_node, is_chain, operation_node, let_node, loop_node, recur_node, println_node, dosync_node, named_deref, named_alter, callee_of, bound_name, named, named_chain, named_pairs, named_if, named_else, named_binding, named_bindings, named_body, named_all, named_list, by_head, head_of, local_number, Headed, list_of, headed, alone, definition, last_future, named_from, with_cell}
+use Rattle.txs_value.specs.declared.cell.CellDefinition.{CellDefinition}
+use Rattle.std.specs.Prelude.{codes}
+use Rattle.txs_tree.specs.Tree.{PlainProgram}
+use Rattle.txs.specs.declared.names.FormName.{FormName}
 use Rattle.txs.specs.declared.names.Head.{Head}
 use Rattle.txs.specs.declared.names.Head.TheVariants.{Operation}
 use Rattle.txs.specs.Refused.{Gives, GivesBound, IsWithin}
@@ -92,15 +98,15 @@ all_end room scope inner last fs i ns le =
 
 -- ---- bindings
 
-pub bindings_step : (room : ℕ) (scope : Scope) (fs : List Form) (i : ℕ) (d e : Form) (name : List ℕ) (n : Node) (ns : List Node) → i + 1 < length fs → bound_name scope (tree (get_or fs i d)) ≡ Some name → named room scope true (tree (get_or fs (i + 1) e)) ≡ Some (tree_of n) → bound_after ns (named_bindings room scope (plain (drop i fs))) ≡ bound_after (ns ++ n ∷ []) (named_bindings room (name ∷ scope) (plain (drop (i + 2) fs)))
+pub bindings_step : (room : ℕ) (scope : Scope) (fs : List Form) (i : ℕ) (d e : Form) (name : List ℕ) (n : Node) (ns : List Node) → i + 1 < length fs → bound_name scope (tree (get_or fs i d)) ≡ Some name → named room scope true (tree (get_or fs (i + 1) e)) ≡ Some (tree_of n) → bound_after ns (named_bindings room scope (plain (drop i fs))) ≡ bound_after (ns ++ n ∷ []) (named_bindings room (with_local name scope) (plain (drop (i + 2) fs)))
 bindings_step room scope fs i d e name n ns lt bind value =
     let rest = plain (drop (i + 2) fs) in
     let two : plain (drop i fs) ≡ first (tree (get_or fs i d)) (first (tree (get_or fs (i + 1) e)) rest) =
     plain_at fs i d (omega arith) ∙ ap (first (tree (get_or fs i d))) (plain_at fs (i + 1) e lt ∙ ap (λ (k : ℕ). first (tree (get_or fs (i + 1) e)) (plain (drop k fs))) (omega arith)) in
     ap (λ l. bound_after ns (named_bindings room scope l)) two
-    ∙ ap (λ (o : Option (List ℕ)). bound_after ns (o >>= λ s. named room scope true (tree (get_or fs (i + 1) e)) >>= λ value. named_bindings room (s ∷ scope) rest >>= λ bound. Some (record { values = more value bound.values; scope = bound.scope }))) bind
-    ∙ ap (λ (o : Option Tree). bound_after ns (o >>= λ value. named_bindings room (name ∷ scope) rest >>= λ bound. Some (record { values = more value bound.values; scope = bound.scope }))) value
-    ∙ bound_snoc ns n (named_bindings room (name ∷ scope) rest)
+    ∙ ap (λ (o : Option (List ℕ)). bound_after ns (o >>= λ s. named room scope true (tree (get_or fs (i + 1) e)) >>= λ value. named_bindings room (with_local s scope) rest >>= λ bound. Some (record { values = more value bound.values; scope = bound.scope }))) bind
+    ∙ ap (λ (o : Option Tree). bound_after ns (o >>= λ value. named_bindings room (with_local name scope) rest >>= λ bound. Some (record { values = more value bound.values; scope = bound.scope }))) value
+    ∙ bound_snoc ns n (named_bindings room (with_local name scope) rest)
 
 pub bindings_unbound : (room : ℕ) (scope : Scope) (fs : List Form) (i : ℕ) (d : Form) (ns : List Node) → i + 1 < length fs → bound_name scope (tree (get_or fs i d)) ≡ None → bound_after ns (named_bindings room scope (plain (drop i fs))) ≡ None
 bindings_unbound room scope fs i d ns lt bind =
@@ -109,7 +115,7 @@ bindings_unbound room scope fs i d ns lt bind =
     let two : plain (drop i fs) ≡ first (tree (get_or fs i d)) (first (tree e) rest) =
     plain_at fs i d (omega arith) ∙ ap (first (tree (get_or fs i d))) (plain_at fs (i + 1) d lt) in
     ap (λ l. bound_after ns (named_bindings room scope l)) two
-    ∙ ap (λ (o : Option (List ℕ)). bound_after ns (o >>= λ s. named room scope true (tree e) >>= λ value. named_bindings room (s ∷ scope) rest >>= λ bound. Some (record { values = more value bound.values; scope = bound.scope }))) bind
+    ∙ ap (λ (o : Option (List ℕ)). bound_after ns (o >>= λ s. named room scope true (tree e) >>= λ value. named_bindings room (with_local s scope) rest >>= λ bound. Some (record { values = more value bound.values; scope = bound.scope }))) bind
 
 pub bindings_unvalued : (room : ℕ) (scope : Scope) (fs : List Form) (i : ℕ) (d e : Form) (name : List ℕ) (ns : List Node) → i + 1 < length fs → bound_name scope (tree (get_or fs i d)) ≡ Some name → named room scope true (tree (get_or fs (i + 1) e)) ≡ None → bound_after ns (named_bindings room scope (plain (drop i fs))) ≡ None
 bindings_unvalued room scope fs i d e name ns lt bind value =
@@ -117,8 +123,8 @@ bindings_unvalued room scope fs i d e name ns lt bind value =
     let two : plain (drop i fs) ≡ first (tree (get_or fs i d)) (first (tree (get_or fs (i + 1) e)) rest) =
     plain_at fs i d (omega arith) ∙ ap (first (tree (get_or fs i d))) (plain_at fs (i + 1) e lt) in
     ap (λ l. bound_after ns (named_bindings room scope l)) two
-    ∙ ap (λ (o : Option (List ℕ)). bound_after ns (o >>= λ s. named room scope true (tree (get_or fs (i + 1) e)) >>= λ value. named_bindings room (s ∷ scope) rest >>= λ bound. Some (record { values = more value bound.values; scope = bound.scope }))) bind
-    ∙ ap (λ (o : Option Tree). bound_after ns (o >>= λ value. named_bindings room (name ∷ scope) rest >>= λ bound. Some (record { values = more value bound.values; scope = bound.scope }))) value
+    ∙ ap (λ (o : Option (List ℕ)). bound_after ns (o >>= λ s. named room scope true (tree (get_or fs (i + 1) e)) >>= λ value. named_bindings room (with_local s scope) rest >>= λ bound. Some (record { values = more value bound.values; scope = bound.scope }))) bind
+    ∙ ap (λ (o : Option Tree). bound_after ns (o >>= λ value. named_bindings room (with_local name scope) rest >>= λ bound. Some (record { values = more value bound.values; scope = bound.scope }))) value
 
 one_left : (room : ℕ) (scope : Scope) (fs : List Form) → length fs ≡ 1 → named_bindings room scope (plain fs) ≡ None
 one_left room scope [] one = absurd (omega (arith, one))
@@ -216,6 +222,43 @@ else_many room scope wanted span (a ∷ b ∷ []) lt = absurd (omega (arith, lt)
 else_many room scope wanted span (a ∷ b ∷ c ∷ []) lt = absurd (omega (arith, lt))
 else_many room scope wanted span (a ∷ b ∷ c ∷ f ∷ fs) lt = refl
 
+-- ---- refs
+
+pub deref_none : (room : ℕ) (scope : Scope) (wanted : Bool) (span : Span) (fs : List Form) → (length fs ≡ 1 → ⊥) → named_deref room scope wanted span (plain fs) ≡ None
+deref_none room scope wanted span [] other = refl
+deref_none room scope wanted span (a ∷ []) other = absurd (other refl)
+deref_none room scope wanted span (a ∷ b ∷ fs) other = refl
+
+pub deref_one : (room : ℕ) (scope : Scope) (wanted : Bool) (span : Span) (fs : List Form) (d : Form) → length fs ≡ 1 → named_deref room scope wanted span (plain fs) ≡ (named (room - 1) scope true (tree (get_or fs 0 d)) >>= λ cell. Some (Deref cell (mark_of span wanted)))
+deref_one room scope wanted span [] d one = absurd (omega (arith, one))
+deref_one room scope wanted span (a ∷ []) d one = refl
+deref_one room scope wanted span (a ∷ b ∷ fs) d one = absurd (omega (arith, one))
+
+pub alter_short : (room : ℕ) (scope : Scope) (wanted : Bool) (span : Span) (fs : List Form) (f : Form) → fs ≡ f ∷ [] → named_alter room scope wanted span (plain fs) ≡ None
+alter_short room scope wanted span fs f e = ap (λ l. named_alter room scope wanted span (plain l)) e
+
+-- what an `alter` is, by its parts
+abbrev pub alter_of : Mark → Option Tree → Option Op → Option Trees → Option Tree
+alter_of m a b c = a >>= λ cell. b >>= λ op. c >>= λ nodes. Some (Alter cell (CoreOp op) nodes m)
+
+pub alter_none : (m : Mark) (a : Option Tree) (b : Option Op) (c : Option Trees) → (a ≡ None) → alter_of m a b c ≡ None
+alter_none m a b c e = ap (λ o. alter_of m o b c) e
+
+pub alter_none_op : (m : Mark) (a : Option Tree) (b : Option Op) (c : Option Trees) → (b ≡ None) → alter_of m a b c ≡ None
+alter_none_op m None b c e = refl
+alter_none_op m (Some t) b c e = ap (λ o. alter_of m (Some t) o c) e
+
+pub alter_none_all : (m : Mark) (a : Option Tree) (b : Option Op) (c : Option Trees) → (c ≡ None) → alter_of m a b c ≡ None
+alter_none_all m None b c e = refl
+alter_none_all m (Some t) None c e = refl
+alter_none_all m (Some t) (Some u) c e = ap (λ o. alter_of m (Some t) (Some u) o) e
+
+pub alter_some : (m : Mark) (a : Option Tree) (b : Option Op) (c : Option Trees) (x : Tree) (y : Op) (z : Trees) → a ≡ Some x → b ≡ Some y → c ≡ Some z → alter_of m a b c ≡ Some (Alter x (CoreOp y) z m)
+alter_some m a b c x y z p q r = ap (λ o. alter_of m o b c) p ∙ ap (λ o. alter_of m (Some x) o c) q ∙ ap (λ o. alter_of m (Some x) (Some y) o) r
+
+pub alter_parts : (room : ℕ) (scope : Scope) (wanted : Bool) (span : Span) (fs gs hs : List Form) (f g : Form) → fs ≡ f ∷ gs → gs ≡ g ∷ hs → named_alter room scope wanted span (plain fs) ≡ alter_of (mark_of span wanted) (named (room - 1) scope true (tree f)) (callee_of scope (tree g)) (named_all (room - 1) scope true true (plain hs))
+alter_parts room scope wanted span fs gs hs f g e h = ap (λ l. named_alter room scope wanted span (plain l)) (e ∙ ap (λ (l : List Form). f ∷ l) h)
+
 -- ---- bodies
 
 do_assoc : (a : Option Tree) (b : Option Trees) (m : Mark) → (a >>= λ n. b >>= λ ns. Some (Do (more n ns) m)) ≡ ((a >>= λ n. b >>= λ ns. Some (more n ns)) >>= λ items. Some (Do items m))
@@ -252,6 +295,9 @@ by room scope wanted span args h local =
       turns = loop_node (named_binding room scope wanted span args) (mark_of span wanted);
       turn = recur_node (named_all (room - 1) scope true true args) (mark_of span wanted);
       line = println_node (named_all (room - 1) scope true true args) (mark_of span wanted);
+      transaction = dosync_node (named_body (room - 1) scope wanted span args) (mark_of span wanted);
+      reading = named_deref room scope wanted span args;
+      change = named_alter room scope wanted span args;
     })
 
 pub list_head : (room : ℕ) (scope : Scope) (wanted : Bool) (span : Span) (fs : List Form) (f : Form) (args : List Form) (name : List ℕ) (at : Span) (h : Head) → fs ≡ f ∷ args → f ≡ Symbol name at → head_of name ≡ h → named_list room scope wanted span (plain fs) ≡ by room scope wanted span (plain args) h (local_number name scope)
@@ -278,10 +324,10 @@ binding_parts room scope wanted span fs f forms pairs at ps cons is items =
 
 -- ---- scopes
 
-pub within_push : (outer inner : Scope) (name : List ℕ) → IsWithin outer inner → IsWithin outer (name ∷ inner)
+pub within_push : (outer inner : Scope) (name : List ℕ) → IsWithin outer inner → IsWithin outer (with_local name inner)
 within_push outer inner name w =
-    let count : suc (length inner) - length outer ≡ suc (length inner - length outer) = omega (arith, w.0) in
-    (omega (arith, w.0), ap (λ (k : ℕ). drop k (name ∷ inner)) count ∙ w.1)
+    let count : suc (length inner.locals) - length outer.locals ≡ suc (length inner.locals - length outer.locals) = omega (arith, w.0) in
+    (omega (arith, w.0), ap (λ (k : ℕ). scope_of (drop k (name ∷ inner.locals)) inner.cells) count ∙ w.1)
 
 -- ---- refusals and sizes
 
@@ -295,3 +341,61 @@ refused_bound f Memory scope a b h go = tt
 
 pub tail_most : {X : Type 0} (size : X → ℕ) (xs : List X) (x : X) (rest : List X) → xs ≡ x ∷ rest → most size rest ≤ most size xs
 tail_most size xs x rest e = subst (λ l. most size rest ≤ most size l) (sym e) (omega arith)
+
+-- ---- scripts
+
+pub alone_other : (fs : List Form) → (length fs ≡ 1 → ⊥) → alone (plain fs) ≡ None
+alone_other [] other = refl
+alone_other (a ∷ []) other = absurd (other refl)
+alone_other (a ∷ b ∷ fs) other = refl
+
+-- these cells in front of a program
+abbrev pub with_cells : List CellDefinition → Option PlainProgram → Option PlainProgram
+with_cells ds None = None
+with_cells ds (Some p) = Some (record p { cells = ds ++ p.cells })
+
+with_cells_snoc : (ds : List CellDefinition) (d : CellDefinition) (o : Option PlainProgram) → with_cells ds (o >>= λ p. Some (with_cell d p)) ≡ with_cells (ds ++ d ∷ []) o
+with_cells_snoc ds d None = refl
+with_cells_snoc ds d (Some p) = ap (λ cs. Some (record p { cells = cs })) (sym (append_assoc ds (d ∷ []) p.cells))
+
+pub with_no_cells : (o : Option PlainProgram) → o ≡ with_cells [] o
+with_no_cells None = refl
+with_no_cells (Some p) = refl
+
+-- what a script's first form makes of it, where it is a list with a head
+abbrev pub headed_from : List (List ℕ) → List CellDefinition → Headed → Span → List form.Tree → Option PlainProgram
+headed_from names ds h span forms =
+    with_cells ds
+    (cond (bytes_eq h.head (codes "def")) (definition names h.parts >>= λ d. named_from (d.name ∷ names) forms >>= λ p. Some (with_cell d p)) (last_future names h span forms))
+
+pub from_headed : (names : List (List ℕ)) (ds : List CellDefinition) (f : form.Tree) (list : Forms) (h : Headed) (forms : List form.Tree) → list_of f ≡ Some list → headed list ≡ Some h → with_cells ds (named_from names (f ∷ forms)) ≡ headed_from names ds h (form.place f) forms
+from_headed names ds f list h forms is head =
+    let rest : Headed → Option PlainProgram = λ x. cond (bytes_eq x.head (codes "def")) (definition names x.parts >>= λ d. named_from (d.name ∷ names) forms >>= λ p. Some (with_cell d p)) (last_future names x (form.place f) forms) in
+    ap (λ (o : Option Forms). with_cells ds (o >>= λ l. headed l >>= rest)) is
+    ∙ ap (λ (o : Option Headed). with_cells ds (o >>= rest)) head
+
+pub from_unlisted : (names : List (List ℕ)) (ds : List CellDefinition) (f : form.Tree) (forms : List form.Tree) → list_of f ≡ None → with_cells ds (named_from names (f ∷ forms)) ≡ None
+from_unlisted names ds f forms is =
+    ap (λ (o : Option Forms). with_cells ds (o >>= λ l. headed l >>= λ x. cond (bytes_eq x.head (codes "def")) (definition names x.parts >>= λ d. named_from (d.name ∷ names) forms >>= λ p. Some (with_cell d p)) (last_future names x (form.place f) forms))) is
+
+pub from_headless : (names : List (List ℕ)) (ds : List CellDefinition) (f : form.Tree) (list : Forms) (forms : List form.Tree) → list_of f ≡ Some list → headed list ≡ None → with_cells ds (named_from names (f ∷ forms)) ≡ None
+from_headless names ds f list forms is head =
+    let rest : Headed → Option PlainProgram = λ x. cond (bytes_eq x.head (codes "def")) (definition names x.parts >>= λ d. named_from (d.name ∷ names) forms >>= λ p. Some (with_cell d p)) (last_future names x (form.place f) forms) in
+    ap (λ (o : Option Forms). with_cells ds (o >>= λ l. headed l >>= rest)) is
+    ∙ ap (λ (o : Option Headed). with_cells ds (o >>= rest)) head
+
+-- it is a definition, or none
+pub from_definition : (names : List (List ℕ)) (ds : List CellDefinition) (d : CellDefinition) (h : Headed) (span : Span) (forms : List form.Tree) → bytes_eq h.head (codes "def") ≡ true → definition names h.parts ≡ Some d → headed_from names ds h span forms ≡ with_cells (ds ++ d ∷ []) (named_from (d.name ∷ names) forms)
+from_definition names ds d h span forms is e =
+    ap (λ b. with_cells ds (cond b (definition names h.parts >>= λ x. named_from (x.name ∷ names) forms >>= λ p. Some (with_cell x p)) (last_future names h span forms))) is
+    ∙ ap (λ (o : Option CellDefinition). with_cells ds (o >>= λ x. named_from (x.name ∷ names) forms >>= λ p. Some (with_cell x p))) e
+    ∙ with_cells_snoc ds d (named_from (d.name ∷ names) forms)
+
+pub from_undefined : (names : List (List ℕ)) (ds : List CellDefinition) (h : Headed) (span : Span) (forms : List form.Tree) → bytes_eq h.head (codes "def") ≡ true → definition names h.parts ≡ None → headed_from names ds h span forms ≡ None
+from_undefined names ds h span forms is e =
+    ap (λ b. with_cells ds (cond b (definition names h.parts >>= λ x. named_from (x.name ∷ names) forms >>= λ p. Some (with_cell x p)) (last_future names h span forms))) is
+    ∙ ap (λ (o : Option CellDefinition). with_cells ds (o >>= λ x. named_from (x.name ∷ names) forms >>= λ p. Some (with_cell x p))) e
+
+pub from_future : (names : List (List ℕ)) (ds : List CellDefinition) (h : Headed) (span : Span) (forms : List form.Tree) → bytes_eq h.head (codes "def") ≡ false → headed_from names ds h span forms ≡ with_cells ds (last_future names h span forms)
+from_future names ds h span forms is =
+    ap (λ b. with_cells ds (cond b (definition names h.parts >>= λ x. named_from (x.name ∷ names) forms >>= λ p. Some (with_cell x p)) (last_future names h span forms))) is

@@ -1,4 +1,4 @@
 pub mod Scopes
 pub mod Building
 pub mod Heads
-pub mod Turns
+pub mod RunOver

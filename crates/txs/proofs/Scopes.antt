@@ -1,7 +1,7 @@
 -- The names in scope as a list whose nearest is first.
-use Rattle.std.proofs.Common.{◌≡◌, ◌<◌, ◌+◌, ◌-◌, ℕ, List, [], ◌∷◌, ◌++◌, Some, length, take, drop, get_or, map, reverse, cond, bytes_eq, refl, sym, ap, ◌∙◌, arith, length-drop}
+use Rattle.std.proofs.Common.{◌≡◌, ◌≤◌, ◌<◌, ◌+◌, ◌-◌, ℕ, suc, List, [], ◌∷◌, ◌++◌, Option, Some, length, take, drop, get_or, map, reverse, cond, bytes_eq, refl, sym, ap, ◌∙◌, arith, length-drop}
 use Rattle.std.proofs.lemmas.List.{reverse-append, length-reverse, take-append-drop, take-map, map_more, length-map, length-take-le}
-use Rattle.txs.specs.Names.{local_number}
+use Rattle.txs.specs.Names.{number_in}
 
 drop_front : {X : Type 0} (a b : List X) → drop (length a) (a ++ b) ≡ b
 drop_front [] b = refl
@@ -15,9 +15,9 @@ reverse_take n xs =
     sym (ap (λ k. drop k (reverse xs)) count ∙ ap (drop (length (reverse (drop n xs)))) whole ∙ drop_front (reverse (drop n xs)) (reverse (take n xs)))
 
 -- the last of the first names is the nearest of them
-pub local_more : {X : Type 0} (f : X → List ℕ) (name : List ℕ) (xs : List X) (i : ℕ) (d : X) → i < length xs → local_number name (reverse (take (i + 1) (map f xs))) ≡ cond (bytes_eq name (f (get_or xs i d))) (Some i) (local_number name (reverse (take i (map f xs))))
+pub local_more : {X : Type 0} (f : X → List ℕ) (name : List ℕ) (xs : List X) (i : ℕ) (d : X) → i < length xs → number_in name (reverse (take (i + 1) (map f xs))) ≡ cond (bytes_eq name (f (get_or xs i d))) (Some i) (number_in name (reverse (take i (map f xs))))
 local_more f name xs i d lt =
     let list : reverse (take (i + 1) (map f xs)) ≡ f (get_or xs i d) ∷ reverse (take i (map f xs)) =
     ap reverse (take-map f (i + 1) xs ∙ map_more f xs i d lt ∙ ap (λ l. l ++ f (get_or xs i d) ∷ []) (sym (take-map f i xs))) ∙ reverse-append (take i (map f xs)) (f (get_or xs i d) ∷ []) in
     let count : length (reverse (take i (map f xs))) ≡ i = length-reverse (take i (map f xs)) ∙ ap length (take-map f i xs) ∙ length-map (take i xs) f ∙ length-take-le i xs (omega arith) in
-    ap (local_number name) list ∙ ap (λ (k : ℕ). cond (bytes_eq name (f (get_or xs i d))) (Some k) (local_number name (reverse (take i (map f xs))))) count
+    ap (number_in name) list ∙ ap (λ (k : ℕ). cond (bytes_eq name (f (get_or xs i d))) (Some k) (number_in name (reverse (take i (map f xs))))) count

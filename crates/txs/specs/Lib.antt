@@ -1,5 +1,5 @@
 pub mod Names
 pub mod Refused
 pub mod Reported
-pub mod Runs
+pub mod RunOver
 pub mod Compiled

@@ -5,11 +5,16 @@ use Rattle.txs_value.specs.declared.fault.Span.{Span}
 use Rattle.txs_value.specs.Operations.{op_name}
 use Rattle.txs_value.specs.declared.op.Op.{Op}
 use Rattle.txs_value.specs.declared.op.Op.TheVariants.{Add, Subtract, Multiply, Inc, Dec, Quot, Rem, Mod, Equal, NotEqual, Less, Greater, LessOrEqual, GreaterOrEqual, Max, Min, Not, IsNil, IsZero, IsPositive, IsNegative, Count, Nth, Conj, Assoc, Peek, Pop}
-use Rattle.txs_value.specs.declared.value.Value.TheVariants.{Nil, Truth, Int}
+use Rattle.txs_value.specs.declared.op.Callee.TheVariants.{Core as CoreOp}
+use Rattle.txs_value.specs.declared.cell.CellDefinition.{CellDefinition}
+use Rattle.txs_value.specs.declared.value.CellId.{CellId}
+use Rattle.txs_value.specs.declared.value.CellKind.TheVariants.{Ref}
+use Rattle.txs_value.specs.declared.value.Value.{Value}
+use Rattle.txs_value.specs.declared.value.Value.TheVariants.{Nil, Truth, Int, Cell}
 use Rattle.txs_reader.specs.declared.form.Bracket.TheVariants.{Round, Square}
-use Rattle.txs_reader.specs.Tree.{Tree as Form, Trees as Forms, Leaf, leaf, group, first, number, symbol, nil, truth, text, keyword}
+use Rattle.txs_reader.specs.Tree.{Tree as Form, Trees as Forms, Leaf, leaf, group, first, place, number, symbol, nil, truth, text, keyword}
 use Rattle.txs_reader.specs.Tree.{none as no_forms}
-use Rattle.txs_tree.specs.Tree.{Tree, Trees, Mark, Const, Local, If, Do, Let, Loop, Recur, Core, Println, none, more, PlainThread, PlainProgram}
+use Rattle.txs_tree.specs.Tree.{Tree, Trees, Mark, Const, Local, If, Do, Let, Loop, Recur, Core, Println, Dosync, Deref, Alter, none, more, PlainThread, PlainProgram}
 use Rattle.txs_tree.specs.View.{mark_of}
 use Rattle.txs.specs.declared.names.FormName.{FormName}
 use Rattle.txs.specs.declared.names.FormName.TheVariants as kind
@@ -22,14 +27,30 @@ abbrev pub ◌>>=◌ : {A B : Type 0} → Option A → (A → Option B) → Opti
 None >>= f = None
 Some x >>= f = f x
 
--- the names of the locals in scope, the nearest first
-abbrev pub Scope : Type 0
-Scope = List (List ℕ)
+-- the names in scope: of the locals, the nearest first, and of the cells, the last defined first
+pub record Scope : Type 0 where
+  pub locals : List (List ℕ)
+  pub cells : List (List ℕ)
 
--- the number of the nearest local of this name: locals are numbered by nesting, from 0
+abbrev pub scope_of : List (List ℕ) → List (List ℕ) → Scope
+scope_of locals cells = record { locals = locals; cells = cells }
+
+-- a scope with one more local, which is nearer than the others
+abbrev pub with_local : List ℕ → Scope → Scope
+with_local name scope = scope_of (name ∷ scope.locals) scope.cells
+
+-- the number of the first thing in a list that has this name: they are numbered from the last one on, from 0
+abbrev pub number_in : List ℕ → List (List ℕ) → Option ℕ
+number_in name [] = None
+number_in name (n ∷ ns) = if bytes_eq name n then Some (length ns) else number_in name ns
+
+-- the nearest local of this name: locals are numbered by nesting
 abbrev pub local_number : List ℕ → Scope → Option ℕ
-local_number name [] = None
-local_number name (n ∷ ns) = if bytes_eq name n then Some (length ns) else local_number name ns
+local_number name scope = number_in name scope.locals
+
+-- the cell of this name: cells are numbered by order of definition
+abbrev pub cell_number : List ℕ → Scope → Option ℕ
+cell_number name scope = number_in name scope.cells
 
 -- the names of the forms, which no local may have
 unfoldable pub form_names : List (List ℕ)
@@ -54,10 +75,13 @@ form_name kind.Let = codes "let"
 form_name kind.Loop = codes "loop"
 form_name kind.Recur = codes "recur"
 form_name kind.Println = codes "println"
+form_name kind.Dosync = codes "dosync"
+form_name kind.Deref = codes "deref"
+form_name kind.Alter = codes "alter"
 
 -- the forms that a list may be
 abbrev pub list_forms : List FormName
-list_forms = kind.If ∷ kind.Do ∷ kind.Let ∷ kind.Loop ∷ kind.Recur ∷ kind.Println ∷ []
+list_forms = kind.If ∷ kind.Do ∷ kind.Let ∷ kind.Loop ∷ kind.Recur ∷ kind.Println ∷ kind.Dosync ∷ kind.Deref ∷ kind.Alter ∷ []
 
 -- the core operations
 abbrev pub operations : List Op
@@ -88,6 +112,9 @@ pub record ByForm (A : Type 0) : Type 0 where
   pub turns : A
   pub turn : A
   pub line : A
+  pub transaction : A
+  pub reading : A
+  pub change : A
 
 abbrev pub of_form : {A : Type 0} → FormName → ByForm A → A
 of_form kind.If made = made.branches
@@ -96,6 +123,9 @@ of_form kind.Let made = made.bindings
 of_form kind.Loop made = made.turns
 of_form kind.Recur made = made.turn
 of_form kind.Println made = made.line
+of_form kind.Dosync made = made.transaction
+of_form kind.Deref made = made.reading
+of_form kind.Alter made = made.change
 
 -- what is made of a list with this head: a local of an operation's name is called by nobody
 abbrev pub by_head : {A : Type 0} → Head → Option ℕ → (Op → Option A) → ByForm (Option A) → Option A
@@ -114,15 +144,29 @@ abbrev pub flag : Bool → Bool → Forms → Bool
 flag inner last no_forms = last
 flag inner last (first e rest) = inner
 
--- the node of a local
-abbrev pub local_node : Option ℕ → Mark → Option Tree
-local_node None mark = None
-local_node (Some i) mark = Some (Local i mark)
+-- the ref of this number
+abbrev pub ref_id : ℕ → CellId
+ref_id k = record { kind = Ref; number = k }
+
+-- the node of a symbol: a local, else a cell
+abbrev pub symbol_node : Option ℕ → Option ℕ → Mark → Option Tree
+symbol_node (Some i) cell mark = Some (Local i mark)
+symbol_node None (Some k) mark = Some (Const (Cell (ref_id k)) mark)
+symbol_node None None mark = None
+
+-- the operation that a symbol is where a function is wanted, if no local has its name
+abbrev pub callee : Option ℕ → Option Op → Option Op
+callee (Some i) op = None
+callee None op = op
+
+abbrev pub callee_of : Scope → Form → Option Op
+callee_of scope (leaf (symbol name) at) = callee (local_number name scope) (with_name op_name name operations)
+callee_of scope _ = None
 
 -- the node of a form without parts
 abbrev pub leaf_node : Scope → Leaf → Mark → Option Tree
 leaf_node scope (number z) mark = Some (Const (Int z) mark)
-leaf_node scope (symbol name) mark = local_node (local_number name scope) mark
+leaf_node scope (symbol name) mark = symbol_node (local_number name scope) (cell_number name scope) mark
 leaf_node scope nil mark = Some (Const Nil mark)
 leaf_node scope (truth b) mark = Some (Const (Truth b) mark)
 leaf_node scope (text bytes) mark = None
@@ -157,7 +201,7 @@ is_chain op n = folds op && nat_lt 2 n
 abbrev pub operation_node : Op → ℕ → Mark → Option Tree → Option Trees → Option Tree
 operation_node op n mark chain args = if is_chain op n then chain else (args >>= λ nodes. Some (Core op nodes mark))
 
--- the nodes of a `let`, a `loop`, a `recur` and a `println`, of their parts
+-- the nodes of a `let`, a `loop`, a `recur`, a `println` and a `dosync`, of their parts
 abbrev pub let_node : Option Binding → Mark → Option Tree
 let_node made mark = made >>= λ b. Some (Let b.values b.body mark)
 
@@ -170,9 +214,12 @@ recur_node made mark = made >>= λ nodes. Some (Recur nodes mark)
 abbrev pub println_node : Option Trees → Mark → Option Tree
 println_node made mark = made >>= λ nodes. Some (Println nodes mark)
 
+abbrev pub dosync_node : Option Tree → Mark → Option Tree
+dosync_node made mark = made >>= λ body. Some (Dosync body mark)
+
 -- the name that a form binds, where one more local may be in scope: there are at most 200
 abbrev pub bound_name : Scope → Form → Option (List ℕ)
-bound_name scope (leaf (symbol name) at) = if may_bind name && nat_lt (length scope) 200 then Some name else None
+bound_name scope (leaf (symbol name) at) = if may_bind name && nat_lt (length scope.locals) 200 then Some name else None
 bound_name scope _ = None
 
 abbrev mutual
@@ -195,6 +242,9 @@ abbrev mutual
         turns = loop_node (named_binding room scope wanted span args) (mark_of span wanted);
         turn = recur_node (named_all (room - 1) scope true true args) (mark_of span wanted);
         line = println_node (named_all (room - 1) scope true true args) (mark_of span wanted);
+        transaction = dosync_node (named_body (room - 1) scope wanted span args) (mark_of span wanted);
+        reading = named_deref room scope wanted span args;
+        change = named_alter room scope wanted span args;
       })
   named_list room scope wanted span _ = None
 
@@ -225,6 +275,20 @@ abbrev mutual
   named_else room scope wanted span (first e no_forms) = named room scope wanted e
   named_else room scope wanted span (first e (first f rest)) = None
 
+  -- a cell
+  pub named_deref : ℕ → Scope → Bool → Span → Forms → Option Tree
+  named_deref room scope wanted span (first r no_forms) = named (room - 1) scope true r >>= λ cell. Some (Deref cell (mark_of span wanted))
+  named_deref room scope wanted span _ = None
+
+  -- a cell, an operation, and the operation's further arguments
+  pub named_alter : ℕ → Scope → Bool → Span → Forms → Option Tree
+  named_alter room scope wanted span (first r (first f args)) =
+      named (room - 1) scope true r >>= λ cell.
+      callee_of scope f >>= λ op.
+      named_all (room - 1) scope true true args >>= λ nodes.
+      Some (Alter cell (CoreOp op) nodes (mark_of span wanted))
+  named_alter room scope wanted span _ = None
+
   -- the bindings, and a body that sees them
   pub named_binding : ℕ → Scope → Bool → Span → Forms → Option Binding
   named_binding room scope wanted span (first (group Square bindings at) body) =
@@ -239,7 +303,7 @@ abbrev mutual
   named_bindings room scope (first binder (first e rest)) =
       bound_name scope binder >>= λ name.
       named room scope true e >>= λ value.
-      named_bindings room (name ∷ scope) rest >>= λ bound.
+      named_bindings room (with_local name scope) rest >>= λ bound.
       Some (record { values = more value bound.values; scope = bound.scope })
   named_bindings room scope _ = None
 
@@ -265,16 +329,87 @@ abbrev mutual
 abbrev pub max_levels : ℕ
 max_levels = 1000
 
--- a future; the result of its body isn't wanted
-abbrev pub named_future : Form → Option PlainThread
-named_future (group Round (first (leaf (symbol name) at) body) span) =
-    if bytes_eq name (codes "future")
-    then (named_body max_levels [] false span body >>= λ node. Some (record { body = node; span = span }))
-    else None
-named_future _ = None
+-- ---- scripts
 
--- a script of no form, or of one future
+abbrev pub is_none : {A : Type 0} → Option A → Bool
+is_none None = true
+is_none (Some x) = false
+
+-- whether a cell may have this name after these: it is that of no form, no operation and no cell, and without a dot
+unfoldable pub may_define : List (List ℕ) → List ℕ → Bool
+may_define names name = may_bind name && (is_none (with_name op_name name operations) && is_none (number_in name names))
+
+-- the forms of a list
+abbrev pub list_of : Form → Option Forms
+list_of (group Round forms span) = Some forms
+list_of _ = None
+
+-- a name, and what stands behind it
+pub record Headed : Type 0 where
+  pub head : List ℕ
+  pub parts : Forms
+
+abbrev pub headed : Forms → Option Headed
+headed (first (leaf (symbol name) at) parts) = Some (record { head = name; parts = parts })
+headed _ = None
+
+-- the only one of forms
+abbrev pub alone : Forms → Option Form
+alone (first e no_forms) = Some e
+alone _ = None
+
+abbrev pub number_of : Form → Option Value
+number_of (leaf (number z) at) = Some (Int z)
+number_of _ = None
+
+abbrev pub only_if : {A : Type 0} → Bool → Option A → Option A
+only_if b o = if b then o else None
+
+-- the number in `(ref n)`
+abbrev pub opening : Form → Option Value
+opening form =
+    list_of form >>= λ forms.
+    headed forms >>= λ h.
+    only_if (bytes_eq h.head (codes "ref")) (alone h.parts >>= number_of)
+
+-- a ref of this name that opens with this value
+abbrev pub new_ref : List ℕ → Value → CellDefinition
+new_ref name v = record { kind = Ref; name = name; opening = v }
+
+-- the ref that `(def name (ref n))` with these parts defines after these names; there are at most 1,000 cells
+abbrev pub definition : List (List ℕ) → Forms → Option CellDefinition
+definition names parts =
+    headed parts >>= λ h.
+    only_if (may_define names h.head && nat_lt (length names) 1000)
+    (alone h.parts >>= λ form. opening form >>= λ v. Some (new_ref h.head v))
+
+abbrev pub program_with : List CellDefinition → List PlainThread → PlainProgram
+program_with cells threads = record { cells = cells; functions = []; threads = threads }
+
+-- a program with one more cell in front
+abbrev pub with_cell : CellDefinition → PlainProgram → PlainProgram
+with_cell d p = record p { cells = d ∷ p.cells }
+
+-- the program whose cells have these names and whose thread has this body; the result of the body isn't wanted
+abbrev pub thread_program : List (List ℕ) → Span → Forms → Option PlainProgram
+thread_program names span body =
+    named_body max_levels (scope_of [] names) false span body >>= λ node. Some (program_with [] (record { body = node; span = span } ∷ []))
+
+-- a script's last form, a future, where these cells are defined
+abbrev pub last_future : List (List ℕ) → Headed → Span → List Form → Option PlainProgram
+last_future names h span [] = only_if (bytes_eq h.head (codes "future")) (thread_program names span h.parts)
+last_future names h span (form ∷ forms) = None
+
+-- a script's forms after definitions of these names, the last first: further definitions, and then one future or none
+abbrev pub named_from : List (List ℕ) → List Form → Option PlainProgram
+named_from names [] = Some (program_with [] [])
+named_from names (form ∷ forms) =
+    list_of form >>= λ list.
+    headed list >>= λ h.
+    if bytes_eq h.head (codes "def")
+    then (definition names h.parts >>= λ d. named_from (d.name ∷ names) forms >>= λ p. Some (with_cell d p))
+    else last_future names h (place form) forms
+
+-- the program of a script
 abbrev pub named_script : List Form → Option PlainProgram
-named_script [] = Some (record { functions = []; threads = [] })
-named_script (form ∷ []) = named_future form >>= λ thread. Some (record { functions = []; threads = thread ∷ [] })
-named_script (form ∷ other ∷ forms) = None
+named_script forms = named_from [] forms

@@ -1,12 +1,14 @@
 -- What a resolver's answer says.
-use Rattle.std.specs.Prelude.{◌≡◌, ◌≤◌, ◌<◌, ◌-◌, ℕ, List, drop, length, Option, Some, None, Result, Ok, Err}
+use Rattle.std.specs.Prelude.{◌≡◌, ◌≤◌, ◌<◌, ◌-◌, ℕ, List, map, drop, length, Option, Some, None, Result, Ok, Err}
 use Rattle.std.specs.Prelude.{Vec, Box}
 use Rattle.std.specs.Global.{Global}
 use Rattle.std.specs.Borrow.{Bor}
 use Rattle.txs_tree.specs.declared.node.Node.{Node}
 use Rattle.txs_tree.specs.View.{tree_of, trees_of}
-use Rattle.txs_reader.specs.Tree.{Tree as Form}
-use Rattle.txs.specs.Names.{Scope, Bound, Binding, bound_name}
+use Rattle.txs_reader.specs.declared.form.Form.{Form as AForm}
+use Rattle.txs_reader.specs.Tree.{Tree as Form, tree}
+use Rattle.txs_reader.specs.Tree.{trees_of as forms_of}
+use Rattle.txs.specs.Names.{Scope, scope_of, Bound, Binding, bound_name, Headed}
 use Rattle.txs.specs.declared.resolve_error.ResolveErrorKind.{ResolveErrorKind}
 use Rattle.txs.specs.declared.resolve_error.ResolveErrorKind.TheVariants.{BadForm, Memory}
 
@@ -26,12 +28,18 @@ GivesBound (Err Memory) scope wanted = Unit {0}
 abbrev pub binding_of : Vec Node Global × Box Node Global → Binding
 binding_of parts = record { values = trees_of parts.0.items; body = tree_of parts.1.value }
 
--- the inner scope has the outer one's names behind its own
+-- the inner scope has the outer one's locals behind its own, and the same cells
 abbrev pub IsWithin : Scope → Scope → Type 0
-IsWithin outer inner = (length outer ≤ length inner) × (drop (length inner - length outer) inner ≡ outer)
+IsWithin outer inner =
+    (length outer.locals ≤ length inner.locals)
+    × (scope_of (drop (length inner.locals - length outer.locals) inner.locals) inner.cells ≡ outer)
 
 -- the answer is the name that the form binds
 abbrev pub BindsName : Result (Bor (List ℕ)) ResolveErrorKind → Scope → Form → Type 0
-BindsName (Ok name) scope form = (length scope < 200) × (bound_name scope form ≡ Some name.now)
+BindsName (Ok name) scope form = (length scope.locals < 200) × (bound_name scope form ≡ Some name.now)
 BindsName (Err BadForm) scope form = bound_name scope form ≡ None
 BindsName (Err Memory) scope form = ⊥
+
+-- a name and the forms behind it
+abbrev pub headed_of : Bor (List ℕ) × Bor (List AForm) → Headed
+headed_of h = record { head = h.0.now; parts = forms_of (map tree h.1.now) }

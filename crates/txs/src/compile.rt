@@ -41,9 +41,9 @@ fn program_of_forms(alloc: Global, forms: &[Form]) -> Result<Program, CompileErr
     ensures err { IfErr result (λ e. IsFormRefusal (trees forms.now) e) }
 {
     match resolve(alloc, forms) {
-        Ok(threads) => {
-            if is_sound(&threads) {
-                Ok(Program::new(threads))
+        Ok((cells, threads)) => {
+            if is_sound(&cells, &threads) {
+                Ok(Program::new(cells, threads))
             } else {
                 Err(CompileError::Resolve(ResolveError {
                     kind: ResolveErrorKind::BadForm,

@@ -1,9 +1,9 @@
 //! Names: which symbols stand for forms, and which locals are in scope.
 
-ghost use Rattle.std.specs.Prelude.{◌≡◌, [], ◌∷◌, ◌<◌, ◌-◌, bytes_eq, drop, length, OnOk};
+ghost use Rattle.std.specs.Prelude.{◌≡◌, [], ◌∷◌, ◌<◌, ◌-◌, bytes_eq, drop, length, map, reverse, OnOk, IfSome};
 ghost use Rattle.std.specs.List.{list_any};
 ghost use Rattle.txs_value.specs.Operations.{op_name};
-ghost use Rattle.txs.specs.Names.{form_name, list_forms, operations, with_name, head_of, may_bind, local_number, is_dot};
+ghost use Rattle.txs.specs.Names.{form_name, list_forms, operations, with_name, head_of, may_bind, may_define, scope_of, with_local, number_in, local_number, cell_number, is_dot};
 
 use std::alloc::{AllocError, Global};
 use std::marker::Model;
@@ -18,16 +18,22 @@ pub enum FormName {
     Loop,
     Recur,
     Println,
+    Dosync,
+    Deref,
+    Alter,
 }
 
 /// All of them.
-const FORMS: [FormName; 6] = [
+const FORMS: [FormName; 9] = [
     FormName::If,
     FormName::Do,
     FormName::Let,
     FormName::Loop,
     FormName::Recur,
     FormName::Println,
+    FormName::Dosync,
+    FormName::Deref,
+    FormName::Alter,
 ];
 
 impl FormName {
@@ -42,6 +48,9 @@ impl FormName {
             FormName::Loop => b"loop",
             FormName::Recur => b"recur",
             FormName::Println => b"println",
+            FormName::Dosync => b"dosync",
+            FormName::Deref => b"deref",
+            FormName::Alter => b"alter",
         }
     }
 }
@@ -59,7 +68,7 @@ fn form_of(name: &[u8]) -> Option<FormName>
 }
 
 /// The operation of this name, if there is one.
-fn operation_of(name: &[u8]) -> Option<Op>
+pub fn operation_of(name: &[u8]) -> Option<Op>
     ensures { result ≡ with_name op_name name.now operations }
 {
     Op::from_name(name)
@@ -144,66 +153,121 @@ pub fn may_bind(name: &[u8]) -> bool
     !is_among(name, &FORM_NAMES) && !has_dot(name)
 }
 
-/// The locals in scope, at most 200. Contracts see their names, the nearest first.
+/// Whether a cell may have this name after those in scope: it is that of no form, no operation and no cell,
+/// and has no dot.
+#[tactic(auto, unfolding(crate::specs::Names::may_define))]
+pub fn may_define(scope: &Scope<'_>, name: &Name) -> bool
+    ensures { result ≡ may_define scope.now.cells name.now }
+{
+    may_bind(name.as_bytes())
+        && operation_of(name.as_bytes()).is_none()
+        && scope.find_cell(name).is_none()
+}
+
+/// The names in scope: of at most 200 locals, and of at most 1,000 cells. Contracts see the names of the
+/// locals with the nearest first, and those of the cells with the last defined first.
 #[derive(Drop)]
 pub struct Scope<'a> {
-    names: Vec<&'a Name>,
+    locals: Vec<&'a Name>,
+    cells: Vec<&'a Name>,
 }
 
 impl<'a> Model for Scope<'a> {
     ghost use Rattle.std.specs.Prelude.{List, ℕ, ◌≤◌, length, map, reverse};
+    ghost use Rattle.std.specs.Coded.{codes};
+    ghost use Rattle.txs.specs.Names.{Scope, scope_of};
 
-    ghost Value = { List (List ℕ) };
+    ghost Value = { Scope };
 
-    ghost view = { λ s. reverse (map (λ n. n.now) s.names.items) };
+    ghost coded = { Prim.hlevel (codes) };
 
-    ghost invariant = { λ s. length s.names.items ≤ 200 };
+    ghost view = { λ s. scope_of (reverse (map (λ n. n.now) s.locals.items)) (reverse (map (λ n. n.now) s.cells.items)) };
+
+    ghost invariant = { λ s. (length s.locals.items ≤ 200) × (length s.cells.items ≤ 1000) };
+}
+
+/// The number of the last of these names that is this one: they are numbered from 0.
+fn number_in(names: &[&Name], name: &Name) -> Option<usize>
+    ensures number { result ≡ number_in name.now (reverse (map (λ n. n.now) names.now)) }
+    ensures below { IfSome result (λ i. i < length names.now) }
+{
+    let mut i = names.len();
+    while i > 0 {
+        i -= 1;
+        if name.as_bytes() == names[i].as_bytes() {
+            return Some(i);
+        }
+    }
+    None
 }
 
 impl<'a> Scope<'a> {
-    /// No local is in scope.
+    /// Nothing is in scope.
     pub fn new(alloc: Global) -> Scope<'a>
-        ensures { result ≡ [] }
+        ensures { result ≡ scope_of [] [] }
     {
         Scope {
-            names: Vec::new(alloc),
+            locals: Vec::new(alloc),
+            cells: Vec::new(alloc),
         }
     }
 
     /// How many locals are in scope.
     pub fn len(&self) -> usize
-        ensures { result ≡ length self.now }
+        ensures { result ≡ length self.now.locals }
     {
-        self.names.len()
+        self.locals.len()
     }
 
-    /// Binds a name, which is nearer than the others.
-    pub fn push(&mut self, name: &'a Name) -> Result<(), AllocError>
-        requires { length self.old < 200 }
-        ensures { OnOk result (self.new ≡ name.now ∷ self.old) }
+    /// How many cells are in scope.
+    pub fn cells(&self) -> usize
+        ensures { result ≡ length self.now.cells }
     {
-        self.names.push(name)?;
+        self.cells.len()
+    }
+
+    /// Binds the name of a local, which is nearer than the others.
+    pub fn push(&mut self, name: &'a Name) -> Result<(), AllocError>
+        requires { length self.old.locals < 200 }
+        ensures { OnOk result (self.new ≡ with_local name.now self.old) }
+    {
+        self.locals.push(name)?;
         Ok(())
     }
 
     /// Leaves the outermost `len` locals in scope.
     pub fn truncate(&mut self, len: usize)
-        ensures { self.new ≡ drop (length self.old - len) self.old }
+        ensures { self.new ≡ scope_of (drop (length self.old.locals - len) self.old.locals) self.old.cells }
     {
-        self.names.truncate(len);
+        self.locals.truncate(len);
+    }
+
+    /// Defines the name of a cell.
+    pub fn define(&mut self, name: &'a Name) -> Result<(), AllocError>
+        requires { length self.old.cells < 1000 }
+        ensures { OnOk result (self.new ≡ scope_of self.old.locals (name.now ∷ self.old.cells)) }
+    {
+        self.cells.push(name)?;
+        Ok(())
     }
 
     /// The number of the nearest local of this name.
     pub fn find(&self, name: &Name) -> Option<u8>
         ensures { result ≡ local_number name.now self.now }
     {
-        let mut i = self.names.len();
-        while i > 0 {
-            i -= 1;
-            if name.as_bytes() == self.names[i].as_bytes() {
-                return Some(i as u8);
-            }
+        match number_in(self.locals.as_slice(), name) {
+            Some(i) => Some(i as u8),
+            None => None,
         }
-        None
+    }
+
+    /// The number of the cell of this name.
+    pub fn find_cell(&self, name: &Name) -> Option<u16>
+        ensures { result ≡ cell_number name.now self.now }
+    {
+        match number_in(self.cells.as_slice(), name) {
+            Some(i) => Some(i as u16),
+            None => None,
+        }
     }
 }

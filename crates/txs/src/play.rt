@@ -1,13 +1,17 @@
 //! The program, over any streams.
 
+ghost use Rattle.std.specs.Prelude.{◌≡◌, []};
+
 use crate::compile::compile;
 use crate::compile_error::CompileError;
-use crate::run::{Ran, run_thread};
+use crate::run::{Ran, RunError, run_thread};
 use crate::streams::{ReadFault, read_bytes, write_bytes};
 use crate::words::{Words, parse_words};
 use std::alloc::{AllocError, Global};
 use std::io::{Read, Write};
-use txs_value::{Outcome, Span};
+use txs_code::Verified;
+use txs_value::{Ask, CellDefinition, CellId, Outcome, Span, write_text};
+use txs_world::Store;
 
 /// What the program tells: its standard output and error, and its status.
 #[derive(Drop)]
@@ -89,20 +93,69 @@ fn of_thread(alloc: Global, k: u16, ran: Ran) -> Result<Told, AllocError> {
     Ok(told)
 }
 
-/// Runs the script in these bytes.
-fn run_script(alloc: Global, bytes: &[u8], steps: u64) -> Result<Told, AllocError> {
+/// Nothing on either stream.
+fn nothing(alloc: Global) -> Told {
+    Told {
+        output: Vec::new(alloc),
+        errors: Vec::new(alloc),
+        status: DONE,
+    }
+}
+
+/// What is told of the one thread of the code, if it has one, that runs over the store.
+fn run_code(
+    alloc: Global,
+    code: &Verified,
+    steps: u64,
+    store: &mut Store,
+) -> Result<Told, AllocError>
+    requires { store.old.book ≡ [] }
+{
+    if code.code().threads().is_empty() {
+        return Ok(nothing(alloc));
+    }
+    match run_thread(alloc, code, 0, steps, store) {
+        Ok(ran) => of_thread(alloc, 0, ran),
+        Err(RunError::Mismatch) => complaint(alloc, SPENT, "run failed: JournalMismatch"),
+        Err(RunError::Memory) => Err(AllocError),
+    }
+}
+
+/// Appends a line for each cell of the store: its name, and its newest value.
+fn tell_cells(
+    output: &mut Vec<u8>,
+    cells: &[CellDefinition],
+    store: &Store,
+) -> Result<(), AllocError> {
+    let mut number: u16 = 0;
+    for definition in cells {
+        let cell = CellId {
+            kind: definition.kind,
+            number,
+        };
+        if store.lawful(0, &Ask::Peek { cell }) {
+            output.extend_from_slice(definition.name.as_bytes())?;
+            output.push(b' ')?;
+            write_text(store.newest(cell), output)?;
+            output.push(b'\n')?;
+        }
+        number = number.saturating_add(1);
+    }
+    Ok(())
+}
+
+/// Runs the script in these bytes, and tells of its cells where they are wanted.
+fn run_script(alloc: Global, bytes: &[u8], steps: u64, cells: bool) -> Result<Told, AllocError> {
     let (_program, code) = match compile(alloc, bytes) {
         Ok(compiled) => compiled,
         Err(error) => return refused(alloc, &error),
     };
-    if code.code().threads().is_empty() {
-        return Ok(Told {
-            output: Vec::new(alloc),
-            errors: Vec::new(alloc),
-            status: DONE,
-        });
+    let mut store = Store::open(alloc, code.code().cells())?;
+    let mut told = run_code(alloc, &code, steps, &mut store)?;
+    if cells {
+        tell_cells(&mut told.output, code.code().cells(), &store)?;
     }
-    of_thread(alloc, 0, run_thread(alloc, &code, 0, steps)?)
+    Ok(told)
 }
 
 /// Compiles the script in these bytes, and runs nothing.
@@ -119,16 +172,19 @@ fn check_script(alloc: Global, bytes: &[u8]) -> Result<Told, AllocError> {
     })
 }
 
-/// Reads the script and runs it for so many steps at most; without a number it is only checked.
-fn play_stream<R: Read>(
-    alloc: Global,
-    reader: &mut R,
-    steps: Option<u64>,
-) -> Result<Told, AllocError> {
+/// What is done with a script.
+#[derive(Clone, Copy)]
+enum Use {
+    Check,
+    Run { steps: u64, cells: bool },
+}
+
+/// Reads the script and uses it.
+fn play_stream<R: Read>(alloc: Global, reader: &mut R, wanted: Use) -> Result<Told, AllocError> {
     match read_bytes(alloc, reader) {
-        Ok(bytes) => match steps {
-            Some(steps) => run_script(alloc, bytes.as_slice(), steps),
-            None => check_script(alloc, bytes.as_slice()),
+        Ok(bytes) => match wanted {
+            Use::Check => check_script(alloc, bytes.as_slice()),
+            Use::Run { steps, cells } => run_script(alloc, bytes.as_slice(), steps, cells),
         },
         Err(ReadFault::Failed) => complaint(alloc, UNUSABLE, "read failed"),
         Err(ReadFault::Memory) => Err(AllocError),
@@ -138,8 +194,12 @@ fn play_stream<R: Read>(
 /// What the program does with its words and its script.
 fn work<R: Read>(alloc: Global, args: &[String], reader: &mut R) -> Result<Told, AllocError> {
     match parse_words(alloc, args)? {
-        Words::Check { file: _ } => play_stream(alloc, reader, None),
-        Words::Run { file: _, steps } => play_stream(alloc, reader, Some(steps)),
+        Words::Check { file: _ } => play_stream(alloc, reader, Use::Check),
+        Words::Run {
+            file: _,
+            steps,
+            cells,
+        } => play_stream(alloc, reader, Use::Run { steps, cells }),
         Words::Shown(text) => Ok(Told {
             output: text.into_bytes(),
             errors: Vec::new(alloc),

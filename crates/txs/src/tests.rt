@@ -7,6 +7,7 @@ use std::io;
 use std::io::{ErrorKind, Read, Write};
 use std::test::Fail;
 use txs_tree::eval_thread;
+use txs_world::Store;
 
 // Gives at most three bytes a call, and fails at the call of this number, counted from 0.
 #[derive(Drop)]
@@ -95,7 +96,7 @@ fn row(alloc: Global, script: &str, out: &str, err: &str, status: u8) -> Result<
     )
 }
 
-const ROWS: [(&str, &str, &str, u8); 22] = [
+const ROWS: [(&str, &str, &str, u8); 34] = [
     ("(future (println (+ 1 2)))", "3\n", "", 0),
     ("", "", "", 0),
     ("; nothing", "", "", 0),
@@ -189,6 +190,68 @@ const ROWS: [(&str, &str, &str, u8); 22] = [
     ),
     (
         "(future (println [1 2]))",
+        "",
+        "refused 13 BadForm at 0..0\n",
+        1,
+    ),
+    (
+        "(def r (ref 5)) (future (dosync (alter r + 1)) (println @r))",
+        "6\n",
+        "",
+        0,
+    ),
+    (
+        "(def r (ref 1)) (future (dosync (dosync (alter r + 1)) (alter r + 1)) (println @r))",
+        "3\n",
+        "",
+        0,
+    ),
+    (
+        "(future (println @5))",
+        "",
+        "thread 0 failed: NotACell at 17..19\n",
+        3,
+    ),
+    (
+        "(def r (ref 5)) (future (dosync (alter 7 inc)))",
+        "",
+        "thread 0 failed: NotARef at 32..45\n",
+        3,
+    ),
+    (
+        "(def r (ref 5)) (future (let [r 1] (println r)) (println (deref r)))",
+        "1\n5\n",
+        "",
+        0,
+    ),
+    (
+        "(future (println @r)) (def r (ref 5))",
+        "",
+        "refused 13 BadForm at 0..0\n",
+        1,
+    ),
+    (
+        "(def r (ref 5)) (def r (ref 6))",
+        "",
+        "refused 13 BadForm at 0..0\n",
+        1,
+    ),
+    ("(def inc (ref 5))", "", "refused 13 BadForm at 0..0\n", 1),
+    ("(def if (ref 5))", "", "refused 13 BadForm at 0..0\n", 1),
+    (
+        "(def r (ref 5)) (future (alter r inc))",
+        "",
+        "refused 13 BadForm at 0..0\n",
+        1,
+    ),
+    (
+        "(def r (ref 5)) (future (let [inc 1] (dosync (alter r inc))))",
+        "",
+        "refused 13 BadForm at 0..0\n",
+        1,
+    ),
+    (
+        "(future (dosync (println 1)))",
         "",
         "refused 13 BadForm at 0..0\n",
         1,
@@ -406,6 +469,42 @@ fn an_endless_loop_is_stopped(rt: HostRuntime) -> Result<(), Fail> {
     Ok(())
 }
 
+#[test]
+fn cells_are_printed(rt: HostRuntime) -> Result<(), Fail> {
+    let alloc = rt.alloc();
+    let rows = [
+        (
+            "(def r (ref 9223372036854775807)) (future (dosync (alter r inc)))",
+            "r 9223372036854775807\n",
+            "thread 0 failed: Overflow at 50..63\n",
+            3,
+        ),
+        (
+            "(def a (ref 10)) (def b (ref -2)) (future (dosync (alter a - 3) (alter b + 3)) (println @a @b))",
+            "7 1\na 7\nb 1\n",
+            "",
+            0,
+        ),
+        ("(def r (ref 5))", "r 5\n", "", 0),
+        (
+            "(def r (ref 5)) (future (println r))",
+            "#ref[0]\nr 5\n",
+            "",
+            0,
+        ),
+    ];
+    for (script, wanted, fault, status) in rows {
+        let mut out = Vec::new(alloc);
+        let mut err = Vec::new(alloc);
+        let words = ["run", "--cells"];
+        let got = with_words(alloc, words.as_slice(), script, &mut out, &mut err)?;
+        assert_eq!(rt; got, status, "{script}");
+        assert_eq!(rt; out.as_slice(), wanted.as_bytes());
+        assert_eq!(rt; err.as_slice(), fault.as_bytes());
+    }
+    Ok(())
+}
+
 // Whether the compiled run of the script prints and ends as the thread's meaning does.
 fn agrees(alloc: Global, script: &str) -> Result<bool, Fail> {
     let (program, code) = compile(alloc, script.as_bytes())?;
@@ -413,7 +512,8 @@ fn agrees(alloc: Global, script: &str) -> Result<bool, Fail> {
         return Ok(program.threads().is_empty() && code.code().threads().is_empty());
     }
     let meaning = eval_thread(alloc, &program, 0, 10_000)?;
-    let ran = run_thread(alloc, &code, 0, 100_000_000)?;
+    let mut store = Store::open(alloc, code.code().cells())?;
+    let ran = run_thread(alloc, &code, 0, 100_000_000, &mut store)?;
     Ok(meaning.outcome == Some(ran.outcome) && meaning.printed.as_slice() == ran.printed.as_slice())
 }
 

@@ -11,9 +11,16 @@ const DEFAULT_STEPS: u64 = 100_000_000;
 #[derive(Debug, Drop)]
 pub enum Words {
     /// To check a script: its file, where it is named.
-    Check { file: Option<String> },
-    /// To run a script: its file, where it is named, and how many steps an actor makes at most.
-    Run { file: Option<String>, steps: u64 },
+    Check {
+        file: Option<String>,
+    },
+    /// To run a script: its file, where it is named, how many steps an actor makes at most, and whether the
+    /// cells are printed.
+    Run {
+        file: Option<String>,
+        steps: u64,
+        cells: bool,
+    },
     /// A text for the standard output.
     Shown(String),
     /// A text for the standard error, for a usage fault.
@@ -35,9 +42,14 @@ fn command<'a>(alloc: Global) -> Result<Command<'a>, AllocError> {
         .help("How many steps an actor makes at most")
         .action(ArgAction::Set)
         .value_parser(value_parser!(u64).range(1..=1_000_000_000_000));
+    let cells = Arg::new(alloc, "cells")
+        .long("cells")
+        .help("Prints each cell with its newest value")
+        .action(ArgAction::SetTrue);
     let run = Command::new(alloc, "run")
         .about("Runs a script")
         .arg(steps)?
+        .arg(cells)?
         .arg(file_arg(alloc))?;
     Command::new(alloc, "txs")
         .about("Compiles and runs transaction scripts")
@@ -65,7 +77,8 @@ fn asked(alloc: Global, matches: &ArgMatches<'_>) -> Result<Words, AllocError> {
         return Ok(Words::Check { file });
     }
     let steps = words.get_one::<u64>("steps").unwrap_or(DEFAULT_STEPS);
-    Ok(Words::Run { file, steps })
+    let cells = words.get_flag("cells");
+    Ok(Words::Run { file, steps, cells })
 }
 
 /// The text of what isn't run: help, or a usage fault.

@@ -1,11 +1,11 @@
-//! Code: constants, and the bodies of threads.
+//! Code: cells, constants, and the bodies of threads.
 
 ghost use Rattle.std.specs.Prelude.{◌≡◌, ◌+◌, ◌≤◌, length};
 ghost use Rattle.txs_code.specs.PlainCode.{PlainCode, CodeBody};
 
 use crate::instr::Instr;
 use std::marker::Model;
-use txs_value::{Span, Value};
+use txs_value::{CellDefinition, Span, Value};
 
 /// The code of a body: how many locals it has, and its instructions, each with the span of what it was made for.
 #[derive(Debug, Drop)]
@@ -62,9 +62,10 @@ impl Body {
     }
 }
 
-/// Code: the constants, and a body for each thread.
+/// Code: the cells by their numbers, the constants, and a body for each thread.
 #[derive(Debug, Drop)]
 pub struct Code {
+    cells: Vec<CellDefinition>,
     constants: Vec<Value>,
     threads: Vec<Body>,
 }
@@ -78,15 +79,26 @@ impl Model for Code {
 
     ghost coded = { Prim.hlevel (codes, value.the_row.coded) };
 
-    ghost view = { λ c. record { constants = c.constants.items; threads = c.threads.items } };
+    ghost view = { λ c. record { cells = c.cells.items; constants = c.constants.items; threads = c.threads.items } };
 }
 
 impl Code {
-    /// Code of these constants and threads.
-    pub fn new(constants: Vec<Value>, threads: Vec<Body>) -> Code
-        ensures { result ≡ record { constants = constants.items; threads = threads.items } }
+    /// Code of these cells, constants and threads.
+    pub fn new(cells: Vec<CellDefinition>, constants: Vec<Value>, threads: Vec<Body>) -> Code
+        ensures { result ≡ record { cells = cells.items; constants = constants.items; threads = threads.items } }
     {
-        Code { constants, threads }
+        Code {
+            cells,
+            constants,
+            threads,
+        }
+    }
+
+    /// The cells, by their numbers.
+    pub fn cells(&self) -> &[CellDefinition]
+        ensures { result.now ≡ self.now.cells }
+    {
+        self.cells.as_slice()
     }
 
     /// The constants.
@@ -96,7 +108,7 @@ impl Code {
         self.constants.as_slice()
     }
 
-    /// The bodies of the threads, in script order.
+    /// The body of each thread, in script order.
     pub fn threads(&self) -> &[Body]
         ensures { result.now ≡ self.now.threads }
     {

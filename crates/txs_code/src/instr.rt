@@ -23,6 +23,16 @@ pub enum Instr {
     Vector(u16),
     /// Prints so many values at the top of the stack as a line, with nil in their place.
     Print(u16),
+    /// The value of the cell at the top of the stack, in its place.
+    Deref,
+    /// A transaction begins, or joins the one that runs.
+    TxBegin,
+    /// A transaction ends, or leaves the one that runs.
+    TxEnd,
+    /// The value of the ref that stands below so many values, between it and them.
+    AlterOpen(u16),
+    /// The value at the top of the stack becomes that of the ref below it, in whose place it stands then.
+    AlterClose,
     /// Ends a thread.
     Halt,
 }

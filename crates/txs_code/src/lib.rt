@@ -1,6 +1,7 @@
-//! Code: instructions with their spans, the constants that they name, and what makes code well typed:
-//! a table of the stack's depth at each place that it comes to. What the machine does with code is told
-//! by the definitions, by cases on instructions, and so is what an actor's state is.
+//! Code: instructions with their spans, the cells and constants that they name, and what makes code well
+//! typed: tables of the stack's depth and of the transactions at each place that it comes to. What the
+//! machine does with code is told by the definitions, by cases on instructions, and so is what an actor's
+//! state is.
 #![tactic(auto)]
 
 pub mod code;

@@ -5,16 +5,18 @@ use Rattle.std.proofs.Math.Seq.{drop-cons}
 use Rattle.std.proofs.lemmas.List.{append-nil, drop_all}
 use Rattle.std.proofs.lemmas.Bool.Decides.{nat_tests}
 use Rattle.txs_value.specs.declared.fault.Span.{Span}
+use Rattle.txs_value.specs.declared.op.Callee.{Callee}
+use Rattle.txs_value.specs.declared.op.Callee.TheVariants.{Core as CoreOp, Function}
 use Rattle.txs_value.specs.declared.op.Op.{Op}
 use Rattle.txs_value.specs.declared.value.Value.{Value}
-use Rattle.txs_tree.specs.Sound.{nodes, nodes_in}
+use Rattle.txs_tree.specs.Sound.{nodes, nodes_in, SoundCallee, SoundLet, SoundDo}
 use Rattle.txs_tree.specs.Tree.{Mark, Tree, Const, Local, If, Do, Let, Loop, Recur, Core, Call, VectorOf, Println, Dosync, Deref, Alter, Trees, none, more, count, is_none}
 use Rattle.txs_tree.specs.View.{tree_of, trees_of}
 use Rattle.txs_tree.specs.declared.node.Node.{Node}
 use Rattle.txs_code.specs.declared.instr.Instr.{Instr}
 use Rattle.txs_code.specs.declared.instr.Instr.TheVariants as instr
 use Rattle.txs_gen.specs.Generated.{copies, spans_of, spans_of_all, spans_of_let, spans_of_do, constants_of, constants_in}
-use Rattle.txs_gen.specs.Emission.{Emission, then_instrs, if_instrs, stores_from, instrs_of, instrs_of_all, instrs_of_let, instrs_of_do, stored, stored_in, stored_let, top, top_in, top_args, emits, emits_all, emits_let, emits_do, emits_if, emits_loop, emits_recur, with_instr, with_constant, with_room, with_locals, with_pop, with_stores, with_set, IsPartDo, IsPartLet, IsWithin, IsPlaced, IsPlacedDo}
+use Rattle.txs_gen.specs.Emission.{Emission, then_instrs, if_instrs, stores_from, callee_instrs, instrs_of, instrs_of_all, instrs_of_let, instrs_of_do, stored, stored_in, stored_let, top, top_in, top_args, emits, emits_all, emits_let, emits_do, emits_if, emits_loop, emits_dosync, emits_alter, emits_recur, with_instr, with_constant, with_room, with_locals, with_pop, with_stores, with_call, with_set, IsWithin, IsPlaced, IsPlacedDo}
 use Rattle.txs_gen.specs.declared.emit.Around.{Around}
 
 abbrev pub make : List Instr → List Span → List Value → ℕ → ℕ → Emission
@@ -194,6 +196,54 @@ recur_made ts span at e =
     (append_assoc (e.spans ++ spans_of_all ts) (copies (count ts) span) (span ∷ []) ∙ append_assoc e.spans (spans_of_all ts) (copies (count ts) span ++ span ∷ []) ∙ ap (λ l. e.spans ++ (spans_of_all ts ++ l)) (copies_more (count ts) span))
     refl refl r
 
+pub emits_dosync_is : (body : Tree) (m : Mark) (at : Around) (e : Emission) → emits_dosync body m.span at e ≡ emits (Dosync body m) at e
+unfolding emits emits_dosync
+emits_dosync_is body m at e = refl
+
+pub emits_alter_is : (cell : Tree) (callee : Callee) (args : Trees) (m : Mark) (at : Around) (e : Emission) → emits_alter cell callee args m.span at e ≡ emits (Alter cell callee args m) at e
+unfolding emits emits_alter
+emits_alter_is cell callee args m at e = refl
+
+pub emits_deref : (cell : Tree) (m : Mark) (at : Around) (e : Emission) → with_instr instr.Deref m.span (emits cell at e) ≡ emits (Deref cell m) at e
+unfolding emits
+emits_deref cell m at e =
+    same _ _ _ _ _ _ _ _ _ _ (append_assoc e.instrs (instrs_of cell at.depth at.base at.start (length e.instrs) (length e.constants)) (instr.Deref ∷ [])) (append_assoc e.spans (spans_of cell) (m.span ∷ [])) refl refl refl
+
+pub dosync_made : (body : Tree) (span : Span) (at : Around) (e : Emission) → with_instr instr.TxEnd span (emits body at (with_instr instr.TxBegin span e)) ≡ emits_dosync body span at e
+unfolding emits emits_dosync
+dosync_made body span at e =
+    let k = length e.constants in
+    let first = instr.TxBegin ∷ [] in
+    let last = instr.TxEnd ∷ [] in
+    let is = instrs_of body at.depth at.base at.start (length e.instrs + 1) k in
+    let n : length (e.instrs ++ first) ≡ length e.instrs + 1 = omega (arith, length-append e.instrs first) in
+    same _ _ _ _ _ _ _ _ _ _
+    (ap (λ m. ((e.instrs ++ first) ++ instrs_of body at.depth at.base at.start m k) ++ last) n ∙ append_assoc (e.instrs ++ first) is last ∙ append_assoc e.instrs first (is ++ last))
+    (append_assoc (e.spans ++ span ∷ []) (spans_of body) (span ∷ []) ∙ append_assoc e.spans (span ∷ []) (spans_of body ++ span ∷ []))
+    refl refl refl
+
+pub alter_made : (cell : Tree) (callee : Callee) (args : Trees) (span : Span) (at : Around) (e : Emission) →
+    with_instr instr.AlterClose span (with_call callee (suc (count args)) span (with_instr (instr.AlterOpen (count args)) span (with_room (at.height + count args + 2) (emits_all args (around at.depth (at.height + 1) at.base at.start) (emits cell at e)))))
+    ≡ emits_alter cell callee args span at e
+unfolding emits emits_all emits_alter
+alter_made cell callee args span at e =
+    let d = at.depth in
+    let h = at.height in
+    let is = instrs_of cell d at.base at.start (length e.instrs) (length e.constants) in
+    let xs = e.instrs ++ is in
+    let js = instrs_of_all args d at.base at.start (length xs) (length (e.constants ++ constants_of cell)) in
+    let opening = instr.AlterOpen (count args) in
+    let call = callee_instrs callee (suc (count args)) in
+    let close = instr.AlterClose ∷ [] in
+    let spans = e.spans ++ spans_of cell in
+    let l : max (max e.locals (stored cell d)) (stored_in args d) ≡ max e.locals (max (stored cell d) (stored_in args d)) = omega arith in
+    let r : max (max (max e.room (top cell h)) (top_args args (h + 1))) (h + count args + 2) ≡ max e.room (max (top cell h) (max (top_args args (h + 1)) (h + count args + 2))) = omega arith in
+    same _ _ _ _ _ _ _ _ _ _
+    (append_assoc ((xs ++ js) ++ opening ∷ []) call close ∙ middle xs js opening (call ++ close)
+    ∙ then_made e.instrs is e.constants (constants_of cell) (λ p k. instrs_of_all args d at.base at.start p k ++ opening ∷ (call ++ close)))
+    (append_assoc ((spans ++ spans_of_all args) ++ span ∷ []) (span ∷ []) (span ∷ []) ∙ middle spans (spans_of_all args) span (span ∷ span ∷ []) ∙ append_assoc e.spans (spans_of cell) (spans_of_all args ++ span ∷ span ∷ span ∷ []))
+    (append_assoc e.constants (constants_of cell) (constants_in args)) l r
+
 -- the test of a choice, and the jump past its first branch, as yet to nowhere
 abbrev pub if_tested : Tree → Span → Around → Emission → Emission
 if_tested c span at e = with_instr (instr.JumpFalse 0) span (emits c at e)
@@ -287,27 +337,27 @@ is_none_trees [] n e = sym (eq-eqb n 0 (sym e))
 is_none_trees (x ∷ ns) n e = sym (grind (arith, nat_tests))
 
 -- what is left of a do: nothing after the last item
-abbrev pub IsLeft : ℕ → Option ℕ → Trees → Type 0
-IsLeft d tail none = Unit {0}
-IsLeft d tail (more t ts) = IsPartDo d tail (more t ts)
+abbrev pub IsLeft : Bool → ℕ → Option ℕ → Trees → Type 0
+IsLeft inside d tail none = Unit {0}
+IsLeft inside d tail (more t ts) = SoundDo inside d tail (more t ts)
 
 abbrev pub IsPlacedLeft : ℕ → ℕ → Trees → Type 0
-IsPlacedLeft d base ts = (tail : Option ℕ) × IsWithin base tail d × IsLeft d tail ts
+IsPlacedLeft d base ts = (inside : Bool) × (tail : Option ℕ) × IsWithin base tail d × IsLeft inside d tail ts
 
-pub left_of : (d : ℕ) (tail : Option ℕ) (ts : Trees) → IsPartDo d tail ts → IsLeft d tail ts
-left_of d tail none p = absurd p
-left_of d tail (more t ts) p = p
+pub left_of : (inside : Bool) (d : ℕ) (tail : Option ℕ) (ts : Trees) → SoundDo inside d tail ts → IsLeft inside d tail ts
+left_of inside d tail none p = absurd p
+left_of inside d tail (more t ts) p = p
 
 pub left_placed : (d base : ℕ) (ts : Trees) → IsPlacedDo d base ts → IsPlacedLeft d base ts
-left_placed d base ts p = (p.0, p.1, left_of d p.0 ts p.2)
+left_placed d base ts p = (p.0, p.1, p.2, left_of p.0 d p.1 ts p.3)
 
-pub left_first : (d base : ℕ) (tail : Option ℕ) (t : Tree) (ts : Trees) → IsWithin base tail d → IsPartDo d tail (more t ts) → IsPlaced d base t
-left_first d base tail t none w p = (tail, w, p)
-left_first d base tail t (more u ts) w p = (None, tt, p.0)
+pub left_first : (inside : Bool) (d base : ℕ) (tail : Option ℕ) (t : Tree) (ts : Trees) → IsWithin base tail d → SoundDo inside d tail (more t ts) → IsPlaced d base t
+left_first inside d base tail t none w p = (inside, tail, w, p)
+left_first inside d base tail t (more u ts) w p = (inside, None, tt, p.0)
 
-pub left_rest : (d : ℕ) (tail : Option ℕ) (t : Tree) (ts : Trees) → IsPartDo d tail (more t ts) → IsLeft d tail ts
-left_rest d tail t none p = tt
-left_rest d tail t (more u ts) p = p.1
+pub left_rest : (inside : Bool) (d : ℕ) (tail : Option ℕ) (t : Tree) (ts : Trees) → SoundDo inside d tail (more t ts) → IsLeft inside d tail ts
+left_rest inside d tail t none p = tt
+left_rest inside d tail t (more u ts) p = p.1
 
 pub within_more : (base : ℕ) (tail : Option ℕ) (d n : ℕ) → d + n ≤ 200 → IsWithin base tail d → IsWithin base tail (d + n)
 within_more base None d n l w = tt
@@ -354,6 +404,14 @@ stores_length : (i n : ℕ) → length (stores_from i n) ≡ n
 stores_length i zero = refl
 stores_length i (suc n) = ap suc (stores_length i n)
 
+pub callee_few : (c : Callee) (n : ℕ) → SoundCallee c n → n ≤ 65535
+callee_few (CoreOp op) n p = p.1
+callee_few (Function f) n p = absurd p
+
+callee_length : (c : Callee) (n : ℕ) → length (callee_instrs c n) ≤ 1
+callee_length (CoreOp op) n = omega arith
+callee_length (Function f) n = omega arith
+
 -- no more than three instructions come of a node
 mutual
   pub instrs_nodes : (t : Tree) (d base start at k : ℕ) → length (instrs_of t d base start at k) + 1 ≤ 3 * nodes t
@@ -390,9 +448,23 @@ mutual
   instrs_nodes (Call f args m) d base start at k = omega arith
   instrs_nodes (VectorOf items m) d base start at k = omega (arith, length-append (instrs_of_all items d base start at k) (instr.Vector (count items) ∷ []), instrs_nodes_all items d base start at k)
   instrs_nodes (Println args m) d base start at k = omega (arith, length-append (instrs_of_all args d base start at k) (instr.Print (count args) ∷ []), instrs_nodes_all args d base start at k)
-  instrs_nodes (Dosync body m) d base start at k = omega arith
-  instrs_nodes (Deref cell m) d base start at k = omega arith
-  instrs_nodes (Alter cell callee args m) d base start at k = omega arith
+  instrs_nodes (Dosync body m) d base start at k = omega (arith, length-append (instrs_of body d base start (at + 1) k) (instr.TxEnd ∷ []), instrs_nodes body d base start (at + 1) k)
+  instrs_nodes (Deref cell m) d base start at k = omega (arith, length-append (instrs_of cell d base start at k) (instr.Deref ∷ []), instrs_nodes cell d base start at k)
+  instrs_nodes (Alter cell callee args m) d base start at k =
+      let is = instrs_of cell d base start at k in
+      let kc = k + length (constants_of cell) in
+      let js = instrs_of_all args d base start (at + length is) kc in
+      let call = callee_instrs callee (suc (count args)) in
+      let rest = instr.AlterOpen (count args) ∷ (call ++ instr.AlterClose ∷ []) in
+      omega (
+        arith,
+        length-append is (js ++ rest),
+        length-append js rest,
+        length-append call (instr.AlterClose ∷ []),
+        callee_length callee (suc (count args)),
+        instrs_nodes cell d base start at k,
+        instrs_nodes_all args d base start (at + length is) kc,
+      )
 
   instrs_nodes_all : (ts : Trees) (d base start at k : ℕ) → length (instrs_of_all ts d base start at k) + count ts ≤ 3 * nodes_in ts
   instrs_nodes_all none d base start at k = omega arith
@@ -439,9 +511,9 @@ unfolding emits_let
 emits_let_instrs ts span at e =
     omega (arith, length-append e.instrs (instrs_of_let ts at.depth at.base at.start (length e.instrs) (length e.constants)), instrs_nodes_let ts at.depth at.base at.start (length e.instrs) (length e.constants))
 
-pub let_locals : (ts : Trees) (d : ℕ) → IsPartLet d ts → d + count ts ≤ 200
-let_locals none d p = omega (arith, p)
-let_locals (more t ts) d p = omega (arith, let_locals ts (d + 1) p.1)
+pub let_locals : (ts : Trees) (inside : Bool) (d : ℕ) → SoundLet inside d ts → d + count ts ≤ 200
+let_locals none inside d p = omega (arith, p)
+let_locals (more t ts) inside d p = omega (arith, let_locals ts inside (d + 1) p.1)
 
 -- a step of a loop over nodes: what is left is the item and what is left after it
 pub left_is : (ns : List Node) (i : ℕ) (n : Node) → i < length ns → n ≡ get_or ns i n → trees_of (drop i ns) ≡ more (tree_of n) (trees_of (drop (i + 1) ns))

@@ -5,7 +5,6 @@ pub mod Ends
 pub mod CodesFollow
 pub mod Generation
 pub mod Lists
-pub mod Parts
 pub mod Segments
 pub mod Simulates
 pub mod Steps

@@ -1,8 +1,10 @@
 -- What an emitter has made so far, and what it makes of a tree.
-use Rattle.std.specs.Prelude.{◌≡◌, ℕ, zero, suc, ◌+◌, ◌<◌, ◌≤◌, max, Bool, true, false, List, [], ◌∷◌, ◌++◌, length, Option, Some, None, slice_set}
+use Rattle.std.specs.Prelude.{ℕ, zero, suc, ◌+◌, ◌≤◌, max, Bool, true, false, List, [], ◌∷◌, ◌++◌, length, Option, Some, None, slice_set}
 use Rattle.txs_value.specs.declared.fault.Span.{Span}
+use Rattle.txs_value.specs.declared.op.Callee.{Callee}
+use Rattle.txs_value.specs.declared.op.Callee.TheVariants.{Core as CoreOp, Function}
 use Rattle.txs_value.specs.declared.value.Value.{Value}
-use Rattle.txs_tree.specs.Sound.{TakesFew}
+use Rattle.txs_tree.specs.Sound.{SoundTree, SoundAll, SoundLet, SoundDo}
 use Rattle.txs_tree.specs.Tree.{Tree, Const, Local, If, Do, Let, Loop, Recur, Core, Call, VectorOf, Println, Dosync, Deref, Alter, Trees, none, more, count}
 use Rattle.txs_code.specs.declared.instr.Instr.{Instr}
 use Rattle.txs_code.specs.declared.instr.Instr.TheVariants as instr
@@ -21,49 +23,23 @@ pub record Emission : Type 0 where
 abbrev pub emission : Emitter → Emission
 emission e = record { instrs = e.instrs.items; spans = e.spans.items; constants = e.constants.items; locals = e.locals; room = e.room }
 
--- A sound tree of the kinds that there are, outside every transaction, with so many locals. In tail position of a loop
--- the number of the loop's values is given.
-abbrev mutual
-  pub IsPart : ℕ → Option ℕ → Tree → Type 0
-  IsPart d tail (Const v m) = Unit {0}
-  IsPart d tail (Local i m) = i < d
-  IsPart d tail (If c a b m) = IsPart d None c × IsPart d tail a × IsPart d tail b
-  IsPart d tail (Do items m) = IsPartDo d tail items
-  IsPart d tail (Let values body m) = IsPartLet d values × IsPart (d + count values) tail body
-  IsPart d tail (Loop values body m) = IsPartLet d values × IsPart (d + count values) (Some (count values)) body
-  IsPart d tail (Recur values m) = (tail ≡ Some (count values)) × IsPartAll d values
-  IsPart d tail (Core op args m) = TakesFew op (count args) × IsPartAll d args
-  IsPart d tail (Call f args m) = ⊥
-  IsPart d tail (VectorOf items m) = (count items ≤ 65535) × IsPartAll d items
-  IsPart d tail (Println args m) = (count args ≤ 65535) × IsPartAll d args
-  IsPart d tail (Dosync body m) = ⊥
-  IsPart d tail (Deref cell m) = ⊥
-  IsPart d tail (Alter cell callee args m) = ⊥
-
-  pub IsPartAll : ℕ → Trees → Type 0
-  IsPartAll d none = Unit {0}
-  IsPartAll d (more e rest) = IsPart d None e × IsPartAll d rest
-
-  pub IsPartLet : ℕ → Trees → Type 0
-  IsPartLet d none = d ≤ 200
-  IsPartLet d (more e rest) = IsPart d None e × IsPartLet (d + 1) rest
-
-  pub IsPartDo : ℕ → Option ℕ → Trees → Type 0
-  IsPartDo d tail none = ⊥
-  IsPartDo d tail (more e none) = IsPart d tail e
-  IsPartDo d tail (more e (more f rest)) = IsPart d None e × IsPartDo d tail (more f rest)
-
 -- the locals of the nearest loop, from base on, are among those that there are
 abbrev pub IsWithin : ℕ → Option ℕ → ℕ → Type 0
 IsWithin base None d = Unit {0}
 IsWithin base (Some n) d = (base + n ≤ d) × (d ≤ 200)
 
--- such a tree where the nearest loop's locals begin at base
+-- a sound tree, in a transaction or outside, where the nearest loop's locals begin at base
 abbrev pub IsPlaced : ℕ → ℕ → Tree → Type 0
-IsPlaced d base t = (tail : Option ℕ) × IsWithin base tail d × IsPart d tail t
+IsPlaced d base t = (inside : Bool) × (tail : Option ℕ) × IsWithin base tail d × SoundTree inside d tail t
 
 abbrev pub IsPlacedDo : ℕ → ℕ → Trees → Type 0
-IsPlacedDo d base ts = (tail : Option ℕ) × IsWithin base tail d × IsPartDo d tail ts
+IsPlacedDo d base ts = (inside : Bool) × (tail : Option ℕ) × IsWithin base tail d × SoundDo inside d tail ts
+
+abbrev pub IsPlacedAll : ℕ → Trees → Type 0
+IsPlacedAll d ts = (inside : Bool) × SoundAll inside d ts
+
+abbrev pub IsPlacedLet : ℕ → Trees → Type 0
+IsPlacedLet d ts = (inside : Bool) × SoundLet inside d ts
 
 -- instructions that begin at a place, and what follows them
 abbrev pub then_instrs : ℕ → List Instr → (ℕ → List Instr) → List Instr
@@ -78,6 +54,12 @@ if_instrs pc a b =
 abbrev pub stores_from : ℕ → ℕ → List Instr
 stores_from i zero = []
 stores_from i (suc n) = instr.Store (i + n) ∷ stores_from i n
+
+-- what an alter calls, on so many values
+abbrev pub callee_instrs : Callee → ℕ → List Instr
+callee_instrs (CoreOp op) n = instr.Core op n ∷ []
+-- no function is defined yet
+callee_instrs (Function f) n = []
 
 -- The instructions of a tree with so many locals, from a place of the body on. base and start: the first local of the
 -- nearest loop, and the place of its body. So many constants are there already.
@@ -102,9 +84,11 @@ abbrev mutual
   instrs_of (Call f args m) d base start pc k = []
   instrs_of (VectorOf items m) d base start pc k = instrs_of_all items d base start pc k ++ instr.Vector (count items) ∷ []
   instrs_of (Println args m) d base start pc k = instrs_of_all args d base start pc k ++ instr.Print (count args) ∷ []
-  instrs_of (Dosync body m) d base start pc k = []
-  instrs_of (Deref cell m) d base start pc k = []
-  instrs_of (Alter cell callee args m) d base start pc k = []
+  instrs_of (Dosync body m) d base start pc k = instr.TxBegin ∷ (instrs_of body d base start (pc + 1) k ++ instr.TxEnd ∷ [])
+  instrs_of (Deref cell m) d base start pc k = instrs_of cell d base start pc k ++ instr.Deref ∷ []
+  instrs_of (Alter cell callee args m) d base start pc k =
+      then_instrs pc (instrs_of cell d base start pc k) (λ p.
+      instrs_of_all args d base start p (k + length (constants_of cell)) ++ (instr.AlterOpen (count args) ∷ (callee_instrs callee (suc (count args)) ++ instr.AlterClose ∷ [])))
 
   pub instrs_of_all : Trees → ℕ → ℕ → ℕ → ℕ → ℕ → List Instr
   instrs_of_all none d base start pc k = []
@@ -140,9 +124,9 @@ abbrev mutual
   stored (Call f args m) d = 0
   stored (VectorOf items m) d = stored_in items d
   stored (Println args m) d = stored_in args d
-  stored (Dosync body m) d = 0
-  stored (Deref cell m) d = 0
-  stored (Alter cell callee args m) d = 0
+  stored (Dosync body m) d = stored body d
+  stored (Deref cell m) d = stored cell d
+  stored (Alter cell callee args m) d = max (stored cell d) (stored_in args d)
 
   pub stored_in : Trees → ℕ → ℕ
   stored_in none d = 0
@@ -167,9 +151,9 @@ abbrev mutual
   top (Call f args m) h = 0
   top (VectorOf items m) h = max (top_args items h) (h + 1)
   top (Println args m) h = max (top_args args h) (h + 1)
-  top (Dosync body m) h = 0
-  top (Deref cell m) h = 0
-  top (Alter cell callee args m) h = 0
+  top (Dosync body m) h = top body h
+  top (Deref cell m) h = top cell h
+  top (Alter cell callee args m) h = max (top cell h) (max (top_args args (h + 1)) (h + count args + 2))
 
   -- one after another
   pub top_in : Trees → ℕ → ℕ
@@ -218,12 +202,18 @@ emits_do ts span at e = record {
   room = max e.room (top_in ts at.height);
 }
 
--- a choice, a loop and a recur; whether their results are wanted changes nothing
+-- a choice, a loop, a transaction, an alter and a recur; whether their results are wanted changes nothing
 unfoldable pub emits_if : Tree → Tree → Tree → Span → Around → Emission → Emission
 emits_if c a b span at e = emits (If c a b (record { span = span; wanted = true })) at e
 
 unfoldable pub emits_loop : Trees → Tree → Span → Around → Emission → Emission
 emits_loop values body span at e = emits (Loop values body (record { span = span; wanted = true })) at e
+
+unfoldable pub emits_dosync : Tree → Span → Around → Emission → Emission
+emits_dosync body span at e = emits (Dosync body (record { span = span; wanted = true })) at e
+
+unfoldable pub emits_alter : Tree → Callee → Trees → Span → Around → Emission → Emission
+emits_alter cell callee args span at e = emits (Alter cell callee args (record { span = span; wanted = true })) at e
 
 unfoldable pub emits_recur : Trees → Span → Around → Emission → Emission
 emits_recur values span at e = emits (Recur values (record { span = span; wanted = true })) at e
@@ -252,6 +242,10 @@ with_pop false span e = with_instr instr.Pop span e
 -- the topmost values are stored as locals from i on
 abbrev pub with_stores : ℕ → ℕ → Span → Emission → Emission
 with_stores i n span e = record e { instrs = e.instrs ++ stores_from i n; spans = e.spans ++ copies n span }
+
+-- a call of what an alter names
+abbrev pub with_call : Callee → ℕ → Span → Emission → Emission
+with_call callee n span e = record e { instrs = e.instrs ++ callee_instrs callee n; spans = e.spans ++ span ∷ [] }
 
 -- another instruction at a place
 abbrev pub with_set : ℕ → Instr → Emission → Emission

@@ -87,6 +87,11 @@ numbers_in (instr.JumpFalse t ∷ is) = numbers_in is
 numbers_in (instr.Core op n ∷ is) = numbers_in is
 numbers_in (instr.Vector n ∷ is) = numbers_in is
 numbers_in (instr.Print n ∷ is) = numbers_in is
+numbers_in (instr.Deref ∷ is) = numbers_in is
+numbers_in (instr.TxBegin ∷ is) = numbers_in is
+numbers_in (instr.TxEnd ∷ is) = numbers_in is
+numbers_in (instr.AlterOpen n ∷ is) = numbers_in is
+numbers_in (instr.AlterClose ∷ is) = numbers_in is
 numbers_in (instr.Halt ∷ is) = numbers_in is
 
 abbrev pub numbers_in_all : List CodeBody → List ℕ
@@ -106,8 +111,9 @@ AreBodiesOf ks [] (t ∷ ts) = ⊥
 AreBodiesOf ks (b ∷ bs) [] = ⊥
 AreBodiesOf ks (b ∷ bs) (t ∷ ts) = IsBodyOf ks b t × AreBodiesOf ks bs ts
 
--- the code of a program: a body for each thread, and each constant that is pushed has an entry of its own, in order
+-- the code of a program: its cells, a body for each thread, and each constant that is pushed has an entry of its own, in order
 pub record IsCodeOf (code : PlainCode) (p : PlainProgram) : Type 0 where
+  pub cells : code.cells ≡ p.cells
   pub threads : AreBodiesOf code.constants code.threads p.threads
   pub constants : code.constants ≡ constants_of_threads p.threads
   pub entries : numbers_in_all code.threads ≡ range_with_len 0 (length code.constants)

@@ -1,15 +1,15 @@
 //! The code of a thread's tree.
 
-ghost use Rattle.std.specs.Prelude.{◌≡◌, ◌+◌, ◌*◌, ◌<◌, ◌≤◌, OnOk, MatchResult, length, IfOk, [], ◌∷◌, None, Some};
-ghost use Rattle.txs_tree.specs.Sound.{nodes, nodes_in};
+ghost use Rattle.std.specs.Prelude.{◌≡◌, ◌+◌, ◌*◌, ◌<◌, ◌≤◌, OnOk, MatchResult, length, IfOk, [], ◌∷◌, Some};
+ghost use Rattle.txs_tree.specs.Sound.{SoundCallee, nodes, nodes_in};
 ghost use Rattle.txs_tree.specs.Tree.{count};
 ghost use Rattle.txs_tree.specs.View.{tree_of, trees_of};
-ghost use Rattle.txs_gen.specs.Emission.{emission, emits, emits_all, emits_do, emits_let, emits_if, emits_loop, emits_recur, IsWithin, IsPlaced, IsPlacedDo, IsPart, IsPartAll, IsPartLet, with_constant, with_instr, with_locals, with_pop, with_room, with_set, with_stores};
+ghost use Rattle.txs_gen.specs.Emission.{emission, emits, emits_all, emits_do, emits_let, emits_if, emits_loop, emits_dosync, emits_alter, emits_recur, IsWithin, IsPlaced, IsPlacedAll, IsPlacedDo, IsPlacedLet, with_call, with_constant, with_instr, with_locals, with_pop, with_room, with_set, with_stores};
 
 use std::alloc::{AllocError, Global};
 use txs_code::Instr;
 use txs_tree::{Node, NodeKind};
-use txs_value::{Span, Value, copy_value};
+use txs_value::{Callee, Span, Value, copy_value};
 
 /// Where a node's code stands: how many locals there are, how many values are on the stack, and what a
 /// recur does there: from which local on it stores its values, and where it goes on.
@@ -85,6 +85,17 @@ impl Emitter {
         Ok(())
     }
 
+    /// A call of what an alter names, on so many values.
+    fn call(&mut self, callee: Callee, count: u16, span: Span) -> Result<(), AllocError>
+        requires { SoundCallee callee count }
+        ensures { OnOk result (emission self.new ≡ with_call callee count span (emission self.old)) }
+    {
+        match callee {
+            Callee::Core(op) => self.put(Instr::Core(op, count), span),
+            Callee::Function(_) => unreachable!(),
+        }
+    }
+
     /// The place of the next instruction.
     fn place(&self) -> u32
         requires { length self.now.instrs.items ≤ 600000 }
@@ -151,13 +162,21 @@ pub fn emit(alloc: Global, to: &mut Emitter, node: &Node, at: Around) -> Result<
             to.rise(at.height + 1);
             to.put(Instr::Print(args.len() as u16), node.span)
         }
+        NodeKind::Dosync(body) => emit_dosync(alloc, to, body, node.span, at),
+        NodeKind::Deref(cell) => {
+            emit(alloc, to, cell, at)?;
+            to.put(Instr::Deref, node.span)
+        }
+        NodeKind::Alter(cell, callee, args) => {
+            emit_alter(alloc, to, cell, *callee, args, node.span, at)
+        }
     }
 }
 
 /// The code of arguments, each of which leaves its value on the stack.
 #[cycle(emit)]
 fn emit_all(alloc: Global, to: &mut Emitter, args: &[Node], at: Around) -> Result<(), AllocError>
-    requires part { IsPartAll at.depth (trees_of args.now) }
+    requires part { IsPlacedAll at.depth (trees_of args.now) }
     requires few_constants { length to.old.constants.items + nodes_in (trees_of args.now) ≤ 200000 }
     requires few_instrs { length to.old.instrs.items + 3 * nodes_in (trees_of args.now) ≤ 600000 }
     requires low { at.height + nodes_in (trees_of args.now) ≤ 200000 }
@@ -204,7 +223,7 @@ fn emit_let(
     span: Span,
     at: Around,
 ) -> Result<u8, AllocError>
-    requires part { IsPartLet at.depth (trees_of values.now) }
+    requires part { IsPlacedLet at.depth (trees_of values.now) }
     requires few_constants { length to.old.constants.items + nodes_in (trees_of values.now) ≤ 200000 }
     requires few_instrs { length to.old.instrs.items + 3 * nodes_in (trees_of values.now) ≤ 600000 }
     requires low { at.height + nodes_in (trees_of values.now) ≤ 200000 }
@@ -231,7 +250,7 @@ fn emit_if(
     span: Span,
     at: Around,
 ) -> Result<(), AllocError>
-    requires test { IsPart at.depth None (tree_of test.now) }
+    requires test { IsPlaced at.depth at.base (tree_of test.now) }
     requires first { IsPlaced at.depth at.base (tree_of first.now) }
     requires second { IsPlaced at.depth at.base (tree_of second.now) }
     requires few_constants { length to.old.constants.items + (nodes (tree_of test.now) + (nodes (tree_of first.now) + nodes (tree_of second.now))) < 200000 }
@@ -261,8 +280,8 @@ fn emit_loop(
     span: Span,
     at: Around,
 ) -> Result<(), AllocError>
-    requires part { IsPartLet at.depth (trees_of values.now) }
-    requires body { IsPart (at.depth + count (trees_of values.now)) (Some (count (trees_of values.now))) (tree_of body.now) }
+    requires part { IsPlacedLet at.depth (trees_of values.now) }
+    requires body { IsPlaced (at.depth + count (trees_of values.now)) at.depth (tree_of body.now) }
     requires few_constants { length to.old.constants.items + (nodes_in (trees_of values.now) + nodes (tree_of body.now)) < 200000 }
     requires few_instrs { length to.old.instrs.items + 3 * (nodes_in (trees_of values.now) + nodes (tree_of body.now)) < 599998 }
     requires low { at.height + (nodes_in (trees_of values.now) + nodes (tree_of body.now)) < 200000 }
@@ -287,7 +306,7 @@ fn emit_recur(
     span: Span,
     at: Around,
 ) -> Result<(), AllocError>
-    requires part { IsPartAll at.depth (trees_of values.now) }
+    requires part { IsPlacedAll at.depth (trees_of values.now) }
     requires within { IsWithin at.base (Some (count (trees_of values.now))) at.depth }
     requires few_constants { length to.old.constants.items + nodes_in (trees_of values.now) < 200000 }
     requires few_instrs { length to.old.instrs.items + 3 * nodes_in (trees_of values.now) < 599998 }
@@ -298,4 +317,54 @@ fn emit_recur(
     to.rise(at.height + 1);
     to.store_all(at.base, values.len() as u8, span)?;
     to.put(Instr::Jump(at.start), span)
+}
+
+/// The code of a transaction: its body between where it begins and where it ends.
+#[cycle(emit)]
+fn emit_dosync(
+    alloc: Global,
+    to: &mut Emitter,
+    body: &Node,
+    span: Span,
+    at: Around,
+) -> Result<(), AllocError>
+    requires part { IsPlaced at.depth at.base (tree_of body.now) }
+    requires few_constants { length to.old.constants.items + nodes (tree_of body.now) < 200000 }
+    requires few_instrs { length to.old.instrs.items + 3 * nodes (tree_of body.now) < 599998 }
+    requires low { at.height + nodes (tree_of body.now) < 200000 }
+    ensures { OnOk result (emission to.new ≡ emits_dosync (tree_of body.now) span at (emission to.old)) }
+{
+    to.put(Instr::TxBegin, span)?;
+    emit(alloc, to, body, at)?;
+    to.put(Instr::TxEnd, span)
+}
+
+/// The code of an `alter`: the ref and the arguments, between which its value is put, then the call, and
+/// the store of what it gives.
+#[cycle(emit)]
+fn emit_alter(
+    alloc: Global,
+    to: &mut Emitter,
+    cell: &Node,
+    callee: Callee,
+    args: &[Node],
+    span: Span,
+    at: Around,
+) -> Result<(), AllocError>
+    requires cell { IsPlaced at.depth at.base (tree_of cell.now) }
+    requires callee { SoundCallee callee (count (trees_of args.now) + 1) }
+    requires part { IsPlacedAll at.depth (trees_of args.now) }
+    requires few_constants { length to.old.constants.items + (nodes (tree_of cell.now) + nodes_in (trees_of args.now)) < 200000 }
+    requires few_instrs { length to.old.instrs.items + 3 * (nodes (tree_of cell.now) + nodes_in (trees_of args.now)) < 599998 }
+    requires low { at.height + (nodes (tree_of cell.now) + nodes_in (trees_of args.now)) < 200000 }
+    ensures { OnOk result (emission to.new ≡ emits_alter (tree_of cell.now) callee (trees_of args.now) span at (emission to.old)) }
+{
+    let count = args.len() as u16;
+    emit(alloc, to, cell, at)?;
+    let height = at.height + 1;
+    emit_all(alloc, to, args, Around { height, ..at })?;
+    to.rise(at.height + u32::from(count) + 2);
+    to.put(Instr::AlterOpen(count), span)?;
+    to.call(callee, count + 1, span)?;
+    to.put(Instr::AlterClose, span)
 }

@@ -5,7 +5,8 @@ use std::alloc::{AllocError, Global};
 use std::test::Fail;
 use txs_code::Instr;
 use txs_tree::{Node, NodeKind, Program, Thread, is_sound};
-use txs_value::{Op, Span, Value, same};
+use txs_value::value::is_name;
+use txs_value::{Callee, CellDefinition, CellId, CellKind, Name, Op, Span, Value, same};
 
 fn number(n: i64, at: Span) -> Node {
     Node {
@@ -68,11 +69,28 @@ fn bind(values: Vec<Node>, body: Box<Node>, at: Span) -> Node {
     }
 }
 
+/// A ref that opens with 7, if `r` is a name.
+fn one_ref(alloc: Global) -> Result<Option<CellDefinition>, AllocError> {
+    let name = b"r".as_slice();
+    if !is_name(name) {
+        return Ok(None);
+    }
+    Ok(Some(CellDefinition {
+        kind: CellKind::Ref,
+        name: Name::from_bytes(alloc, name)?,
+        opening: Value::Int(7),
+    }))
+}
+
 fn program(alloc: Global, body: Node, at: Span) -> Result<Option<Program>, AllocError> {
     let mut threads = Vec::new(alloc);
     threads.push(Thread { body, span: at })?;
-    if is_sound(&threads) {
-        Ok(Some(Program::new(threads)))
+    let mut cells = Vec::new(alloc);
+    if let Some(cell) = one_ref(alloc)? {
+        cells.push(cell)?;
+    }
+    if is_sound(&cells, &threads) {
+        Ok(Some(Program::new(cells, threads)))
     } else {
         Ok(None)
     }
@@ -248,6 +266,72 @@ fn a_loop_goes_on_behind_its_stores(rt: HostRuntime) -> Result<(), Fail> {
             Instr::Store(1),
             Instr::Store(0),
             Instr::Jump(4),
+            Instr::Halt,
+        ];
+        assert!(rt; thread.instrs() == instrs.as_slice());
+    }
+    assert!(rt; verified.rooms() == [3].as_slice());
+    Ok(())
+}
+
+fn the_ref(at: Span) -> Node {
+    Node {
+        kind: NodeKind::Const(Value::Cell(CellId {
+            kind: CellKind::Ref,
+            number: 0,
+        })),
+        span: at,
+        wanted: true,
+    }
+}
+
+/// `(do (dosync (alter r + 1)) @r)`
+fn altered_and_read(alloc: Global) -> Result<Node, AllocError> {
+    let one = one(alloc, number(1, at(27, 28)))?;
+    let cell = Box::new(alloc, the_ref(at(23, 24)))?;
+    let alter = Node {
+        kind: NodeKind::Alter(cell, Callee::Core(Op::Add), one),
+        span: at(16, 29),
+        wanted: true,
+    };
+    let dosync = Node {
+        kind: NodeKind::Dosync(Box::new(alloc, alter)?),
+        span: at(8, 30),
+        wanted: false,
+    };
+    let read = Node {
+        kind: NodeKind::Deref(Box::new(alloc, the_ref(at(32, 33)))?),
+        span: at(31, 33),
+        wanted: true,
+    };
+    Ok(do_all(two(alloc, dosync, read)?, at(4, 34)))
+}
+
+#[test]
+fn a_ref_is_altered_and_read(rt: HostRuntime) -> Result<(), Fail> {
+    let alloc = rt.alloc();
+    let body = altered_and_read(alloc)?;
+    let program = program(alloc, body, at(0, 35))?.expect(&rt, "sound");
+    let verified = generate(alloc, &program)?;
+    let code = verified.code();
+    assert_eq!(rt; code.cells().len(), 1);
+    for cell in code.cells() {
+        assert!(rt; cell.kind == CellKind::Ref);
+        assert!(rt; cell.name.as_bytes() == b"r".as_slice());
+        assert!(rt; same(&cell.opening, &Value::Int(7)));
+    }
+    for thread in code.threads() {
+        let instrs = [
+            Instr::TxBegin,
+            Instr::Const(0),
+            Instr::Const(1),
+            Instr::AlterOpen(1),
+            Instr::Core(Op::Add, 2),
+            Instr::AlterClose,
+            Instr::TxEnd,
+            Instr::Pop,
+            Instr::Const(2),
+            Instr::Deref,
             Instr::Halt,
         ];
         assert!(rt; thread.instrs() == instrs.as_slice());

@@ -1,13 +1,14 @@
 //! What turns and instructions come to.
 
-use txs_value::{Ask, Outcome};
+use crate::state::Pending;
+use txs_value::{Ask, FaultKind, Outcome};
 
 /// What a turn came to.
 #[derive(Debug, Drop)]
 pub enum Turn {
     /// The actor made a step and goes on.
     Went,
-    /// The actor asks the shared state. No thread does so yet.
+    /// The actor asks the shared state, and goes on once it is answered.
     Asks(Ask),
     /// The actor has ended.
     Ended(Outcome),
@@ -18,6 +19,21 @@ pub enum Turn {
 pub(crate) enum Next {
     /// The place to go on at.
     At(usize),
-    /// The end of the actor.
+    /// Nowhere yet: it is an instruction on the transaction.
+    Leaves,
+    /// The end of the actor, or a fault.
     Ended(Outcome),
+}
+
+/// What an instruction on the transaction came to.
+#[derive(Drop)]
+pub(crate) enum Moved {
+    /// The next instruction follows.
+    On,
+    /// The shared state has to be asked.
+    Asks(Pending),
+    /// A fault.
+    Faults(FaultKind),
+    /// There was no memory.
+    Memory,
 }

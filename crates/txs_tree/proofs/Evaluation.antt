@@ -3,6 +3,7 @@ use Rattle.std.proofs.Common.{◌≡◌, ℕ, zero, suc, ◌+◌, ◌-◌, ◌<�
 use Rattle.std.proofs.Math.Seq.{drop-append_seam, take-append_seam}
 use Rattle.std.proofs.lemmas.Bool.{eq-eqb}
 use Rattle.std.proofs.lemmas.List.{drop_more, append-nil, length-take, take-append-le, take-append-drop}
+use Rattle.txs_value.specs.Cells.{any_cell}
 use Rattle.txs_value.specs.Core.{core, vector_of, is_false}
 use Rattle.txs_value.specs.Places.{nth}
 use Rattle.txs_value.specs.Printed.{printed_line}
@@ -12,11 +13,11 @@ use Rattle.txs_value.specs.declared.value.Value.{Value}
 use Rattle.txs_value.specs.declared.value.Value.TheVariants.{Nil, Truth, Int, Key, Text, Vector, Cell}
 use Rattle.txs_tree.specs.Evaluated.{Stops, Gives, GivesAll, Steps, means, all_mean, do_means, let_means, locals_mean, loop_means, turns_mean, printing}
 use Rattle.txs_tree.specs.Meaning.{Completion, Completes, Recurs, Faults, Retries, Waits, OutOfTurns, Invalid, bind, again, give, result_of, turns, Effects, eval, eval_all, eval_let, eval_do, call_at}
-use Rattle.txs_tree.specs.Thread.{ThreadState, on_events}
-use Rattle.txs_tree.specs.Tree.{Mark, Tree, Const, Local, If, Do, Let, Loop, Recur, Core, VectorOf, Println, Trees, none, more, count}
+use Rattle.txs_tree.specs.Thread.{ThreadState, on_events, reads}
+use Rattle.txs_tree.specs.Tree.{Mark, Tree, Const, Local, If, Do, Let, Loop, Recur, Core, VectorOf, Println, Dosync, Deref, Trees, none, more, count}
 use Rattle.txs_tree.specs.View.{tree_of, trees_of}
 use Rattle.txs_tree.specs.declared.evaluate.EvalStop.{EvalStop}
-use Rattle.txs_tree.specs.declared.evaluate.EvalStop.TheVariants.{Fault, Turns, Memory}
+use Rattle.txs_tree.specs.declared.evaluate.EvalStop.TheVariants.{Fault, Event, Turns, Memory}
 use Rattle.txs_tree.specs.declared.evaluate.Step.{Step}
 use Rattle.txs_tree.specs.declared.evaluate.Step.TheVariants.{Value as AValue, Recur as ARecur}
 use Rattle.txs_tree.specs.declared.node.Node.{Node}
@@ -109,11 +110,13 @@ turns-more k d f vs s many = ap (λ (b : Bool). if b then again (f vs s) (turns 
 
 pub stops_bind : {A B : Type 0} (y : EvalStop) (out : List ℕ) (c : Completion ThreadState A) (go : A → ThreadState → Completion ThreadState B) → Stops y out c → Stops y out (bind c go)
 stops_bind (Fault f) out c go h = ap (λ d. bind d go) h
+stops_bind Event out c go h = ap (λ d. bind d go) h
 stops_bind Turns out c go h = ap (λ d. bind d go) h
 stops_bind Memory out c go h = h
 
 pub stops_again : (y : EvalStop) (out : List ℕ) (c : Completion ThreadState Value) (go : List Value → ThreadState → Completion ThreadState Value) → Stops y out c → Stops y out (again c go)
 stops_again (Fault f) out c go h = ap (λ d. again d go) h
+stops_again Event out c go h = ap (λ d. again d go) h
 stops_again Turns out c go h = ap (λ d. again d go) h
 stops_again Memory out c go h = h
 
@@ -188,6 +191,19 @@ module _ (n : ℕ) where
           if_is ∙ ap (λ c. bind c (λ w s1. choose w (eval fx call n false first env s1) (eval fx call n false second env s1))) h
           ∙ if_branch v b (means n first env out1) (means n second env out1) t ∙ both out1 b in
           subst (λ c. Steps r out2 c) (sym whole) (subst (λ l. Steps r out2 (means n (if b then second else first) l out1)) same g)
+
+    -- what waits at once
+    pub dosync_stop : (b : Tree) → e ≡ Dosync b m → means n e env out ≡ Waits (printing out)
+    dosync_stop b is = ap (λ x. means n x env out) is
+
+    module _ (cell : Tree) (is : e ≡ Deref cell m) where
+      pub deref_stop : (y : EvalStop) (out1 : List ℕ) → Stops y out1 (means n cell env out) → Stops y out1 (means n e env out)
+      deref_stop y out1 h = stops_whole y out1 (means n e env out) (means n cell env out) (λ v s1. reads m.span (any_cell v) s1) (ap (λ x. means n x env out) is) h
+
+      pub deref_reads : (v : Value) (y : EvalStop) (out1 out2 : List ℕ) → means n cell env out ≡ Completes v (printing out1) → out2 ≡ out1 → Stops y out2 (reads m.span (any_cell v) (printing out2)) → Stops y out1 (means n e env out)
+      deref_reads v y out1 out2 h same g =
+          let whole : means n e env out ≡ reads m.span (any_cell v) (printing out1) = ap (λ x. means n x env out) is ∙ ap (λ c. bind c (λ w s1. reads m.span (any_cell w) s1)) h in
+          subst (λ c. Stops y out1 c) (sym whole) (subst (λ o. Stops y o (reads m.span (any_cell v) (printing o))) same g)
 
     -- the arguments' stop is the whole's
     module _ {V : Type 0} (f : V → List Value) (y : EvalStop) (es : Trees) (out1 : List ℕ) (h : GivesAll f (Err y) out1 (all_mean n es env out)) where

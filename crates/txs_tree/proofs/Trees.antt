@@ -1,5 +1,6 @@
 -- A node as a tree, with its children as a list.
 use Rattle.std.proofs.Common.{rules, ◌≡◌, ℕ, List, refl, sym, ap, ◌∙◌, Vec, Global, Box}
+use Rattle.txs_value.specs.declared.op.Callee.{Callee}
 use Rattle.txs_value.specs.declared.op.Op.{Op}
 use Rattle.txs_value.specs.declared.value.Value.{Value}
 use Rattle.txs_tree.specs.Tree.{Mark, Tree, Trees, more}
@@ -7,7 +8,7 @@ use Rattle.txs_tree.specs.Tree as tree
 use Rattle.txs_tree.specs.View.{kind_tree, row_trees, tree_of, trees_of, mark_of}
 use Rattle.txs_tree.specs.declared.node.Node.{Node}
 use Rattle.txs_tree.specs.declared.node.NodeKind.{Row_of-Node, end_of-Node, more_of-Node, items-the_row-Node, the_lemmas}
-use Rattle.txs_tree.specs.declared.node.NodeKind.TheVariants.{Const, Local, If, Do, Let, Loop, Recur, Core, Vector, Println}
+use Rattle.txs_tree.specs.declared.node.NodeKind.TheVariants.{Const, Local, If, Do, Let, Loop, Recur, Core, Vector, Println, Dosync, Deref, Alter}
 
 pub row_list : {n : _} (row : Row_of-Node n) → row_trees row ≡ trees_of (items-the_row-Node n row)
 row_list end_of-Node = refl
@@ -36,6 +37,15 @@ vector_tree items m = search (rules, the_lemmas, row_list)
 
 pub println_tree : (args : Vec Node Global) (m : Mark) → kind_tree (Println args) m ≡ tree.Println (trees_of args.items) m
 println_tree args m = search (rules, the_lemmas, row_list)
+
+pub dosync_tree : (body : Box Node Global) (m : Mark) → kind_tree (Dosync body) m ≡ tree.Dosync (tree_of body.value) m
+dosync_tree body m = search (rules, the_lemmas)
+
+pub deref_tree : (cell : Box Node Global) (m : Mark) → kind_tree (Deref cell) m ≡ tree.Deref (tree_of cell.value) m
+deref_tree cell m = search (rules, the_lemmas)
+
+pub alter_tree : (cell : Box Node Global) (callee : Callee) (args : Vec Node Global) (m : Mark) → kind_tree (Alter cell callee args) m ≡ tree.Alter (tree_of cell.value) callee (trees_of args.items) m
+alter_tree cell callee args m = search (rules, the_lemmas, row_list)
 
 -- a node by its kind, with its children as they were read
 module _ (n : Node) where
@@ -85,3 +95,18 @@ module _ (n : Node) where
   println_node args ns is same =
       let m = mark_of n.span n.wanted in
       ap (λ k. kind_tree k m) is ∙ println_tree args m ∙ ap (λ l. tree.Println (trees_of l) m) (sym same)
+
+  pub dosync_node : (body : Box Node Global) (b : Node) → n.kind ≡ Dosync body → b ≡ body.value → tree_of n ≡ tree.Dosync (tree_of b) (mark_of n.span n.wanted)
+  dosync_node body b is same =
+      let m = mark_of n.span n.wanted in
+      ap (λ k. kind_tree k m) is ∙ dosync_tree body m ∙ ap (λ x. tree.Dosync (tree_of x) m) (sym same)
+
+  pub deref_node : (cell : Box Node Global) (b : Node) → n.kind ≡ Deref cell → b ≡ cell.value → tree_of n ≡ tree.Deref (tree_of b) (mark_of n.span n.wanted)
+  deref_node cell b is same =
+      let m = mark_of n.span n.wanted in
+      ap (λ k. kind_tree k m) is ∙ deref_tree cell m ∙ ap (λ x. tree.Deref (tree_of x) m) (sym same)
+
+  pub alter_node : (cell : Box Node Global) (callee : Callee) (args : Vec Node Global) (b : Node) (ns : List Node) → n.kind ≡ Alter cell callee args → b ≡ cell.value → ns ≡ args.items → tree_of n ≡ tree.Alter (tree_of b) callee (trees_of ns) (mark_of n.span n.wanted)
+  alter_node cell callee args b ns is same_cell same =
+      let m = mark_of n.span n.wanted in
+      ap (λ k. kind_tree k m) is ∙ alter_tree cell callee args m ∙ ap (λ l. tree.Alter (tree_of cell.value) callee (trees_of l) m) (sym same) ∙ ap (λ x. tree.Alter (tree_of x) callee (trees_of ns) m) (sym same_cell)

@@ -8,7 +8,7 @@ use Rattle.txs_tree.specs.Meaning.{Completion, Completes, Recurs, Faults, Retrie
 use Rattle.txs_tree.specs.Thread.{ThreadState, on_events}
 use Rattle.txs_tree.specs.Tree.{Tree, Trees, count, PlainProgram, PlainThread, ThreadSource}
 use Rattle.txs_tree.specs.declared.evaluate.EvalStop.{EvalStop}
-use Rattle.txs_tree.specs.declared.evaluate.EvalStop.TheVariants.{Fault, Turns as NoTurns, Memory}
+use Rattle.txs_tree.specs.declared.evaluate.EvalStop.TheVariants.{Fault, Event as NoEvent, Turns as NoTurns, Memory}
 use Rattle.txs_tree.specs.declared.evaluate.Step.{Step}
 use Rattle.txs_tree.specs.declared.evaluate.Step.TheVariants.{Value as AValue, Recur as ARecur}
 use Rattle.txs_tree.specs.declared.meaning.Needs.{Needs}
@@ -81,6 +81,7 @@ loop_means n es body env out =
 -- a stop and the printed bytes are those of the meaning, or there was no memory for them
 abbrev pub Stops : {A : Type 0} → EvalStop → List ℕ → Completion ThreadState A → Type 0
 Stops (Fault f) out c = c ≡ Faults f (printing out)
+Stops NoEvent out c = c ≡ Waits (printing out)
 Stops NoTurns out c = c ≡ OutOfTurns (printing out)
 Stops Memory out c = ⊤
 

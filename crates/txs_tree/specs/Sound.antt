@@ -12,7 +12,7 @@ TakesFew op n = (takes op n ≡ true) × (n ≤ 65535)
 
 -- a callee of so many arguments, the cell's value among them
 abbrev pub SoundCallee : Callee → ℕ → Type 0
-SoundCallee (CoreOp op) n = takes op n ≡ true
+SoundCallee (CoreOp op) n = TakesFew op n
 SoundCallee (Function f) n = ⊥
 
 -- A node with so many locals, inside a transaction or outside. In tail position of a loop the number of the loop's
@@ -120,6 +120,7 @@ nodes_of_all (t ∷ ts) = nodes t.body + nodes_of_all ts
 -- a program that the checks accept
 pub record Sound (p : PlainProgram) : Type 0 where
   pub threads : SoundThreads p.threads
+  pub few_cells : length p.cells ≤ 1000
   pub few_threads : length p.threads ≤ 64
   pub few_nodes : nodes_of_all p.threads ≤ 200000
   -- no function is defined yet

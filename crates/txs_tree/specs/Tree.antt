@@ -1,5 +1,6 @@
 -- What a program is, as plain data.
 use Rattle.std.specs.Prelude.{ℕ, suc, Bool, true, false, List}
+use Rattle.txs_value.specs.declared.cell.CellDefinition.{CellDefinition}
 use Rattle.txs_value.specs.declared.fault.Span.{Span}
 use Rattle.txs_value.specs.declared.op.Op.{Op}
 use Rattle.txs_value.specs.declared.op.Callee.{Callee}
@@ -51,8 +52,10 @@ pub record PlainThread : Type 0 where
   pub body : Tree
   pub span : Span
 
+-- a program: functions, the definitions of cells in the order of their numbers, and threads
 pub record PlainProgram : Type 0 where
   pub functions : List PlainFunction
+  pub cells : List CellDefinition
   pub threads : List PlainThread
 
 -- one thread with the functions that it may call

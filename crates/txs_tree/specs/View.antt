@@ -1,10 +1,11 @@
 -- Nodes as plain trees.
 use Rattle.std.specs.Prelude.{Bool, List, [], ◌∷◌}
+use Rattle.txs_value.specs.declared.cell.CellDefinition.{CellDefinition}
 use Rattle.txs_value.specs.declared.fault.Span.{Span}
 use Rattle.txs_tree.specs.Tree.{Tree, Trees, Mark, none, more, PlainThread, PlainProgram}
 use Rattle.txs_tree.specs.Tree as tree
 use Rattle.txs_tree.specs.declared.node.Node.{Node}
-use Rattle.txs_tree.specs.declared.node.NodeKind.{NodeKind, Const, Local, If', Do', Let', Loop', Recur', Core', Vector', Println', Row_of-Node, end_of-Node, more_of-Node}
+use Rattle.txs_tree.specs.declared.node.NodeKind.{NodeKind, Const, Local, If', Do', Let', Loop', Recur', Core', Vector', Println', Dosync', Deref', Alter', Row_of-Node, end_of-Node, more_of-Node}
 use Rattle.txs_tree.specs.declared.node.Thread.{Thread}
 
 abbrev pub mark_of : Span → Bool → Mark
@@ -24,6 +25,9 @@ abbrev mutual
   kind_tree (Core' op shape args) m = tree.Core op (row_trees args) m
   kind_tree (Vector' shape items) m = tree.VectorOf (row_trees items) m
   kind_tree (Println' shape args) m = tree.Println (row_trees args) m
+  kind_tree (Dosync' q body span wanted) m = tree.Dosync (kind_tree body (mark_of span wanted)) m
+  kind_tree (Deref' q cell span wanted) m = tree.Deref (kind_tree cell (mark_of span wanted)) m
+  kind_tree (Alter' q cell span wanted callee shape args) m = tree.Alter (kind_tree cell (mark_of span wanted)) callee (row_trees args) m
 
   pub row_trees : {n : _} → Row_of-Node n → Trees
   row_trees end_of-Node = none
@@ -44,6 +48,11 @@ abbrev pub threads_of : List Thread → List PlainThread
 threads_of [] = []
 threads_of (t ∷ ts) = thread_of t ∷ threads_of ts
 
--- the program of these threads
-abbrev pub program_of : List Thread → PlainProgram
-program_of ts = record { functions = []; threads = threads_of ts }
+-- what a program is made of: its cells and its threads, each in script order
+pub record Parts : Type 0 where
+  pub cells : List CellDefinition
+  pub threads : List Thread
+
+-- the program of these parts
+abbrev pub program_of : Parts → PlainProgram
+program_of p = record { functions = []; cells = p.cells; threads = threads_of p.threads }

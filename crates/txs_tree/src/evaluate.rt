@@ -1,10 +1,12 @@
 //! The meaning of nodes outside every transaction, by plain recursion.
 
 ghost use Rattle.std.specs.Prelude.{◌≡◌, ◌≤◌, ◌-◌, ◌+◌, ◌++◌, length, take, drop, false, None, Some, IsTrue, IfOk, OnOk};
+ghost use Rattle.txs_value.specs.Cells.{any_cell};
 ghost use Rattle.txs_value.specs.Core.{core, takes, vector_of};
-ghost use Rattle.txs_tree.specs.Evaluated.{Gives, GivesAll, Steps, means, all_mean, do_means, let_means, locals_mean, loop_means, turns_mean, printing};
+ghost use Rattle.txs_tree.specs.Evaluated.{Stops, Gives, GivesAll, Steps, means, all_mean, do_means, let_means, locals_mean, loop_means, turns_mean, printing};
 ghost use Rattle.txs_tree.specs.Meaning.{result_of};
 ghost use Rattle.txs_tree.specs.Sound.{InSomeTail, SoundTree, SoundAll, SoundDo, SoundLet};
+ghost use Rattle.txs_tree.specs.Thread.{reads};
 ghost use Rattle.txs_tree.specs.Tree.{count};
 ghost use Rattle.txs_tree.specs.View.{tree_of, trees_of};
 ghost use Rattle.txs_tree.specs.declared.evaluate.EvalStop.TheVariants.{Memory};
@@ -12,7 +14,7 @@ ghost use Rattle.txs_tree.specs.declared.evaluate.EvalStop.TheVariants.{Memory};
 use crate::node::{Node, NodeKind};
 use std::alloc::{AllocError, AllocFailed, Global};
 use txs_value::{
-    Fault, Op, Span, Stop, Value, apply, copy_value, is_false, make_vector, write_line,
+    Fault, FaultKind, Op, Span, Stop, Value, apply, copy_value, is_false, make_vector, write_line,
 };
 
 /// Why an evaluation gives no value.
@@ -20,6 +22,8 @@ use txs_value::{
 pub enum EvalStop {
     /// A form faults.
     Fault(Fault),
+    /// What it needs of the shared state isn't there.
+    Event,
     /// A loop's turns don't suffice.
     Turns,
     /// There was no memory.
@@ -75,6 +79,19 @@ fn collect(items: Vec<Value>, span: Span, printed: &[u8]) -> Result<Step, EvalSt
     match make_vector(items) {
         Ok(value) => Ok(Step::Value(value)),
         Err(kind) => Err(EvalStop::Fault(Fault { kind, span })),
+    }
+}
+
+/// A read outside every transaction, where no event is there: it waits for one, unless the value is no cell.
+fn read(value: &Value, span: Span, printed: &[u8]) -> EvalStop
+    ensures { Stops result printed.now (reads span (any_cell value.now) (printing printed.now)) }
+{
+    match value {
+        Value::Cell(_) => EvalStop::Event,
+        _ => EvalStop::Fault(Fault {
+            kind: FaultKind::NotACell,
+            span,
+        }),
     }
 }
 
@@ -152,6 +169,12 @@ fn evaluate_tail(
             write_line(&values, printed)?;
             Ok(Step::Value(Value::Nil))
         }
+        NodeKind::Dosync(_) => Err(EvalStop::Event),
+        NodeKind::Deref(cell) => {
+            let value = evaluate(alloc, cell, turns, locals, printed)?;
+            Err(read(&value, node.span, printed))
+        }
+        NodeKind::Alter(_, _, _) => unreachable!(),
     }
 }
 

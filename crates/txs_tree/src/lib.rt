@@ -1,6 +1,7 @@
 //! Programs as trees, and what they mean. A node is a plain tree to every contract (`tree_of`), a program
-//! the sound program of its threads. `is_sound` tells exactly which threads are a sound program, and
-//! `eval_thread` answers exactly the thread meaning: its printed bytes, what it needs, and how it ends.
+//! the sound program of its cells and threads. `is_sound` tells exactly which cells and threads are a sound
+//! program, and `eval_thread` answers exactly the thread meaning on no events: its printed bytes, what it
+//! needs, and how it ends.
 #![tactic(auto)]
 
 pub mod evaluate;

@@ -3,7 +3,7 @@
 ghost use Rattle.std.specs.Prelude.{◌≡◌, ◌<◌, length, IfOk, IfSome, Some, None, []};
 ghost use Rattle.txs_tree.specs.Evaluated.{Account, Tells, thread_source};
 ghost use Rattle.txs_tree.specs.Thread.{thread_meaning};
-ghost use Rattle.txs_tree.specs.declared.meaning.Needs.TheVariants.{Nothing, Turns};
+ghost use Rattle.txs_tree.specs.declared.meaning.Needs.TheVariants.{Nothing};
 ghost use Rattle.txs_tree.specs.View.{program_of};
 
 use crate::evaluate::{EvalStop, evaluate};
@@ -44,26 +44,26 @@ fn ended(printed: Vec<u8>, outcome: Outcome) -> ThreadMeaning
     }
 }
 
-/// The meaning of a thread that printed these bytes and needs more turns of a loop.
-fn short_of_turns(printed: Vec<u8>) -> ThreadMeaning
-    ensures { Account result printed.items Turns None }
+/// The meaning of a thread that printed these bytes and hasn't ended.
+fn unended(printed: Vec<u8>, needs: Needs) -> ThreadMeaning
+    ensures { Account result printed.items needs None }
 {
     ThreadMeaning {
         printed: Listed::from_vec(printed),
-        needs: Needs::Turns,
+        needs,
         outcome: None,
     }
 }
 
 /// The meaning of the program's thread at this place, counted from 0, where each loop makes at most
-/// `turns` turns. An error where there is no memory for it.
+/// `turns` turns, and no event is there. An error where there is no memory for it.
 pub fn eval_thread(
     alloc: Global,
     program: &Program,
     thread: usize,
     turns: u32,
 ) -> Result<ThreadMeaning, AllocError>
-    requires { thread < length program.now }
+    requires { thread < length program.now.threads }
     ensures { IfOk result (λ m. IfSome (thread_source (program_of program.now) thread)
         (λ p. Tells m (thread_meaning p turns []))) }
 {
@@ -73,7 +73,8 @@ pub fn eval_thread(
     match evaluate(alloc, body, turns, &mut locals, &mut printed) {
         Ok(_) => Ok(ended(printed, Outcome::Done)),
         Err(EvalStop::Fault(fault)) => Ok(ended(printed, Outcome::Failed(fault))),
-        Err(EvalStop::Turns) => Ok(short_of_turns(printed)),
+        Err(EvalStop::Event) => Ok(unended(printed, Needs::Event)),
+        Err(EvalStop::Turns) => Ok(unended(printed, Needs::Turns)),
         Err(EvalStop::Memory) => Err(AllocError),
     }
 }

@@ -1,6 +1,6 @@
 //! The nodes of a program.
 
-use txs_value::{Op, Span, Value};
+use txs_value::{Callee, Op, Span, Value};
 
 /// What a node does.
 #[cycle(node)]
@@ -24,8 +24,14 @@ pub enum NodeKind {
     Core(Op, Vec<Node>),
     /// The vector of the items.
     Vector(Vec<Node>),
-    /// Prints its arguments as a line.
+    /// Prints its arguments as a line, outside every transaction.
     Println(Vec<Node>),
+    /// The body in a transaction. One inside another joins it.
+    Dosync(Box<Node>),
+    /// The value of a cell.
+    Deref(Box<Node>),
+    /// Sets a ref, in a transaction, to what the callee gives of its value and the arguments.
+    Alter(Box<Node>, Callee, Vec<Node>),
 }
 
 /// A node of a program: what it does, where it stands in the script, and whether its result is wanted.

@@ -1,12 +1,15 @@
 //! Which programs are sound: the test that a program has to pass.
 
-ghost use Rattle.std.specs.Prelude.{◌≡◌, ◌≤◌, ◌<◌, ◌+◌, ◌↔◌, length, false, None, Some, IsTrue, MatchOption};
-ghost use Rattle.txs_tree.specs.Sound.{Sound, TakesFew, SoundTree, SoundAll, SoundLet, SoundThread, SoundThreads, nodes, nodes_in, nodes_of_all, levels, levels_in};
+ghost use Rattle.std.specs.Prelude.{◌≡◌, ◌≤◌, ◌<◌, ◌+◌, ◌↔◌, length, suc, false, true, None, Some, IsTrue, MatchOption};
+ghost use Rattle.txs_tree.specs.Sound.{Sound, TakesFew, SoundCallee, SoundTree, SoundAll, SoundLet, SoundThread, SoundThreads, nodes, nodes_in, nodes_of_all, levels, levels_in};
 ghost use Rattle.txs_tree.specs.Tree.{count};
 ghost use Rattle.txs_tree.specs.View.{tree_of, trees_of, thread_of, threads_of, program_of};
 
 use crate::node::{Node, NodeKind, Thread};
-use txs_value::{Op, takes};
+use txs_value::{Callee, CellDefinition, Op, takes};
+
+/// The cells that a program has at most.
+const MAX_CELLS: usize = 1_000;
 
 /// The threads that a program has at most.
 const MAX_THREADS: usize = 64;
@@ -23,12 +26,17 @@ const MAX_LOCALS: usize = 200;
 /// The items that a vector or a line has at most.
 const MAX_ITEMS: usize = 65_535;
 
-/// Whether these threads are a sound program: each local is bound, each operation has as many arguments
-/// as it takes, and the program keeps the limits of locals, arguments, levels, nodes and threads. It goes
-/// down no more than 1,001 levels, and looks at each node at most three times.
-pub fn is_sound(threads: &[Thread]) -> bool
-    ensures { IsTrue result ↔ Sound (program_of threads.now) }
+/// Whether these cells and threads are a sound program: each local is bound, each operation has as many
+/// arguments as it takes, a recur stands in tail position of a loop alone and has as many values as the loop,
+/// nothing is printed in a transaction and a ref is set in one alone, and the program keeps the limits of
+/// locals, arguments, levels, nodes, cells and threads. It goes down no more than 1,001 levels, and looks at
+/// each node at most three times.
+pub fn is_sound(cells: &[CellDefinition], threads: &[Thread]) -> bool
+    ensures { IsTrue result ↔ Sound (program_of (record { cells = cells.now; threads = threads.now })) }
 {
+    if cells.len() > MAX_CELLS {
+        return false;
+    }
     if threads.len() > MAX_THREADS {
         return false;
     }
@@ -88,6 +96,19 @@ fn prints_few(inside: bool, count: usize) -> bool
     !inside && count <= MAX_ITEMS
 }
 
+/// Whether the callee may set a ref here: in a transaction, and it takes the ref's value and so many arguments.
+fn may_alter(inside: bool, callee: Callee, count: usize) -> bool
+    ensures { IsTrue result ↔ ((inside ≡ true) × SoundCallee callee (suc count)) }
+{
+    if !inside {
+        return false;
+    }
+    match callee {
+        Callee::Core(op) => count < MAX_ITEMS && takes_few(op, count + 1),
+        Callee::Function(_) => false,
+    }
+}
+
 /// Whether a recur of so many values may stand here: in tail position of a loop with as many.
 fn is_tail_of(tail: Option<usize>, count: usize) -> bool
     ensures { IsTrue result ↔ (tail ≡ Some count) }
@@ -136,6 +157,14 @@ fn is_sound_node(node: &Node, inside: bool, locals: usize, tail: Option<usize>) 
         NodeKind::Vector(items) => items.len() <= MAX_ITEMS && are_sound(items, inside, locals),
         NodeKind::Println(args) => {
             prints_few(inside, args.len()) && are_sound(args, inside, locals)
+        }
+        NodeKind::Dosync(body) => is_sound_node(body, true, locals, None),
+        NodeKind::Deref(cell) => is_sound_node(cell, inside, locals, None),
+        NodeKind::Alter(cell, callee, args) => {
+            if !may_alter(inside, *callee, args.len()) {
+                return false;
+            }
+            is_sound_node(cell, inside, locals, None) && are_sound(args, inside, locals)
         }
     }
 }
@@ -197,6 +226,9 @@ fn is_within(node: &Node, limit: u16) -> bool
         NodeKind::Core(_, args) => are_within(args, limit - 1),
         NodeKind::Vector(items) => are_within(items, limit - 1),
         NodeKind::Println(args) => are_within(args, limit - 1),
+        NodeKind::Dosync(body) => is_within(body, limit - 1),
+        NodeKind::Deref(cell) => is_within(cell, limit - 1),
+        NodeKind::Alter(cell, _, args) => is_within(cell, limit - 1) && are_within(args, limit - 1),
     }
 }
 
@@ -243,6 +275,12 @@ fn nodes_left(node: &Node, limit: u32) -> Option<u32>
         NodeKind::Core(_, args) => all_nodes_left(args, limit - 1),
         NodeKind::Vector(items) => all_nodes_left(items, limit - 1),
         NodeKind::Println(args) => all_nodes_left(args, limit - 1),
+        NodeKind::Dosync(body) => nodes_left(body, limit - 1),
+        NodeKind::Deref(cell) => nodes_left(cell, limit - 1),
+        NodeKind::Alter(cell, _, args) => {
+            let left = nodes_left(cell, limit - 1)?;
+            all_nodes_left(args, left)
+        }
     }
 }
 

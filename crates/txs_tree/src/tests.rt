@@ -2,7 +2,7 @@
 use crate::{Needs, Node, NodeKind, Program, Thread, ThreadMeaning, eval_thread, is_sound};
 use std::alloc::{AllocError, Global};
 use std::test::Fail;
-use txs_value::{Fault, FaultKind, Op, Outcome, Span, Value};
+use txs_value::{Callee, CellId, CellKind, Fault, FaultKind, Op, Outcome, Span, Value};
 
 fn node(kind: NodeKind, from: u32, to: u32) -> Node {
     Node {
@@ -93,10 +93,10 @@ fn printed(
 ) -> Result<Option<ThreadMeaning>, AllocError> {
     let line = node(NodeKind::Println(nodes(alloc, first, second)?), 0, 9);
     let threads = one_thread(alloc, line)?;
-    if !is_sound(&threads) {
+    if !is_sound(&[], &threads) {
         return Ok(None);
     }
-    let program = Program::new(threads);
+    let program = Program::new(Vec::new(alloc), threads);
     if program.threads().len() != 1 {
         return Ok(None);
     }
@@ -133,13 +133,79 @@ fn evaluates_a_branch_and_a_vector(rt: HostRuntime) -> Result<(), Fail> {
     Ok(())
 }
 
+fn dosync(alloc: Global, body: Node) -> Result<Node, AllocError> {
+    Ok(node(NodeKind::Dosync(Box::new(alloc, body)?), 3, 8))
+}
+
+fn deref(alloc: Global, cell: Node) -> Result<Node, AllocError> {
+    Ok(node(NodeKind::Deref(Box::new(alloc, cell)?), 3, 8))
+}
+
+/// The first ref.
+fn first_ref() -> Node {
+    let cell = CellId {
+        kind: CellKind::Ref,
+        number: 0,
+    };
+    node(NodeKind::Const(Value::Cell(cell)), 0, 1)
+}
+
+#[test]
+fn waits_for_events(rt: HostRuntime) -> Result<(), Fail> {
+    let alloc = rt.alloc();
+    let Some(read) = printed(alloc, deref(alloc, first_ref())?, int(1), 1)? else {
+        panic!(rt; "a sound program");
+    };
+    assert!(rt; read.needs == Needs::Event);
+    assert!(rt; read.outcome == None);
+    let Some(transaction) = printed(alloc, dosync(alloc, int(1))?, int(1), 1)? else {
+        panic!(rt; "a sound program");
+    };
+    assert!(rt; transaction.needs == Needs::Event);
+    let Some(fails) = printed(alloc, deref(alloc, int(7))?, int(1), 1)? else {
+        panic!(rt; "a sound program");
+    };
+    let fault = Fault {
+        kind: FaultKind::NotACell,
+        span: Span { from: 3, to: 8 },
+    };
+    assert!(rt; fails.outcome == Some(Outcome::Failed(fault)));
+    Ok(())
+}
+
+#[test]
+fn tells_where_forms_stand(rt: HostRuntime) -> Result<(), Fail> {
+    let alloc = rt.alloc();
+    let add = Callee::Core(Op::Add);
+    let args = nodes(alloc, int(1), int(2))?;
+    let alter = node(
+        NodeKind::Alter(Box::new(alloc, first_ref())?, add, args),
+        0,
+        9,
+    );
+    let outside = one_thread(alloc, alter)?;
+    assert!(rt; !is_sound(&[], &outside));
+    let args = nodes(alloc, int(1), int(2))?;
+    let alter = node(
+        NodeKind::Alter(Box::new(alloc, first_ref())?, add, args),
+        0,
+        9,
+    );
+    let inside = one_thread(alloc, dosync(alloc, alter)?)?;
+    assert!(rt; is_sound(&[], &inside));
+    let line = node(NodeKind::Println(nodes(alloc, int(1), int(2))?), 0, 9);
+    let prints = one_thread(alloc, dosync(alloc, line)?)?;
+    assert!(rt; !is_sound(&[], &prints));
+    Ok(())
+}
+
 #[test]
 fn evaluates_a_let(rt: HostRuntime) -> Result<(), Fail> {
     let threads = prints_a_sum(rt.alloc())?;
-    if !is_sound(&threads) {
+    if !is_sound(&[], &threads) {
         panic!(rt; "a sound program");
     }
-    let program = Program::new(threads);
+    let program = Program::new(Vec::new(rt.alloc()), threads);
     if program.threads().len() != 1 {
         panic!(rt; "one thread");
     }
@@ -153,10 +219,10 @@ fn evaluates_a_let(rt: HostRuntime) -> Result<(), Fail> {
 #[test]
 fn evaluates_a_fault(rt: HostRuntime) -> Result<(), Fail> {
     let threads = overflows(rt.alloc())?;
-    if !is_sound(&threads) {
+    if !is_sound(&[], &threads) {
         panic!(rt; "a sound program");
     }
-    let program = Program::new(threads);
+    let program = Program::new(Vec::new(rt.alloc()), threads);
     if program.threads().len() != 1 {
         panic!(rt; "one thread");
     }
@@ -173,10 +239,10 @@ fn evaluates_a_fault(rt: HostRuntime) -> Result<(), Fail> {
 #[test]
 fn tells_sound_programs(rt: HostRuntime) -> Result<(), Fail> {
     let unbound = one_thread(rt.alloc(), local(0))?;
-    assert!(rt; !is_sound(&unbound));
+    assert!(rt; !is_sound(&[], &unbound));
     let values = nodes(rt.alloc(), int(1), int(2))?;
     let astray = one_thread(rt.alloc(), node(NodeKind::Recur(values), 0, 9))?;
-    assert!(rt; !is_sound(&astray));
-    assert!(rt; is_sound(&[]));
+    assert!(rt; !is_sound(&[], &astray));
+    assert!(rt; is_sound(&[], &[]));
     Ok(())
 }

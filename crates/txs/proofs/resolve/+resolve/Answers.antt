@@ -1,19 +1,20 @@
-use Rattle.std.proofs.Common.{◌≡◌, ◌+◌, ◌-◌, ◌∷◌, [], ◌++◌, ℕ, true, Option, Some, length, drop, get_or, sym, ap, ◌∙◌, subst, arith, rules, Vec, Global}
+use Rattle.std.proofs.Common.{◌≡◌, ◌<◌, ◌≤◌, ◌+◌, ◌-◌, ◌*◌, ◌∷◌, [], ◌++◌, ℕ, Bool, true, false, List, Option, Some, None, length, drop, get_or, refl, sym, ap, ◌∙◌, subst, arith, rules, Vec, Global}
 use Rattle.std.proofs.lemmas.Result.{err_from_is_err_and}
 use Rattle.txs_reader.proofs.form.Form.TheLaws.{the_size}
 use Rattle.txs_reader.specs.declared.form.Bracket.TheVariants.{Square}
-use Rattle.txs_reader.specs.declared.form.Form.{Group}
+use Rattle.txs_reader.specs.declared.form.Form.{Form, Group}
 use Rattle.txs_reader.specs.Tree.{tree}
-use Rattle.txs_tree.specs.Tree.{Tree, Trees, Do}
+use Rattle.txs_tree.specs.Tree.{Tree, Trees, Do, Let, Println}
 use Rattle.txs_tree.specs.declared.node.Node.{Node}
 use Rattle.txs_tree.specs.View.{tree_of, trees_of, mark_of}
-use Rattle.txs_tree.proofs.Trees.{if_tree, do_tree, let_tree, loop_tree, recur_tree, core_tree, println_tree}
-use Rattle.txs_tree.specs.Tree.{Core}
+use Rattle.txs_tree.proofs.Trees.{if_tree, do_tree, let_tree, loop_tree, recur_tree, core_tree, println_tree, dosync_tree, deref_tree, alter_tree}
+use Rattle.txs_tree.specs.Tree.{Core, Dosync, Deref}
+use Rattle.txs_value.specs.declared.op.Callee.TheVariants.{Core as CoreOp}
 use Rattle.txs.specs.declared.names.FormName.TheVariants as kind
-use Rattle.txs.specs.declared.names.Head.TheVariants.{Form as AForm}
-use Rattle.txs.specs.Names.{let_node, loop_node, recur_node, println_node, ◌>>=◌, Scope, head_of, local_number, flag, named, named_all, named_else, named_bindings, named_pairs, pair_node, bound_name}
-use Rattle.txs.specs.Refused.{Gives, IsWithin, binding_of}
-use Rattle.txs.proofs.Building.{plain, all_after, bound_after, all_step, all_end, bindings_step, bindings_unvalued, bindings_odd, bindings_end, chain_first, pairs_step, pairs_stop, if_short, if_none, if_none_yes, if_none_no, if_parts, if_some, else_one, else_many, operation_plain, list_operation, body_one, body_several, list_head, binding_parts, binding_rest, within_push, refused, refused_let, refused_bound, tail_most}
+use Rattle.txs.specs.declared.names.Head.TheVariants.{Operation, Form as AForm}
+use Rattle.txs.specs.Names.{with_local, callee_of, let_node, loop_node, recur_node, println_node, dosync_node, ◌>>=◌, Bound, Scope, head_of, local_number, flag, named, named_all, named_body, named_else, named_bindings, named_pairs, pair_node, bound_name}
+use Rattle.txs.specs.Refused.{Gives, GivesBound, IsWithin, binding_of}
+use Rattle.txs.proofs.Building.{plain, all_after, bound_after, all_step, all_end, bindings_step, bindings_unvalued, bindings_odd, bindings_end, chain_first, pairs_step, pairs_stop, if_short, if_of, if_none, if_none_yes, if_none_no, if_parts, if_some, deref_none, deref_one, alter_parts, alter_none, alter_none_all, alter_some, else_none, else_one, else_many, operation_plain, list_operation, body_one, body_several, by, list_head, binding_parts, binding_rest, within_push, refused, refused_let, refused_bound, tail_most}
 use Rattle.txs.proofs.resolve.+resolve.Goals as goal
 use Rattle.txs_reader.specs.declared.form.Form.{the_lemmas}
 
@@ -39,6 +40,15 @@ list-recur_form-requires t c = (omega (arith, c.decreases, tail_most the_size _ 
 
 pub list-println_form-requires : goal.list-println_form-requires
 list-println_form-requires t c = (omega (arith, c.decreases, tail_most the_size _ _ _ c.in-Some-Symbol-default.ensures.cases.0), c.requires)
+
+pub list-dosync_form-requires : goal.list-dosync_form-requires
+list-dosync_form-requires t c = (omega (arith, c.decreases, tail_most the_size _ _ _ c.in-Some-Symbol-default.ensures.cases.0), c.requires)
+
+pub list-deref_form-requires : goal.list-deref_form-requires
+list-deref_form-requires t c = (omega (arith, c.decreases, tail_most the_size _ _ _ c.in-Some-Symbol-default.ensures.cases.0), c.requires)
+
+pub list-alter_form-requires : goal.list-alter_form-requires
+list-alter_form-requires t c = (omega (arith, c.decreases, tail_most the_size _ _ _ c.in-Some-Symbol-default.ensures.cases.0), c.requires)
 
 pub binding-body-requires : goal.binding-body-requires
 binding-body-requires t c = omega (arith, c.decreases, tail_most the_size _ _ _ c.in-Some-Group-Square-default-default-default.ensures.cases.0)
@@ -81,7 +91,7 @@ bindings-returns-in_err-value-clause-values t c =
 
 pub bindings-loop-at-preserved : goal.bindings-loop-at-preserved
 bindings-loop-at-preserved t c =
-    let scope : c.push-in-loop-at.new.self ≡ c.in_ok-name.name.now ∷ c.loop-at.scope = c.in_ok-push-2.ensures ∙ ap (λ (s : Scope). c.in_ok-name.name.now ∷ s) c.in_ok-value.ensures.kept in
+    let scope : c.push-in-loop-at.new.self ≡ with_local c.in_ok-name.name.now c.loop-at.scope = c.in_ok-push-2.ensures ∙ ap (λ (s : Scope). with_local c.in_ok-name.name.now s) c.in_ok-value.ensures.kept in
     record {
       same =
           c.loop-at.invariant.same
@@ -212,6 +222,24 @@ list-returns-in-Form-Println-clause-node t c =
     let e = list_head c.args.room c.args.scope.now c.args.wanted c.args.span c.args.forms.now _ _ _ _ (AForm kind.Println) c.in-Some-Symbol-default.ensures.cases.0 c.in-Some-Symbol-default.field-0-0-is head in
     subst (λ a. Gives tree_of c.println_form.result a) (sym e) c.println_form.ensures.node
 
+pub list-returns-in-Form-Dosync-clause-node : goal.list-returns-in-Form-Dosync-clause-node
+list-returns-in-Form-Dosync-clause-node t c =
+    let head = sym (ap head_of (c.as_bytes.ensures.value ∙ c.in-Some-Symbol-default.name-is)) ∙ sym c.head_of.ensures ∙ c.in-Form-Dosync.is ∙ ap (λ f. AForm f) c.in-Form-Dosync.field-0-is in
+    let e = list_head c.args.room c.args.scope.now c.args.wanted c.args.span c.args.forms.now _ _ _ _ (AForm kind.Dosync) c.in-Some-Symbol-default.ensures.cases.0 c.in-Some-Symbol-default.field-0-0-is head in
+    subst (λ a. Gives tree_of c.dosync_form.result a) (sym e) c.dosync_form.ensures.node
+
+pub list-returns-in-Form-Deref-clause-node : goal.list-returns-in-Form-Deref-clause-node
+list-returns-in-Form-Deref-clause-node t c =
+    let head = sym (ap head_of (c.as_bytes.ensures.value ∙ c.in-Some-Symbol-default.name-is)) ∙ sym c.head_of.ensures ∙ c.in-Form-Deref.is ∙ ap (λ f. AForm f) c.in-Form-Deref.field-0-is in
+    let e = list_head c.args.room c.args.scope.now c.args.wanted c.args.span c.args.forms.now _ _ _ _ (AForm kind.Deref) c.in-Some-Symbol-default.ensures.cases.0 c.in-Some-Symbol-default.field-0-0-is head in
+    subst (λ a. Gives tree_of c.deref_form.result a) (sym e) c.deref_form.ensures.node
+
+pub list-returns-in-Form-Alter-clause-node : goal.list-returns-in-Form-Alter-clause-node
+list-returns-in-Form-Alter-clause-node t c =
+    let head = sym (ap head_of (c.as_bytes.ensures.value ∙ c.in-Some-Symbol-default.name-is)) ∙ sym c.head_of.ensures ∙ c.in-Form-Alter.is ∙ ap (λ f. AForm f) c.in-Form-Alter.field-0-is in
+    let e = list_head c.args.room c.args.scope.now c.args.wanted c.args.span c.args.forms.now _ _ _ _ (AForm kind.Alter) c.in-Some-Symbol-default.ensures.cases.0 c.in-Some-Symbol-default.field-0-0-is head in
+    subst (λ a. Gives tree_of c.alter_form.result a) (sym e) c.alter_form.ensures.node
+
 -- ---- operations and forms
 
 pub operation-returns-clause-node : goal.operation-returns-clause-node
@@ -240,6 +268,63 @@ pub println_form-returns-clause-node : goal.println_form-returns-clause-node
 println_form-returns-clause-node t c =
     let m = mark_of c.args.span c.args.wanted in
     ap (λ b. println_node b m) c.in_ok-nodes.ensures.nodes ∙ ap (λ (x : Tree). Some x) (sym (println_tree c.in_ok-nodes.nodes m))
+
+-- ---- refs
+
+pub dosync_form-returns-clause-node : goal.dosync_form-returns-clause-node
+dosync_form-returns-clause-node t c =
+    let m = mark_of c.args.span c.args.wanted in
+    ap (λ b. dosync_node b m) c.in_ok-inner.ensures.node
+    ∙ ap (λ (n : Node). Some (Dosync (tree_of n) m)) (sym c.in_ok-inner-2.ensures.ok)
+    ∙ ap (λ (x : Tree). Some x) (sym (dosync_tree c.in_ok-inner-2.inner m))
+
+pub deref_form-returns-then-args-ne1-clause-node : goal.deref_form-returns-then-args-ne1-clause-node
+deref_form-returns-then-args-ne1-clause-node t c = deref_none c.args.room c.args.scope.now c.args.wanted c.args.span c.args.args.now c.if-args-ne1.true
+
+pub deref_form-returns-in_err-cell-clause-node : goal.deref_form-returns-in_err-cell-clause-node
+deref_form-returns-in_err-cell-clause-node t c =
+    let p = err_from_is_err_and c.from_residual.result c.from_residual.ensures.1 in
+    let m = mark_of c.args.span c.args.wanted in
+    rw (p.1, p.2) (refused tree_of tree_of _ _ _ c.in_err-cell.ensures.node (λ none.
+    deref_one c.args.room c.args.scope.now c.args.wanted c.args.span c.args.args.now c.index-args-0.result (omega (arith, c.if-args-ne1.false))
+    ∙ ap (λ (o : Option Tree). o >>= λ cell. Some (Deref cell m)) (ap (λ f. named (c.args.room - 1) c.args.scope.now true (tree f)) (sym c.index-args-0.is) ∙ none)))
+
+pub deref_form-returns-clause-node : goal.deref_form-returns-clause-node
+deref_form-returns-clause-node t c =
+    let m = mark_of c.args.span c.args.wanted in
+    deref_one c.args.room c.args.scope.now c.args.wanted c.args.span c.args.args.now c.index-args-0.result (omega (arith, c.if-args-ne1.false))
+    ∙ ap (λ (o : Option Tree). o >>= λ cell. Some (Deref cell m)) (ap (λ f. named (c.args.room - 1) c.args.scope.now true (tree f)) (sym c.index-args-0.is) ∙ c.in_ok-cell.ensures.node)
+    ∙ ap (λ (n : Node). Some (Deref (tree_of n) m)) (sym c.in_ok-cell-2.ensures.ok)
+    ∙ ap (λ (x : Tree). Some x) (sym (deref_tree c.in_ok-cell-2.cell m))
+
+pub alter_form-all-requires : goal.alter_form-all-requires
+alter_form-all-requires t c = (omega (arith, c.decreases, tail_most the_size _ _ _ c.in-Some.ensures.cases.0, tail_most the_size _ _ _ c.in-Some-split_first.ensures.cases.0), tt)
+
+pub alter_form-returns-in_err-cell-clause-node : goal.alter_form-returns-in_err-cell-clause-node
+alter_form-returns-in_err-cell-clause-node t c =
+    let p = err_from_is_err_and c.from_residual.result c.from_residual.ensures.1 in
+    let m = mark_of c.args.span c.args.wanted in
+    rw (p.1, p.2) (refused tree_of tree_of _ _ _ c.in_err-cell.ensures.node (λ none.
+    alter_parts c.args.room c.args.scope.now c.args.wanted c.args.span c.args.args.now c.in-Some.parts.now c.in-Some-split_first.further.now c.in-Some.cell.now c.in-Some-split_first.function.now c.in-Some.ensures.cases.0 c.in-Some-split_first.ensures.cases.0
+    ∙ alter_none m _ _ _ none))
+
+pub alter_form-returns-in_err-nodes-clause-node : goal.alter_form-returns-in_err-nodes-clause-node
+alter_form-returns-in_err-nodes-clause-node t c =
+    let p = err_from_is_err_and c.from_residual-in_err-nodes.result c.from_residual-in_err-nodes.ensures.1 in
+    let m = mark_of c.args.span c.args.wanted in
+    rw (p.1, p.2) (refused (λ (v : Vec Node Global). trees_of v.items) tree_of _ _ _ c.in_err-nodes.ensures.nodes (λ none.
+    alter_parts c.args.room c.args.scope.now c.args.wanted c.args.span c.args.args.now c.in-Some.parts.now c.in-Some-split_first.further.now c.in-Some.cell.now c.in-Some-split_first.function.now c.in-Some.ensures.cases.0 c.in-Some-split_first.ensures.cases.0
+    ∙ alter_none_all m _ _ _ (ap (λ (s : Scope). named_all (c.args.room - 1) s true true (plain c.in-Some-split_first.further.now)) (sym c.in_ok-cell.ensures.kept) ∙ none)))
+
+pub alter_form-returns-clause-node : goal.alter_form-returns-clause-node
+alter_form-returns-clause-node t c =
+    let m = mark_of c.args.span c.args.wanted in
+    alter_parts c.args.room c.args.scope.now c.args.wanted c.args.span c.args.args.now c.in-Some.parts.now c.in-Some-split_first.further.now c.in-Some.cell.now c.in-Some-split_first.function.now c.in-Some.ensures.cases.0 c.in-Some-split_first.ensures.cases.0
+    ∙ alter_some m _ _ _ (tree_of c.in_ok-cell-2.cell.value) c.in_ok-op.op (trees_of c.in_ok-nodes.nodes.items)
+    (c.in_ok-cell.ensures.node ∙ ap (λ (n : Node). Some (tree_of n)) (sym c.in_ok-cell-2.ensures.ok))
+    (ap (λ (s : Scope). callee_of s (tree c.in-Some-split_first.function.now)) (sym c.in_ok-cell.ensures.kept) ∙ c.in_ok-op.ensures)
+    (ap (λ (s : Scope). named_all (c.args.room - 1) s true true (plain c.in-Some-split_first.further.now)) (sym c.in_ok-cell.ensures.kept) ∙ c.in_ok-nodes.ensures.nodes)
+    ∙ ap (λ (x : Tree). Some x) (sym (alter_tree c.in_ok-cell-2.cell (CoreOp c.in_ok-op.op) c.in_ok-nodes.nodes m))
 
 -- ---- if
 

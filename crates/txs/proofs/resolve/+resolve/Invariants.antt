@@ -53,6 +53,15 @@ decreases-recur_form l = 16 * goal.size-recur_form l + 10
 abbrev pub decreases-println_form : goal.decreases-println_form
 decreases-println_form l = 16 * goal.size-println_form l + 10
 
+abbrev pub decreases-dosync_form : goal.decreases-dosync_form
+decreases-dosync_form l = 16 * goal.size-dosync_form l + 10
+
+abbrev pub decreases-deref_form : goal.decreases-deref_form
+decreases-deref_form l = 16 * goal.size-deref_form l + 10
+
+abbrev pub decreases-alter_form : goal.decreases-alter_form
+decreases-alter_form l = 16 * goal.size-alter_form l + 10
+
 abbrev pub decreases-body : goal.decreases-body
 decreases-body l = 16 * goal.size-body l + 9
 

@@ -1,12 +1,18 @@
-use Rattle.std.proofs.Common.{◌≡◌, rules, sym, subst}
-use Rattle.txs.specs.Runs.{HasRun, end_of}
-use Rattle.txs.proofs.Turns.{has_run}
+use Rattle.std.proofs.Common.{◌≡◌, ℕ, List, rules, sym, subst}
+use Rattle.txs_world.specs.Book.{opening}
+use Rattle.txs.specs.RunOver.{IsExplained}
+use Rattle.txs.proofs.RunOver.{new_over, ended_explained}
 use Rattle.txs.proofs.run.run_thread.Goals as goal
 
-pub returns : goal.returns
-returns c =
-    let d = c.turn.new.self in
-    let whole = has_run c.args.code.now c.args.k c.args.max_steps c.in_ok-actor.actor c.run.new.self d c.turn.result c.in_ok-actor.ensures.new c.run.ensures.turns c.turn.ensures.turns c.turn.ensures.runs c.actors_follow.ensures c.actors_explained.ensures in
-    let same : c.in_ok-printed.printed.items ≡ d.printed = search rules in
-    subst (λ o. HasRun c.args.code.now c.args.k c.args.max_steps c.in_ok-printed.printed.items o) (sym c.end_of-outcome.ensures)
-    (subst (λ out. HasRun c.args.code.now c.args.k c.args.max_steps out (end_of c.turn.result)) (sym same) whole)
+pub run_to_end-requires-clause-over : goal.run_to_end-requires-clause-over
+run_to_end-requires-clause-over c =
+    new_over c.actors_run.ensures c.args.code.now (opening c.args.store.now.cells) c.args.k c.args.max_steps c.args.store.now.book c.in_ok-actor.actor c.requires.unused c.in_ok-actor.ensures.new
+
+pub returns-clause-explained : goal.returns-clause-explained
+returns-clause-explained c =
+    let a = c.run_to_end.new.actor in
+    let w = opening c.args.store.now.cells in
+    let book = c.run_to_end.new.store.book in
+    let same : c.in_ok-printed.printed.items ≡ a.printed = search rules in
+    subst (λ (out : List ℕ). IsExplained c.args.code.now w c.args.k book c.in_ok-outcome.outcome out) (sym same)
+    (ended_explained c.actors_explained.ensures c.replies_fit.ensures c.args.code.now w c.args.k book a c.in_ok-outcome.outcome c.in_ok-outcome.ensures.ended c.in_ok-outcome.ensures.over)

@@ -1,12 +1,12 @@
-use Rattle.std.proofs.Common.{arith, ◌≡◌, ◌+◌, ◌-◌, Some, None, [], ◌∷◌, eqb, length, drop, refl, sym, ap, ◌∙◌, subst, OnOk, length-drop, length-append}
-use Rattle.txs_tree.specs.Sound.{nodes, nodes_in}
+use Rattle.std.proofs.Common.{arith, ◌≡◌, ◌+◌, ◌-◌, suc, true, Some, None, [], ◌∷◌, eqb, length, drop, refl, sym, ap, ◌∙◌, subst, OnOk, length-drop, length-append}
+use Rattle.txs_tree.specs.Sound.{SoundCallee, nodes, nodes_in}
 use Rattle.txs_tree.specs.Tree.{count, is_none}
 use Rattle.txs_tree.specs.View.{tree_of, trees_of, mark_of}
 use Rattle.txs_code.specs.declared.instr.Instr.TheVariants as instr
-use Rattle.txs_gen.specs.Emission.{Emission, emission, emits, emits_all, emits_do, emits_let, IsPlaced, IsWithin, IsPartAll, IsPartLet, with_instr, with_constant, with_locals, with_pop, with_room, with_set, with_stores}
-use Rattle.txs_gen.proofs.Emissions.{IsPlacedLeft, around, emits_const, emits_local, emits_do_is, emits_core, emits_vector, emits_println, emits_let_is, emits_if_is, emits_loop_is, emits_recur_is, emits_all_none, emits_all_more, emits_let_none, emits_let_more, emits_do_none, emits_do_more, is_none_trees, left_first, left_rest, within_more, nodes_positive, emits_constants, emits_let_constants, emits_instrs, emits_let_instrs, let_locals, left_is, nothing_left, nodes_left, pop_constants, pop_instrs, put_instrs, set_instrs, emits_grows, if_tested, if_first, if_else, if_made, loop_made, recur_made}
+use Rattle.txs_gen.specs.Emission.{Emission, emission, emits, emits_all, emits_do, emits_let, IsPlaced, IsPlacedAll, IsPlacedLet, IsWithin, with_instr, with_constant, with_locals, with_pop, with_room, with_set, with_stores, with_call}
+use Rattle.txs_gen.proofs.Emissions.{IsPlacedLeft, around, emits_const, emits_local, emits_do_is, emits_core, emits_vector, emits_println, emits_let_is, emits_if_is, emits_loop_is, emits_dosync_is, emits_deref, emits_alter_is, emits_recur_is, emits_all_none, emits_all_more, emits_let_none, emits_let_more, emits_do_none, emits_do_more, is_none_trees, left_first, left_rest, within_more, nodes_positive, emits_constants, emits_let_constants, emits_instrs, emits_let_instrs, let_locals, left_is, nothing_left, nodes_left, pop_constants, pop_instrs, put_instrs, set_instrs, emits_grows, if_tested, if_first, if_else, if_made, loop_made, dosync_made, alter_made, recur_made, callee_few}
 use Rattle.txs_tree.proofs.Soundness.{count-trees_of}
-use Rattle.txs_tree.proofs.Trees.{const_node, local_node, if_node, do_node, let_node, loop_node, recur_node, core_node, vector_node, println_node}
+use Rattle.txs_tree.proofs.Trees.{const_node, local_node, if_node, do_node, let_node, loop_node, recur_node, core_node, vector_node, println_node, dosync_node, deref_node, alter_node}
 use Rattle.txs_gen.proofs.emit.+emit.Goals as goal
 
 pub emit-emit_do-requires : goal.emit-emit_do-requires
@@ -21,7 +21,7 @@ emit-emit_let-requires t c =
     let e = let_node c.args.node.now c.in-Let.values c.in-Let.body c.deref-in-Let.result.now c.in-Let.body.value c.in-Let.is c.deref-in-Let.ensures.value refl in
     let n = ap nodes e in
     let p = subst (λ x. IsPlaced c.args.at.depth c.args.at.base x) e c.requires.part in
-    (omega (arith, n), (p.2.0, (omega (arith, n, c.requires.few_constants), (omega (arith, n, c.requires.few_instrs), omega (arith, n, c.requires.low)))))
+    (omega (arith, n), ((p.0, p.3.0), (omega (arith, n, c.requires.few_constants), (omega (arith, n, c.requires.few_instrs), omega (arith, n, c.requires.low)))))
 
 pub emit-emit-requires : goal.emit-emit-requires
 emit-emit-requires t c =
@@ -31,7 +31,7 @@ emit-emit-requires t c =
     let e = let_node c.args.node.now c.in-Let.values c.in-Let.body xs b c.in-Let.is c.deref-in-Let.ensures.value c.deref-in-Let-2.ensures in
     let n = ap nodes e in
     let p = subst (λ x. IsPlaced at.depth at.base x) e c.requires.part in
-    let q : IsPlaced (at.depth + count (trees_of xs)) at.base (tree_of b) = (p.0, within_more at.base p.0 at.depth (count (trees_of xs)) (let_locals (trees_of xs) at.depth p.2.0) p.1, p.2.1) in
+    let q : IsPlaced (at.depth + count (trees_of xs)) at.base (tree_of b) = (p.0, p.1, within_more at.base p.1 at.depth (count (trees_of xs)) (let_locals (trees_of xs) p.0 at.depth p.3.0) p.2, p.3.1) in
     let k = ap (λ (x : Emission). length x.constants) c.in_ok-depth-in-Let.ensures.code in
     let l = ap (λ (x : Emission). length x.instrs) c.in_ok-depth-in-Let.ensures.code in
     let m = emits_let_constants (trees_of xs) c.args.node.now.span at (emission c.args.to.now) in
@@ -47,7 +47,7 @@ emit-emit_if-requires t c =
     let e = if_node c.args.node.now c.in-If.test c.in-If.first c.in-If.second x y z c.in-If.is c.deref.ensures c.deref-in-If.ensures c.deref-in-If-2.ensures in
     let n = ap nodes e in
     let p = subst (λ t. IsPlaced at.depth at.base t) e c.requires.part in
-    (omega (arith, n), (p.2.0, ((p.0, p.1, p.2.1), ((p.0, p.1, p.2.2), (omega (arith, n, c.requires.few_constants), (omega (arith, n, c.requires.few_instrs), omega (arith, n, c.requires.low)))))))
+    (omega (arith, n), ((p.0, None, tt, p.3.0), ((p.0, p.1, p.2, p.3.1), ((p.0, p.1, p.2, p.3.2), (omega (arith, n, c.requires.few_constants), (omega (arith, n, c.requires.few_instrs), omega (arith, n, c.requires.low)))))))
 
 pub emit-emit_loop-requires : goal.emit-emit_loop-requires
 emit-emit_loop-requires t c =
@@ -56,7 +56,7 @@ emit-emit_loop-requires t c =
     let e = loop_node c.args.node.now c.in-Loop.values c.in-Loop.body xs b c.in-Loop.is c.deref-in-Loop.ensures.value c.deref-in-Loop-2.ensures in
     let n = ap nodes e in
     let p = subst (λ x. IsPlaced c.args.at.depth c.args.at.base x) e c.requires.part in
-    (omega (arith, n), (p.2.0, (p.2.1, (omega (arith, n, c.requires.few_constants), (omega (arith, n, c.requires.few_instrs), omega (arith, n, c.requires.low))))))
+    (omega (arith, n), ((p.0, p.3.0), ((p.0, Some (count (trees_of xs)), (omega arith, let_locals (trees_of xs) p.0 c.args.at.depth p.3.0), p.3.1), (omega (arith, n, c.requires.few_constants), (omega (arith, n, c.requires.few_instrs), omega (arith, n, c.requires.low))))))
 
 pub emit-emit_recur-requires : goal.emit-emit_recur-requires
 emit-emit_recur-requires t c =
@@ -65,47 +65,47 @@ emit-emit_recur-requires t c =
     let e = recur_node c.args.node.now c.in-Recur.values xs c.in-Recur.is c.deref-in-Recur.ensures.value in
     let n = ap nodes e in
     let p = subst (λ x. IsPlaced at.depth at.base x) e c.requires.part in
-    let w = subst (λ l. IsWithin at.base l at.depth) p.2.0 p.1 in
-    (omega (arith, n), (p.2.1, (w, (omega (arith, n, c.requires.few_constants), (omega (arith, n, c.requires.few_instrs), omega (arith, n, c.requires.low))))))
+    let w = subst (λ l. IsWithin at.base l at.depth) p.3.0 p.2 in
+    (omega (arith, n), ((p.0, p.3.1), (w, (omega (arith, n, c.requires.few_constants), (omega (arith, n, c.requires.few_instrs), omega (arith, n, c.requires.low))))))
 
 pub emit-emit_all-requires : goal.emit-emit_all-requires
 emit-emit_all-requires t c =
     let e = core_node c.args.node.now c.in-Core.op c.in-Core.args c.deref-in-Core.result.now c.in-Core.is c.deref-in-Core.ensures.value in
     let n = ap nodes e in
     let p = subst (λ x. IsPlaced c.args.at.depth c.args.at.base x) e c.requires.part in
-    (omega (arith, n), (p.2.1, (omega (arith, n, c.requires.few_constants), (omega (arith, n, c.requires.few_instrs), omega (arith, n, c.requires.low)))))
+    (omega (arith, n), ((p.0, p.3.1), (omega (arith, n, c.requires.few_constants), (omega (arith, n, c.requires.few_instrs), omega (arith, n, c.requires.low)))))
 
 pub emit-overflow_cast-len : goal.emit-overflow_cast-len
 emit-overflow_cast-len t c =
     let e = core_node c.args.node.now c.in-Core.op c.in-Core.args c.deref-in-Core.result.now c.in-Core.is c.deref-in-Core.ensures.value in
     let p = subst (λ x. IsPlaced c.args.at.depth c.args.at.base x) e c.requires.part in
-    omega (arith, p.2.0.1, count-trees_of c.deref-in-Core.result.now, ap length c.deref-in-Core.ensures.value)
+    omega (arith, p.3.0.1, count-trees_of c.deref-in-Core.result.now, ap length c.deref-in-Core.ensures.value)
 
 pub emit-emit_all-requires-in-Vector : goal.emit-emit_all-requires-in-Vector
 emit-emit_all-requires-in-Vector t c =
     let e = vector_node c.args.node.now c.in-Vector.items c.deref-in-Vector.result.now c.in-Vector.is c.deref-in-Vector.ensures.value in
     let n = ap nodes e in
     let p = subst (λ x. IsPlaced c.args.at.depth c.args.at.base x) e c.requires.part in
-    (omega (arith, n), (p.2.1, (omega (arith, n, c.requires.few_constants), (omega (arith, n, c.requires.few_instrs), omega (arith, n, c.requires.low)))))
+    (omega (arith, n), ((p.0, p.3.1), (omega (arith, n, c.requires.few_constants), (omega (arith, n, c.requires.few_instrs), omega (arith, n, c.requires.low)))))
 
 pub emit-overflow_cast-len-in-Vector : goal.emit-overflow_cast-len-in-Vector
 emit-overflow_cast-len-in-Vector t c =
     let e = vector_node c.args.node.now c.in-Vector.items c.deref-in-Vector.result.now c.in-Vector.is c.deref-in-Vector.ensures.value in
     let p = subst (λ x. IsPlaced c.args.at.depth c.args.at.base x) e c.requires.part in
-    omega (arith, p.2.0, count-trees_of c.deref-in-Vector.result.now, ap length c.deref-in-Vector.ensures.value)
+    omega (arith, p.3.0, count-trees_of c.deref-in-Vector.result.now, ap length c.deref-in-Vector.ensures.value)
 
 pub emit-emit_all-requires-in-Println : goal.emit-emit_all-requires-in-Println
 emit-emit_all-requires-in-Println t c =
     let e = println_node c.args.node.now c.in-Println.args c.deref-in-Println.result.now c.in-Println.is c.deref-in-Println.ensures.value in
     let n = ap nodes e in
     let p = subst (λ x. IsPlaced c.args.at.depth c.args.at.base x) e c.requires.part in
-    (omega (arith, n), (p.2.1, (omega (arith, n, c.requires.few_constants), (omega (arith, n, c.requires.few_instrs), omega (arith, n, c.requires.low)))))
+    (omega (arith, n), ((p.0, p.3.2), (omega (arith, n, c.requires.few_constants), (omega (arith, n, c.requires.few_instrs), omega (arith, n, c.requires.low)))))
 
 pub emit-overflow_cast-len-in-Println : goal.emit-overflow_cast-len-in-Println
 emit-overflow_cast-len-in-Println t c =
     let e = println_node c.args.node.now c.in-Println.args c.deref-in-Println.result.now c.in-Println.is c.deref-in-Println.ensures.value in
     let p = subst (λ x. IsPlaced c.args.at.depth c.args.at.base x) e c.requires.part in
-    omega (arith, p.2.0, count-trees_of c.deref-in-Println.result.now, ap length c.deref-in-Println.ensures.value)
+    omega (arith, p.3.1, count-trees_of c.deref-in-Println.result.now, ap length c.deref-in-Println.ensures.value)
 
 pub emit-returns-in-Const : goal.emit-returns-in-Const
 emit-returns-in-Const t c =
@@ -219,10 +219,10 @@ pub emit_all-emit-requires : goal.emit_all-emit-requires
 emit_all-emit-requires t c =
     let i = c.loop-arg.arg-index in
     let e = left_is c.args.args.now i c.arg-item.result c.loop-arg-test.true c.arg-item.is in
-    let p = subst (λ x. IsPartAll c.args.at.depth x) e c.loop-arg.invariant.part in
+    let p = subst (λ x. IsPlacedAll c.args.at.depth x) e c.loop-arg.invariant.part in
     let k = ap nodes_in e in
     let w = nodes_left c.args.args.now i in
-    (omega (arith, k, w), ((None, tt, p.0), (omega (arith, k, c.loop-arg.invariant.few_constants), (omega (arith, k, c.loop-arg.invariant.few_instrs), omega (arith, k, c.loop-arg.invariant.low)))))
+    (omega (arith, k, w), ((p.0, None, tt, p.1.0), (omega (arith, k, c.loop-arg.invariant.few_constants), (omega (arith, k, c.loop-arg.invariant.few_instrs), omega (arith, k, c.loop-arg.invariant.low)))))
 
 pub emit_all-loop-arg-preserved : goal.emit_all-loop-arg-preserved
 emit_all-loop-arg-preserved t c =
@@ -234,7 +234,7 @@ emit_all-loop-arg-preserved t c =
     let next = around at.depth (h + 1) at.base at.start in
     let rest = trees_of (drop (i + 1) c.args.args.now) in
     let e = left_is c.args.args.now i n c.loop-arg-test.true c.arg-item.is in
-    let p = subst (λ x. IsPartAll at.depth x) e c.loop-arg.invariant.part in
+    let p = subst (λ x. IsPlacedAll at.depth x) e c.loop-arg.invariant.part in
     let k = ap nodes_in e in
     let l = ap (λ (x : Emission). length x.constants) c.in_ok-emit.ensures in
     let o = ap (λ (x : Emission). length x.instrs) c.in_ok-emit.ensures in
@@ -246,7 +246,7 @@ emit_all-loop-arg-preserved t c =
           ∙ sym (emits_all_more (tree_of n) rest at.depth h at.base at.start (emission c.loop-arg.to))
           ∙ ap (λ x. emits_all x here (emission c.loop-arg.to)) (sym e)
           ∙ c.loop-arg.invariant.made;
-      part = p.1;
+      part = (p.0, p.1.1);
       few_constants = omega (arith, k, l, m, c.loop-arg.invariant.few_constants);
       few_instrs = omega (arith, k, o, q, c.loop-arg.invariant.few_instrs);
       low = omega (arith, k, z, c.loop-arg.invariant.low);
@@ -269,7 +269,7 @@ emit_do-emit-requires t c =
     let p = subst (λ x. IsPlacedLeft at.depth at.base x) e c.loop-item.invariant.part in
     let k = ap nodes_in e in
     let w = nodes_left c.args.items.now i in
-    (omega (arith, k, w), (left_first at.depth at.base p.0 (tree_of n) (trees_of (drop (i + 1) c.args.items.now)) p.1 p.2, (omega (arith, k, c.loop-item.invariant.few_constants), (omega (arith, k, c.loop-item.invariant.few_instrs), omega (arith, k, c.loop-item.invariant.low)))))
+    (omega (arith, k, w), (left_first p.0 at.depth at.base p.1 (tree_of n) (trees_of (drop (i + 1) c.args.items.now)) p.2 p.3, (omega (arith, k, c.loop-item.invariant.few_constants), (omega (arith, k, c.loop-item.invariant.few_instrs), omega (arith, k, c.loop-item.invariant.low)))))
 
 pub emit_do-loop-item-preserved : goal.emit_do-loop-item-preserved
 emit_do-loop-item-preserved t c =
@@ -298,7 +298,7 @@ emit_do-loop-item-preserved t c =
           ∙ sym (emits_do_more (tree_of n) rest c.args.span at (emission c.loop-item.to))
           ∙ ap (λ x. emits_do x c.args.span at (emission c.loop-item.to)) (sym e)
           ∙ c.loop-item.invariant.made;
-      part = (p.0, p.1, left_rest at.depth p.0 (tree_of n) rest p.2);
+      part = (p.0, p.1, p.2, left_rest p.0 at.depth p.1 (tree_of n) rest p.3);
       few_constants = omega (arith, k, l, m, q, r, c.loop-item.invariant.few_constants);
       few_instrs = omega (arith, k, o, u, v, w, c.loop-item.invariant.few_instrs);
       low = omega (arith, k, c.loop-item.invariant.low);
@@ -316,22 +316,22 @@ pub emit_let-emit-requires : goal.emit_let-emit-requires
 emit_let-emit-requires t c =
     let i = c.loop-value.value-index in
     let e = left_is c.args.values.now i c.value-item.result c.loop-value-test.true c.value-item.is in
-    let p = subst (λ x. IsPartLet c.loop-value.depth x) e c.loop-value.invariant.part in
+    let p = subst (λ x. IsPlacedLet c.loop-value.depth x) e c.loop-value.invariant.part in
     let k = ap nodes_in e in
     let w = nodes_left c.args.values.now i in
-    (omega (arith, k, w), ((None, tt, p.0), (omega (arith, k, c.loop-value.invariant.few_constants), (omega (arith, k, c.loop-value.invariant.few_instrs), omega (arith, k, c.loop-value.invariant.low)))))
+    (omega (arith, k, w), ((p.0, None, tt, p.1.0), (omega (arith, k, c.loop-value.invariant.few_constants), (omega (arith, k, c.loop-value.invariant.few_instrs), omega (arith, k, c.loop-value.invariant.low)))))
 
 pub emit_let-store-requires : goal.emit_let-store-requires
 emit_let-store-requires t c =
     let e = left_is c.args.values.now c.loop-value.value-index c.value-item.result c.loop-value-test.true c.value-item.is in
-    let p = subst (λ x. IsPartLet c.loop-value.depth x) e c.loop-value.invariant.part in
-    omega (arith, let_locals (trees_of (drop (c.loop-value.value-index + 1) c.args.values.now)) (c.loop-value.depth + 1) p.1)
+    let p = subst (λ x. IsPlacedLet c.loop-value.depth x) e c.loop-value.invariant.part in
+    omega (arith, let_locals (trees_of (drop (c.loop-value.value-index + 1) c.args.values.now)) p.0 (c.loop-value.depth + 1) p.1.1)
 
 pub emit_let-overflow_add-depth : goal.emit_let-overflow_add-depth
 emit_let-overflow_add-depth t c =
     let e = left_is c.args.values.now c.loop-value.value-index c.value-item.result c.loop-value-test.true c.value-item.is in
-    let p = subst (λ x. IsPartLet c.loop-value.depth x) e c.loop-value.invariant.part in
-    omega (arith, let_locals (trees_of (drop (c.loop-value.value-index + 1) c.args.values.now)) (c.loop-value.depth + 1) p.1)
+    let p = subst (λ x. IsPlacedLet c.loop-value.depth x) e c.loop-value.invariant.part in
+    omega (arith, let_locals (trees_of (drop (c.loop-value.value-index + 1) c.args.values.now)) p.0 (c.loop-value.depth + 1) p.1.1)
 
 pub emit_let-loop-value-preserved : goal.emit_let-loop-value-preserved
 emit_let-loop-value-preserved t c =
@@ -344,7 +344,7 @@ emit_let-loop-value-preserved t c =
     let next = around (d + 1) at.height at.base at.start in
     let rest = trees_of (drop (i + 1) xs) in
     let e = left_is xs i n c.loop-value-test.true c.value-item.is in
-    let p = subst (λ x. IsPartLet d x) e c.loop-value.invariant.part in
+    let p = subst (λ x. IsPlacedLet d x) e c.loop-value.invariant.part in
     let k = ap nodes_in e in
     let o = ap count e in
     let l = ap (λ (x : Emission). length x.constants) c.in_ok-emit.ensures in
@@ -360,7 +360,7 @@ emit_let-loop-value-preserved t c =
           ∙ sym (emits_let_more (tree_of n) rest c.args.span d at.height at.base at.start (emission c.loop-value.to))
           ∙ ap (λ x. emits_let x c.args.span here (emission c.loop-value.to)) (sym e)
           ∙ c.loop-value.invariant.made;
-      part = p.1;
+      part = (p.0, p.1.1);
       few_constants = omega (arith, k, l, m, q, c.loop-value.invariant.few_constants);
       few_instrs = omega (arith, k, u, v, w, y, c.loop-value.invariant.few_instrs);
       low = omega (arith, k, c.loop-value.invariant.low);
@@ -511,12 +511,11 @@ emit_loop-emit-requires t c =
     let at = c.args.at in
     let ts = trees_of c.args.values.now in
     let b = tree_of c.args.body.now in
-    let q : IsPlaced (at.depth + count ts) at.depth b = (Some (count ts), (omega arith, let_locals ts at.depth c.requires.part), c.requires.body) in
     let l = ap (λ (x : Emission). length x.instrs) c.in_ok-depth.ensures.code in
     let o = emits_let_instrs ts c.args.span at (emission c.args.to.now) in
     let k = ap (λ (x : Emission). length x.constants) c.in_ok-depth.ensures.code in
     let m = emits_let_constants ts c.args.span at (emission c.args.to.now) in
-    (omega arith, (subst (λ d. IsPlaced d at.depth b) (sym c.in_ok-depth.ensures.locals) q, (omega (arith, k, m, c.requires.few_constants), (omega (arith, l, o, c.requires.few_instrs), omega (arith, c.requires.low)))))
+    (omega arith, (subst (λ d. IsPlaced d at.depth b) (sym c.in_ok-depth.ensures.locals) c.requires.body, (omega (arith, k, m, c.requires.few_constants), (omega (arith, l, o, c.requires.few_instrs), omega (arith, c.requires.low)))))
 
 pub emit_loop-returns : goal.emit_loop-returns
 emit_loop-returns t c =
@@ -554,3 +553,126 @@ emit_recur-returns t c =
     ∙ ap (λ x. with_instr j span (with_stores at.base (count ts) span (with_room (at.height + 1) x))) c.in_ok-emit_all.ensures
     ∙ recur_made ts span at (emission c.args.to.now))
     c.put.ensures
+
+pub emit-emit_dosync-requires : goal.emit-emit_dosync-requires
+emit-emit_dosync-requires t c =
+    let e = dosync_node c.args.node.now c.in-Dosync.body c.deref-in-Dosync.result.now c.in-Dosync.is c.deref-in-Dosync.ensures in
+    let n = ap nodes e in
+    let p = subst (λ x. IsPlaced c.args.at.depth c.args.at.base x) e c.requires.part in
+    (omega (arith, n), ((true, None, tt, p.3), (omega (arith, n, c.requires.few_constants), (omega (arith, n, c.requires.few_instrs), omega (arith, n, c.requires.low)))))
+
+pub emit-emit-requires-in-Deref : goal.emit-emit-requires-in-Deref
+emit-emit-requires-in-Deref t c =
+    let e = deref_node c.args.node.now c.in-Deref.cell c.deref-in-Deref.result.now c.in-Deref.is c.deref-in-Deref.ensures in
+    let n = ap nodes e in
+    let p = subst (λ x. IsPlaced c.args.at.depth c.args.at.base x) e c.requires.part in
+    (omega (arith, n), ((p.0, None, tt, p.3), (omega (arith, n, c.requires.few_constants), (omega (arith, n, c.requires.few_instrs), omega (arith, n, c.requires.low)))))
+
+pub emit-emit_alter-requires : goal.emit-emit_alter-requires
+emit-emit_alter-requires t c =
+    let x = c.deref-in-Alter.result.now in
+    let xs = c.deref-in-Alter-2.result.now in
+    let e = alter_node c.args.node.now c.in-Alter.cell c.in-Alter.callee c.in-Alter.args x xs c.in-Alter.is c.deref-in-Alter.ensures c.deref-in-Alter-2.ensures.value in
+    let n = ap nodes e in
+    let p = subst (λ l. IsPlaced c.args.at.depth c.args.at.base l) e c.requires.part in
+    let f : suc (count (trees_of xs)) ≡ count (trees_of xs) + 1 = omega arith in
+    (omega (arith, n), ((p.0, None, tt, p.3.1), (subst (λ m. SoundCallee c.in-Alter.callee m) f p.3.2, ((p.0, p.3.3), (omega (arith, n, c.requires.few_constants), (omega (arith, n, c.requires.few_instrs), omega (arith, n, c.requires.low)))))))
+
+pub emit-returns-in-Dosync : goal.emit-returns-in-Dosync
+emit-returns-in-Dosync t c =
+    let x = c.deref-in-Dosync.result.now in
+    let e = dosync_node c.args.node.now c.in-Dosync.body x c.in-Dosync.is c.deref-in-Dosync.ensures in
+    let m = mark_of c.args.node.now.span c.args.node.now.wanted in
+    subst (λ l. OnOk c.emit_dosync.result (emission c.emit_dosync.new.to ≡ l))
+    (emits_dosync_is (tree_of x) m c.args.at (emission c.args.to.now) ∙ ap (λ x. emits x c.args.at (emission c.args.to.now)) (sym e))
+    c.emit_dosync.ensures
+
+pub emit-returns-in_ok-emit-in-Deref : goal.emit-returns-in_ok-emit-in-Deref
+emit-returns-in_ok-emit-in-Deref t c =
+    let x = c.deref-in-Deref.result.now in
+    let e = deref_node c.args.node.now c.in-Deref.cell x c.in-Deref.is c.deref-in-Deref.ensures in
+    let m = mark_of c.args.node.now.span c.args.node.now.wanted in
+    subst (λ l. OnOk c.put-in-Deref.result (emission c.put-in-Deref.new.self ≡ l))
+    (ap (λ x. with_instr instr.Deref m.span x) c.in_ok-emit-in-Deref.ensures
+    ∙ emits_deref (tree_of x) m c.args.at (emission c.args.to.now) ∙ ap (λ x. emits x c.args.at (emission c.args.to.now)) (sym e))
+    c.put-in-Deref.ensures
+
+pub emit-returns-in-Alter : goal.emit-returns-in-Alter
+emit-returns-in-Alter t c =
+    let x = c.deref-in-Alter.result.now in
+    let xs = c.deref-in-Alter-2.result.now in
+    let e = alter_node c.args.node.now c.in-Alter.cell c.in-Alter.callee c.in-Alter.args x xs c.in-Alter.is c.deref-in-Alter.ensures c.deref-in-Alter-2.ensures.value in
+    let m = mark_of c.args.node.now.span c.args.node.now.wanted in
+    subst (λ l. OnOk c.emit_alter.result (emission c.emit_alter.new.to ≡ l))
+    (emits_alter_is (tree_of x) c.in-Alter.callee (trees_of xs) m c.args.at (emission c.args.to.now) ∙ ap (λ l. emits l c.args.at (emission c.args.to.now)) (sym e))
+    c.emit_alter.ensures
+
+pub emit_alter-overflow_cast-count : goal.emit_alter-overflow_cast-count
+emit_alter-overflow_cast-count t c =
+    let xs = c.args.args.now in
+    omega (arith, callee_few c.args.callee (count (trees_of xs) + 1) c.requires.callee, count-trees_of xs)
+
+pub emit_alter-emit_all-requires : goal.emit_alter-emit_all-requires
+emit_alter-emit_all-requires t c =
+    let x = tree_of c.args.cell.now in
+    let l = ap (λ (e : Emission). length e.instrs) c.in_ok-emit.ensures in
+    let k = ap (λ (e : Emission). length e.constants) c.in_ok-emit.ensures in
+    let o = emits_instrs x c.args.at (emission c.args.to.now) in
+    let m = emits_constants x c.args.at (emission c.args.to.now) in
+    (omega arith, (c.requires.part, (omega (arith, k, m, c.requires.few_constants), (omega (arith, l, o, c.requires.few_instrs), omega (arith, nodes_positive x, c.requires.low)))))
+
+pub emit_alter-overflow_add-at : goal.emit_alter-overflow_add-at
+emit_alter-overflow_add-at t c =
+    let xs = c.args.args.now in
+    omega (arith, c.from.ensures, callee_few c.args.callee (count (trees_of xs) + 1) c.requires.callee, count-trees_of xs, c.requires.low)
+
+pub emit_alter-overflow_add-at-2 : goal.emit_alter-overflow_add-at-2
+emit_alter-overflow_add-at-2 t c =
+    let xs = c.args.args.now in
+    omega (arith, c.from.ensures, callee_few c.args.callee (count (trees_of xs) + 1) c.requires.callee, count-trees_of xs, c.requires.low)
+
+pub emit_alter-overflow_add-count : goal.emit_alter-overflow_add-count
+emit_alter-overflow_add-count t c =
+    let xs = c.args.args.now in
+    omega (arith, callee_few c.args.callee (count (trees_of xs) + 1) c.requires.callee, count-trees_of xs)
+
+pub emit_alter-call-requires : goal.emit_alter-call-requires
+emit_alter-call-requires t c =
+    let e : count (trees_of c.args.args.now) + 1 ≡ length c.args.args.now + 1 = omega (arith, count-trees_of c.args.args.now) in
+    subst (λ n. SoundCallee c.args.callee n) e c.requires.callee
+
+pub emit_alter-returns : goal.emit_alter-returns
+emit_alter-returns t c =
+    let at = c.args.at in
+    let span = c.args.span in
+    let callee = c.args.callee in
+    let xs = c.args.args.now in
+    let ts = trees_of xs in
+    let x = tree_of c.args.cell.now in
+    let next = around at.depth (at.height + 1) at.base at.start in
+    let n : length xs ≡ count ts = sym (count-trees_of xs) in
+    let m : length xs + 1 ≡ suc (count ts) = omega (arith, n) in
+    let closed = λ (f : Emission). with_instr instr.AlterClose span (with_call callee (suc (count ts)) span f) in
+    let opened = λ (f : Emission). closed (with_instr (instr.AlterOpen (count ts)) span f) in
+    let risen = λ (f : Emission). opened (with_room (at.height + count ts + 2) f) in
+    subst (λ l. OnOk c.put-2.result (emission c.put-2.new.self ≡ l))
+    (ap (λ f. with_instr instr.AlterClose span f) c.in_ok-call.ensures
+    ∙ ap (λ k. with_instr instr.AlterClose span (with_call callee k span (emission c.put.new.self))) m
+    ∙ ap (λ f. closed f) c.in_ok-put.ensures
+    ∙ ap (λ k. closed (with_instr (instr.AlterOpen k) span (emission c.rise.new.self))) n
+    ∙ ap (λ f. opened f) c.rise.ensures
+    ∙ ap (λ k. opened (with_room (at.height + k + 2) (emission c.emit_all.new.to))) (c.from.ensures ∙ n)
+    ∙ ap (λ f. risen f) c.in_ok-emit_all.ensures
+    ∙ ap (λ f. risen (emits_all ts next f)) c.in_ok-emit.ensures
+    ∙ alter_made x callee ts span at (emission c.args.to.now))
+    c.put-2.ensures
+
+pub emit_dosync-returns : goal.emit_dosync-returns
+emit_dosync-returns t c =
+    let b = tree_of c.args.body.now in
+    let span = c.args.span in
+    subst (λ l. OnOk c.put-2.result (emission c.put-2.new.self ≡ l))
+    (ap (λ f. with_instr instr.TxEnd span f) c.in_ok-emit.ensures
+    ∙ ap (λ f. with_instr instr.TxEnd span (emits b c.args.at f)) c.in_ok-put.ensures
+    ∙ dosync_made b span c.args.at (emission c.args.to.now))
+    c.put-2.ensures

@@ -2,14 +2,14 @@ use Rattle.std.proofs.Common.{◌≡◌, ◌+◌, ◌*◌, ◌≤◌, length, dr
 use Rattle.txs_tree.specs.Sound.{nodes, nodes_in}
 use Rattle.txs_tree.specs.Tree.{count}
 use Rattle.txs_tree.specs.View.{tree_of, trees_of}
-use Rattle.txs_gen.specs.Emission.{emission, emits_all, emits_do, emits_let, IsPartAll, IsPartLet}
+use Rattle.txs_gen.specs.Emission.{emission, emits_all, emits_do, emits_let, IsPlacedAll, IsPlacedLet}
 use Rattle.txs_gen.proofs.Emissions.{IsPlacedLeft, around}
 use Rattle.txs_gen.proofs.emit.+emit.Given as goal
 
 abbrev pub invariant-emit_all-loop-arg : goal.invariant-emit_all-loop-arg
 invariant-emit_all-loop-arg l = record {
   made : emits_all (trees_of (drop l.arg-index l.args)) (around l.at.depth l.height l.at.base l.at.start) (emission l.to) ≡ emits_all (trees_of l.args) l.at (emission l.fn.to);
-  part : IsPartAll l.at.depth (trees_of (drop l.arg-index l.args));
+  part : IsPlacedAll l.at.depth (trees_of (drop l.arg-index l.args));
   few_constants : length l.to.constants.items + nodes_in (trees_of (drop l.arg-index l.args)) ≤ 200000;
   few_instrs : length l.to.instrs.items + 3 * nodes_in (trees_of (drop l.arg-index l.args)) ≤ 600000;
   low : l.height + nodes_in (trees_of (drop l.arg-index l.args)) ≤ 200000;
@@ -28,7 +28,7 @@ invariant-emit_do-loop-item l = record {
 abbrev pub invariant-emit_let-loop-value : goal.invariant-emit_let-loop-value
 invariant-emit_let-loop-value l = record {
   made : emits_let (trees_of (drop l.value-index l.values)) l.span (around l.depth l.at.height l.at.base l.at.start) (emission l.to) ≡ emits_let (trees_of l.values) l.span l.at (emission l.fn.to);
-  part : IsPartLet l.depth (trees_of (drop l.value-index l.values));
+  part : IsPlacedLet l.depth (trees_of (drop l.value-index l.values));
   few_constants : length l.to.constants.items + nodes_in (trees_of (drop l.value-index l.values)) ≤ 200000;
   few_instrs : length l.to.instrs.items + 3 * nodes_in (trees_of (drop l.value-index l.values)) ≤ 600000;
   low : l.at.height + nodes_in (trees_of (drop l.value-index l.values)) ≤ 200000;
@@ -55,3 +55,9 @@ decreases-emit_loop l = 3 * (nodes_in (trees_of l.values.now) + nodes (tree_of l
 
 abbrev pub decreases-emit_recur : goal.decreases-emit_recur
 decreases-emit_recur l = 3 * nodes_in (trees_of l.values.now) + 2
+
+abbrev pub decreases-emit_dosync : goal.decreases-emit_dosync
+decreases-emit_dosync l = 3 * nodes (tree_of l.body.now) + 1
+
+abbrev pub decreases-emit_alter : goal.decreases-emit_alter
+decreases-emit_alter l = 3 * (nodes (tree_of l.cell.now) + nodes_in (trees_of l.args.now)) + 2

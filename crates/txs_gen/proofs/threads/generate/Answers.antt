@@ -7,7 +7,6 @@ use Rattle.txs_gen.specs.Emission.{Emission}
 use Rattle.txs_gen.specs.Generated.{constants_of, constants_of_threads, IsCodeOf}
 use Rattle.txs_gen.proofs.Bodies.{bodies_from, body_at, rooms_of, code_of_threads, code_is, code_right, code_well_typed, made_body, finished_body, finished_as_many, finished_constants, finished_room, threads_left, no_threads_left}
 use Rattle.txs_gen.proofs.Emissions.{constants_nodes}
-use Rattle.txs_gen.proofs.Parts.{ArePart, are_part}
 use Rattle.txs_gen.proofs.threads.generate.Goals as goal
 
 pub loop-thread-init : goal.loop-thread-init
@@ -19,7 +18,7 @@ loop-thread-init c =
       bodies = ap (λ l. l ++ bodies_from (threads_of ts) (length c.new-constants.result.items)) c.new-bodies.ensures.items ∙ ap (λ l. bodies_from (threads_of ts) (length l)) n;
       rooms = ap (λ l. l ++ rooms_of (threads_of ts)) c.new-rooms.ensures.items;
       constants = ap (λ l. l ++ constants_of_threads (threads_of ts)) n;
-      part = are_part ts (subst (λ l. SoundThreads (threads_of l)) (sym e) c.threads-threads.ensures.sound.threads);
+      part = subst (λ l. SoundThreads (threads_of l)) (sym e) c.threads-threads.ensures.sound.threads;
       few = omega (arith, ap length n, subst (λ l. nodes_of_all (threads_of l) ≤ 200000) (sym e) c.threads-threads.ensures.sound.few_nodes);
     }
 
@@ -28,8 +27,8 @@ new-requires c =
     let t = c.thread-item.result in
     let cs = c.loop-thread.constants.items in
     let e = threads_left c.threads-threads.result.now c.loop-thread.thread-index t c.loop-thread-test.true c.thread-item.is in
-    let p = subst (λ l. ArePart l) e c.loop-thread.invariant.part in
-    ap (λ (x : Emission). length x.spans) c.in_ok-made.ensures ∙ finished_as_many (thread_of t) cs p.0 ∙ sym (ap (λ (x : Emission). length x.instrs) c.in_ok-made.ensures)
+    let p = subst (λ l. SoundThreads l) e c.loop-thread.invariant.part in
+    ap (λ (x : Emission). length x.spans) c.in_ok-made.ensures ∙ finished_as_many (thread_of t) cs p.0.0 ∙ sym (ap (λ (x : Emission). length x.instrs) c.in_ok-made.ensures)
 
 pub loop-thread-preserved : goal.loop-thread-preserved
 loop-thread-preserved c =
@@ -42,7 +41,7 @@ loop-thread-preserved c =
     let rs = c.loop-thread.rooms.items in
     let k = c.in_ok-made.made.constants.items in
     let e = threads_left ts i t c.loop-thread-test.true c.thread-item.is in
-    let p = subst (λ l. ArePart l) e c.loop-thread.invariant.part in
+    let p = subst (λ l. SoundThreads l) e c.loop-thread.invariant.part in
     let made = c.in_ok-made.ensures in
     let body = c.new.ensures ∙ ap made_body made ∙ finished_body (thread_of t) cs in
     let room = ap (λ (x : Emission). x.room) made ∙ finished_room (thread_of t) cs in
@@ -72,7 +71,7 @@ pub seal-requires : goal.seal-requires
 seal-requires c =
     let ts = c.threads-threads.result.now in
     let same = c.threads-threads.ensures.value in
-    let p = are_part ts (subst (λ l. SoundThreads (threads_of l)) (sym same) c.threads-threads.ensures.sound.threads) in
+    let p = subst (λ l. SoundThreads (threads_of l)) (sym same) c.threads-threads.ensures.sound.threads in
     let e = no_threads_left ts c.loop-thread.thread-index c.loop-thread-test.false in
     let bs = c.loop-thread.bodies.items in
     let rs = c.loop-thread.rooms.items in
@@ -80,18 +79,20 @@ seal-requires c =
     let bodies = sym (append-nil bs) ∙ ap (λ l. bs ++ bodies_from l (length cs)) (sym e) ∙ c.loop-thread.invariant.bodies in
     let rooms = sym (append-nil rs) ∙ ap (λ l. rs ++ rooms_of l) (sym e) ∙ c.loop-thread.invariant.rooms in
     let constants = sym (append-nil cs) ∙ ap (λ l. cs ++ constants_of_threads l) (sym e) ∙ c.loop-thread.invariant.constants in
-    let code = c.new-2.ensures ∙ code_is (threads_of ts) cs bs constants bodies in
-    subst (λ x. WellTyped x rs) (sym code) (subst (λ r. WellTyped (code_of_threads (threads_of ts)) r) (sym rooms) (code_well_typed ts p))
+    let zs = c.args.program.now.cells in
+    let code = c.new-2.ensures ∙ code_is c.in_ok-cells.cells.items zs (threads_of ts) cs bs (c.in_ok-cells.ensures ∙ c.cells.ensures) constants bodies in
+    subst (λ x. WellTyped x rs) (sym code) (subst (λ r. WellTyped (code_of_threads zs (threads_of ts)) r) (sym rooms) (code_well_typed zs ts p))
 
 pub returns : goal.returns
 returns c =
     let ts = c.threads-threads.result.now in
     let same = c.threads-threads.ensures.value in
-    let p = are_part ts (subst (λ l. SoundThreads (threads_of l)) (sym same) c.threads-threads.ensures.sound.threads) in
+    let p = subst (λ l. SoundThreads (threads_of l)) (sym same) c.threads-threads.ensures.sound.threads in
     let e = no_threads_left ts c.loop-thread.thread-index c.loop-thread-test.false in
     let bs = c.loop-thread.bodies.items in
     let cs = c.loop-thread.constants.items in
     let bodies = sym (append-nil bs) ∙ ap (λ l. bs ++ bodies_from l (length cs)) (sym e) ∙ c.loop-thread.invariant.bodies in
     let constants = sym (append-nil cs) ∙ ap (λ l. cs ++ constants_of_threads l) (sym e) ∙ c.loop-thread.invariant.constants in
-    let code = c.seal.ensures ∙ c.new-2.ensures ∙ code_is (threads_of ts) cs bs constants bodies in
-    subst (λ l. IsCodeOf c.seal.result (program_of l)) same (subst (λ x. IsCodeOf x (program_of ts)) (sym code) (code_right ts p))
+    let zs = c.args.program.now.cells in
+    let code = c.seal.ensures ∙ c.new-2.ensures ∙ code_is c.in_ok-cells.cells.items zs (threads_of ts) cs bs (c.in_ok-cells.ensures ∙ c.cells.ensures) constants bodies in
+    subst (λ l. IsCodeOf c.seal.result (program_of (record { cells = zs; threads = l }))) same (subst (λ x. IsCodeOf x (program_of (record { cells = zs; threads = ts }))) (sym code) (code_right zs ts p))

@@ -10,10 +10,10 @@ use Rattle.txs_tree.specs.Thread.{on_events}
 use Rattle.txs_tree.specs.Tree.{count}
 use Rattle.txs_tree.specs.View.{tree_of, trees_of, mark_of}
 use Rattle.txs_tree.proofs.Counting.{item_smaller, nodes-some, nodes-last}
-use Rattle.txs_tree.proofs.Evaluation.{collects-start, do_then, rebound, stops_steps, stops_all, local_done, steps_do, steps_let, steps_loop, if_stop, if_goes, recur_stop, core_stop, vector_stop, println_stop, recur_done, core_done, vector_done, println_done, all_more, all_stop, do_more, do_stop, do_start, locals_more, locals_stop, let_stop, let_done, loop_stop, loop_done, turn_value, turn_stop, turn_recur, take_kept}
+use Rattle.txs_tree.proofs.Evaluation.{collects-start, do_then, rebound, stops_steps, stops_all, local_done, steps_do, steps_let, steps_loop, if_stop, if_goes, recur_stop, core_stop, vector_stop, println_stop, deref_stop, deref_reads, recur_done, core_done, vector_done, println_done, all_more, all_stop, do_more, do_stop, do_start, locals_more, locals_stop, let_stop, let_done, loop_stop, loop_done, turn_value, turn_stop, turn_recur, take_kept}
 use Rattle.txs_tree.proofs.Recurs.{recurs_many, never_recurs}
 use Rattle.txs_tree.proofs.Soundness.{SoundAll-from, SoundLet-from, SoundDo-parts, count-from, count-trees_of}
-use Rattle.txs_tree.proofs.Trees.{local_node, if_node, do_node, let_node, loop_node, recur_node, core_node, vector_node, println_node}
+use Rattle.txs_tree.proofs.Trees.{local_node, if_node, do_node, let_node, loop_node, recur_node, core_node, vector_node, println_node, deref_node}
 use Rattle.txs_tree.proofs.evaluate.+evaluate.Goals as goal
 
 pub evaluate-unreachable-requires : goal.evaluate-unreachable-requires
@@ -518,3 +518,19 @@ evaluate_loop-returns-in_err-step-clause-value t c =
 pub run_turns-returns-in-Value-clause-kept : goal.run_turns-returns-in-Value-clause-kept
 run_turns-returns-in-Value-clause-kept t c =
     ap (λ l. take c.args.before l) c.in_ok-value.ensures.kept ∙ c.loop-turn.invariant.0
+
+pub evaluate_tail-returns-in_err-value-in-Deref-clause-value : goal.evaluate_tail-returns-in_err-value-in-Deref-clause-value
+evaluate_tail-returns-in_err-value-in-Deref-clause-value t c =
+    let n = c.args.node.now in
+    let is = deref_node n c.in-Deref.cell c.deref-in-Deref.result.now c.in-Deref.is c.deref-in-Deref.ensures in
+    let y = c.in_err-value-in-Deref.field-0.0 in
+    let out = c.evaluate-in-Deref.new.printed.items in
+    let whole = deref_stop c.args.turns (tree_of n) (mark_of n.span n.wanted) c.args.locals.now.items c.args.printed.now.items (tree_of c.deref-in-Deref.result.now) is y out c.in_err-value-in-Deref.ensures.value in
+    stops_steps c.from_residual-in_err-value-in-Deref.result y out (means c.args.turns (tree_of n) c.args.locals.now.items c.args.printed.now.items) (search rules) whole
+
+pub evaluate_tail-returns-in_ok-value-in-Deref-clause-value : goal.evaluate_tail-returns-in_ok-value-in-Deref-clause-value
+evaluate_tail-returns-in_ok-value-in-Deref-clause-value t c =
+    let n = c.args.node.now in
+    let is = deref_node n c.in-Deref.cell c.deref-in-Deref.result.now c.in-Deref.is c.deref-in-Deref.ensures in
+    deref_reads c.args.turns (tree_of n) (mark_of n.span n.wanted) c.args.locals.now.items c.args.printed.now.items (tree_of c.deref-in-Deref.result.now) is c.in_ok-value-in-Deref.value c.read.result
+    c.evaluate-in-Deref.new.printed.items c.deref-in-Deref-2.result.now c.in_ok-value-in-Deref.ensures.value c.deref-in-Deref-2.ensures.value c.read.ensures

@@ -1,5 +1,5 @@
 use Rattle.std.proofs.Common.{ap, length}
-use Rattle.txs_tree.proofs.Ends.{sound_body, told_done, told_fault, told_turns}
+use Rattle.txs_tree.proofs.Ends.{sound_body, told_done, told_fault, told_turns, told_waits}
 use Rattle.txs_tree.proofs.meaning.eval_thread.Goals as goal
 
 pub evaluate-requires : goal.evaluate-requires
@@ -18,5 +18,10 @@ returns-in-Err-Fault c =
 
 pub returns-in-Err-Turns : goal.returns-in-Err-Turns
 returns-in-Err-Turns c =
-    told_turns c.threads.result.now c.args.program.now c.args.thread c.index-threads-thread.result c.threads.ensures.value c.requires c.index-threads-thread.is c.args.turns c.short_of_turns.result
-    c.new-locals.result.items c.new-printed.result.items c.evaluate.new.printed.items c.new-locals.ensures.items c.new-printed.ensures.items c.in-Err-Turns.field-0 c.in-Err-Turns.field-0-is c.in-Err-Turns.ensures.value c.short_of_turns.ensures
+    told_turns c.threads.result.now c.args.program.now c.args.thread c.index-threads-thread.result c.threads.ensures.value c.requires c.index-threads-thread.is c.args.turns c.unended-in-Err-Turns.result
+    c.new-locals.result.items c.new-printed.result.items c.evaluate.new.printed.items c.new-locals.ensures.items c.new-printed.ensures.items c.in-Err-Turns.field-0 c.in-Err-Turns.field-0-is c.in-Err-Turns.ensures.value c.unended-in-Err-Turns.ensures
+
+pub returns-in-Err-Event : goal.returns-in-Err-Event
+returns-in-Err-Event c =
+    told_waits c.threads.result.now c.args.program.now c.args.thread c.index-threads-thread.result c.threads.ensures.value c.requires c.index-threads-thread.is c.args.turns c.unended.result
+    c.new-locals.result.items c.new-printed.result.items c.evaluate.new.printed.items c.new-locals.ensures.items c.new-printed.ensures.items c.in-Err-Event.field-0 c.in-Err-Event.field-0-is c.in-Err-Event.ensures.value c.unended.ensures

@@ -4,7 +4,7 @@ use Rattle.txs_tree.specs.Sound.{levels, levels_in}
 use Rattle.txs_tree.specs.View.{tree_of, trees_of}
 use Rattle.txs_tree.proofs.Counting.{levels-some, within-suc, within-max, within-not}
 use Rattle.txs_tree.proofs.Evaluation.{trees_from}
-use Rattle.txs_tree.proofs.Trees.{do_node, let_node, loop_node, recur_node, core_node, vector_node, println_node}
+use Rattle.txs_tree.proofs.Trees.{do_node, let_node, loop_node, recur_node, core_node, vector_node, println_node, alter_node}
 use Rattle.txs_tree.proofs.sound.+levels.Goals as goal
 
 pub is_within-returns-then-limit-eq0 : goal.is_within-returns-then-limit-eq0
@@ -75,3 +75,10 @@ are_within-loop-node-preserved t c =
     let ns = c.args.nodes.now in
     let from = ap levels_in (trees_from ns c.loop-node.node-index c.node-item.result c.loop-node-test.true c.node-item.is) in
     (λ le. c.loop-node.invariant.0 (omega (arith, from, le, c.if-not-is_within.ensures.0 refl)), λ le. omega (arith, from, c.loop-node.invariant.1 le))
+
+pub is_within-returns-then-is_within-2 : goal.is_within-returns-then-is_within-2
+is_within-returns-then-is_within-2 t c =
+    let b = c.deref-in-Alter.result.now in
+    let ns = c.deref-then-is_within-2.result.now in
+    within-max c.are_within-then-is_within-2.result (levels (tree_of c.args.node.now)) (levels (tree_of b)) (levels_in (trees_of ns)) c.args.limit
+    (ap levels (alter_node c.args.node.now c.in-Alter.cell c.in-Alter.field-1 c.in-Alter.args b ns c.in-Alter.is c.deref-in-Alter.ensures c.deref-then-is_within-2.ensures.value)) c.if-limit-eq0.false (c.if-is_within-2.ensures.0 refl) c.are_within-then-is_within-2.ensures

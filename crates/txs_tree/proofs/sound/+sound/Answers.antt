@@ -1,12 +1,12 @@
-use Rattle.std.proofs.Common.{rules, ◌≡◌, ◌<◌, ◌≤◌, ◌+◌, false, None, Some, IsTrue, length, ◌∷◌, [], ◌++◌, refl, sym, ap, ◌∙◌, subst, arith}
+use Rattle.std.proofs.Common.{rules, ◌≡◌, ◌<◌, ◌≤◌, ◌+◌, suc, false, true, None, Some, IsTrue, length, ◌∷◌, [], ◌++◌, refl, sym, ap, ◌∙◌, subst, arith}
 use Rattle.std.proofs.lemmas.Bool.{false≢true}
 use Rattle.std.proofs.lemmas.Bool.Decides.{nat_tests}
-use Rattle.txs_tree.specs.Sound.{TakesFew, SoundTree, SoundDo}
+use Rattle.txs_tree.specs.Sound.{TakesFew, SoundCallee, SoundTree, SoundDo}
 use Rattle.txs_tree.specs.Tree.{count}
 use Rattle.txs_tree.specs.View.{tree_of, trees_of}
 use Rattle.txs_tree.specs.declared.node.NodeKind.{the_lemmas}
 use Rattle.txs_tree.proofs.Soundness.{SoundLet-room, SoundDo-none, SoundDo-parts, SoundDo-whole, count-trees_of}
-use Rattle.txs_tree.proofs.Trees.{do_node, let_node, loop_node, recur_node, core_node, vector_node, println_node}
+use Rattle.txs_tree.proofs.Trees.{do_node, let_node, loop_node, recur_node, core_node, vector_node, println_node, alter_node}
 use Rattle.txs_tree.proofs.sound.+sound.Goals as goal
 
 pub are_sound_values-returns-then-nodes-locals : goal.are_sound_values-returns-then-nodes-locals
@@ -176,3 +176,27 @@ is_sound_node-returns-else-are_sound t c =
     let parts : ns ≡ before ++ last ∷ [] = c.in-Some.ensures.cases.0 in
     let sound : SoundTree i d c.args.tail (tree_of c.args.node.now) → SoundDo i d c.args.tail (trees_of (before ++ last ∷ [])) = λ s. subst (λ l. SoundDo i d c.args.tail (trees_of l)) parts (subst (λ e. SoundTree i d c.args.tail e) is s) in
     (λ p. absurd (false≢true (sym c.if-are_sound.false ∙ p)), λ s. c.are_sound.ensures.1 (SoundDo-parts i d c.args.tail before last (sound s)).0)
+
+pub is_sound_node-returns-then-not-may_alter : goal.is_sound_node-returns-then-not-may_alter
+is_sound_node-returns-then-not-may_alter t c =
+    let ns = c.in-Alter.args.items in
+    let is = alter_node c.args.node.now c.in-Alter.cell c.in-Alter.callee c.in-Alter.args c.in-Alter.cell.value ns c.in-Alter.is refl refl in
+    let many : c.len-in-Alter.result ≡ length ns = search rules in
+    let same : count (trees_of ns) ≡ c.len-in-Alter.result = count-trees_of ns ∙ sym many in
+    let sound : SoundTree c.args.inside c.args.locals c.args.tail (tree_of c.args.node.now) → (c.args.inside ≡ true) × SoundCallee c.in-Alter.callee (suc (count (trees_of ns))) = λ s. let q = subst (λ e. SoundTree c.args.inside c.args.locals c.args.tail e) is s in (q.0, q.2) in
+    (λ p. absurd (false≢true p), λ s. c.if-not-may_alter.ensures.1 (subst (λ k. (c.args.inside ≡ true) × SoundCallee c.in-Alter.callee (suc k)) same (sound s)))
+
+pub is_sound_node-returns-then-is_sound_node-2 : goal.is_sound_node-returns-then-is_sound_node-2
+is_sound_node-returns-then-is_sound_node-2 t c =
+    let b = c.deref-in-Alter.result.now in
+    let ns = c.deref-then-is_sound_node-2.result.now in
+    let i = c.args.inside in
+    let d = c.args.locals in
+    let r = c.are_sound-then-is_sound_node-2.result in
+    let is = alter_node c.args.node.now c.in-Alter.cell c.in-Alter.callee c.in-Alter.args b ns c.in-Alter.is c.deref-in-Alter.ensures c.deref-then-is_sound_node-2.ensures.value in
+    let many : c.len-in-Alter.result ≡ length c.in-Alter.args.items = search rules in
+    let same : c.len-in-Alter.result ≡ count (trees_of ns) = many ∙ sym (ap length c.deref-then-is_sound_node-2.ensures.value) ∙ sym (count-trees_of ns) in
+    let may : (i ≡ true) × SoundCallee c.in-Alter.callee (suc (count (trees_of ns))) = subst (λ k. (i ≡ true) × SoundCallee c.in-Alter.callee (suc k)) same (c.if-not-may_alter.ensures.0 refl) in
+    let cell = c.if-is_sound_node-2.ensures.0 refl in
+    subst (λ e. (IsTrue r → SoundTree i d c.args.tail e) × (SoundTree i d c.args.tail e → IsTrue r)) (sym is)
+    (λ p. (may.0, cell, may.1, c.are_sound-then-is_sound_node-2.ensures.0 p), λ s. c.are_sound-then-is_sound_node-2.ensures.1 s.3)

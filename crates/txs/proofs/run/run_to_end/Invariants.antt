@@ -1,0 +1,15 @@
+use Rattle.std.proofs.Common.{◌≡◌, None}
+use Rattle.txs_machine.specs.PlainActor.{Runs, unanswered}
+use Rattle.txs_world.specs.Book.{opening}
+use Rattle.txs.specs.RunOver.{RunOver}
+use Rattle.txs.proofs.run.run_to_end.Given as goal
+
+-- between two rounds the actor asks nothing, and has done over the store what its code says
+abbrev pub invariant-loop : goal.invariant-loop
+invariant-loop l =
+    record {
+      runs : Runs l.code l.actor;
+      answered : unanswered l.actor ≡ None;
+      cells : l.store.cells ≡ l.fn.store.cells;
+      over : RunOver l.code (opening l.fn.store.cells) l.k l.store.book l.actor;
+    }

@@ -1,0 +1,37 @@
+//! What an actor keeps of its transaction and of its unanswered ask.
+
+use txs_value::{CellId, Fault, Listed, Span, Value};
+
+/// Where a transaction began: its span, the place of its first instruction, and the values there.
+#[derive(Debug, Drop)]
+pub struct Origin {
+    pub span: Span,
+    pub place: usize,
+    pub values: Listed<Value>,
+}
+
+/// The transaction of an actor.
+#[derive(Debug, Drop)]
+pub enum Transaction {
+    /// None.
+    Outside,
+    /// It begins anew, and may run again so many times.
+    Restarting { left: u16 },
+    /// It runs, with so many inner ones, and may run again so many times from where it began.
+    Running { left: u16, inner: u64, from: Origin },
+}
+
+/// What an actor's unanswered ask is for.
+#[derive(Debug, Drop)]
+pub enum Pending {
+    /// A transaction begins, which may run again so many times from here.
+    Begin { left: u16, from: Origin },
+    /// A cell's value takes the cell's place at the top of the stack.
+    Read(CellId),
+    /// A ref's value goes between the ref and so many arguments.
+    Open(CellId, u16),
+    /// A transaction ends.
+    Commit,
+    /// A transaction has ended with a fault.
+    Fail(Fault),
+}
