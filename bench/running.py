@@ -1,5 +1,5 @@
 #!/usr/bin/env python3
-"""running.py [--only loop,commits] [--scale X] [--runs R] [--warm W]
+"""running.py [--only loop,calls,commits] [--scale X] [--runs R] [--warm W]
 Runs each script of bench/scripts in txs and in real Clojure, turn and turn about in one run, and compares what they
 print. `@N@` in a script is its size.
   clj whole  best wall time of a fresh JVM, from its start to its end
@@ -11,7 +11,7 @@ HERE = os.path.dirname(os.path.abspath(__file__))
 JARS = ["clojure.jar", "spec.alpha.jar", "core.specs.alpha.jar"]
 JAVA = ["java", "-Xmx2g", "-cp", ":".join(os.path.join(os.sep, "usr", "share", "java", j) for j in JARS), "clojure.main"]
 TXS = os.path.join(HERE, "..", "crates", "txs", "out", "txs")
-SIZES = {"loop": 2000000, "commits": 200000}
+SIZES = {"loop": 2000000, "calls": 1000000, "commits": 200000}
 
 
 def timed(command):

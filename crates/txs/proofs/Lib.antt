@@ -1,4 +1,1 @@
-pub mod Scopes
-pub mod Building
-pub mod Heads
 pub mod RunOver

@@ -1,5 +1,3 @@
-pub mod Names
-pub mod Refused
-pub mod Reported
+pub mod LeftOut
 pub mod RunOver
 pub mod Compiled

@@ -3,20 +3,24 @@
 ghost use Rattle.std.specs.Prelude.{◌≡◌};
 ghost use Rattle.txs.specs.declared.compile_error.CompileError.TheVariants.{Memory};
 
-use crate::resolve_error::ResolveError;
 use std::alloc::AllocError;
 use thiserror::Error;
+use txs_check::CheckError;
 use txs_reader::ReadError;
+use txs_resolve::ResolveError;
 
 /// Why a script isn't compiled.
 #[derive(Clone, Copy, Debug, PartialEq, Eq, Error)]
 pub enum CompileError {
-    /// It isn't read.
+    /// It isn't read, or holds a form that programs can't have yet.
     #[error("the script isn't read: {0:?}")]
     Read(ReadError),
-    /// Its forms are no program.
-    #[error("the forms are no program: {0:?}")]
+    /// Its names don't resolve.
+    #[error("its names don't resolve: {0:?}")]
     Resolve(ResolveError),
+    /// It isn't sound.
+    #[error("it isn't sound: {0:?}")]
+    Check(CheckError),
     /// There was no memory for its forms, its program or its code.
     #[error("out of memory")]
     Memory,

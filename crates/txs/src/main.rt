@@ -2,12 +2,14 @@
 //! `txs check [FILE]`.
 #![tactic(auto)]
 
+#[cfg(test)]
+mod code_tests;
 mod compile;
 pub mod compile_error;
-mod names;
+mod left_out;
 mod play;
-pub mod resolve;
-pub mod resolve_error;
+#[cfg(test)]
+mod rows;
 mod run;
 mod streams;
 #[cfg(test)]

@@ -60,6 +60,7 @@ fn refused(alloc: Global, error: &CompileError) -> Result<Told, AllocError> {
     match error {
         CompileError::Read(e) => refusal(alloc, e.kind.number(), e.kind.name(), e.at),
         CompileError::Resolve(e) => refusal(alloc, e.kind.number(), e.kind.name(), e.at),
+        CompileError::Check(e) => refusal(alloc, e.kind.number(), e.kind.name(), e.at),
         CompileError::Memory => Err(AllocError),
     }
 }

@@ -1,6 +1,7 @@
 // What no clause says: the rows of the program, through its streams.
 use crate::compile::compile;
 use crate::play::play;
+use crate::rows::{ACCEPTED, BAD, CALLED, LEFT_OUT, PLACED, PRINTED, RECURS, UNKNOWN};
 use crate::run::run_thread;
 use std::alloc::Global;
 use std::io;
@@ -96,7 +97,7 @@ fn row(alloc: Global, script: &str, out: &str, err: &str, status: u8) -> Result<
     )
 }
 
-const ROWS: [(&str, &str, &str, u8); 34] = [
+const ROWS: [(&str, &str, &str, u8); 21] = [
     ("(future (println (+ 1 2)))", "3\n", "", 0),
     ("", "", "", 0),
     ("; nothing", "", "", 0),
@@ -164,37 +165,6 @@ const ROWS: [(&str, &str, &str, u8); 34] = [
         0,
     ),
     (
-        "(future (loop [a 1] (+ 1 (recur a))))",
-        "",
-        "refused 13 BadForm at 0..0\n",
-        1,
-    ),
-    (
-        "(future (loop [a 1] (recur a 2)))",
-        "",
-        "refused 13 BadForm at 0..0\n",
-        1,
-    ),
-    ("(future (recur))", "", "refused 13 BadForm at 0..0\n", 1),
-    (
-        "(future (let [inc 1] (println (inc 1))))",
-        "",
-        "refused 13 BadForm at 0..0\n",
-        1,
-    ),
-    (
-        "(future (println (inc 1 2)))",
-        "",
-        "refused 13 BadForm at 0..0\n",
-        1,
-    ),
-    (
-        "(future (println [1 2]))",
-        "",
-        "refused 13 BadForm at 0..0\n",
-        1,
-    ),
-    (
         "(def r (ref 5)) (future (dosync (alter r + 1)) (println @r))",
         "6\n",
         "",
@@ -224,38 +194,6 @@ const ROWS: [(&str, &str, &str, u8); 34] = [
         "",
         0,
     ),
-    (
-        "(future (println @r)) (def r (ref 5))",
-        "",
-        "refused 13 BadForm at 0..0\n",
-        1,
-    ),
-    (
-        "(def r (ref 5)) (def r (ref 6))",
-        "",
-        "refused 13 BadForm at 0..0\n",
-        1,
-    ),
-    ("(def inc (ref 5))", "", "refused 13 BadForm at 0..0\n", 1),
-    ("(def if (ref 5))", "", "refused 13 BadForm at 0..0\n", 1),
-    (
-        "(def r (ref 5)) (future (alter r inc))",
-        "",
-        "refused 13 BadForm at 0..0\n",
-        1,
-    ),
-    (
-        "(def r (ref 5)) (future (let [inc 1] (dosync (alter r inc))))",
-        "",
-        "refused 13 BadForm at 0..0\n",
-        1,
-    ),
-    (
-        "(future (dosync (println 1)))",
-        "",
-        "refused 13 BadForm at 0..0\n",
-        1,
-    ),
 ];
 
 #[test]
@@ -263,6 +201,205 @@ fn rows(rt: HostRuntime) -> Result<(), Fail> {
     for (script, out, err, status) in ROWS {
         assert!(rt; row(rt.alloc(), script, out, err, status)?, "{script}");
     }
+    for (script, out, err, status) in PRINTED {
+        assert!(rt; row(rt.alloc(), script, out, err, status)?, "{script}");
+    }
+    Ok(())
+}
+
+// Whether `check` answers so.
+fn checked(alloc: Global, script: &str, out: &str, err: &str, status: u8) -> Result<bool, Fail> {
+    let mut told = Vec::new(alloc);
+    let mut faults = Vec::new(alloc);
+    let got = with_words(alloc, ["check"].as_slice(), script, &mut told, &mut faults)?;
+    Ok(got == status && told.as_slice() == out.as_bytes() && faults.as_slice() == err.as_bytes())
+}
+
+// Whether `check` refuses each of these so.
+fn are_refused(alloc: Global, rows: &[(&str, &str)]) -> Result<bool, Fail> {
+    for (script, err) in rows {
+        if !checked(alloc, script, "", err, 1)? {
+            return Ok(false);
+        }
+    }
+    Ok(true)
+}
+
+#[test]
+fn scripts_are_left_out(rt: HostRuntime) -> Result<(), Fail> {
+    assert!(rt; are_refused(rt.alloc(), LEFT_OUT.as_slice())?);
+    Ok(())
+}
+
+#[test]
+fn names_are_unknown(rt: HostRuntime) -> Result<(), Fail> {
+    assert!(rt; are_refused(rt.alloc(), UNKNOWN.as_slice())?);
+    Ok(())
+}
+
+#[test]
+fn forms_are_bad(rt: HostRuntime) -> Result<(), Fail> {
+    assert!(rt; are_refused(rt.alloc(), BAD.as_slice())?);
+    Ok(())
+}
+
+#[test]
+fn what_is_called_is_no_function(rt: HostRuntime) -> Result<(), Fail> {
+    assert!(rt; are_refused(rt.alloc(), CALLED.as_slice())?);
+    Ok(())
+}
+
+#[test]
+fn recurs_and_arguments_are_refused(rt: HostRuntime) -> Result<(), Fail> {
+    assert!(rt; are_refused(rt.alloc(), RECURS.as_slice())?);
+    Ok(())
+}
+
+#[test]
+fn places_are_refused(rt: HostRuntime) -> Result<(), Fail> {
+    assert!(rt; are_refused(rt.alloc(), PLACED.as_slice())?);
+    Ok(())
+}
+
+#[test]
+fn scripts_are_accepted(rt: HostRuntime) -> Result<(), Fail> {
+    for script in ACCEPTED {
+        assert!(rt; checked(rt.alloc(), script, "ok\n", "", 0)?, "{script}");
+    }
+    Ok(())
+}
+
+// So many times a text, with its number and another text behind it.
+fn numbered(alloc: Global, count: usize, before: &str, behind: &str) -> Result<String, Fail> {
+    let mut script = String::new(alloc);
+    for i in 0..count {
+        let one = format!(in alloc; "{before}{i}{behind}")?;
+        script.push_str(one.as_str())?;
+    }
+    Ok(script)
+}
+
+// Appends so many times a text.
+fn repeat(script: &mut String, count: usize, text: &str) -> Result<(), Fail> {
+    for _ in 0..count {
+        script.push_str(text)?;
+    }
+    Ok(())
+}
+
+#[test]
+fn definitions_are_limited(rt: HostRuntime) -> Result<(), Fail> {
+    let alloc = rt.alloc();
+    let most = numbered(alloc, 1000, "(def d", " 1)")?;
+    assert!(rt; checked(alloc, most.as_str(), "ok\n", "", 0)?);
+    let over = numbered(alloc, 1001, "(def d", " 1)")?;
+    assert!(rt;
+        checked(
+            alloc,
+            over.as_str(),
+            "",
+            "refused 17 TooMany at 11890..11903\n",
+            1
+        )?
+    );
+    let most = numbered(alloc, 1000, "(defn f", " [] 1)")?;
+    assert!(rt; checked(alloc, most.as_str(), "ok\n", "", 0)?);
+    let over = numbered(alloc, 1001, "(defn f", " [] 1)")?;
+    assert!(rt;
+        checked(
+            alloc,
+            over.as_str(),
+            "",
+            "refused 17 TooMany at 15890..15907\n",
+            1
+        )?
+    );
+    Ok(())
+}
+
+// A future with so many locals.
+fn locals(alloc: Global, count: usize) -> Result<String, Fail> {
+    let mut script = String::from_str(alloc, "(future (let [")?;
+    repeat(&mut script, count, "a 1 ")?;
+    script.push_str("] a))")?;
+    Ok(script)
+}
+
+#[test]
+fn locals_are_limited(rt: HostRuntime) -> Result<(), Fail> {
+    let alloc = rt.alloc();
+    let most = locals(alloc, 200)?;
+    assert!(rt; checked(alloc, most.as_str(), "ok\n", "", 0)?);
+    let over = locals(alloc, 201)?;
+    assert!(rt;
+        checked(
+            alloc,
+            over.as_str(),
+            "",
+            "refused 17 TooMany at 814..815\n",
+            1
+        )?
+    );
+    Ok(())
+}
+
+// A future with the sum of so many numbers, each of which but the first is one level.
+fn sum(alloc: Global, count: usize) -> Result<String, Fail> {
+    let mut script = String::from_str(alloc, "(future (+")?;
+    repeat(&mut script, count, " 1")?;
+    script.push_str("))")?;
+    Ok(script)
+}
+
+#[test]
+fn levels_are_limited(rt: HostRuntime) -> Result<(), Fail> {
+    let alloc = rt.alloc();
+    let most = sum(alloc, 1000)?;
+    assert!(rt; checked(alloc, most.as_str(), "ok\n", "", 0)?);
+    let deeper = sum(alloc, 1001)?;
+    assert!(rt;
+        checked(
+            alloc,
+            deeper.as_str(),
+            "",
+            "refused 17 TooMany at 11..12\n",
+            1
+        )?
+    );
+    let over = sum(alloc, 1002)?;
+    assert!(rt;
+        checked(
+            alloc,
+            over.as_str(),
+            "",
+            "refused 17 TooMany at 8..2015\n",
+            1
+        )?
+    );
+    Ok(())
+}
+
+#[test]
+fn nodes_are_limited(rt: HostRuntime) -> Result<(), Fail> {
+    let alloc = rt.alloc();
+    let mut script = String::new(alloc);
+    for name in ["a", "b", "c", "d"] {
+        let head = format!(in alloc; "(defn {name} []")?;
+        script.push_str(head.as_str())?;
+        repeat(&mut script, 49_999, " 1")?;
+        script.push_str(")")?;
+    }
+    assert!(rt; checked(alloc, script.as_str(), "ok\n", "", 0)?);
+    script.push_str("(future)")?;
+    assert!(rt;
+        checked(
+            alloc,
+            script.as_str(),
+            "",
+            "refused 28 CodeTooLarge at 400036..400044\n",
+            1
+        )?
+    );
     Ok(())
 }
 
@@ -417,12 +554,6 @@ fn scripts_are_checked(rt: HostRuntime) -> Result<(), Fail> {
             "refused 3 Unopened at 18..19\n",
             1,
         ),
-        (
-            "(future (println \"text\"))",
-            "",
-            "refused 13 BadForm at 0..0\n",
-            1,
-        ),
     ];
     for (script, wanted, refusal, status) in rows {
         let mut out = Vec::new(alloc);
@@ -517,7 +648,7 @@ fn agrees(alloc: Global, script: &str) -> Result<bool, Fail> {
     Ok(meaning.outcome == Some(ran.outcome) && meaning.printed.as_slice() == ran.printed.as_slice())
 }
 
-const SCRIPTS: [&str; 79] = [
+const SCRIPTS: [&str; 95] = [
     "",
     "; a comment",
     " , \n",
@@ -597,6 +728,22 @@ const SCRIPTS: [&str; 79] = [
     "(future (println (loop [i 0] (if (< i 9) (recur (loop [j i] (if (< j 5) (recur (+ j 2)) (inc j)))) i))))",
     "(future (loop [i 3] (println (quot 6 i)) (recur (dec i))))",
     "(future (println (let [if' 1 nil' 2] (+ if' nil'))))",
+    "(defn twice [x] (+ x x)) (future (println (twice 4)))",
+    "(defn f [a b] (- a b)) (future (println (f 10 3) (f 3 10)))",
+    "(defn sum [n s] (if (= n 0) s (recur (dec n) (+ s n)))) (future (println (sum 100 0)))",
+    "(defn f [x] (inc x)) (defn g [x] (f (f x))) (defn h [x] (g (g x))) (future (println (h 0)))",
+    "(defn show [x] (println x) x) (future (println (+ (show 1) (show 2))))",
+    "(defn f [x] (quot 1 x)) (future (println (f 1)) (println (f 0)) (println 2))",
+    "(defn f [] (loop [i 0] (if (< i 5) (recur (inc i)) i))) (future (println (f) (f)))",
+    "(defn f [x y] (let [x y y x] [x y])) (future (println (f 1 2)))",
+    "(defn f [x] (if (< x 3) (do (println x) (recur (inc x))) :done)) (future (println (f 0)))",
+    "(defn f [v i] (nth v i)) (future (println (f [1 2 3] 1)) (println (f [1] 1)))",
+    "(future (println (and) (and 1) (and 1 nil 2) (and 1 2 3) (or) (or nil) (or nil false 3) (or 1 2)))",
+    "(future (println (cond) (cond nil 1) (cond nil 1 2 3) (cond 1 2 3 4)))",
+    "(future (println (when 1 2) (when nil 2) (when-not 1 2) (when-not nil 2) (if-not 1 2 3) (if-not nil 2)))",
+    "(def k [1 \"a\" :b nil]) (future (println k (count k) (conj k k)))",
+    "(future (loop [i 0] (when (< i 3) (println i) (recur (inc i)))))",
+    "(future (println (loop [i 0 v []] (cond (= i 3) v :else (recur (inc i) (conj v i))))))",
 ];
 
 #[test]

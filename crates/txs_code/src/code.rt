@@ -1,4 +1,4 @@
-//! Code: cells, constants, and the bodies of threads.
+//! Code: cells, constants, and the bodies of functions and threads.
 
 ghost use Rattle.std.specs.Prelude.{◌≡◌, ◌+◌, ◌≤◌, length};
 ghost use Rattle.txs_code.specs.PlainCode.{PlainCode, CodeBody};
@@ -7,9 +7,11 @@ use crate::instr::Instr;
 use std::marker::Model;
 use txs_value::{CellDefinition, Span, Value};
 
-/// The code of a body: how many locals it has, and its instructions, each with the span of what it was made for.
+/// The code of a body: how many parameters it has, which are the first of its locals; how many locals in all; and its
+/// instructions, each with the span of what it was made for. A thread's body has no parameters.
 #[derive(Debug, Drop)]
 pub struct Body {
+    parameters: u8,
     locals: u8,
     instrs: Vec<Instr>,
     spans: Vec<Span>,
@@ -21,25 +23,33 @@ impl Model for Body {
 
     ghost Value = { CodeBody };
 
-    ghost view = { λ b. record { locals = b.locals; instrs = b.instrs.items; spans = b.spans.items } };
+    ghost view = { λ b. record { parameters = b.parameters; locals = b.locals; instrs = b.instrs.items; spans = b.spans.items } };
 
     ghost invariant = { λ b. length b.spans.items ≡ length b.instrs.items };
 }
 
 impl Body {
-    /// A body of so many locals and these instructions with their spans.
-    pub fn new(locals: u8, instrs: Vec<Instr>, spans: Vec<Span>) -> Body
+    /// A body of so many parameters and locals and these instructions with their spans.
+    pub fn new(parameters: u8, locals: u8, instrs: Vec<Instr>, spans: Vec<Span>) -> Body
         requires { length spans.items ≡ length instrs.items }
-        ensures { result ≡ record { locals = locals; instrs = instrs.items; spans = spans.items } }
+        ensures { result ≡ record { parameters = parameters; locals = locals; instrs = instrs.items; spans = spans.items } }
     {
         Body {
+            parameters,
             locals,
             instrs,
             spans,
         }
     }
 
-    /// How many locals it has.
+    /// How many parameters it has.
+    pub fn parameters(&self) -> u8
+        ensures { result ≡ self.now.parameters }
+    {
+        self.parameters
+    }
+
+    /// How many locals it has, its parameters among them.
     pub fn locals(&self) -> u8
         ensures { result ≡ self.now.locals }
     {
@@ -62,11 +72,12 @@ impl Body {
     }
 }
 
-/// Code: the cells by their numbers, the constants, and a body for each thread.
+/// Code: the cells by their numbers, the constants, and a body for each function and for each thread.
 #[derive(Debug, Drop)]
 pub struct Code {
     cells: Vec<CellDefinition>,
     constants: Vec<Value>,
+    functions: Vec<Body>,
     threads: Vec<Body>,
 }
 
@@ -79,17 +90,23 @@ impl Model for Code {
 
     ghost coded = { Prim.hlevel (codes, value.the_row.coded) };
 
-    ghost view = { λ c. record { cells = c.cells.items; constants = c.constants.items; threads = c.threads.items } };
+    ghost view = { λ c. record { cells = c.cells.items; constants = c.constants.items; functions = c.functions.items; threads = c.threads.items } };
 }
 
 impl Code {
-    /// Code of these cells, constants and threads.
-    pub fn new(cells: Vec<CellDefinition>, constants: Vec<Value>, threads: Vec<Body>) -> Code
-        ensures { result ≡ record { cells = cells.items; constants = constants.items; threads = threads.items } }
+    /// Code of these cells, constants, functions and threads.
+    pub fn new(
+        cells: Vec<CellDefinition>,
+        constants: Vec<Value>,
+        functions: Vec<Body>,
+        threads: Vec<Body>,
+    ) -> Code
+        ensures { result ≡ record { cells = cells.items; constants = constants.items; functions = functions.items; threads = threads.items } }
     {
         Code {
             cells,
             constants,
+            functions,
             threads,
         }
     }
@@ -106,6 +123,13 @@ impl Code {
         ensures { result.now ≡ self.now.constants }
     {
         self.constants.as_slice()
+    }
+
+    /// The body of each function, by its number.
+    pub fn functions(&self) -> &[Body]
+        ensures { result.now ≡ self.now.functions }
+    {
+        self.functions.as_slice()
     }
 
     /// The body of each thread, in script order.

@@ -19,6 +19,11 @@ pub enum Instr {
     JumpFalse(u32),
     /// A core operation on so many values at the top of the stack, with its value in their place.
     Core(Op, u16),
+    /// A function, by its number, on as many values at the top of the stack as it has parameters, with its value in their
+    /// place.
+    Call(u16),
+    /// Ends a function with the value at the top of the stack.
+    Return,
     /// A vector of so many values at the top of the stack, in their place.
     Vector(u16),
     /// Prints so many values at the top of the stack as a line, with nil in their place.

@@ -1,4 +1,4 @@
-//! Code: instructions with their spans, the cells and constants that they name, and what makes code well
+//! Code: the instructions of functions and threads with their spans, the cells and constants that they name, and what makes code well
 //! typed: tables of the stack's depth and of the transactions at each place that it comes to. What the
 //! machine does with code is told by the definitions, by cases on instructions, and so is what an actor's
 //! state is.

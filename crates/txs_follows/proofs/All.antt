@@ -1,6 +1,7 @@
 -- All threads of a program.
 use Rattle.std.proofs.Common.{◌≡◌, ℕ, zero, suc, List, [], ◌∷◌, length, map, Option, Some, None, refl, sym, ap, subst}
 use Rattle.txs_value.specs.Places.{nth}
+use Rattle.txs_tree.specs.Known.{Known, known}
 use Rattle.txs_tree.specs.Sound.{SoundThread, SoundThreads}
 use Rattle.txs_tree.specs.Tree.{PlainThread}
 use Rattle.txs_code.specs.Machine.{ThreadCode}
@@ -14,15 +15,15 @@ IsThere None = ⊥
 IsThere (Some a) = Unit {0}
 
 -- a thread of a sound program is sound
-sound_at : (ts : List PlainThread) (i : ℕ) (t : PlainThread) → SoundThreads ts → nth ts i ≡ Some t → SoundThread t
-sound_at [] i t h e = absurd (subst IsThere (sym e) tt)
-sound_at (u ∷ ts) zero t h e = let same : u ≡ t = cc in subst SoundThread same h.0
-sound_at (u ∷ ts) (suc i) t h e = sound_at ts i t h.1 e
+sound_at : (ks : List Known) (ts : List PlainThread) (i : ℕ) (t : PlainThread) → SoundThreads ks ts → nth ts i ≡ Some t → SoundThread ks t
+sound_at ks [] i t h e = absurd (subst IsThere (sym e) tt)
+sound_at ks (u ∷ ts) zero t h e = let same : u ≡ t = cc in subst (SoundThread ks) same h.0
+sound_at ks (u ∷ ts) (suc i) t h e = sound_at ks ts i t h.1 e
 
 pub sound_follows_all : SoundFollowsAll
 sound_follows_all codes p sound behaves = record {
   as_many = behaves.as_many;
-  each = λ i c t e f. behaves_follows c (source_of p t) (behaves.each i c t e f) (ever_meant (source_of p t) (sound.no_functions, (sound_at p.threads i t sound.threads f).0));
+  each = λ i c t e f. behaves_follows c (source_of p t) (behaves.each i c t e f) (ever_meant (source_of p t) (record { functions = sound.functions; main = (sound_at (known p.functions) p.threads i t sound.threads f).0 }));
 }
 
 length_map : {A B : Type 0} (f : A → B) (xs : List A) → length (map f xs) ≡ length xs

@@ -2,6 +2,7 @@ mod Acts
 mod All
 mod Ends
 mod Fitted
+pub mod Functions
 mod Grows
 mod Loops
 mod More

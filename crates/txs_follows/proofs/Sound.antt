@@ -2,15 +2,17 @@
 use Rattle.std.proofs.Common.{ℕ, zero, suc, Bool, true, false, List, [], Option, Some, None, Result, Ok, Err, refl, sym, ap, subst, length, arith, length-append, ◌≡◌, ◌<◌, ◌+◌, ◌∷◌, ◌++◌, ◌∙◌, if◌then◌else◌}
 use Rattle.std.proofs.lemmas.Bool.{false≢true, eq-eqb}
 use Rattle.txs_code.specs.ActorState.{ActorState, Replied, asks, begun, begin, failed, fail, committed, commit, looked, buffered_or, look, peeked, peek, put_write, print, read}
+use Rattle.txs_follows.proofs.Functions.{AreFree, known_free, defined, there, nth_below, thread_sound, dosync_sound}
 use Rattle.txs_follows.proofs.Worlds.{answered, fit_splits}
 use Rattle.txs_follows.specs.Behaves.{fresh, source, IsMeant}
 use Rattle.txs_follows.specs.Follows.{IsEverMeant}
 use Rattle.txs_follows.specs.OnReplies.{res, met, settled, attempt, retrying, tries, joined, on_replies}
 use Rattle.txs_follows.specs.RepliesFit.{Out, In, ReplyFits, RepliesFit}
 use Rattle.txs_tree.specs.Meaning.{Completion, Completes, Recurs, Faults, Retries, Waits, OutOfTurns, Invalid, bind, again, closed, give, result_of, turns, apply, eval, eval_all, eval_let, eval_do, call_at}
-use Rattle.txs_tree.specs.Sound.{SoundTree, SoundAll, SoundLet, SoundDo, SoundSource, SoundCallee}
+use Rattle.txs_tree.specs.Known.{Known, known, known_of}
+use Rattle.txs_tree.specs.Sound.{Zone, in_function, in_thread, in_dosync, MayLeave, MayEnter, MayCall, SoundTree, SoundAll, SoundLet, SoundDo, SoundFunctions, SoundSource, SoundCallee}
 use Rattle.txs_tree.specs.Thread.{SeenEvent, Read, Committed, Retried, Aborted}
-use Rattle.txs_tree.specs.Tree.{Tree, Const, Local, If, Do, Let, Loop, Recur, Core, Call, VectorOf, Println, Dosync, Deref, Alter, Trees, none, more, count, ThreadSource}
+use Rattle.txs_tree.specs.Tree.{Tree, Const, Local, If, Do, Let, Loop, Recur, Core, Call, VectorOf, Println, Dosync, Deref, Alter, Trees, none, more, count, PlainFunction, ThreadSource}
 use Rattle.txs_value.specs.Ask.{buffered, Exchange}
 use Rattle.txs_value.specs.Cells.{World, any_cell, readable_cell, ref_cell}
 use Rattle.txs_value.specs.Core.{core, vector_of}
@@ -264,21 +266,34 @@ joined_meant : (inside : Bool) (span : Span) (body : ActorState → Completion A
 joined_meant true span body h s g = h s g
 joined_meant false span body h s g = tries_meant (suc reruns) span body h s g
 
-module _ (call : Bool → ℕ → List Value → ActorState → Completion ActorState Value) (n : ℕ) where
-  println_meant : (inside : Bool) (vs : List Value) (s : ActorState) → inside ≡ false → Fitting inside s → MeantAs inside None Any (on_replies.print inside vs s)
-  println_meant true vs s e h = absurd (false≢true (sym e))
+-- where a part stands when it runs
+abbrev zone_of : Bool → Zone
+zone_of true = in_dosync
+zone_of false = in_thread
+
+-- a call of a function that is known, where it may be called
+abbrev CallsMeant : List Known → (Bool → ℕ → List Value → ActorState → Completion ActorState Value) → Type 0
+CallsMeant ks call = (inside : Bool) (f : ℕ) (k : Known) → nth ks f ≡ Some k → MayCall (zone_of inside) k → (vs : List Value) → k.parameters ≡ length vs → (s : ActorState) → Fitting inside s → MeantAs inside None Any (call inside f vs s)
+
+free_may : (inside : Bool) (k : Known) → (k.inside ≡ false) × (k.outside ≡ false) → MayCall (zone_of inside) k
+free_may true k h = h.1
+free_may false k h = h.0
+
+module _ (ks : List Known) (free : AreFree ks) (call : Bool → ℕ → List Value → ActorState → Completion ActorState Value) (calls : CallsMeant ks call) (n : ℕ) where
+  println_meant : (inside : Bool) (vs : List Value) (s : ActorState) → MayLeave (zone_of inside) → Fitting inside s → MeantAs inside None Any (on_replies.print inside vs s)
+  println_meant true vs s e h = absurd e
   println_meant false vs s e h = print_meant vs s h
 
-  apply_meant : (inside : Bool) (span : Span) (c : Callee) (vs : List Value) → SoundCallee c (length vs) → (s : ActorState) → Fitting inside s → MeantAs inside None Any (apply (call inside) span c vs s)
+  apply_meant : (inside : Bool) (span : Span) (c : Callee) (vs : List Value) → SoundCallee ks c (length vs) → (s : ActorState) → Fitting inside s → MeantAs inside None Any (apply (call inside) span c vs s)
   apply_meant inside span (CoreOp op) vs h s g = result_meant inside None (core op vs) span s g
-  apply_meant inside span (Function f) vs h s g = absurd h
+  apply_meant inside span (Function f) vs h s g = calls inside f h.function h.found (free_may inside h.function (free f h.function h.found h.pure)) vs h.arity s g
 
-  altered_meant : (inside : Bool) (span : Span) (v : Value) (c : Callee) (vs : List Value) (s : ActorState) → inside ≡ true → SoundCallee c (suc (length vs)) → Fitting inside s → MeantAs inside None Any (on_replies.alter inside span v (λ w s1. apply (call inside) span c (w ∷ vs) s1) s)
+  altered_meant : (inside : Bool) (span : Span) (v : Value) (c : Callee) (vs : List Value) (s : ActorState) → MayEnter (zone_of inside) → SoundCallee ks c (suc (length vs)) → Fitting inside s → MeantAs inside None Any (on_replies.alter inside span v (λ w s1. apply (call inside) span c (w ∷ vs) s1) s)
   altered_meant true span v c vs s e k h = alter_meant span (ref_cell v) (λ w s1. apply (call true) span c (w ∷ vs) s1) (λ w s1 g. apply_meant true span c (w ∷ vs) k s1 g) s h
-  altered_meant false span v c vs s e k h = absurd (false≢true e)
+  altered_meant false span v c vs s e k h = absurd e
 
   mutual
-    eval_meant : (e : Tree) (inside : Bool) (d : ℕ) (tail : Option ℕ) → SoundTree inside d tail e → (env : List Value) → length env ≡ d → (s : ActorState) → Fitting inside s → MeantAs inside tail Any (eval on_replies call n inside e env s)
+    eval_meant : (e : Tree) (inside : Bool) (d : ℕ) (tail : Option ℕ) → SoundTree ks (zone_of inside) d tail e → (env : List Value) → length env ≡ d → (s : ActorState) → Fitting inside s → MeantAs inside tail Any (eval on_replies call n inside e env s)
     eval_meant (Const v m) inside d tail h env l s g = (tt, g)
     eval_meant (Local i m) inside d tail h env l s g = local_meant inside tail env i s (subst (λ k. i < k) (sym l) h) g
     eval_meant (If c a b m) inside d tail h env l s g =
@@ -296,7 +311,9 @@ module _ (call : Bool → ℕ → List Value → ActorState → Completion Actor
         bind_meant inside tail (Many (count values)) Any (eval_all on_replies call n inside values env s) _ (all_meant values inside d h.1 env l s g) (λ vs s1 p g1. (h.0 ∙ ap Some (sym p), g1))
     eval_meant (Core op args m) inside d tail h env l s g =
         bind_meant inside tail (Many (count args)) Any (eval_all on_replies call n inside args env s) _ (all_meant args inside d h.1 env l s g) (λ vs s1 p g1. result_meant inside tail (core op vs) m.span s1 g1)
-    eval_meant (Call f args m) inside d tail h env l s g = absurd h
+    eval_meant (Call f args m) inside d tail h env l s g =
+        bind_meant inside tail (Many (count args)) Any (eval_all on_replies call n inside args env s) _ (all_meant args inside d h.1 env l s g)
+        (λ vs s1 p g1. loose inside tail (call inside f vs s1) (calls inside f h.0.function h.0.found h.0.zoned vs (h.0.arity ∙ sym p) s1 g1))
     eval_meant (VectorOf items m) inside d tail h env l s g =
         bind_meant inside tail (Many (count items)) Any (eval_all on_replies call n inside items env s) _ (all_meant items inside d h.1 env l s g) (λ vs s1 p g1. result_meant inside tail (vector_of vs) m.span s1 g1)
     eval_meant (Println args m) inside d tail h env l s g =
@@ -311,27 +328,53 @@ module _ (call : Bool → ℕ → List Value → ActorState → Completion Actor
         bind_meant inside tail Any Any (eval on_replies call n inside cell env s) _ (eval_meant cell inside d None h.1 env l s g)
         (λ c s1 p g1. bind_meant inside tail (Many (count args)) Any (eval_all on_replies call n inside args env s1) _ (all_meant args inside d h.3 env l s1 g1)
         (λ vs s2 q g2. loose inside tail (on_replies.alter inside m.span c (λ v s3. apply (call inside) m.span callee (v ∷ vs) s3) s2)
-        (altered_meant inside m.span c callee vs s2 h.0 (subst (λ k. SoundCallee callee (suc k)) (sym q) h.2) g2)))
+        (altered_meant inside m.span c callee vs s2 h.0 (subst (λ k. SoundCallee ks callee (suc k)) (sym q) h.2) g2)))
 
-    all_meant : (es : Trees) (inside : Bool) (d : ℕ) → SoundAll inside d es → (env : List Value) → length env ≡ d → (s : ActorState) → Fitting inside s → MeantAs inside None (Many (count es)) (eval_all on_replies call n inside es env s)
+    all_meant : (es : Trees) (inside : Bool) (d : ℕ) → SoundAll ks (zone_of inside) d es → (env : List Value) → length env ≡ d → (s : ActorState) → Fitting inside s → MeantAs inside None (Many (count es)) (eval_all on_replies call n inside es env s)
     all_meant none inside d h env l s g = (refl, g)
     all_meant (more e rest) inside d h env l s g =
         bind_meant inside None Any (Many (suc (count rest))) (eval on_replies call n inside e env s) _ (eval_meant e inside d None h.0 env l s g)
         (λ v s1 p g1. bind_meant inside None (Many (count rest)) (Many (suc (count rest))) (eval_all on_replies call n inside rest env s1) (λ vs s2. Completes (v ∷ vs) s2) (all_meant rest inside d h.1 env l s1 g1)
         (λ vs s2 q g2. (ap suc q, g2)))
 
-    let_meant : (es : Trees) (inside : Bool) (d : ℕ) → SoundLet inside d es → (env : List Value) → length env ≡ d → (s : ActorState) → Fitting inside s → MeantAs inside None (Many (count es)) (eval_let on_replies call n inside es env s)
+    let_meant : (es : Trees) (inside : Bool) (d : ℕ) → SoundLet ks (zone_of inside) d es → (env : List Value) → length env ≡ d → (s : ActorState) → Fitting inside s → MeantAs inside None (Many (count es)) (eval_let on_replies call n inside es env s)
     let_meant none inside d h env l s g = (refl, g)
     let_meant (more e rest) inside d h env l s g =
         bind_meant inside None Any (Many (suc (count rest))) (eval on_replies call n inside e env s) _ (eval_meant e inside d None h.0 env l s g)
         (λ v s1 p g1. bind_meant inside None (Many (count rest)) (Many (suc (count rest))) (eval_let on_replies call n inside rest (env ++ v ∷ []) s1) (λ vs s2. Completes (v ∷ vs) s2) (let_meant rest inside (d + 1) h.1 (env ++ v ∷ []) (omega (arith, length-append env (v ∷ []), l)) s1 g1)
         (λ vs s2 q g2. (ap suc q, g2)))
 
-    do_meant : (es : Trees) (inside : Bool) (d : ℕ) (tail : Option ℕ) → SoundDo inside d tail es → (env : List Value) → length env ≡ d → (s : ActorState) → Fitting inside s → MeantAs inside tail Any (eval_do on_replies call n inside es env s)
+    do_meant : (es : Trees) (inside : Bool) (d : ℕ) (tail : Option ℕ) → SoundDo ks (zone_of inside) d tail es → (env : List Value) → length env ≡ d → (s : ActorState) → Fitting inside s → MeantAs inside tail Any (eval_do on_replies call n inside es env s)
     do_meant none inside d tail h env l s g = absurd h
     do_meant (more e none) inside d tail h env l s g = eval_meant e inside d tail h env l s g
     do_meant (more e (more f rest)) inside d tail h env l s g =
         bind_meant inside tail Any Any (eval on_replies call n inside e env s) _ (eval_meant e inside d None h.0 env l s g) (λ v s1 p g1. do_meant (more f rest) inside d tail h.1 env l s1 g1)
+
+-- a function's body, where it is called
+body_sound : (inside : Bool) (ks : List Known) (fun : PlainFunction) → SoundTree ks in_function fun.parameters (Some fun.parameters) fun.body → MayCall (zone_of inside) (known_of ks fun) → SoundTree ks (zone_of inside) fun.parameters (Some fun.parameters) fun.body
+body_sound true ks fun h z = dosync_sound ks fun.body fun.parameters (Some fun.parameters) h z
+body_sound false ks fun h z = thread_sound ks fun.body fun.parameters (Some fun.parameters) h z
+
+some_known : (k l : Known) → Some k ≡ Some l → k ≡ l
+some_known k l e = cc
+
+-- a function calls those before it alone, so calls are no deeper than there are functions
+module _ (functions : List PlainFunction) (sound : SoundFunctions [] functions) (n : ℕ) where
+  calls_below : (b : ℕ) (inside : Bool) (f : ℕ) (k : Known) → f < b → nth (known functions) f ≡ Some k → MayCall (zone_of inside) k → (vs : List Value) → k.parameters ≡ length vs → (s : ActorState) → Fitting inside s → MeantAs inside None Any (call_at (λ d. on_replies) n functions b inside f vs s)
+  calls_below zero inside f k l e z vs a s g = absurd (omega (arith, l))
+  calls_below (suc b) inside f k l e z vs a s g =
+      let found = there functions f k e in
+      let fun = found.0 in
+      let d = defined functions sound f fun found.1 in
+      let call = call_at (λ x. on_replies) n functions b in
+      let body : List Value → ActorState → Completion ActorState Value = λ ws s2. eval on_replies call n inside fun.body ws s2 in
+      let same : known_of d.before fun ≡ k = some_known (known_of d.before fun) k (sym d.found ∙ e) in
+      let calls : CallsMeant d.before call = λ i h j q y ws r t u. calls_below b i h j (omega (arith, l, (d.earlier h j q).0)) (d.earlier h j q).1 y ws r t u in
+      let stands = body_sound inside d.before fun d.sound.1 (subst (λ x. MayCall (zone_of inside) x) (sym same) z) in
+      subst (λ o. MeantAs inside None Any (bind (give o s) (λ x s1. turns n x.parameters (λ ws s2. eval on_replies call n inside x.body ws s2) vs s1))) (sym found.1)
+      (turns_meant inside None n fun.parameters body
+      (λ ws s2 q g2. eval_meant d.before d.free call calls n fun.body inside fun.parameters (Some fun.parameters) stands ws q s2 g2)
+      vs s (sym a ∙ ap (λ (x : Known). x.parameters) (sym same)) g)
 
 meant : (x : Completion ActorState Value) → MeantAs false None Any x → IsMeant x
 meant (Completes v s) h = tt
@@ -344,5 +387,7 @@ meant Invalid h = h
 
 pub ever_meant : (p : ThreadSource) → SoundSource p → IsEverMeant p
 ever_meant p sound n todo es f =
+    let ks = known p.functions in
     let call = call_at (λ d. on_replies) n p.functions (length p.functions) in
-    meant (source p n todo) (closed_meant false None (eval on_replies call n false p.main [] (fresh todo)) (eval_meant call n p.main false 0 None sound.1 [] refl (fresh todo) (es, f)))
+    let calls : CallsMeant ks call = λ inside g k e z vs a s u. calls_below p.functions sound.functions n (length p.functions) inside g k (nth_below p.functions g (there p.functions g k e).0 (there p.functions g k e).1) e z vs a s u in
+    meant (source p n todo) (closed_meant false None (eval on_replies call n false p.main [] (fresh todo)) (eval_meant ks (known_free p.functions) call calls n p.main false 0 None sound.main [] refl (fresh todo) (es, f)))

@@ -1,117 +1,326 @@
--- The bodies of threads are theirs, and well typed.
-use Rattle.std.proofs.Common.{◌≡◌, ℕ, suc, ◌+◌, ◌<◌, ◌≤◌, max, List, [], ◌∷◌, ◌++◌, length, get_or, drop, false, None, refl, sym, ap, ◌∙◌, subst, length-append, arith}
+-- The bodies of functions and threads are theirs, and well typed.
+use Rattle.std.proofs.Common.{◌≡◌, ℕ, zero, suc, ◌+◌, ◌<◌, ◌≤◌, max, Bool, true, false, List, [], ◌∷◌, ◌++◌, length, map, get_or, drop, Option, Some, None, refl, sym, ap, ◌∙◌, subst, length-append, append_assoc, arith}
 use Rattle.std.proofs.Math.Seq.{drop-cons}
 use Rattle.std.proofs.lemmas.List.{append-nil, drop_all}
 use Rattle.std.specs.List.{range_with_len}
+use Rattle.txs_value.specs.Places.{nth}
 use Rattle.txs_value.specs.declared.cell.CellDefinition.{CellDefinition}
 use Rattle.txs_value.specs.declared.fault.Span.{Span}
 use Rattle.txs_value.specs.declared.value.Value.{Value}
-use Rattle.txs_tree.specs.Sound.{SoundTree, SoundThreads}
-use Rattle.txs_tree.specs.Tree.{PlainThread}
-use Rattle.txs_tree.specs.View.{thread_of, threads_of, program_of}
+use Rattle.txs_tree.specs.Known.{Known, inside_in, known_of, known_from, known}
+use Rattle.txs_tree.specs.Sound.{Zone, in_function, in_thread, SoundTree, SoundFunction, SoundFunctions, SoundThreads, nodes_of_functions}
+use Rattle.txs_tree.specs.Tree.{Tree, PlainFunction, PlainThread, PlainProgram}
+use Rattle.txs_tree.specs.View.{function_of, functions_of, thread_of, threads_of}
+use Rattle.txs_tree.specs.declared.node.Function.{Function}
 use Rattle.txs_tree.specs.declared.node.Thread.{Thread}
 use Rattle.txs_code.specs.declared.instr.Instr.{Instr}
-use Rattle.txs_code.specs.declared.instr.Instr.TheVariants.{Halt}
+use Rattle.txs_code.specs.declared.instr.Instr.TheVariants.{Return, Halt}
 use Rattle.txs_code.specs.Machine.{PlainInstr, PlainBody}
 use Rattle.txs_code.specs.Machine as machine
-use Rattle.txs_code.specs.PlainCode.{CodeBody, PlainCode, plain_instrs}
-use Rattle.txs_code.specs.WellTyped.{plain, WellTyped, WellTypedBody, WellTypedBodies}
-use Rattle.txs_gen.specs.Bodies.{fresh, finished}
-use Rattle.txs_gen.specs.Emission.{Emission, emits, instrs_of, stored, top}
+use Rattle.txs_code.specs.PlainCode.{CodeBody, PlainCode, parameters_of, plain_instr, plain_instrs}
+use Rattle.txs_code.specs.WellTyped.{Functions, Owner, a_function, a_thread, plain, IsLawful, Fits, FitsStage, WellTyped, WellTypedBody, WellTypedFunctions, WellTypedThreads, Depths, Stages}
+use Rattle.txs_follows.proofs.Functions.{at_end, free_tree, known_front, nth_below, thread_sound}
+use Rattle.txs_gen.specs.Bodies.{fresh, finished, made_at, functions_from, function_rooms, threads_from, thread_rooms}
+use Rattle.txs_gen.specs.Emission.{Emission, AreLawful, emits, instrs_of, stored, top}
 use Rattle.txs_gen.specs.Gen.{gen, locals_in}
-use Rattle.txs_gen.specs.Generated.{spans_of, constants_of, constants_of_threads, numbers_in, numbers_in_all, IsBodyOf, AreBodiesOf, IsCodeOf}
-use Rattle.txs_gen.proofs.Emissions.{make}
-use Rattle.txs_gen.proofs.Generation.{afters, tree_segment, locals_stored}
-use Rattle.txs_gen.proofs.Segments.{At, at_first, at_rest, at_middle, lawful_append, plain_append, numbers_append, range_append, state, Setting, depths_of, stages_of, depths_length, stages_length, tables_on, stand_append, stand_well_typed}
+use Rattle.txs_gen.specs.Generated.{spans_of, constants_of, constants_of_functions, constants_of_threads, numbers_in, numbers_in_all, AreFunctionsOf, AreBodiesOf, IsCodeOf}
+use Rattle.txs_gen.proofs.Emissions.{make, constants_nodes}
+use Rattle.txs_gen.proofs.Generation.{afters, tree_segment, locals_stored, Nested, Loops, Tells}
+use Rattle.txs_gen.proofs.Segments.{At, at_first, at_rest, at_middle, lawful_append, plain_append, numbers_append, range_append, state, Here, Setting, depths_of, stages_of, depths_length, stages_length, tables_on, stand_append, stand_well_typed}
 
--- the body of a thread, where so many constants are there already
-abbrev pub body_at : PlainThread → ℕ → CodeBody
-body_at t k = record { locals = max 0 (stored t.body 0); instrs = instrs_of t.body 0 0 0 0 k ++ Halt ∷ []; spans = spans_of t.body ++ t.span ∷ [] }
+abbrev IsThere : {A : Type 0} → Option A → Type 0
+IsThere None = ⊥
+IsThere (Some a) = Unit {0}
 
-abbrev pub bodies_from : List PlainThread → ℕ → List CodeBody
-bodies_from [] k = []
-bodies_from (t ∷ ts) k = body_at t k ∷ bodies_from ts (k + length (constants_of t.body))
+-- what ends a body
+abbrev pub ending : Owner → Instr
+ending a_function = Return
+ending a_thread = Halt
 
-abbrev pub rooms_of : List PlainThread → List ℕ
-rooms_of [] = []
-rooms_of (t ∷ ts) = max 0 (top t.body 0) ∷ rooms_of ts
+abbrev plain_ending : Owner → PlainInstr
+plain_ending a_function = machine.Return
+plain_ending a_thread = machine.Halt
 
-body : ℕ → List PlainInstr → PlainBody
+ending_seen : (owner : Owner) (ps : List ℕ) (cs : List Value) (span : Span) → plain_instr ps cs (ending owner) span ≡ plain_ending owner
+ending_seen a_function ps cs span = refl
+ending_seen a_thread ps cs span = refl
+
+ending_fits : (owner : Owner) (ps : List ℕ) (ds : Depths) (most at : ℕ) → Fits owner ps ds most at 1 (ending owner)
+ending_fits a_function ps ds most at = (refl, refl)
+ending_fits a_thread ps ds most at = (refl, refl)
+
+ending_stage : (owner : Owner) (fs : Functions) (inside : Bool) (ss : Stages) (at : ℕ) → FitsStage fs inside ss at (plain 0) (ending owner)
+ending_stage a_function fs inside ss at = refl
+ending_stage a_thread fs inside ss at = refl
+
+ending_lawful : (owner : Owner) (n : ℕ) (cs : List Value) (b : CodeBody) → IsLawful n cs b (ending owner)
+ending_lawful a_function n cs b = tt
+ending_lawful a_thread n cs b = tt
+
+ending_numbers : (owner : Owner) → numbers_in (ending owner ∷ []) ≡ []
+ending_numbers a_function = refl
+ending_numbers a_thread = refl
+
+-- at the start of a body its parameters are there, and a recur in its tail position has as many values
+abbrev pub Tail : ℕ → Option ℕ → Type 0
+Tail d None = Unit {0}
+Tail d (Some n) = d ≡ n
+
+loops_at_start : (ds : Depths) (ss : Stages) (d : ℕ) (tail : Option ℕ) → Tail d tail → Here ds ss 0 0 (plain 0) → Loops ds ss 0 0 d 0 0 tail
+loops_at_start ds ss d None t h = tt
+loops_at_start ds ss d (Some n) t h = (omega (arith, t), h)
+
+abbrev body : ℕ → List PlainInstr → PlainBody
 body n is = record { locals = n; instrs = is }
 
-body_right : (ks : List Value) (t : PlainThread) (k : ℕ) → SoundTree false 0 None t.body → At ks k (constants_of t.body) →
-    IsBodyOf ks (body_at t k) t × WellTypedBody ks (body_at t k) (max 0 (top t.body 0)) × (numbers_in (body_at t k).instrs ≡ range_with_len k (length (constants_of t.body)))
-unfolding body
-body_right ks t k p a =
-    let b = body_at t k in
-    let hs = state 0 (plain 0) ∷ afters t.body 0 0 in
-    let x : Setting = record { constants = ks; body = b; most = max 0 (top t.body 0); depths = depths_of hs; stages = stages_of hs } in
+-- the body of a tree
+pub record IsRight (fs : Functions) (owner : Owner) (callable : ℕ) (inside : Bool) (cs : List Value) (t : Tree) (d : ℕ) (span : Span) (k : ℕ) : Type 0 where
+  pub code : body (max d (stored t d)) (plain_instrs fs.parameters cs (made_at d t (ending owner) span k).instrs (made_at d t (ending owner) span k).spans) ≡ body (locals_in t d) (gen t d 0 0 0 ++ plain_ending owner ∷ [])
+  pub as_many : length (made_at d t (ending owner) span k).spans ≡ length (made_at d t (ending owner) span k).instrs
+  pub typed : WellTypedBody fs owner callable inside cs (made_at d t (ending owner) span k) (max 0 (top t 0))
+  pub numbers : numbers_in (made_at d t (ending owner) span k).instrs ≡ range_with_len k (length (constants_of t))
+
+tree_right : (fs : Functions) (owner : Owner) (callable : ℕ) (inside : Bool) (cs : List Value) (ks : List Known) → Tells fs callable ks → (zone : Zone) → Nested inside zone 0 → (t : Tree) (d : ℕ) (tail : Option ℕ) → Tail d tail → SoundTree ks zone d tail t → (span : Span) (k : ℕ) → At cs k (constants_of t) → IsRight fs owner callable inside cs t d span k
+tree_right fs owner callable inside cs ks told zone j t d tail w p span k a =
+    let b = made_at d t (ending owner) span k in
+    let hs = state 0 (plain 0) ∷ afters t 0 0 in
+    let x : Setting = record { functions = fs; owner = owner; callable = callable; inside = inside; constants = cs; body = b; most = max 0 (top t 0); depths = depths_of hs; stages = stages_of hs } in
     let o = tables_on hs in
-    let s = tree_segment x t.body false 0 0 k 0 0 0 0 None refl p a (omega arith) (omega arith) (omega arith) (omega arith) o.0 o.1 tt in
-    let is = instrs_of t.body 0 0 0 0 k in
-    let same : length x.depths ≡ length b.instrs = omega (arith, depths_length hs, s.places, length-append is (Halt ∷ [])) in
-    let alike : length x.stages ≡ length b.instrs = omega (arith, stages_length hs, s.places, length-append is (Halt ∷ [])) in
-    let stand = stand_append x.most x.depths x.stages 0 is (Halt ∷ []) s.stand (((1, s.leaves.0, s.high, refl), (plain 0, s.leaves.1, refl)), tt) in
-    let l : max 0 (stored t.body 0) ≡ locals_in t.body 0 = sym (locals_stored t.body false 0 None p) in
-    let code : plain_instrs ks (is ++ Halt ∷ []) (spans_of t.body ++ t.span ∷ []) ≡ gen t.body 0 0 0 0 ++ machine.Halt ∷ [] =
-    plain_append ks is (Halt ∷ []) (spans_of t.body) (t.span ∷ []) s.as_many ∙ ap (λ x. x ++ machine.Halt ∷ []) s.seen in (
+    let s = tree_segment x ks told t zone 0 d k 0 0 0 0 tail j p a (omega arith) (omega arith) (omega arith) (omega arith) o.0 o.1 (loops_at_start x.depths x.stages d tail w o.0) in
+    let is = instrs_of t d 0 0 0 k in
+    let last = ending owner ∷ [] in
+    let same : length x.depths ≡ length b.instrs = omega (arith, depths_length hs, s.places, length-append is last) in
+    let alike : length x.stages ≡ length b.instrs = omega (arith, stages_length hs, s.places, length-append is last) in
+    let stand = stand_append x 0 is last s.stand (((1, s.leaves.0, s.high, ending_fits owner fs.parameters x.depths x.most (0 + length is)), (plain 0, s.leaves.1, ending_stage owner fs inside x.stages (0 + length is))), tt) in
+    let code = plain_append fs.parameters cs is last (spans_of t) (span ∷ []) s.as_many ∙ ap (λ l. l ++ plain_instr fs.parameters cs (ending owner) span ∷ []) s.seen ∙ ap (λ i. gen t d 0 0 0 ++ i ∷ []) (ending_seen owner fs.parameters cs span) in
+    record {
+      code = ap (λ n. body n (plain_instrs fs.parameters cs b.instrs b.spans)) (sym (locals_stored t ks zone d tail p)) ∙ ap (λ l. body (locals_in t d) l) code;
+      as_many = omega (arith, length-append (spans_of t) (span ∷ []), length-append is last, s.as_many);
+      typed = stand_well_typed x same alike o.0 stand (lawful_append callable cs b is last (s.lawful same) (ending_lawful owner callable cs b, tt));
+      numbers = numbers_append is last ∙ ap (λ l. numbers_in is ++ l) (ending_numbers owner) ∙ append-nil (numbers_in is) ∙ s.numbers;
+    }
+
+-- where a function's body stands: in a thread, unless it is for transactions alone
+abbrev stands_in : Bool → Zone
+stands_in true = in_function
+stands_in false = in_thread
+
+function_stands : (ks : List Known) (f : PlainFunction) (inside : Bool) → inside_in ks f.body ≡ inside → SoundFunction ks f → Nested inside (stands_in inside) 0 × SoundTree ks (stands_in inside) f.parameters (Some f.parameters) f.body
+function_stands ks f true e p = ((refl, refl), p.1)
+function_stands ks f false e p = (refl, thread_sound ks f.body f.parameters (Some f.parameters) p.1 e)
+
+function_right : (fs : Functions) (callable : ℕ) (cs : List Value) (ks : List Known) → Tells fs callable ks → (f : PlainFunction) → SoundFunction ks f → (k : ℕ) → At cs k (constants_of f.body) → IsRight fs a_function callable (inside_in ks f.body) cs f.body f.parameters f.span k
+function_right fs callable cs ks told f p k a =
+    let s = function_stands ks f (inside_in ks f.body) refl p in
+    tree_right fs a_function callable (inside_in ks f.body) cs ks told (stands_in (inside_in ks f.body)) s.0 f.body f.parameters (Some f.parameters) refl s.1 f.span k a
+
+thread_right : (fs : Functions) (callable : ℕ) (cs : List Value) (ks : List Known) → Tells fs callable ks → (t : PlainThread) → SoundTree ks in_thread 0 None t.body → (k : ℕ) → At cs k (constants_of t.body) → IsRight fs a_thread callable false cs t.body 0 t.span k
+thread_right fs callable cs ks told t p k a = tree_right fs a_thread callable false cs ks told in_thread refl t.body 0 None tt p t.span k a
+
+-- of each function, one thing that is known of it
+abbrev pub known_map : {A : Type 0} → (Known → A) → List Known → List PlainFunction → List A
+known_map g ks [] = []
+known_map g ks (f ∷ fs) = g (known_of ks f) ∷ known_map g (ks ++ known_of ks f ∷ []) fs
+
+abbrev pub is_for_transactions : Known → Bool
+is_for_transactions k = k.inside
+
+abbrev pub takes_many : Known → ℕ
+takes_many k = k.parameters
+
+map_append : {A : Type 0} (g : Known → A) (ks ls : List Known) → map g (ks ++ ls) ≡ map g ks ++ map g ls
+map_append g [] ls = refl
+map_append g (k ∷ ks) ls = ap (λ l. g k ∷ l) (map_append g ks ls)
+
+map_known : {A : Type 0} (g : Known → A) (ks : List Known) (fs : List PlainFunction) → map g (known_from ks fs) ≡ map g ks ++ known_map g ks fs
+map_known g ks [] = sym (append-nil (map g ks))
+map_known g ks (f ∷ fs) =
+    map_known g (ks ++ known_of ks f ∷ []) fs ∙ ap (λ l. l ++ known_map g (ks ++ known_of ks f ∷ []) fs) (map_append g ks (known_of ks f ∷ [])) ∙ append_assoc (map g ks) (g (known_of ks f) ∷ []) (known_map g (ks ++ known_of ks f ∷ []) fs)
+
+nth_map : {A : Type 0} (g : Known → A) (ks : List Known) (f : ℕ) (k : Known) → nth ks f ≡ Some k → nth (map g ks) f ≡ Some (g k)
+nth_map g [] f k e = absurd (subst IsThere (sym e) tt)
+nth_map g (l ∷ ks) zero k e = let same : l ≡ k = cc in ap (λ x. Some (g x)) same
+nth_map g (l ∷ ks) (suc f) k e = nth_map g ks f k e
+
+-- what is known tells of itself
+told_of : (all ks : List Known) (callable : ℕ) → AreLawful ks → ((f : ℕ) (k : Known) → nth ks f ≡ Some k → (f < callable) × (nth all f ≡ Some k)) → Tells (record { parameters = map takes_many all; inside = map is_for_transactions all }) callable ks
+told_of all ks callable w h = λ f k e. let r = h f k e in (r.0, nth_map takes_many all f k r.1, nth_map is_for_transactions all f k r.1, λ p. ((w f k e).1 p).0)
+
+-- one more function is known
+pub lawful_more : (ks : List Known) → AreLawful ks → (f : PlainFunction) → SoundFunction ks f → AreLawful (ks ++ known_of ks f ∷ [])
+lawful_more ks w f p =
+    at_end (λ k. (k.parameters ≤ 20) × (k.pure ≡ true → (k.inside ≡ false) × (k.outside ≡ false))) ks (known_of ks f) w (p.0, λ q. free_tree ks (λ g k e. (w g k e).1) f.body q)
+
+pub lawful_from : (ks : List Known) → AreLawful ks → (fs : List PlainFunction) → SoundFunctions ks fs → AreLawful (known_from ks fs)
+lawful_from ks w [] p = w
+lawful_from ks w (f ∷ fs) p = lawful_from (ks ++ known_of ks f ∷ []) (lawful_more ks w f p.0) fs p.1
+
+pub lawful_none : AreLawful []
+lawful_none f k e = absurd (subst IsThere (sym e) tt)
+
+-- a function's body has a span for each instruction
+pub function_as_many : (f : PlainFunction) (cs : List Value) (ks : List Known) → AreLawful ks → SoundFunction ks f → length (made_at f.parameters f.body Return f.span (length cs)).spans ≡ length (made_at f.parameters f.body Return f.span (length cs)).instrs
+function_as_many f cs ks w p =
+    (function_right (record { parameters = map takes_many ks; inside = map is_for_transactions ks }) (length ks) (cs ++ (constants_of f.body ++ [])) ks (told_of ks ks (length ks) w (λ g k e. (nth_below ks g k e, e))) f p (length cs) (at_middle cs (constants_of f.body) [])).as_many
+
+pub thread_as_many : (t : PlainThread) (cs : List Value) (ks : List Known) → AreLawful ks → SoundTree ks in_thread 0 None t.body → length (made_at 0 t.body Halt t.span (length cs)).spans ≡ length (made_at 0 t.body Halt t.span (length cs)).instrs
+thread_as_many t cs ks w p =
+    (thread_right (record { parameters = map takes_many ks; inside = map is_for_transactions ks }) (length ks) (cs ++ (constants_of t.body ++ [])) ks (told_of ks ks (length ks) w (λ g k e. (nth_below ks g k e, e))) t p (length cs) (at_middle cs (constants_of t.body) [])).as_many
+
+-- what is right of functions, or of threads
+pub record AreRight (P T : Type 0) (bodies : List CodeBody) (k n : ℕ) : Type 0 where
+  pub are : P
+  pub typed : T
+  pub numbers : numbers_in_all bodies ≡ range_with_len k n
+
+numbers_more : (cs ds : List Value) (is : List Instr) (bs : List CodeBody) (k : ℕ) → numbers_in is ≡ range_with_len k (length cs) → numbers_in_all bs ≡ range_with_len (k + length cs) (length ds) → numbers_in is ++ numbers_in_all bs ≡ range_with_len k (length (cs ++ ds))
+numbers_more cs ds is bs k e f =
+    ap (λ x. x ++ numbers_in_all bs) e ∙ ap (λ x. range_with_len k (length cs) ++ x) f ∙ range_append k (length cs) (length ds) ∙ ap (λ n. range_with_len k n) (sym (length-append cs ds))
+
+-- the functions from one on, where those before it are known
+functions_right : (all : List Known) (cs : List Value) (fs : List PlainFunction) (ks : List Known) (n k : ℕ) → AreLawful ks → known_from ks fs ≡ all → n ≡ length ks → SoundFunctions ks fs → At cs k (constants_of_functions fs) →
+    AreRight (AreFunctionsOf (map takes_many all) cs (functions_from fs k) fs) (WellTypedFunctions (record { parameters = map takes_many all; inside = map is_for_transactions all }) n cs (functions_from fs k) (known_map is_for_transactions ks fs) (function_rooms fs)) (functions_from fs k) k (length (constants_of_functions fs))
+functions_right all cs [] ks n k w e m p a = record { are = tt; typed = (refl, refl); numbers = refl }
+functions_right all cs (f ∷ fs) ks n k w e m p a =
+    let told : Tells (record { parameters = map takes_many all; inside = map is_for_transactions all }) n ks =
+    told_of all ks n w (λ g l q. (omega (arith, m, nth_below ks g l q), subst (λ x. nth x g ≡ Some l) e (known_front ks (f ∷ fs) g l q))) in
+    let first = function_right (record { parameters = map takes_many all; inside = map is_for_transactions all }) n cs ks told f p.0 k (at_first cs k (constants_of f.body) (constants_of_functions fs) a) in
+    let rest = functions_right all cs fs (ks ++ known_of ks f ∷ []) (suc n) (k + length (constants_of f.body)) (lawful_more ks w f p.0) e (omega (arith, m, length-append ks (known_of ks f ∷ []))) p.1 (at_rest cs k (constants_of f.body) (constants_of_functions fs) a) in
+    record {
+      are = (record { parameters = refl; code = first.code; spans = refl; as_many = first.as_many }, rest.are);
+      typed = (omega arith, first.typed, rest.typed);
+      numbers = numbers_more (constants_of f.body) (constants_of_functions fs) (made_at f.parameters f.body Return f.span k).instrs (functions_from fs (k + length (constants_of f.body))) k first.numbers rest.numbers;
+    }
+
+threads_right : (fs : Functions) (cs : List Value) (ks : List Known) → Tells fs (length fs.parameters) ks → (ts : List PlainThread) (k : ℕ) → SoundThreads ks ts → At cs k (constants_of_threads ts) →
+    AreRight (AreBodiesOf fs.parameters cs (threads_from ts k) ts) (WellTypedThreads fs cs (threads_from ts k) (thread_rooms ts)) (threads_from ts k) k (length (constants_of_threads ts))
+threads_right fs cs ks told [] k p a = record { are = tt; typed = refl; numbers = refl }
+threads_right fs cs ks told (t ∷ ts) k p a =
+    let first = thread_right fs (length fs.parameters) cs ks told t p.0.0 k (at_first cs k (constants_of t.body) (constants_of_threads ts) a) in
+    let rest = threads_right fs cs ks told ts (k + length (constants_of t.body)) p.1 (at_rest cs k (constants_of t.body) (constants_of_threads ts) a) in
+    record {
+      are = (record { parameters = refl; code = first.code; spans = refl; as_many = first.as_many }, rest.are);
+      typed = (first.typed, rest.typed);
+      numbers = numbers_more (constants_of t.body) (constants_of_threads ts) (made_at 0 t.body Halt t.span k).instrs (threads_from ts (k + length (constants_of t.body))) k first.numbers rest.numbers;
+    }
+
+-- the code of functions and threads
+abbrev pub code_with : List CellDefinition → List Value → List CodeBody → List CodeBody → PlainCode
+code_with zs cs fs ts = record { cells = zs; constants = cs; functions = fs; threads = ts }
+
+abbrev pub code_from : List CellDefinition → List PlainFunction → List PlainThread → PlainCode
+code_from zs fs ts = code_with zs (constants_of_functions fs ++ constants_of_threads ts) (functions_from fs 0) (threads_from ts (length (constants_of_functions fs)))
+
+-- how many parameters each function has is known
+parameters_known : (fs : List PlainFunction) (ks : List Known) (k : ℕ) → known_map takes_many ks fs ≡ parameters_of (functions_from fs k)
+parameters_known [] ks k = refl
+parameters_known (f ∷ fs) ks k = ap (λ l. f.parameters ∷ l) (parameters_known fs (ks ++ known_of ks f ∷ []) (k + length (constants_of f.body)))
+
+all_parameters : (fs : List PlainFunction) → map takes_many (known fs) ≡ parameters_of (functions_from fs 0)
+all_parameters fs = map_known takes_many [] fs ∙ parameters_known fs [] 0
+
+all_inside : (fs : List PlainFunction) → map is_for_transactions (known fs) ≡ known_map is_for_transactions [] fs
+all_inside fs = map_known is_for_transactions [] fs
+
+map_length : {A : Type 0} (g : Known → A) (ks : List Known) → length (map g ks) ≡ length ks
+map_length g [] = refl
+map_length g (k ∷ ks) = ap suc (map_length g ks)
+
+abbrev tells_of : List ℕ → List Bool → Functions
+tells_of ps is = record { parameters = ps; inside = is }
+
+module _ (zs : List CellDefinition) (fs : List PlainFunction) (ts : List PlainThread) (sound : SoundFunctions [] fs) (threads : SoundThreads (known fs) ts) where
+  all_constants : List Value
+  all_constants = constants_of_functions fs ++ constants_of_threads ts
+
+  functions_are : AreRight (AreFunctionsOf (map takes_many (known fs)) all_constants (functions_from fs 0) fs) (WellTypedFunctions (record { parameters = map takes_many (known fs); inside = map is_for_transactions (known fs) }) 0 all_constants (functions_from fs 0) (known_map is_for_transactions [] fs) (function_rooms fs)) (functions_from fs 0) 0 (length (constants_of_functions fs))
+  unfolding all_constants
+  functions_are = functions_right (known fs) all_constants fs [] 0 0 lawful_none refl refl sound (at_middle [] (constants_of_functions fs) (constants_of_threads ts))
+
+  threads_are : AreRight (AreBodiesOf (map takes_many (known fs)) all_constants (threads_from ts (length (constants_of_functions fs))) ts) (WellTypedThreads (record { parameters = map takes_many (known fs); inside = map is_for_transactions (known fs) }) all_constants (threads_from ts (length (constants_of_functions fs))) (thread_rooms ts)) (threads_from ts (length (constants_of_functions fs))) (length (constants_of_functions fs)) (length (constants_of_threads ts))
+  unfolding all_constants
+  threads_are =
+      let all = known fs in
+      let told = told_of all all (length (map takes_many all)) (lawful_from [] lawful_none fs sound) (λ g k e. (omega (arith, nth_below all g k e, map_length takes_many all), e)) in
+      threads_right (record { parameters = map takes_many all; inside = map is_for_transactions all }) all_constants all told ts (length (constants_of_functions fs)) threads
+      (subst (λ l. At l (length (constants_of_functions fs)) (constants_of_threads ts)) (ap (λ l. constants_of_functions fs ++ l) (append-nil (constants_of_threads ts))) (at_middle (constants_of_functions fs) (constants_of_threads ts) []))
+
+  pub code_right : (p : PlainProgram) → p.cells ≡ zs → p.functions ≡ fs → p.threads ≡ ts → IsCodeOf (code_from zs fs ts) p
+  unfolding all_constants
+  code_right p a b c =
+      let n = length (constants_of_functions fs) in
+      let m = length (constants_of_threads ts) in
+      let from : n ≡ 0 + n = omega arith in
+      let q : IsCodeOf (code_from zs fs ts) (record { functions = fs; cells = zs; threads = ts }) = record {
+        cells = refl;
+        functions = subst (λ l. AreFunctionsOf l all_constants (functions_from fs 0) fs) (all_parameters fs) functions_are.are;
+        threads = subst (λ l. AreBodiesOf l all_constants (threads_from ts n) ts) (all_parameters fs) threads_are.are;
+        constants = refl;
+        entries = ap (λ l. l ++ numbers_in_all (threads_from ts n)) functions_are.numbers
+            ∙ ap (λ l. range_with_len 0 n ++ l) threads_are.numbers
+            ∙ ap (λ k. range_with_len 0 n ++ range_with_len k m) from
+            ∙ range_append 0 n m
+            ∙ ap (λ k. range_with_len 0 k) (sym (length-append (constants_of_functions fs) (constants_of_threads ts)));
+      } in
+      subst (λ x. IsCodeOf (code_from zs fs ts) (record { functions = p.functions; cells = p.cells; threads = x })) (sym c)
+      (subst (λ x. IsCodeOf (code_from zs fs ts) (record { functions = p.functions; cells = x; threads = ts })) (sym a)
+      (subst (λ x. IsCodeOf (code_from zs fs ts) (record { functions = x; cells = zs; threads = ts })) (sym b) q))
+
+  pub code_well_typed : WellTyped (code_from zs fs ts) (function_rooms fs) (thread_rooms ts)
+  unfolding all_constants
+  code_well_typed =
+      let n = length (constants_of_functions fs) in
+      let is = known_map is_for_transactions [] fs in
       record {
-        code = ap (λ n. body n (plain_instrs ks (is ++ Halt ∷ []) (spans_of t.body ++ t.span ∷ []))) l ∙ ap (λ x. body (locals_in t.body 0) x) code;
-        spans = refl;
-        as_many = omega (arith, length-append (spans_of t.body) (t.span ∷ []), length-append is (Halt ∷ []), s.as_many);
-      },
-      stand_well_typed x same alike o.0 stand (lawful_append ks b is (Halt ∷ []) (s.lawful same) (tt, tt)),
-      numbers_append is (Halt ∷ []) ∙ append-nil (numbers_in is) ∙ s.numbers,
-    )
+        insides = is;
+        functions = subst (λ l. WellTypedFunctions (tells_of (parameters_of (functions_from fs 0)) l) 0 all_constants (functions_from fs 0) is (function_rooms fs)) (all_inside fs)
+            (subst (λ l. WellTypedFunctions (tells_of l (map is_for_transactions (known fs))) 0 all_constants (functions_from fs 0) is (function_rooms fs)) (all_parameters fs) functions_are.typed);
+        threads = subst (λ l. WellTypedThreads (tells_of (parameters_of (functions_from fs 0)) l) all_constants (threads_from ts n) (thread_rooms ts)) (all_inside fs)
+            (subst (λ l. WellTypedThreads (tells_of l (map is_for_transactions (known fs))) all_constants (threads_from ts n) (thread_rooms ts)) (all_parameters fs) threads_are.typed);
+      }
 
-pub bodies_right : (ks : List Value) (ts : List PlainThread) (k : ℕ) → SoundThreads ts → At ks k (constants_of_threads ts) →
-    AreBodiesOf ks (bodies_from ts k) ts × WellTypedBodies ks (bodies_from ts k) (rooms_of ts) × (numbers_in_all (bodies_from ts k) ≡ range_with_len k (length (constants_of_threads ts)))
-bodies_right ks [] k p a = (tt, refl, refl)
-bodies_right ks (t ∷ ts) k p a =
-    let first = body_right ks t k p.0.0 (at_first ks k (constants_of t.body) (constants_of_threads ts) a) in
-    let rest = bodies_right ks ts (k + length (constants_of t.body)) p.1 (at_rest ks k (constants_of t.body) (constants_of_threads ts) a) in
-    let numbers : numbers_in_all (bodies_from (t ∷ ts) k) ≡ range_with_len k (length (constants_of_threads (t ∷ ts))) =
-    ap (λ x. x ++ numbers_in_all (bodies_from ts (k + length (constants_of t.body)))) first.2
-    ∙ ap (λ x. range_with_len k (length (constants_of t.body)) ++ x) rest.2
-    ∙ range_append k (length (constants_of t.body)) (length (constants_of_threads ts))
-    ∙ ap (λ n. range_with_len k n) (sym (length-append (constants_of t.body) (constants_of_threads ts))) in
-    ((first.0, rest.0), (first.1, rest.1), numbers)
+-- the code of all, from its parts
+pub code_is : (ys zs : List CellDefinition) (cs ds : List Value) (fs gs ts us : List CodeBody) → ys ≡ zs → cs ≡ ds → fs ≡ gs → ts ≡ us → code_with ys cs fs ts ≡ code_with zs ds gs us
+code_is ys zs cs ds fs gs ts us a b c d = ap (λ l. code_with l cs fs ts) a ∙ ap (λ l. code_with zs l fs ts) b ∙ ap (λ l. code_with zs ds l ts) c ∙ ap (λ l. code_with zs ds gs l) d
 
-abbrev pub code_of_threads : List CellDefinition → List PlainThread → PlainCode
-code_of_threads zs ts = record { cells = zs; constants = constants_of_threads ts; threads = bodies_from ts 0 }
+-- what is made of a body
+abbrev pub made_body : ℕ → Emission → CodeBody
+made_body d e = record { parameters = d; locals = e.locals; instrs = e.instrs; spans = e.spans }
 
-at_whole : (vs : List Value) → At vs 0 vs
-at_whole vs = subst (λ l. At l 0 vs) (append-nil vs) (at_middle [] vs [])
+module _ (d : ℕ) (t : Tree) (last : Instr) (span : Span) (cs : List Value) where
+  pub finished_body : made_body d (finished d t last span cs) ≡ made_at d t last span (length cs)
+  unfolding finished emits
+  finished_body = refl
 
-pub code_right : (zs : List CellDefinition) (ts : List Thread) → SoundThreads (threads_of ts) → IsCodeOf (code_of_threads zs (threads_of ts)) (program_of (record { cells = zs; threads = ts }))
-code_right zs ts p =
-    let r = bodies_right (constants_of_threads (threads_of ts)) (threads_of ts) 0 p (at_whole (constants_of_threads (threads_of ts))) in
-    record { cells = refl; threads = r.0; constants = refl; entries = r.2 }
+  pub finished_constants : (finished d t last span cs).constants ≡ cs ++ constants_of t
+  unfolding finished emits
+  finished_constants = refl
 
-pub code_well_typed : (zs : List CellDefinition) (ts : List Thread) → SoundThreads (threads_of ts) → WellTyped (code_of_threads zs (threads_of ts)) (rooms_of (threads_of ts))
-code_well_typed zs ts p =
-    (bodies_right (constants_of_threads (threads_of ts)) (threads_of ts) 0 p (at_whole (constants_of_threads (threads_of ts)))).1
+  pub finished_room : (finished d t last span cs).room ≡ max 0 (top t 0)
+  unfolding finished emits
+  finished_room = refl
 
--- what is made of a thread
-pub finished_instrs : (t : PlainThread) (cs : List Value) → (finished t cs).instrs ≡ instrs_of t.body 0 0 0 0 (length cs) ++ Halt ∷ []
-unfolding finished emits
-finished_instrs t cs = refl
+  pub finished_spans : length (finished d t last span cs).spans ≡ length (made_at d t last span (length cs)).spans
+  unfolding finished emits
+  finished_spans = refl
 
-pub finished_spans : (t : PlainThread) (cs : List Value) → (finished t cs).spans ≡ spans_of t.body ++ t.span ∷ []
-unfolding finished emits
-finished_spans t cs = refl
+  pub finished_instrs : length (finished d t last span cs).instrs ≡ length (made_at d t last span (length cs)).instrs
+  unfolding finished emits
+  finished_instrs = refl
 
-pub finished_constants : (t : PlainThread) (cs : List Value) → (finished t cs).constants ≡ cs ++ constants_of t.body
-unfolding finished emits
-finished_constants t cs = refl
+-- no more constants come of functions than there are nodes
+pub functions_nodes : (fs : List PlainFunction) → length (constants_of_functions fs) ≤ nodes_of_functions fs
+functions_nodes [] = omega arith
+functions_nodes (f ∷ fs) = omega (arith, length-append (constants_of f.body) (constants_of_functions fs), constants_nodes f.body, functions_nodes fs)
 
-pub finished_locals : (t : PlainThread) (cs : List Value) → (finished t cs).locals ≡ max 0 (stored t.body 0)
-unfolding finished emits
-finished_locals t cs = refl
+-- a step of a loop over functions
+pub functions_left : (fs : List Function) (i : ℕ) (f : Function) → i < length fs → f ≡ get_or fs i f → functions_of (drop i fs) ≡ function_of f ∷ functions_of (drop (i + 1) fs)
+functions_left fs i f l e =
+    let g : suc i ≡ i + 1 = omega arith in
+    ap functions_of (drop-cons fs i f l) ∙ ap (λ x. function_of x ∷ functions_of (drop (suc i) fs)) (sym e) ∙ ap (λ k. function_of f ∷ functions_of (drop k fs)) g
 
-pub finished_room : (t : PlainThread) (cs : List Value) → (finished t cs).room ≡ max 0 (top t.body 0)
-unfolding finished emits
-finished_room t cs = refl
+pub no_functions_left : (fs : List Function) (i : ℕ) → length fs ≤ i → functions_of (drop i fs) ≡ []
+no_functions_left fs i l = ap functions_of (drop_all i fs l)
 
 -- a step of a loop over threads
 pub threads_left : (ts : List Thread) (i : ℕ) (t : Thread) → i < length ts → t ≡ get_or ts i t → threads_of (drop i ts) ≡ thread_of t ∷ threads_of (drop (i + 1) ts)
@@ -122,27 +331,6 @@ threads_left ts i t l e =
 pub no_threads_left : (ts : List Thread) (i : ℕ) → length ts ≤ i → threads_of (drop i ts) ≡ []
 no_threads_left ts i l = ap threads_of (drop_all i ts l)
 
--- nothing but constants, where two lists are empty
-pub fresh_is : (is : List Instr) (ss : List Span) (cs : List Value) → is ≡ [] → ss ≡ [] → make is ss cs 0 0 ≡ fresh cs
-fresh_is is ss cs e f = ap (λ l. make l ss cs 0 0) e ∙ ap (λ l. make [] l cs 0 0) f
-
--- the body that was made
-abbrev pub made_body : Emission → CodeBody
-made_body e = record { locals = e.locals; instrs = e.instrs; spans = e.spans }
-
-pub finished_body : (t : PlainThread) (cs : List Value) → made_body (finished t cs) ≡ body_at t (length cs)
-unfolding finished emits
-finished_body t cs = refl
-
-pub finished_as_many : (t : PlainThread) (cs : List Value) → SoundTree false 0 None t.body → length (finished t cs).spans ≡ length (finished t cs).instrs
-unfolding finished emits
-finished_as_many t cs p =
-    (body_right (cs ++ (constants_of t.body ++ [])) t (length cs) p (at_middle cs (constants_of t.body) [])).0.as_many
-
-code_with : List CellDefinition → List Value → List CodeBody → PlainCode
-code_with zs cs bs = record { cells = zs; constants = cs; threads = bs }
-
--- the code of all threads, from the cells, the constants and the bodies at the end
-pub code_is : (ys zs : List CellDefinition) (ts : List PlainThread) (cs : List Value) (bs : List CodeBody) → ys ≡ zs → cs ≡ constants_of_threads ts → bs ≡ bodies_from ts 0 → record { cells = ys; constants = cs; threads = bs } ≡ code_of_threads zs ts
-unfolding code_with
-code_is ys zs ts cs bs d e f = ap (λ l. code_with l cs bs) d ∙ ap (λ l. code_with zs l bs) e ∙ ap (λ l. code_with zs (constants_of_threads ts) l) f
+-- nothing but constants and locals, where two lists are empty
+pub fresh_is : (is : List Instr) (ss : List Span) (d : ℕ) (cs : List Value) → is ≡ [] → ss ≡ [] → make is ss cs d 0 ≡ fresh d cs
+fresh_is is ss d cs e f = ap (λ l. make l ss cs d 0) e ∙ ap (λ l. make [] l cs d 0) f

@@ -1,22 +1,29 @@
 -- The code of a program follows it, since it is generated from its trees.
-use Rattle.std.proofs.Common.{◌≡◌, List, [], ◌∷◌, map, refl, sym, ap, ◌∙◌, subst}
-use Rattle.txs_tree.specs.Tree.{PlainThread, PlainProgram}
+use Rattle.std.proofs.Common.{◌≡◌, ℕ, List, [], ◌∷◌, map, refl, sym, ap, ◌∙◌, subst}
+use Rattle.txs_value.specs.declared.value.Value.{Value}
+use Rattle.txs_tree.specs.Tree.{PlainFunction, PlainThread, PlainProgram}
 use Rattle.txs_code.specs.Machine.{PlainBody, ThreadCode}
-use Rattle.txs_code.specs.PlainCode.{CodeBody, PlainCode, thread_code}
+use Rattle.txs_code.specs.PlainCode.{CodeBody, PlainCode, parameters_of, plain_bodies, thread_code}
 use Rattle.txs_follows.specs.FollowsAll.{FollowsAll, GeneratedFollows, source_of}
 use Rattle.txs_gen.specs.CodeFollows.{CodeFollows}
-use Rattle.txs_gen.specs.Gen.{body_code, functions_code, generated}
-use Rattle.txs_gen.specs.Generated.{AreBodiesOf, IsBodyOf}
+use Rattle.txs_gen.specs.Gen.{function_code, body_code, functions_code, generated}
+use Rattle.txs_gen.specs.Generated.{AreFunctionsOf, AreBodiesOf, IsBodyOf}
 use Rattle.txs_gen.proofs.Ends.{code_behaves}
 
 abbrev with_main : List PlainBody → PlainBody → ThreadCode
 with_main fs b = record { functions = fs; main = b }
 
-thread_is : (code : PlainCode) (p : PlainProgram) (b : CodeBody) (t : PlainThread) → p.functions ≡ [] → IsBodyOf code.constants b t → thread_code code b ≡ generated (source_of p t)
-thread_is code p b t e h =
-    ap (λ x. with_main [] x) h.code ∙ ap (λ fs. with_main (functions_code fs) (body_code t.body)) (sym e)
+functions_are : (ps : List ℕ) (cs : List Value) (bs : List CodeBody) (fs : List PlainFunction) → AreFunctionsOf ps cs bs fs → plain_bodies ps cs bs ≡ functions_code fs
+functions_are ps cs [] [] h = refl
+functions_are ps cs [] (f ∷ fs) h = absurd h
+functions_are ps cs (b ∷ bs) [] h = absurd h
+functions_are ps cs (b ∷ bs) (f ∷ fs) h = ap (λ x. x ∷ plain_bodies ps cs bs) h.0.code ∙ ap (λ l. function_code f ∷ l) (functions_are ps cs bs fs h.1)
 
-threads_are : (code : PlainCode) (p : PlainProgram) (bs : List CodeBody) (ts : List PlainThread) → p.functions ≡ [] → AreBodiesOf code.constants bs ts → map (λ b. thread_code code b) bs ≡ map (λ t. generated (source_of p t)) ts
+thread_is : (code : PlainCode) (p : PlainProgram) (b : CodeBody) (t : PlainThread) → AreFunctionsOf (parameters_of code.functions) code.constants code.functions p.functions → IsBodyOf (parameters_of code.functions) code.constants b t → thread_code code b ≡ generated (source_of p t)
+thread_is code p b t e h =
+    ap (λ x. with_main (plain_bodies (parameters_of code.functions) code.constants code.functions) x) h.code ∙ ap (λ fs. with_main fs (body_code t.body)) (functions_are (parameters_of code.functions) code.constants code.functions p.functions e)
+
+threads_are : (code : PlainCode) (p : PlainProgram) (bs : List CodeBody) (ts : List PlainThread) → AreFunctionsOf (parameters_of code.functions) code.constants code.functions p.functions → AreBodiesOf (parameters_of code.functions) code.constants bs ts → map (λ b. thread_code code b) bs ≡ map (λ t. generated (source_of p t)) ts
 threads_are code p [] [] e h = refl
 threads_are code p [] (t ∷ ts) e h = absurd h
 threads_are code p (b ∷ bs) [] e h = absurd h
@@ -25,4 +32,4 @@ threads_are code p (b ∷ bs) (t ∷ ts) e h =
 
 pub code_follows : GeneratedFollows → CodeFollows
 code_follows law code p sound h =
-    subst (λ l. FollowsAll l p) (sym (threads_are code p code.threads p.threads sound.no_functions h.threads)) (law generated code_behaves p sound)
+    subst (λ l. FollowsAll l p) (sym (threads_are code p code.threads p.threads h.functions h.threads)) (law generated code_behaves p sound)

@@ -16,7 +16,7 @@ use Rattle.txs_tree.specs.declared.node.Node.{Node}
 use Rattle.txs_code.specs.declared.instr.Instr.{Instr}
 use Rattle.txs_code.specs.declared.instr.Instr.TheVariants as instr
 use Rattle.txs_gen.specs.Generated.{copies, spans_of, spans_of_all, spans_of_let, spans_of_do, constants_of, constants_in}
-use Rattle.txs_gen.specs.Emission.{Emission, then_instrs, if_instrs, stores_from, callee_instrs, instrs_of, instrs_of_all, instrs_of_let, instrs_of_do, stored, stored_in, stored_let, top, top_in, top_args, emits, emits_all, emits_let, emits_do, emits_if, emits_loop, emits_dosync, emits_alter, emits_recur, with_instr, with_constant, with_room, with_locals, with_pop, with_stores, with_call, with_set, IsWithin, IsPlaced, IsPlacedDo}
+use Rattle.txs_gen.specs.Emission.{Emission, then_instrs, if_instrs, stores_from, callee_instrs, instrs_of, instrs_of_all, instrs_of_let, instrs_of_do, stored, stored_in, stored_let, top, top_in, top_args, emits, emits_all, emits_let, emits_do, emits_if, emits_loop, emits_dosync, emits_alter, emits_recur, with_instr, with_constant, with_room, with_locals, with_pop, with_stores, with_call, with_set, Place, IsWithin, IsPlaced, IsPlacedDo}
 use Rattle.txs_gen.specs.declared.emit.Around.{Around}
 
 abbrev pub make : List Instr → List Span → List Value → ℕ → ℕ → Emission
@@ -154,6 +154,12 @@ pub emits_core : (op : Op) (ts : Trees) (m : Mark) (at : Around) (e : Emission) 
 unfolding emits emits_all
 emits_core op ts m at e =
     same _ _ _ _ _ _ _ _ _ _ (append_assoc e.instrs (instrs_of_all ts at.depth at.base at.start (length e.instrs) (length e.constants)) (instr.Core op (count ts) ∷ [])) (append_assoc e.spans (spans_of_all ts) (m.span ∷ [])) refl refl refl
+
+pub emits_call : (f : ℕ) (ts : Trees) (m : Mark) (at : Around) (e : Emission) → with_instr (instr.Call f) m.span (with_room (at.height + 1) (emits_all ts at e)) ≡ emits (Call f ts m) at e
+unfolding emits emits_all
+emits_call f ts m at e =
+    let r : max (max e.room (top_args ts at.height)) (at.height + 1) ≡ max e.room (max (top_args ts at.height) (at.height + 1)) = omega arith in
+    same _ _ _ _ _ _ _ _ _ _ (append_assoc e.instrs (instrs_of_all ts at.depth at.base at.start (length e.instrs) (length e.constants)) (instr.Call f ∷ [])) (append_assoc e.spans (spans_of_all ts) (m.span ∷ [])) refl refl r
 
 pub emits_vector : (ts : Trees) (m : Mark) (at : Around) (e : Emission) → with_instr (instr.Vector (count ts)) m.span (with_room (at.height + 1) (emits_all ts at e)) ≡ emits (VectorOf ts m) at e
 unfolding emits emits_all
@@ -337,27 +343,27 @@ is_none_trees [] n e = sym (eq-eqb n 0 (sym e))
 is_none_trees (x ∷ ns) n e = sym (grind (arith, nat_tests))
 
 -- what is left of a do: nothing after the last item
-abbrev pub IsLeft : Bool → ℕ → Option ℕ → Trees → Type 0
-IsLeft inside d tail none = Unit {0}
-IsLeft inside d tail (more t ts) = SoundDo inside d tail (more t ts)
+abbrev pub IsLeft : Place → ℕ → Option ℕ → Trees → Type 0
+IsLeft p d tail none = Unit {0}
+IsLeft p d tail (more t ts) = SoundDo p.known p.zone d tail (more t ts)
 
 abbrev pub IsPlacedLeft : ℕ → ℕ → Trees → Type 0
-IsPlacedLeft d base ts = (inside : Bool) × (tail : Option ℕ) × IsWithin base tail d × IsLeft inside d tail ts
+IsPlacedLeft d base ts = (p : Place) × (tail : Option ℕ) × IsWithin base tail d × IsLeft p d tail ts
 
-pub left_of : (inside : Bool) (d : ℕ) (tail : Option ℕ) (ts : Trees) → SoundDo inside d tail ts → IsLeft inside d tail ts
-left_of inside d tail none p = absurd p
-left_of inside d tail (more t ts) p = p
+pub left_of : (p : Place) (d : ℕ) (tail : Option ℕ) (ts : Trees) → SoundDo p.known p.zone d tail ts → IsLeft p d tail ts
+left_of p d tail none q = absurd q
+left_of p d tail (more t ts) q = q
 
 pub left_placed : (d base : ℕ) (ts : Trees) → IsPlacedDo d base ts → IsPlacedLeft d base ts
 left_placed d base ts p = (p.0, p.1, p.2, left_of p.0 d p.1 ts p.3)
 
-pub left_first : (inside : Bool) (d base : ℕ) (tail : Option ℕ) (t : Tree) (ts : Trees) → IsWithin base tail d → SoundDo inside d tail (more t ts) → IsPlaced d base t
-left_first inside d base tail t none w p = (inside, tail, w, p)
-left_first inside d base tail t (more u ts) w p = (inside, None, tt, p.0)
+pub left_first : (p : Place) (d base : ℕ) (tail : Option ℕ) (t : Tree) (ts : Trees) → IsWithin base tail d → SoundDo p.known p.zone d tail (more t ts) → IsPlaced d base t
+left_first p d base tail t none w q = (p, tail, w, q)
+left_first p d base tail t (more u ts) w q = (p, None, tt, q.0)
 
-pub left_rest : (inside : Bool) (d : ℕ) (tail : Option ℕ) (t : Tree) (ts : Trees) → SoundDo inside d tail (more t ts) → IsLeft inside d tail ts
-left_rest inside d tail t none p = tt
-left_rest inside d tail t (more u ts) p = p.1
+pub left_rest : (p : Place) (d : ℕ) (tail : Option ℕ) (t : Tree) (ts : Trees) → SoundDo p.known p.zone d tail (more t ts) → IsLeft p d tail ts
+left_rest p d tail t none q = tt
+left_rest p d tail t (more u ts) q = q.1
 
 pub within_more : (base : ℕ) (tail : Option ℕ) (d n : ℕ) → d + n ≤ 200 → IsWithin base tail d → IsWithin base tail (d + n)
 within_more base None d n l w = tt
@@ -404,9 +410,9 @@ stores_length : (i n : ℕ) → length (stores_from i n) ≡ n
 stores_length i zero = refl
 stores_length i (suc n) = ap suc (stores_length i n)
 
-pub callee_few : (c : Callee) (n : ℕ) → SoundCallee c n → n ≤ 65535
-callee_few (CoreOp op) n p = p.1
-callee_few (Function f) n p = absurd p
+pub callee_few : (p : Place) (c : Callee) (n : ℕ) → SoundCallee p.known c (suc n) → n < 65535
+callee_few p (CoreOp op) n q = omega (arith, q.1)
+callee_few p (Function f) n q = omega (arith, q.arity, (p.lawful f q.function q.found).0)
 
 callee_length : (c : Callee) (n : ℕ) → length (callee_instrs c n) ≤ 1
 callee_length (CoreOp op) n = omega arith
@@ -445,7 +451,7 @@ mutual
       let js = stores_from base (count values) in
       omega (arith, length-append (instrs_of_all values d base start at k) (js ++ instr.Jump start ∷ []), length-append js (instr.Jump start ∷ []), stores_length base (count values), instrs_nodes_all values d base start at k)
   instrs_nodes (Core op args m) d base start at k = omega (arith, length-append (instrs_of_all args d base start at k) (instr.Core op (count args) ∷ []), instrs_nodes_all args d base start at k)
-  instrs_nodes (Call f args m) d base start at k = omega arith
+  instrs_nodes (Call f args m) d base start at k = omega (arith, length-append (instrs_of_all args d base start at k) (instr.Call f ∷ []), instrs_nodes_all args d base start at k)
   instrs_nodes (VectorOf items m) d base start at k = omega (arith, length-append (instrs_of_all items d base start at k) (instr.Vector (count items) ∷ []), instrs_nodes_all items d base start at k)
   instrs_nodes (Println args m) d base start at k = omega (arith, length-append (instrs_of_all args d base start at k) (instr.Print (count args) ∷ []), instrs_nodes_all args d base start at k)
   instrs_nodes (Dosync body m) d base start at k = omega (arith, length-append (instrs_of body d base start (at + 1) k) (instr.TxEnd ∷ []), instrs_nodes body d base start (at + 1) k)
@@ -511,9 +517,9 @@ unfolding emits_let
 emits_let_instrs ts span at e =
     omega (arith, length-append e.instrs (instrs_of_let ts at.depth at.base at.start (length e.instrs) (length e.constants)), instrs_nodes_let ts at.depth at.base at.start (length e.instrs) (length e.constants))
 
-pub let_locals : (ts : Trees) (inside : Bool) (d : ℕ) → SoundLet inside d ts → d + count ts ≤ 200
-let_locals none inside d p = omega (arith, p)
-let_locals (more t ts) inside d p = omega (arith, let_locals ts inside (d + 1) p.1)
+pub let_locals : (ts : Trees) (p : Place) (d : ℕ) → SoundLet p.known p.zone d ts → d + count ts ≤ 200
+let_locals none p d q = omega (arith, q)
+let_locals (more t ts) p d q = omega (arith, let_locals ts p (d + 1) q.1)
 
 -- a step of a loop over nodes: what is left is the item and what is left after it
 pub left_is : (ns : List Node) (i : ℕ) (n : Node) → i < length ns → n ≡ get_or ns i n → trees_of (drop i ns) ≡ more (tree_of n) (trees_of (drop (i + 1) ns))

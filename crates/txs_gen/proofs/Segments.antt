@@ -1,15 +1,15 @@
 -- A run of instructions: what the machine sees of it, its constants, and its depths.
-use Rattle.std.proofs.Common.{◌≡◌, ℕ, zero, suc, ◌+◌, ◌<◌, ◌≤◌, List, [], ◌∷◌, ◌++◌, length, refl, sym, ap, ◌∙◌, subst, length-append, arith, Option, Some, slice_index_or}
+use Rattle.std.proofs.Common.{◌≡◌, ℕ, zero, suc, ◌+◌, ◌<◌, ◌≤◌, Bool, List, [], ◌∷◌, ◌++◌, length, refl, sym, ap, ◌∙◌, subst, length-append, arith, Option, Some, slice_index_or}
 use Rattle.std.specs.List.{range_with_len}
 use Rattle.txs_value.specs.Places.{nth}
 use Rattle.txs_value.specs.declared.fault.Span.{Span}
 use Rattle.txs_value.specs.declared.value.Value.{Value}
 use Rattle.txs_value.specs.declared.value.Value.TheVariants.{Nil}
 use Rattle.txs_code.specs.declared.instr.Instr.{Instr}
-use Rattle.txs_code.specs.declared.instr.Instr.TheVariants.{Const, Local, Store, Pop, Jump, JumpFalse, Core, Vector, Print, Deref, TxBegin, TxEnd, AlterOpen, AlterClose, Halt}
+use Rattle.txs_code.specs.declared.instr.Instr.TheVariants.{Const, Local, Store, Pop, Jump, JumpFalse, Core, Call, Return, Vector, Print, Deref, TxBegin, TxEnd, AlterOpen, AlterClose, Halt}
 use Rattle.txs_code.specs.Machine.{PlainInstr}
 use Rattle.txs_code.specs.PlainCode.{CodeBody, plain_instr, plain_instrs}
-use Rattle.txs_code.specs.WellTyped.{Depths, depth_at, Stage, plain, Stages, stage_at, IsLawful, Fits, FitsStage, WellTypedBody}
+use Rattle.txs_code.specs.WellTyped.{Functions, Owner, Depths, depth_at, Stage, plain, Stages, stage_at, IsLawful, Fits, FitsStage, WellTypedBody}
 use Rattle.txs_gen.specs.Gen.{then_code}
 use Rattle.txs_gen.specs.Generated.{numbers_in}
 
@@ -109,56 +109,69 @@ pub tables_on : (hs : List State) → On (depths_of hs) (stages_of hs) 0 hs
 tables_on [] = tt
 tables_on (h ∷ hs) = ((refl, refl), on_cons (Some h.depth) (Some h.stage) (depths_of hs) (stages_of hs) 0 hs (tables_on hs))
 
+-- what is known of the functions, whose body the instructions are of, how many functions it may call, whether it runs in
+-- transactions alone, the constants, the body, the room for its stack, and tables for it
+pub record Setting : Type 0 where
+  pub functions : Functions
+  pub owner : Owner
+  pub callable : ℕ
+  pub inside : Bool
+  pub constants : List Value
+  pub body : CodeBody
+  pub most : ℕ
+  pub depths : Depths
+  pub stages : Stages
+
 -- the instruction at this place fits the tables
-abbrev pub StandsAt : ℕ → Depths → Stages → ℕ → Instr → Type 0
-StandsAt most ds zs at i =
-    ((d : ℕ) × (depth_at ds at ≡ Some d) × (d ≤ most) × Fits ds most at d i) × ((s : Stage) × (stage_at zs at ≡ Some s) × FitsStage zs at s i)
+abbrev pub StandsAt : Setting → ℕ → Instr → Type 0
+StandsAt x at i =
+    ((d : ℕ) × (depth_at x.depths at ≡ Some d) × (d ≤ x.most) × Fits x.owner x.functions.parameters x.depths x.most at d i) × ((s : Stage) × (stage_at x.stages at ≡ Some s) × FitsStage x.functions x.inside x.stages at s i)
 
 -- the instructions from this place on fit the tables
-abbrev pub Stand : ℕ → Depths → Stages → ℕ → List Instr → Type 0
-Stand most ds zs at [] = Unit {0}
-Stand most ds zs at (i ∷ is) = StandsAt most ds zs at i × Stand most ds zs (at + 1) is
+abbrev pub Stand : Setting → ℕ → List Instr → Type 0
+Stand x at [] = Unit {0}
+Stand x at (i ∷ is) = StandsAt x at i × Stand x (at + 1) is
 
-pub stand_append : (most : ℕ) (ds : Depths) (zs : Stages) (at : ℕ) (is js : List Instr) → Stand most ds zs at is → Stand most ds zs (at + length is) js → Stand most ds zs at (is ++ js)
-stand_append most ds zs at [] js p q = let e : at + 0 ≡ at = omega arith in subst (λ n. Stand most ds zs n js) e q
-stand_append most ds zs at (i ∷ is) js p q =
+pub stand_append : (x : Setting) (at : ℕ) (is js : List Instr) → Stand x at is → Stand x (at + length is) js → Stand x at (is ++ js)
+stand_append x at [] js p q = let e : at + 0 ≡ at = omega arith in subst (λ n. Stand x n js) e q
+stand_append x at (i ∷ is) js p q =
     let e : at + suc (length is) ≡ at + 1 + length is = omega arith in
-    (p.0, stand_append most ds zs (at + 1) is js p.1 (subst (λ n. Stand most ds zs n js) e q))
+    (p.0, stand_append x (at + 1) is js p.1 (subst (λ n. Stand x n js) e q))
 
-stand_from : (most : ℕ) (ds : Depths) (zs : Stages) (from : ℕ) (is : List Instr) (at : ℕ) → Stand most ds zs from is → at < length is → (i : Instr) × (nth is at ≡ Some i) × StandsAt most ds zs (from + at) i
-stand_from most ds zs from [] at p l = absurd (omega (arith, l))
-stand_from most ds zs from (i ∷ is) zero p l =
-    let e : from ≡ from + 0 = omega arith in (i, refl, subst (λ n. StandsAt most ds zs n i) e p.0)
-stand_from most ds zs from (i ∷ is) (suc at) p l =
+stand_from : (x : Setting) (from : ℕ) (is : List Instr) (at : ℕ) → Stand x from is → at < length is → (i : Instr) × (nth is at ≡ Some i) × StandsAt x (from + at) i
+stand_from x from [] at p l = absurd (omega (arith, l))
+stand_from x from (i ∷ is) zero p l =
+    let e : from ≡ from + 0 = omega arith in (i, refl, subst (λ n. StandsAt x n i) e p.0)
+stand_from x from (i ∷ is) (suc at) p l =
     let e : from + 1 + at ≡ from + suc at = omega arith in
-    let r = stand_from most ds zs (from + 1) is at p.1 (omega (arith, l)) in
-    (r.0, r.1, subst (λ n. StandsAt most ds zs n r.0) e r.2)
+    let r = stand_from x (from + 1) is at p.1 (omega (arith, l)) in
+    (r.0, r.1, subst (λ n. StandsAt x n r.0) e r.2)
 
-stand_at : (most : ℕ) (ds : Depths) (zs : Stages) (is : List Instr) (at : ℕ) → Stand most ds zs 0 is → at < length is → (i : Instr) × (nth is at ≡ Some i) × StandsAt most ds zs at i
-stand_at most ds zs is at p l =
+stand_at : (x : Setting) (is : List Instr) (at : ℕ) → Stand x 0 is → at < length is → (i : Instr) × (nth is at ≡ Some i) × StandsAt x at i
+stand_at x is at p l =
     let e : 0 + at ≡ at = omega arith in
-    let r = stand_from most ds zs 0 is at p l in
-    (r.0, r.1, subst (λ n. StandsAt most ds zs n r.0) e r.2)
+    let r = stand_from x 0 is at p l in
+    (r.0, r.1, subst (λ n. StandsAt x n r.0) e r.2)
 
 -- each instruction is lawful
-abbrev pub Lawful : List Value → CodeBody → List Instr → Type 0
-Lawful ks b [] = Unit {0}
-Lawful ks b (i ∷ is) = IsLawful ks b i × Lawful ks b is
+abbrev pub Lawful : ℕ → List Value → CodeBody → List Instr → Type 0
+Lawful n ks b [] = Unit {0}
+Lawful n ks b (i ∷ is) = IsLawful n ks b i × Lawful n ks b is
 
-pub lawful_append : (ks : List Value) (b : CodeBody) (is js : List Instr) → Lawful ks b is → Lawful ks b js → Lawful ks b (is ++ js)
-lawful_append ks b [] js p q = q
-lawful_append ks b (i ∷ is) js p q = (p.0, lawful_append ks b is js p.1 q)
+pub lawful_append : (n : ℕ) (ks : List Value) (b : CodeBody) (is js : List Instr) → Lawful n ks b is → Lawful n ks b js → Lawful n ks b (is ++ js)
+lawful_append n ks b [] js p q = q
+lawful_append n ks b (i ∷ is) js p q = (p.0, lawful_append n ks b is js p.1 q)
 
-pub lawful_at : (ks : List Value) (b : CodeBody) (is : List Instr) → Lawful ks b is → (at : ℕ) (i : Instr) → nth is at ≡ Some i → IsLawful ks b i
-lawful_at ks b [] p at i e = cc
-lawful_at ks b (j ∷ is) p zero i e = let f : j ≡ i = cc in subst (λ x. IsLawful ks b x) f p.0
-lawful_at ks b (j ∷ is) p (suc at) i e = lawful_at ks b is p.1 at i e
+pub lawful_at : (n : ℕ) (ks : List Value) (b : CodeBody) (is : List Instr) → Lawful n ks b is → (at : ℕ) (i : Instr) → nth is at ≡ Some i → IsLawful n ks b i
+lawful_at n ks b [] p at i e = cc
+lawful_at n ks b (j ∷ is) p zero i e = let f : j ≡ i = cc in subst (λ x. IsLawful n ks b x) f p.0
+lawful_at n ks b (j ∷ is) p (suc at) i e = lawful_at n ks b is p.1 at i e
 
-pub plain_append : (ks : List Value) (is js : List Instr) (ss ts : List Span) → length ss ≡ length is → plain_instrs ks (is ++ js) (ss ++ ts) ≡ plain_instrs ks is ss ++ plain_instrs ks js ts
-plain_append ks [] js [] ts e = refl
-plain_append ks [] js (s ∷ ss) ts e = absurd (let f : suc (length ss) ≡ 0 = e in omega (arith, f))
-plain_append ks (i ∷ is) js [] ts e = absurd (let f : 0 ≡ suc (length is) = e in omega (arith, f))
-plain_append ks (i ∷ is) js (s ∷ ss) ts e = ap (λ l. plain_instr ks i s ∷ l) (plain_append ks is js ss ts (omega (arith, e)))
+pub plain_append : (ps : List ℕ) (ks : List Value) (is js : List Instr) (ss ts : List Span) → length ss ≡ length is → plain_instrs ps ks (is ++ js) (ss ++ ts) ≡ plain_instrs ps ks is ss ++ plain_instrs ps ks js ts
+plain_append ps ks [] js [] ts e = refl
+plain_append ps ks [] js (s ∷ ss) ts e = absurd (let f : suc (length ss) ≡ 0 = e in omega (arith, f))
+plain_append ps ks (i ∷ is) js [] ts e = absurd (let f : 0 ≡ suc (length is) = e in omega (arith, f))
+plain_append ps ks (i ∷ is) js (s ∷ ss) ts e = ap (λ l. plain_instr ps ks i s ∷ l) (plain_append ps ks is js ss ts (omega (arith, e)))
 
 pub numbers_append : (is js : List Instr) → numbers_in (is ++ js) ≡ numbers_in is ++ numbers_in js
 numbers_append [] js = refl
@@ -169,6 +182,8 @@ numbers_append (Pop ∷ is) js = numbers_append is js
 numbers_append (Jump t ∷ is) js = numbers_append is js
 numbers_append (JumpFalse t ∷ is) js = numbers_append is js
 numbers_append (Core op n ∷ is) js = numbers_append is js
+numbers_append (Call f ∷ is) js = numbers_append is js
+numbers_append (Return ∷ is) js = numbers_append is js
 numbers_append (Vector n ∷ is) js = numbers_append is js
 numbers_append (Print n ∷ is) js = numbers_append is js
 numbers_append (Deref ∷ is) js = numbers_append is js
@@ -186,25 +201,17 @@ range_append k (suc m) n =
     let e : k + suc m ≡ k + 1 + m = omega arith in let f : suc (m + n) ≡ suc m + n = omega arith in
     ap (λ x. k ∷ (range_with_len (k + 1) m ++ range_with_len x n)) e ∙ ap (λ l. k ∷ l) (range_append (k + 1) m n) ∙ ap (λ x. range_with_len k x) f
 
--- the constants, the body that the instructions are of, the room for its stack, and tables for it
-pub record Setting : Type 0 where
-  pub constants : List Value
-  pub body : CodeBody
-  pub most : ℕ
-  pub depths : Depths
-  pub stages : Stages
-
 -- A run of instructions with their spans, at a place: what the machine sees, n constants from k on, and that they fit the
 -- tables, which have the depth to and the stage z behind them. hs: as many as there are states behind each.
 pub record Segment (x : Setting) (k n at to : ℕ) (z : Stage) (hs : List State) (is : List Instr) (ss : List Span) (code : List PlainInstr) : Type 0 where
   pub as_many : length ss ≡ length is
   pub places : length hs ≡ length is
-  pub seen : plain_instrs x.constants is ss ≡ code
+  pub seen : plain_instrs x.functions.parameters x.constants is ss ≡ code
   pub numbers : numbers_in is ≡ range_with_len k n
-  pub stand : Stand x.most x.depths x.stages at is
+  pub stand : Stand x at is
   pub leaves : Here x.depths x.stages (at + length is) to z
   pub high : to ≤ x.most
-  pub lawful : length x.depths ≡ length x.body.instrs → Lawful x.constants x.body is
+  pub lawful : length x.depths ≡ length x.body.instrs → Lawful x.callable x.constants x.body is
 
 pub segment_nil : (x : Setting) (k at to : ℕ) (z : Stage) → Here x.depths x.stages at to z → to ≤ x.most → Segment x k 0 at to z [] [] [] []
 segment_nil x k at to z e l =
@@ -222,9 +229,9 @@ segment_nil x k at to z e l =
 
 -- an instruction that pushes these constants
 pub segment_one : (x : Setting) (k n at d to : ℕ) (z y : Stage) (i : Instr) (s : Span) →
-    numbers_in (i ∷ []) ≡ range_with_len k n → Here x.depths x.stages at d z → d ≤ x.most → Fits x.depths x.most at d i → FitsStage x.stages at z i →
-    Here x.depths x.stages (at + 1) to y → to ≤ x.most → (length x.depths ≡ length x.body.instrs → IsLawful x.constants x.body i) →
-    Segment x k n at to y (state to y ∷ []) (i ∷ []) (s ∷ []) (plain_instr x.constants i s ∷ [])
+    numbers_in (i ∷ []) ≡ range_with_len k n → Here x.depths x.stages at d z → d ≤ x.most → Fits x.owner x.functions.parameters x.depths x.most at d i → FitsStage x.functions x.inside x.stages at z i →
+    Here x.depths x.stages (at + 1) to y → to ≤ x.most → (length x.depths ≡ length x.body.instrs → IsLawful x.callable x.constants x.body i) →
+    Segment x k n at to y (state to y ∷ []) (i ∷ []) (s ∷ []) (plain_instr x.functions.parameters x.constants i s ∷ [])
 segment_one x k n at d to z y i s numbers e l fits stage f g w = record {
   as_many = refl;
   places = refl;
@@ -238,15 +245,15 @@ segment_one x k n at d to z y i s numbers e l fits stage f g w = record {
 
 -- an instruction that pushes no constant, and then more
 pub segment_cons : (x : Setting) (k n at d mid to : ℕ) (z u y : Stage) (i : Instr) (gs : List State) (js : List Instr) (s : Span) (ts : List Span) (c : List PlainInstr) →
-    numbers_in (i ∷ js) ≡ numbers_in js → Here x.depths x.stages at d z → d ≤ x.most → Fits x.depths x.most at d i → FitsStage x.stages at z i →
-    (length x.depths ≡ length x.body.instrs → IsLawful x.constants x.body i) →
-    Segment x k n (at + 1) to y gs js ts c → Segment x k n at to y (state mid u ∷ gs) (i ∷ js) (s ∷ ts) (plain_instr x.constants i s ∷ c)
+    numbers_in (i ∷ js) ≡ numbers_in js → Here x.depths x.stages at d z → d ≤ x.most → Fits x.owner x.functions.parameters x.depths x.most at d i → FitsStage x.functions x.inside x.stages at z i →
+    (length x.depths ≡ length x.body.instrs → IsLawful x.callable x.constants x.body i) →
+    Segment x k n (at + 1) to y gs js ts c → Segment x k n at to y (state mid u ∷ gs) (i ∷ js) (s ∷ ts) (plain_instr x.functions.parameters x.constants i s ∷ c)
 segment_cons x k n at d mid to z u y i gs js s ts c numbers e l fits stage w q =
     let f : at + 1 + length js ≡ at + suc (length js) = omega arith in
     record {
       as_many = ap suc q.as_many;
       places = ap suc q.places;
-      seen = ap (λ y. plain_instr x.constants i s ∷ y) q.seen;
+      seen = ap (λ y. plain_instr x.functions.parameters x.constants i s ∷ y) q.seen;
       numbers = numbers ∙ q.numbers;
       stand = (((d, e.0, l, fits), (z, e.1, stage)), q.stand);
       leaves = subst (λ n'. Here x.depths x.stages n' to y) f q.leaves;
@@ -262,12 +269,12 @@ segment_join x k m n at mid to z y hs gs is js ss ts c e p q =
     record {
       as_many = omega (arith, length-append is js, length-append ss ts, p.as_many, q.as_many);
       places = omega (arith, length-append is js, length-append hs gs, p.places, q.places);
-      seen = plain_append x.constants is js ss ts p.as_many ∙ ap (λ l. l ++ plain_instrs x.constants js ts) p.seen ∙ ap (λ l. c ++ l) q.seen;
+      seen = plain_append x.functions.parameters x.constants is js ss ts p.as_many ∙ ap (λ l. l ++ plain_instrs x.functions.parameters x.constants js ts) p.seen ∙ ap (λ l. c ++ l) q.seen;
       numbers = numbers_append is js ∙ ap (λ l. l ++ numbers_in js) p.numbers ∙ ap (λ l. range_with_len k m ++ l) q.numbers ∙ range_append k m n;
-      stand = stand_append x.most x.depths x.stages at is js p.stand q.stand;
+      stand = stand_append x at is js p.stand q.stand;
       leaves = subst (λ n'. Here x.depths x.stages n' to y) f q.leaves;
       high = q.high;
-      lawful = λ same. lawful_append x.constants x.body is js (p.lawful same) (q.lawful same);
+      lawful = λ same. lawful_append x.callable x.constants x.body is js (p.lawful same) (q.lawful same);
     }
 
 -- the same segment, counted and seen otherwise
@@ -284,15 +291,15 @@ segment_is x k m n at d to z hs is ss c e f g s p = record {
   lawful = p.lawful;
 }
 
-pub plain_length : (ks : List Value) (is : List Instr) (ss : List Span) → length ss ≡ length is → length (plain_instrs ks is ss) ≡ length is
-plain_length ks [] ss e = refl
-plain_length ks (i ∷ is) [] e = absurd (let f : 0 ≡ suc (length is) = e in omega (arith, f))
-plain_length ks (i ∷ is) (s ∷ ss) e = ap suc (plain_length ks is ss (omega (arith, e)))
+pub plain_length : (ps : List ℕ) (ks : List Value) (is : List Instr) (ss : List Span) → length ss ≡ length is → length (plain_instrs ps ks is ss) ≡ length is
+plain_length ps ks [] ss e = refl
+plain_length ps ks (i ∷ is) [] e = absurd (let f : 0 ≡ suc (length is) = e in omega (arith, f))
+plain_length ps ks (i ∷ is) (s ∷ ss) e = ap suc (plain_length ps ks is ss (omega (arith, e)))
 
 module _ (x : Setting) (k n at to : ℕ) (z : Stage) (hs : List State) (is : List Instr) (ss : List Span) (code : List PlainInstr) (p : Segment x k n at to z hs is ss code) where
   -- the machine sees as many
   pub seen_length : length is ≡ length code
-  seen_length = sym (plain_length x.constants is ss p.as_many) ∙ ap length p.seen
+  seen_length = sym (plain_length x.functions.parameters x.constants is ss p.as_many) ∙ ap length p.seen
 
   -- the states behind what follows
   pub states_rest : (gs : List State) → On x.depths x.stages (at + 1) (hs ++ gs) → On x.depths x.stages (at + length is + 1) gs
@@ -309,24 +316,24 @@ some_same m n e = cc
 
 -- instructions that fit tables of their length are well typed
 pub stand_well_typed : (x : Setting) → length x.depths ≡ length x.body.instrs → length x.stages ≡ length x.body.instrs → Here x.depths x.stages 0 0 (plain 0) →
-    Stand x.most x.depths x.stages 0 x.body.instrs → Lawful x.constants x.body x.body.instrs → WellTypedBody x.constants x.body x.most
+    Stand x 0 x.body.instrs → Lawful x.callable x.constants x.body x.body.instrs → WellTypedBody x.functions x.owner x.callable x.inside x.constants x.body x.most
 stand_well_typed x same alike first p w =
-    let found = λ (at : ℕ) (l : at < length x.body.instrs). stand_at x.most x.depths x.stages x.body.instrs at p l in
+    let found = λ (at : ℕ) (l : at < length x.body.instrs). stand_at x x.body.instrs at p l in
     record {
-      lawful = lawful_at x.constants x.body x.body.instrs w;
+      lawful = lawful_at x.callable x.constants x.body x.body.instrs w;
       table = (
         x.depths,
         record {
           first = first.0;
           within = λ at d e. let r = found at (omega (arith, same, depth_within x.depths at d e)) in let f : r.2.0.0 ≡ d = some_same r.2.0.0 d (sym r.2.0.1 ∙ e) in omega (arith, f, r.2.0.2);
-          fits = λ at d e. let r = found at (omega (arith, same, depth_within x.depths at d e)) in let f : r.2.0.0 ≡ d = some_same r.2.0.0 d (sym r.2.0.1 ∙ e) in (r.0, r.1, subst (λ n. Fits x.depths x.most at n r.0) f r.2.0.3);
+          fits = λ at d e. let r = found at (omega (arith, same, depth_within x.depths at d e)) in let f : r.2.0.0 ≡ d = some_same r.2.0.0 d (sym r.2.0.1 ∙ e) in (r.0, r.1, subst (λ n. Fits x.owner x.functions.parameters x.depths x.most at n r.0) f r.2.0.3);
         },
       );
       staging = (
         x.stages,
         record {
           first = first.1;
-          fits = λ at s e. let r = found at (omega (arith, alike, stage_within x.stages at s e)) in let f : r.2.1.0 ≡ s = some_same r.2.1.0 s (sym r.2.1.1 ∙ e) in (r.0, r.1, subst (λ n. FitsStage x.stages at n r.0) f r.2.1.2);
+          fits = λ at s e. let r = found at (omega (arith, alike, stage_within x.stages at s e)) in let f : r.2.1.0 ≡ s = some_same r.2.1.0 s (sym r.2.1.1 ∙ e) in (r.0, r.1, subst (λ n. FitsStage x.functions x.inside x.stages at n r.0) f r.2.1.2);
         },
       );
     }

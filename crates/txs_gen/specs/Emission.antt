@@ -1,10 +1,12 @@
 -- What an emitter has made so far, and what it makes of a tree.
-use Rattle.std.specs.Prelude.{ℕ, zero, suc, ◌+◌, ◌≤◌, max, Bool, true, false, List, [], ◌∷◌, ◌++◌, length, Option, Some, None, slice_set}
+use Rattle.std.specs.Prelude.{◌≡◌, ℕ, zero, suc, ◌+◌, ◌≤◌, max, Bool, true, false, List, [], ◌∷◌, ◌++◌, length, Option, Some, None, slice_set}
 use Rattle.txs_value.specs.declared.fault.Span.{Span}
 use Rattle.txs_value.specs.declared.op.Callee.{Callee}
 use Rattle.txs_value.specs.declared.op.Callee.TheVariants.{Core as CoreOp, Function}
 use Rattle.txs_value.specs.declared.value.Value.{Value}
-use Rattle.txs_tree.specs.Sound.{SoundTree, SoundAll, SoundLet, SoundDo}
+use Rattle.txs_value.specs.Places.{nth}
+use Rattle.txs_tree.specs.Known.{Known}
+use Rattle.txs_tree.specs.Sound.{Zone, in_dosync, SoundTree, SoundAll, SoundLet, SoundDo}
 use Rattle.txs_tree.specs.Tree.{Tree, Const, Local, If, Do, Let, Loop, Recur, Core, Call, VectorOf, Println, Dosync, Deref, Alter, Trees, none, more, count}
 use Rattle.txs_code.specs.declared.instr.Instr.{Instr}
 use Rattle.txs_code.specs.declared.instr.Instr.TheVariants as instr
@@ -23,23 +25,36 @@ pub record Emission : Type 0 where
 abbrev pub emission : Emitter → Emission
 emission e = record { instrs = e.instrs.items; spans = e.spans.items; constants = e.constants.items; locals = e.locals; room = e.room }
 
--- the locals of the nearest loop, from base on, are among those that there are
+-- the locals of the nearest loop or function, from base on, are among those that there are
 abbrev pub IsWithin : ℕ → Option ℕ → ℕ → Type 0
 IsWithin base None d = Unit {0}
 IsWithin base (Some n) d = (base + n ≤ d) × (d ≤ 200)
 
--- a sound tree, in a transaction or outside, where the nearest loop's locals begin at base
+-- what holds of functions that are known: they take few arguments, and pure ones are for transactions and for outside
+abbrev pub AreLawful : List Known → Type 0
+AreLawful ks = (f : ℕ) (k : Known) → nth ks f ≡ Some k → (k.parameters ≤ 20) × (k.pure ≡ true → (k.inside ≡ false) × (k.outside ≡ false))
+
+-- where a tree stands: the functions that are defined, and its zone
+pub record Place : Type 0 where
+  pub known : List Known
+  pub lawful : AreLawful known
+  pub zone : Zone
+
+abbrev pub in_transaction : Place → Place
+in_transaction p = record p { zone = in_dosync }
+
+-- a sound tree, where the nearest loop's locals begin at base
 abbrev pub IsPlaced : ℕ → ℕ → Tree → Type 0
-IsPlaced d base t = (inside : Bool) × (tail : Option ℕ) × IsWithin base tail d × SoundTree inside d tail t
+IsPlaced d base t = (p : Place) × (tail : Option ℕ) × IsWithin base tail d × SoundTree p.known p.zone d tail t
 
 abbrev pub IsPlacedDo : ℕ → ℕ → Trees → Type 0
-IsPlacedDo d base ts = (inside : Bool) × (tail : Option ℕ) × IsWithin base tail d × SoundDo inside d tail ts
+IsPlacedDo d base ts = (p : Place) × (tail : Option ℕ) × IsWithin base tail d × SoundDo p.known p.zone d tail ts
 
 abbrev pub IsPlacedAll : ℕ → Trees → Type 0
-IsPlacedAll d ts = (inside : Bool) × SoundAll inside d ts
+IsPlacedAll d ts = (p : Place) × SoundAll p.known p.zone d ts
 
 abbrev pub IsPlacedLet : ℕ → Trees → Type 0
-IsPlacedLet d ts = (inside : Bool) × SoundLet inside d ts
+IsPlacedLet d ts = (p : Place) × SoundLet p.known p.zone d ts
 
 -- instructions that begin at a place, and what follows them
 abbrev pub then_instrs : ℕ → List Instr → (ℕ → List Instr) → List Instr
@@ -58,11 +73,10 @@ stores_from i (suc n) = instr.Store (i + n) ∷ stores_from i n
 -- what an alter calls, on so many values
 abbrev pub callee_instrs : Callee → ℕ → List Instr
 callee_instrs (CoreOp op) n = instr.Core op n ∷ []
--- no function is defined yet
-callee_instrs (Function f) n = []
+callee_instrs (Function f) n = instr.Call f ∷ []
 
 -- The instructions of a tree with so many locals, from a place of the body on. base and start: the first local of the
--- nearest loop, and the place of its body. So many constants are there already.
+-- nearest loop or function, and the place of its body. So many constants are there already.
 abbrev mutual
   pub instrs_of : Tree → ℕ → ℕ → ℕ → ℕ → ℕ → List Instr
   instrs_of (Const v m) d base start pc k = instr.Const k ∷ []
@@ -81,7 +95,7 @@ abbrev mutual
   instrs_of (Recur values m) d base start pc k =
       instrs_of_all values d base start pc k ++ (stores_from base (count values) ++ instr.Jump start ∷ [])
   instrs_of (Core op args m) d base start pc k = instrs_of_all args d base start pc k ++ instr.Core op (count args) ∷ []
-  instrs_of (Call f args m) d base start pc k = []
+  instrs_of (Call f args m) d base start pc k = instrs_of_all args d base start pc k ++ instr.Call f ∷ []
   instrs_of (VectorOf items m) d base start pc k = instrs_of_all items d base start pc k ++ instr.Vector (count items) ∷ []
   instrs_of (Println args m) d base start pc k = instrs_of_all args d base start pc k ++ instr.Print (count args) ∷ []
   instrs_of (Dosync body m) d base start pc k = instr.TxBegin ∷ (instrs_of body d base start (pc + 1) k ++ instr.TxEnd ∷ [])
@@ -121,7 +135,7 @@ abbrev mutual
   stored (Loop values body m) d = max (stored_let values d) (stored body (d + count values))
   stored (Recur values m) d = stored_in values d
   stored (Core op args m) d = stored_in args d
-  stored (Call f args m) d = 0
+  stored (Call f args m) d = stored_in args d
   stored (VectorOf items m) d = stored_in items d
   stored (Println args m) d = stored_in args d
   stored (Dosync body m) d = stored body d
@@ -148,7 +162,7 @@ abbrev mutual
   top (Loop values body m) h = max (top_in values h) (top body h)
   top (Recur values m) h = max (top_args values h) (h + 1)
   top (Core op args m) h = top_args args h
-  top (Call f args m) h = 0
+  top (Call f args m) h = max (top_args args h) (h + 1)
   top (VectorOf items m) h = max (top_args items h) (h + 1)
   top (Println args m) h = max (top_args args h) (h + 1)
   top (Dosync body m) h = top body h

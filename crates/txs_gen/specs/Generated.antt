@@ -1,13 +1,13 @@
--- Which code is that of a program: each thread's instructions, the span of each, and the constants.
+-- Which code is that of a program: the instructions of each function and thread, the span of each, and the constants.
 use Rattle.std.specs.Prelude.{◌≡◌, ℕ, zero, suc, List, [], ◌∷◌, ◌++◌, length}
 use Rattle.std.specs.List.{range_with_len}
 use Rattle.txs_value.specs.declared.fault.Span.{Span}
 use Rattle.txs_value.specs.declared.value.Value.{Value}
-use Rattle.txs_tree.specs.Tree.{Tree, Const, Local, If, Do, Let, Loop, Recur, Core, Call, VectorOf, Println, Dosync, Deref, Alter, Trees, none, more, count, PlainThread, PlainProgram}
+use Rattle.txs_tree.specs.Tree.{Tree, Const, Local, If, Do, Let, Loop, Recur, Core, Call, VectorOf, Println, Dosync, Deref, Alter, Trees, none, more, count, PlainFunction, PlainThread, PlainProgram}
 use Rattle.txs_code.specs.declared.instr.Instr.{Instr}
 use Rattle.txs_code.specs.declared.instr.Instr.TheVariants as instr
-use Rattle.txs_code.specs.PlainCode.{CodeBody, PlainCode, plain_body}
-use Rattle.txs_gen.specs.Gen.{body_code}
+use Rattle.txs_code.specs.PlainCode.{CodeBody, PlainCode, parameters_of, plain_body}
+use Rattle.txs_gen.specs.Gen.{function_code, body_code}
 
 -- so many times the same span
 abbrev pub copies : ℕ → Span → List Span
@@ -70,6 +70,11 @@ abbrev mutual
   constants_in none = []
   constants_in (more e rest) = constants_of e ++ constants_in rest
 
+-- the constants of functions, one function's after another's
+abbrev pub constants_of_functions : List PlainFunction → List Value
+constants_of_functions [] = []
+constants_of_functions (f ∷ fs) = constants_of f.body ++ constants_of_functions fs
+
 -- the constants of threads, one thread's after another's
 abbrev pub constants_of_threads : List PlainThread → List Value
 constants_of_threads [] = []
@@ -85,6 +90,8 @@ numbers_in (instr.Pop ∷ is) = numbers_in is
 numbers_in (instr.Jump t ∷ is) = numbers_in is
 numbers_in (instr.JumpFalse t ∷ is) = numbers_in is
 numbers_in (instr.Core op n ∷ is) = numbers_in is
+numbers_in (instr.Call f ∷ is) = numbers_in is
+numbers_in (instr.Return ∷ is) = numbers_in is
 numbers_in (instr.Vector n ∷ is) = numbers_in is
 numbers_in (instr.Print n ∷ is) = numbers_in is
 numbers_in (instr.Deref ∷ is) = numbers_in is
@@ -98,22 +105,40 @@ abbrev pub numbers_in_all : List CodeBody → List ℕ
 numbers_in_all [] = []
 numbers_in_all (b ∷ bs) = numbers_in b.instrs ++ numbers_in_all bs
 
+-- the body of a function: its instructions are those of the tree and a return, each with its span, and the return has that
+-- of the definition; ps tells how many parameters each function has
+pub record IsFunctionOf (ps : List ℕ) (constants : List Value) (b : CodeBody) (f : PlainFunction) : Type 0 where
+  pub parameters : b.parameters ≡ f.parameters
+  pub code : plain_body ps constants b ≡ function_code f
+  pub spans : b.spans ≡ spans_of f.body ++ f.span ∷ []
+  pub as_many : length b.spans ≡ length b.instrs
+
+-- a body for each function, in order
+abbrev pub AreFunctionsOf : List ℕ → List Value → List CodeBody → List PlainFunction → Type 0
+AreFunctionsOf ps ks [] [] = Unit {0}
+AreFunctionsOf ps ks [] (f ∷ fs) = ⊥
+AreFunctionsOf ps ks (b ∷ bs) [] = ⊥
+AreFunctionsOf ps ks (b ∷ bs) (f ∷ fs) = IsFunctionOf ps ks b f × AreFunctionsOf ps ks bs fs
+
 -- the body of a thread: its instructions are those of the tree, each with its span, and the last one has that of the future
-pub record IsBodyOf (constants : List Value) (b : CodeBody) (t : PlainThread) : Type 0 where
-  pub code : plain_body constants b ≡ body_code t.body
+pub record IsBodyOf (ps : List ℕ) (constants : List Value) (b : CodeBody) (t : PlainThread) : Type 0 where
+  pub parameters : b.parameters ≡ 0
+  pub code : plain_body ps constants b ≡ body_code t.body
   pub spans : b.spans ≡ spans_of t.body ++ t.span ∷ []
   pub as_many : length b.spans ≡ length b.instrs
 
 -- a body for each thread, in order
-abbrev pub AreBodiesOf : List Value → List CodeBody → List PlainThread → Type 0
-AreBodiesOf ks [] [] = Unit {0}
-AreBodiesOf ks [] (t ∷ ts) = ⊥
-AreBodiesOf ks (b ∷ bs) [] = ⊥
-AreBodiesOf ks (b ∷ bs) (t ∷ ts) = IsBodyOf ks b t × AreBodiesOf ks bs ts
+abbrev pub AreBodiesOf : List ℕ → List Value → List CodeBody → List PlainThread → Type 0
+AreBodiesOf ps ks [] [] = Unit {0}
+AreBodiesOf ps ks [] (t ∷ ts) = ⊥
+AreBodiesOf ps ks (b ∷ bs) [] = ⊥
+AreBodiesOf ps ks (b ∷ bs) (t ∷ ts) = IsBodyOf ps ks b t × AreBodiesOf ps ks bs ts
 
--- the code of a program: its cells, a body for each thread, and each constant that is pushed has an entry of its own, in order
+-- The code of a program: its cells, a body for each function and for each thread, and each constant that is pushed has an
+-- entry of its own, in order, those of functions first.
 pub record IsCodeOf (code : PlainCode) (p : PlainProgram) : Type 0 where
   pub cells : code.cells ≡ p.cells
-  pub threads : AreBodiesOf code.constants code.threads p.threads
-  pub constants : code.constants ≡ constants_of_threads p.threads
-  pub entries : numbers_in_all code.threads ≡ range_with_len 0 (length code.constants)
+  pub functions : AreFunctionsOf (parameters_of code.functions) code.constants code.functions p.functions
+  pub threads : AreBodiesOf (parameters_of code.functions) code.constants code.threads p.threads
+  pub constants : code.constants ≡ constants_of_functions p.functions ++ constants_of_threads p.threads
+  pub entries : numbers_in_all code.functions ++ numbers_in_all code.threads ≡ range_with_len 0 (length code.constants)

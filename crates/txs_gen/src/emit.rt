@@ -1,7 +1,7 @@
-//! The code of a thread's tree.
+//! The code of a function's or thread's tree.
 
 ghost use Rattle.std.specs.Prelude.{◌≡◌, ◌+◌, ◌*◌, ◌<◌, ◌≤◌, OnOk, MatchResult, length, IfOk, [], ◌∷◌, Some};
-ghost use Rattle.txs_tree.specs.Sound.{SoundCallee, nodes, nodes_in};
+ghost use Rattle.txs_tree.specs.Sound.{nodes, nodes_in};
 ghost use Rattle.txs_tree.specs.Tree.{count};
 ghost use Rattle.txs_tree.specs.View.{tree_of, trees_of};
 ghost use Rattle.txs_gen.specs.Emission.{emission, emits, emits_all, emits_do, emits_let, emits_if, emits_loop, emits_dosync, emits_alter, emits_recur, IsWithin, IsPlaced, IsPlacedAll, IsPlacedDo, IsPlacedLet, with_call, with_constant, with_instr, with_locals, with_pop, with_room, with_set, with_stores};
@@ -87,12 +87,11 @@ impl Emitter {
 
     /// A call of what an alter names, on so many values.
     fn call(&mut self, callee: Callee, count: u16, span: Span) -> Result<(), AllocError>
-        requires { SoundCallee callee count }
         ensures { OnOk result (emission self.new ≡ with_call callee count span (emission self.old)) }
     {
         match callee {
             Callee::Core(op) => self.put(Instr::Core(op, count), span),
-            Callee::Function(_) => unreachable!(),
+            Callee::Function(function) => self.put(Instr::Call(function), span),
         }
     }
 
@@ -151,6 +150,11 @@ pub fn emit(alloc: Global, to: &mut Emitter, node: &Node, at: Around) -> Result<
         NodeKind::Core(op, args) => {
             emit_all(alloc, to, args, at)?;
             to.put(Instr::Core(*op, args.len() as u16), node.span)
+        }
+        NodeKind::Call(function, args) => {
+            emit_all(alloc, to, args, at)?;
+            to.rise(at.height + 1);
+            to.put(Instr::Call(*function), node.span)
         }
         NodeKind::Vector(items) => {
             emit_all(alloc, to, items, at)?;
@@ -352,7 +356,7 @@ fn emit_alter(
     at: Around,
 ) -> Result<(), AllocError>
     requires cell { IsPlaced at.depth at.base (tree_of cell.now) }
-    requires callee { SoundCallee callee (count (trees_of args.now) + 1) }
+    requires few_args { count (trees_of args.now) < 65535 }
     requires part { IsPlacedAll at.depth (trees_of args.now) }
     requires few_constants { length to.old.constants.items + (nodes (tree_of cell.now) + nodes_in (trees_of args.now)) < 200000 }
     requires few_instrs { length to.old.instrs.items + 3 * (nodes (tree_of cell.now) + nodes_in (trees_of args.now)) < 599998 }

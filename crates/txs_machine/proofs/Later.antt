@@ -1,5 +1,5 @@
 -- Exchanges put at the end change nothing before they are asked for.
-use Rattle.std.proofs.Common.{◌≡◌, ℕ, zero, suc, ◌+◌, Bool, true, false, List, [], ◌∷◌, ◌++◌, Option, Some, None, Result, Ok, Err, refl, sym, ap, ◌∙◌, subst, if◌then◌else◌}
+use Rattle.std.proofs.Common.{◌≡◌, ℕ, zero, suc, Bool, true, false, List, [], ◌∷◌, ◌++◌, Option, Some, None, Result, Ok, Err, refl, sym, ap, subst, if◌then◌else◌}
 use Rattle.txs_value.specs.Ask.{buffered, Exchange, same_ask}
 use Rattle.txs_value.specs.Cells.{any_cell, readable_cell, ref_cell}
 use Rattle.txs_value.specs.Core.{core, vector_of}
@@ -7,7 +7,6 @@ use Rattle.txs_value.specs.Places.{nth}
 use Rattle.txs_value.specs.Truth.{choose}
 use Rattle.txs_value.specs.declared.ask.Ask.{Ask}
 use Rattle.txs_value.specs.declared.ask.Ask.TheVariants.{Begin, Look, Commit, Fail, Peek}
-use Rattle.txs_value.specs.declared.ask.Reply.{Reply}
 use Rattle.txs_value.specs.declared.ask.Reply.TheVariants.{At, Is, Done, Retry, Full, Memory}
 use Rattle.txs_value.specs.declared.fault.Fault.{Fault}
 use Rattle.txs_value.specs.declared.fault.FaultKind.{FaultKind}

@@ -1,5 +1,7 @@
 pub mod Acts
 pub mod Answering
+pub mod Calling
+pub mod Departing
 pub mod Effects
 pub mod Following
 pub mod Landing

@@ -7,7 +7,6 @@ use Rattle.txs_tree.specs.Thread.{SeenEvent, thread_meaning}
 use Rattle.txs_tree.specs.Tree.{ThreadSource}
 use Rattle.txs_code.specs.Machine.{Turned, Asking}
 use Rattle.txs_code.specs.Machine as machine
-use Rattle.txs_code.specs.ActorState.{ActorState}
 use Rattle.txs_code.specs.PlainCode.{PlainCode}
 use Rattle.txs_follows.specs.Behaves.{target}
 use Rattle.txs_follows.specs.Follows.{Follows}

@@ -19,7 +19,7 @@ pub enum Turn {
 pub(crate) enum Next {
     /// The place to go on at.
     At(usize),
-    /// Nowhere yet: it is an instruction on the transaction.
+    /// Nowhere yet: it is a call, a return, or an instruction on the transaction.
     Leaves,
     /// The end of the actor, or a fault.
     Ended(Outcome),

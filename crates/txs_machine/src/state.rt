@@ -1,13 +1,15 @@
 //! What an actor keeps of its transaction and of its unanswered ask.
 
-use txs_value::{CellId, Fault, Listed, Span, Value};
+use crate::frame::Frame;
+use txs_value::{CellId, Fault, Listed, Span};
 
-/// Where a transaction began: its span, the place of its first instruction, and the values there.
+/// Where a transaction began: its span, the frame that goes on at its first instruction with the values
+/// there, and its callers' frames.
 #[derive(Debug, Drop)]
 pub struct Origin {
     pub span: Span,
-    pub place: usize,
-    pub values: Listed<Value>,
+    pub frame: Frame,
+    pub frames: Listed<Frame>,
 }
 
 /// The transaction of an actor.

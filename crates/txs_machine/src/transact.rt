@@ -9,10 +9,11 @@ ghost use Rattle.txs_machine.specs.declared.state.Pending.TheVariants.{Begin};
 ghost use Rattle.txs_value.specs.Ask.{Writes};
 ghost use Rattle.txs_value.specs.declared.value.Value.{Value as AValue};
 
+use crate::frame::{Frame, copy_frames};
 use crate::moves::pop;
 use crate::outcome::Moved;
 use crate::state::{Origin, Pending, Transaction};
-use crate::writes::{copy_all, own_value, put_write};
+use crate::writes::{copy_in, own_value, put_write};
 use std::alloc::{AllocError, Global};
 use txs_code::Instr;
 use txs_value::{CellId, CellKind, FaultKind, Span, Value};
@@ -169,32 +170,50 @@ fn close(
     }
 }
 
+/// Where an actor is: whose body it is in, how many locals that has, and the place of its instruction.
+#[derive(Clone, Copy)]
+pub(crate) struct Here {
+    pub body: usize,
+    pub locals: usize,
+    pub place: usize,
+}
+
 /// What a transaction asks for that begins here.
 fn beginning(
     alloc: Global,
     left: u16,
     span: Span,
-    at: usize,
-    values: &[Value],
+    here: Here,
+    frames: &[Frame],
+    values: &Vec<Value>,
 ) -> Result<Pending, AllocError>
-    ensures { IfOk result (λ p. p ≡ Begin left (record { span = span; place = at; values = values.now })) }
+    requires { length values.now.items ≤ vec_capacity values.now }
+    ensures { IfOk result (λ p. p ≡ Begin left (record { span = span; frame = record { body = here.body; locals = here.locals; place = here.place; values = values.now.items; room = vec_capacity values.now }; frames = frames.now })) }
 {
-    let values = copy_all(alloc, values)?;
+    let own = copy_in(alloc, values.as_slice(), values.capacity())?;
+    let frames = copy_frames(alloc, frames)?;
     Ok(Pending::Begin {
         left,
         from: Origin {
             span,
-            place: at,
-            values,
+            frame: Frame::new(here.body, here.locals, here.place, own),
+            frames,
         },
     })
 }
 
 /// A transaction begins, or joins the one that runs.
 #[tactic(auto, unfolding(txs_value::specs::Limits::reruns))]
-fn begin(alloc: Global, span: Span, at: usize, values: &[Value], tx: &mut Transaction) -> Moved
-    requires { depth_in tx.old < 2 ^ 64 }
-    ensures { (ws : Writes) → Comes result values.now tx.new ws ws (begins (record { span = span; place = at; values = values.now }) values.now ws tx.old) }
+fn begin(
+    alloc: Global,
+    span: Span,
+    here: Here,
+    frames: &[Frame],
+    values: &Vec<Value>,
+    tx: &mut Transaction,
+) -> Moved
+    requires { (depth_in tx.old < 2 ^ 64) × (length values.now.items ≤ vec_capacity values.now) }
+    ensures { (ws : Writes) → Comes result values.now.items tx.new ws ws (begins (record { span = span; frame = record { body = here.body; locals = here.locals; place = here.place; values = values.now.items; room = vec_capacity values.now }; frames = frames.now }) values.now.items ws tx.old) }
 {
     let left = match tx {
         Transaction::Running { inner, .. } => {
@@ -204,7 +223,7 @@ fn begin(alloc: Global, span: Span, at: usize, values: &[Value], tx: &mut Transa
         Transaction::Outside => RERUNS,
         Transaction::Restarting { left } => *left,
     };
-    match beginning(alloc, left, span, at, values) {
+    match beginning(alloc, left, span, here, frames, values) {
         Ok(pending) => Moved::Asks(pending),
         Err(_) => Moved::Memory,
     }
@@ -233,19 +252,20 @@ pub(crate) fn transact(
     alloc: Global,
     instr: Instr,
     span: Span,
-    at: usize,
+    here: Here,
+    frames: &[Frame],
     values: &mut Vec<Value>,
     tx: &mut Transaction,
     writes: &mut Vec<(CellId, Value)>,
 ) -> Moved
     requires ascending { IsAscending writes.old.items }
     requires can { CanMove values.old.items (vec_capacity values.old) tx.old instr }
-    ensures comes { Comes result values.new.items tx.new writes.new.items writes.old.items (effect at values.old.items tx.old writes.old.items span instr) }
+    ensures comes { Comes result values.new.items tx.new writes.new.items writes.old.items (effect (record { span = span; frame = record { body = here.body; locals = here.locals; place = here.place; values = values.old.items; room = vec_capacity values.old }; frames = frames.now }) values.old.items tx.old writes.old.items instr) }
     ensures capacity { vec_capacity values.new ≡ vec_capacity values.old }
 {
     match instr {
         Instr::Deref => deref(alloc, values, tx, writes.as_slice()),
-        Instr::TxBegin => begin(alloc, span, at, values.as_slice(), tx),
+        Instr::TxBegin => begin(alloc, span, here, frames, values, tx),
         Instr::TxEnd => end(tx),
         Instr::AlterOpen(n) => open(alloc, n, values, tx, writes.as_slice()),
         Instr::AlterClose => close(alloc, values, tx, writes),

@@ -67,13 +67,19 @@ pub(crate) fn copy_own(
     Ok(Listed::from_vec(copies))
 }
 
-/// The values in memory of their own.
-pub(crate) fn copy_all(alloc: Global, values: &[Value]) -> Result<Listed<Value>, AllocError>
-    ensures { IfOk result (λ c. c ≡ values.now) }
+/// The values in memory of their own, with room for so many.
+pub(crate) fn copy_in(
+    alloc: Global,
+    values: &[Value],
+    room: usize,
+) -> Result<Vec<Value>, AllocError>
+    requires { length values.now ≤ room }
+    ensures items { IfOk result (λ c. c.items ≡ values.now) }
+    ensures room { IfOk result (λ c. vec_capacity c ≡ room) }
 {
-    let mut copies = Vec::with_capacity(alloc, values.len())?;
+    let mut copies = Vec::with_capacity(alloc, room)?;
     for value in values {
-        copies.push(copy_value(alloc, value)?)?;
+        copies.push_reserved(copy_value(alloc, value)?);
     }
-    Ok(Listed::from_vec(copies))
+    Ok(copies)
 }

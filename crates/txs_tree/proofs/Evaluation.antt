@@ -1,5 +1,5 @@
 -- An evaluation one node at a time: what the whole means is what the rest means.
-use Rattle.std.proofs.Common.{◌≡◌, ℕ, zero, suc, ◌+◌, ◌-◌, ◌<◌, ◌≤◌, Bool, true, false, not, if◌then◌else◌, nat_eq, List, [], ◌∷◌, ◌++◌, length, get_or, take, drop, Some, None, Result, Ok, Err, refl, sym, ap, ◌∙◌, subst, subst₂, append_assoc, length-append, arith}
+use Rattle.std.proofs.Common.{◌≡◌, ℕ, zero, suc, ◌+◌, ◌-◌, ◌<◌, ◌≤◌, Bool, true, false, if◌then◌else◌, List, [], ◌∷◌, ◌++◌, length, get_or, take, drop, Some, Result, Err, refl, sym, ap, ◌∙◌, subst, subst₂, append_assoc, length-append, arith}
 use Rattle.std.proofs.Math.Seq.{drop-append_seam, take-append_seam}
 use Rattle.std.proofs.lemmas.Bool.{eq-eqb}
 use Rattle.std.proofs.lemmas.List.{drop_more, append-nil, length-take, take-append-le, take-append-drop}
@@ -11,15 +11,15 @@ use Rattle.txs_value.specs.Truth.{choose}
 use Rattle.txs_value.specs.declared.op.Op.{Op}
 use Rattle.txs_value.specs.declared.value.Value.{Value}
 use Rattle.txs_value.specs.declared.value.Value.TheVariants.{Nil, Truth, Int, Key, Text, Vector, Cell}
-use Rattle.txs_tree.specs.Evaluated.{Stops, Gives, GivesAll, Steps, means, all_mean, do_means, let_means, locals_mean, loop_means, turns_mean, printing}
+use Rattle.txs_tree.specs.Evaluated.{Stops, Gives, GivesAll, Steps, no_events, calls_in, means, all_mean, do_means, let_means, locals_mean, loop_means, turns_mean, call_means, printing}
 use Rattle.txs_tree.specs.Meaning.{Completion, Completes, Recurs, Faults, Retries, Waits, OutOfTurns, Invalid, bind, again, give, result_of, turns, Effects, eval, eval_all, eval_let, eval_do, call_at}
+use Rattle.txs_tree.specs.Setting.{Setting, deeper}
 use Rattle.txs_tree.specs.Thread.{ThreadState, on_events, reads}
-use Rattle.txs_tree.specs.Tree.{Mark, Tree, Const, Local, If, Do, Let, Loop, Recur, Core, VectorOf, Println, Dosync, Deref, Trees, none, more, count}
-use Rattle.txs_tree.specs.View.{tree_of, trees_of}
-use Rattle.txs_tree.specs.declared.evaluate.EvalStop.{EvalStop}
-use Rattle.txs_tree.specs.declared.evaluate.EvalStop.TheVariants.{Fault, Event, Turns, Memory}
+use Rattle.txs_tree.specs.Tree.{Mark, Tree, Const, Local, If, Do, Let, Loop, Recur, Core, Call, VectorOf, Println, Dosync, Deref, Trees, none, more, count, PlainFunction}
+use Rattle.txs_tree.specs.View.{tree_of, trees_of, functions_of}
+use Rattle.txs_tree.specs.declared.evaluate.ThreadStop.{ThreadStop}
+use Rattle.txs_tree.specs.declared.evaluate.ThreadStop.TheVariants.{Fault, Event, Turns, Memory}
 use Rattle.txs_tree.specs.declared.evaluate.Step.{Step}
-use Rattle.txs_tree.specs.declared.evaluate.Step.TheVariants.{Value as AValue, Recur as ARecur}
 use Rattle.txs_tree.specs.declared.node.Node.{Node}
 
 pub nth_at : (vs : List Value) (i : ℕ) (v : Value) → i < length vs → v ≡ get_or vs i v → nth vs i ≡ Some v
@@ -108,59 +108,62 @@ turns-more k d f vs s many = ap (λ (b : Bool). if b then again (f vs s) (turns 
 
 -- ---- a stop of a part is one of the whole
 
-pub stops_bind : {A B : Type 0} (y : EvalStop) (out : List ℕ) (c : Completion ThreadState A) (go : A → ThreadState → Completion ThreadState B) → Stops y out c → Stops y out (bind c go)
+pub stops_bind : {A B : Type 0} (y : ThreadStop) (out : List ℕ) (c : Completion ThreadState A) (go : A → ThreadState → Completion ThreadState B) → Stops y out c → Stops y out (bind c go)
 stops_bind (Fault f) out c go h = ap (λ d. bind d go) h
 stops_bind Event out c go h = ap (λ d. bind d go) h
 stops_bind Turns out c go h = ap (λ d. bind d go) h
 stops_bind Memory out c go h = h
 
-pub stops_again : (y : EvalStop) (out : List ℕ) (c : Completion ThreadState Value) (go : List Value → ThreadState → Completion ThreadState Value) → Stops y out c → Stops y out (again c go)
+pub stops_again : (y : ThreadStop) (out : List ℕ) (c : Completion ThreadState Value) (go : List Value → ThreadState → Completion ThreadState Value) → Stops y out c → Stops y out (again c go)
 stops_again (Fault f) out c go h = ap (λ d. again d go) h
 stops_again Event out c go h = ap (λ d. again d go) h
 stops_again Turns out c go h = ap (λ d. again d go) h
 stops_again Memory out c go h = h
 
 -- a part's stop, by the equation of the whole
-pub stops_whole : {A B : Type 0} (y : EvalStop) (out : List ℕ) (whole : Completion ThreadState B) (c : Completion ThreadState A) (go : A → ThreadState → Completion ThreadState B) → whole ≡ bind c go → Stops y out c → Stops y out whole
+pub stops_whole : {A B : Type 0} (y : ThreadStop) (out : List ℕ) (whole : Completion ThreadState B) (c : Completion ThreadState A) (go : A → ThreadState → Completion ThreadState B) → whole ≡ bind c go → Stops y out c → Stops y out whole
 stops_whole y out whole c go is h = subst (λ w. Stops y out w) (sym is) (stops_bind y out c go h)
 
-pub stops_steps : (r : Result Step EvalStop) (y : EvalStop) (out : List ℕ) (c : Completion ThreadState Value) → r ≡ Err y → Stops y out c → Steps r out c
+pub stops_steps : (r : Result Step ThreadStop) (y : ThreadStop) (out : List ℕ) (c : Completion ThreadState Value) → r ≡ Err y → Stops y out c → Steps r out c
 stops_steps r y out c err h = subst (λ x. Steps x out c) (sym err) h
 
-pub stops_all : {V : Type 0} (f : V → List Value) (r : Result V EvalStop) (y : EvalStop) (out : List ℕ) (c : Completion ThreadState (List Value)) → r ≡ Err y → Stops y out c → GivesAll f r out c
+pub stops_gives : {A : Type 0} (r : Result A ThreadStop) (y : ThreadStop) (out : List ℕ) (c : Completion ThreadState A) → r ≡ Err y → Stops y out c → Gives r out c
+stops_gives r y out c err h = subst (λ x. Gives x out c) (sym err) h
+
+pub stops_all : {V : Type 0} (f : V → List Value) (r : Result V ThreadStop) (y : ThreadStop) (out : List ℕ) (c : Completion ThreadState (List Value)) → r ≡ Err y → Stops y out c → GivesAll f r out c
 stops_all f r y out c err h = subst (λ x. GivesAll f x out c) (sym err) h
 
 -- ---- outside every transaction
 
-module _ (n : ℕ) where
+module _ (setting : Setting) where
   abbrev fx : Effects ThreadState
-  fx = on_events n [] 0
+  fx = no_events setting
 
   abbrev call : Bool → ℕ → List Value → ThreadState → Completion ThreadState Value
-  call = call_at (on_events n []) n [] 0
+  call = calls_in setting
 
   -- nodes for their effects, and then a last one
   abbrev pub do_then : Trees → Tree → List Value → List ℕ → Completion ThreadState Value
-  do_then es last env out = then_last fx call n false es last env (printing out)
+  do_then es last env out = then_last fx call setting.turns false es last env (printing out)
 
   module _ (e : Tree) (m : Mark) (env : List Value) (out : List ℕ) where
-    pub const_done : (v w : Value) → e ≡ Const v m → w ≡ v → means n e env out ≡ Completes w (printing out)
-    const_done v w is copy = ap (λ x. means n x env out) is ∙ ap (λ x. Completes x (printing out)) (sym copy)
+    pub const_done : (v w : Value) → e ≡ Const v m → w ≡ v → means setting e env out ≡ Completes w (printing out)
+    const_done v w is copy = ap (λ x. means setting x env out) is ∙ ap (λ x. Completes x (printing out)) (sym copy)
 
-    pub local_done : (i j : ℕ) (v w : Value) → e ≡ Local i m → j ≡ i → i < length env → w ≡ get_or env j w → v ≡ w → means n e env out ≡ Completes v (printing out)
+    pub local_done : (i j : ℕ) (v w : Value) → e ≡ Local i m → j ≡ i → i < length env → w ≡ get_or env j w → v ≡ w → means setting e env out ≡ Completes v (printing out)
     local_done i j v w is same lt at copy =
         let there : w ≡ get_or env i w = subst (λ k. w ≡ get_or env k w) same at in
-        ap (λ x. means n x env out) is ∙ ap (λ o. give o (printing out)) (nth_at env i w lt there) ∙ ap (λ x. Completes x (printing out)) (sym copy)
+        ap (λ x. means setting x env out) is ∙ ap (λ o. give o (printing out)) (nth_at env i w lt there) ∙ ap (λ x. Completes x (printing out)) (sym copy)
 
-    module _ (out1 : List ℕ) (r : Result Step EvalStop) where
-      pub steps_do : (es : Trees) → e ≡ Do es m → Steps r out1 (do_means n es env out) → Steps r out1 (means n e env out)
-      steps_do es is h = subst (λ x. Steps r out1 (means n x env out)) (sym is) h
+    module _ (out1 : List ℕ) (r : Result Step ThreadStop) where
+      pub steps_do : (es : Trees) → e ≡ Do es m → Steps r out1 (do_means setting es env out) → Steps r out1 (means setting e env out)
+      steps_do es is h = subst (λ x. Steps r out1 (means setting x env out)) (sym is) h
 
-      pub steps_let : (es : Trees) (b : Tree) → e ≡ Let es b m → Steps r out1 (let_means n es b env out) → Steps r out1 (means n e env out)
-      steps_let es b is h = subst (λ x. Steps r out1 (means n x env out)) (sym is) h
+      pub steps_let : (es : Trees) (b : Tree) → e ≡ Let es b m → Steps r out1 (let_means setting es b env out) → Steps r out1 (means setting e env out)
+      steps_let es b is h = subst (λ x. Steps r out1 (means setting x env out)) (sym is) h
 
-      pub steps_loop : (es : Trees) (b : Tree) → e ≡ Loop es b m → Steps r out1 (loop_means n es b env out) → Steps r out1 (means n e env out)
-      steps_loop es b is h = subst (λ x. Steps r out1 (means n x env out)) (sym is) h
+      pub steps_loop : (es : Trees) (b : Tree) → e ≡ Loop es b m → Steps r out1 (loop_means setting es b env out) → Steps r out1 (means setting e env out)
+      steps_loop es b is h = subst (λ x. Steps r out1 (means setting x env out)) (sym is) h
 
     -- the branch that the test chooses
     if_branch : (v : Value) (b : Bool) (p q : Completion ThreadState Value) → b ≡ is_false v → choose v p q ≡ (if b then q else p)
@@ -174,70 +177,76 @@ module _ (n : ℕ) where
     if_branch (Cell c) b p q t = ap (λ (x : Bool). if x then q else p) (sym t)
 
     module _ (test first second : Tree) (is : e ≡ If test first second m) where
-      if_is : means n e env out ≡ bind (means n test env out) (λ v s1. choose v (eval fx call n false first env s1) (eval fx call n false second env s1))
-      if_is = ap (λ x. means n x env out) is
+      if_is : means setting e env out ≡ bind (means setting test env out) (λ v s1. choose v (eval fx call setting.turns false first env s1) (eval fx call setting.turns false second env s1))
+      if_is = ap (λ x. means setting x env out) is
 
-      both : (out1 : List ℕ) (b : Bool) → (if b then means n second env out1 else means n first env out1) ≡ means n (if b then second else first) env out1
+      both : (out1 : List ℕ) (b : Bool) → (if b then means setting second env out1 else means setting first env out1) ≡ means setting (if b then second else first) env out1
       both out1 true = refl
       both out1 false = refl
 
-      pub if_stop : (y : EvalStop) (out1 : List ℕ) → Stops y out1 (means n test env out) → Stops y out1 (means n e env out)
-      if_stop y out1 h = stops_whole y out1 (means n e env out) (means n test env out) (λ v s1. choose v (eval fx call n false first env s1) (eval fx call n false second env s1)) if_is h
+      pub if_stop : (y : ThreadStop) (out1 : List ℕ) → Stops y out1 (means setting test env out) → Stops y out1 (means setting e env out)
+      if_stop y out1 h = stops_whole y out1 (means setting e env out) (means setting test env out) (λ v s1. choose v (eval fx call setting.turns false first env s1) (eval fx call setting.turns false second env s1)) if_is h
 
-      pub if_goes : (v : Value) (b : Bool) (now : List Value) (out1 out2 : List ℕ) (r : Result Step EvalStop) → means n test env out ≡ Completes v (printing out1) → b ≡ is_false v → now ≡ env
-          → Steps r out2 (means n (if b then second else first) now out1) → Steps r out2 (means n e env out)
+      pub if_goes : (v : Value) (b : Bool) (now : List Value) (out1 out2 : List ℕ) (r : Result Step ThreadStop) → means setting test env out ≡ Completes v (printing out1) → b ≡ is_false v → now ≡ env
+          → Steps r out2 (means setting (if b then second else first) now out1) → Steps r out2 (means setting e env out)
       if_goes v b now out1 out2 r h t same g =
-          let whole : means n e env out ≡ means n (if b then second else first) env out1 =
-          if_is ∙ ap (λ c. bind c (λ w s1. choose w (eval fx call n false first env s1) (eval fx call n false second env s1))) h
-          ∙ if_branch v b (means n first env out1) (means n second env out1) t ∙ both out1 b in
-          subst (λ c. Steps r out2 c) (sym whole) (subst (λ l. Steps r out2 (means n (if b then second else first) l out1)) same g)
+          let whole : means setting e env out ≡ means setting (if b then second else first) env out1 =
+          if_is ∙ ap (λ c. bind c (λ w s1. choose w (eval fx call setting.turns false first env s1) (eval fx call setting.turns false second env s1))) h
+          ∙ if_branch v b (means setting first env out1) (means setting second env out1) t ∙ both out1 b in
+          subst (λ c. Steps r out2 c) (sym whole) (subst (λ l. Steps r out2 (means setting (if b then second else first) l out1)) same g)
 
     -- what waits at once
-    pub dosync_stop : (b : Tree) → e ≡ Dosync b m → means n e env out ≡ Waits (printing out)
-    dosync_stop b is = ap (λ x. means n x env out) is
+    pub dosync_stop : (b : Tree) → e ≡ Dosync b m → means setting e env out ≡ Waits (printing out)
+    dosync_stop b is = ap (λ x. means setting x env out) is
 
     module _ (cell : Tree) (is : e ≡ Deref cell m) where
-      pub deref_stop : (y : EvalStop) (out1 : List ℕ) → Stops y out1 (means n cell env out) → Stops y out1 (means n e env out)
-      deref_stop y out1 h = stops_whole y out1 (means n e env out) (means n cell env out) (λ v s1. reads m.span (any_cell v) s1) (ap (λ x. means n x env out) is) h
+      pub deref_stop : (y : ThreadStop) (out1 : List ℕ) → Stops y out1 (means setting cell env out) → Stops y out1 (means setting e env out)
+      deref_stop y out1 h = stops_whole y out1 (means setting e env out) (means setting cell env out) (λ v s1. reads m.span (any_cell v) s1) (ap (λ x. means setting x env out) is) h
 
-      pub deref_reads : (v : Value) (y : EvalStop) (out1 out2 : List ℕ) → means n cell env out ≡ Completes v (printing out1) → out2 ≡ out1 → Stops y out2 (reads m.span (any_cell v) (printing out2)) → Stops y out1 (means n e env out)
+      pub deref_reads : (v : Value) (y : ThreadStop) (out1 out2 : List ℕ) → means setting cell env out ≡ Completes v (printing out1) → out2 ≡ out1 → Stops y out2 (reads m.span (any_cell v) (printing out2)) → Stops y out1 (means setting e env out)
       deref_reads v y out1 out2 h same g =
-          let whole : means n e env out ≡ reads m.span (any_cell v) (printing out1) = ap (λ x. means n x env out) is ∙ ap (λ c. bind c (λ w s1. reads m.span (any_cell w) s1)) h in
+          let whole : means setting e env out ≡ reads m.span (any_cell v) (printing out1) = ap (λ x. means setting x env out) is ∙ ap (λ c. bind c (λ w s1. reads m.span (any_cell w) s1)) h in
           subst (λ c. Stops y out1 c) (sym whole) (subst (λ o. Stops y o (reads m.span (any_cell v) (printing o))) same g)
 
     -- the arguments' stop is the whole's
-    module _ {V : Type 0} (f : V → List Value) (y : EvalStop) (es : Trees) (out1 : List ℕ) (h : GivesAll f (Err y) out1 (all_mean n es env out)) where
-      pub recur_stop : e ≡ Recur es m → Stops y out1 (means n e env out)
-      recur_stop is = stops_whole y out1 (means n e env out) (all_mean n es env out) (λ vs s1. Recurs vs s1) (ap (λ x. means n x env out) is) h
+    module _ {V : Type 0} (f : V → List Value) (y : ThreadStop) (es : Trees) (out1 : List ℕ) (h : GivesAll f (Err y) out1 (all_mean setting es env out)) where
+      pub recur_stop : e ≡ Recur es m → Stops y out1 (means setting e env out)
+      recur_stop is = stops_whole y out1 (means setting e env out) (all_mean setting es env out) (λ vs s1. Recurs vs s1) (ap (λ x. means setting x env out) is) h
 
-      pub core_stop : (op : Op) → e ≡ Core op es m → Stops y out1 (means n e env out)
-      core_stop op is = stops_whole y out1 (means n e env out) (all_mean n es env out) (λ vs s1. result_of (core op vs) m.span s1) (ap (λ x. means n x env out) is) h
+      pub core_stop : (op : Op) → e ≡ Core op es m → Stops y out1 (means setting e env out)
+      core_stop op is = stops_whole y out1 (means setting e env out) (all_mean setting es env out) (λ vs s1. result_of (core op vs) m.span s1) (ap (λ x. means setting x env out) is) h
 
-      pub vector_stop : e ≡ VectorOf es m → Stops y out1 (means n e env out)
-      vector_stop is = stops_whole y out1 (means n e env out) (all_mean n es env out) (λ vs s1. result_of (vector_of vs) m.span s1) (ap (λ x. means n x env out) is) h
+      pub call_stop : (f : ℕ) → e ≡ Call f es m → Stops y out1 (means setting e env out)
+      call_stop f is = stops_whole y out1 (means setting e env out) (all_mean setting es env out) (λ vs s1. call false f vs s1) (ap (λ x. means setting x env out) is) h
 
-      pub println_stop : e ≡ Println es m → Stops y out1 (means n e env out)
-      println_stop is = stops_whole y out1 (means n e env out) (all_mean n es env out) (λ vs s1. fx.print false vs s1) (ap (λ x. means n x env out) is) h
+      pub vector_stop : e ≡ VectorOf es m → Stops y out1 (means setting e env out)
+      vector_stop is = stops_whole y out1 (means setting e env out) (all_mean setting es env out) (λ vs s1. result_of (vector_of vs) m.span s1) (ap (λ x. means setting x env out) is) h
 
-    module _ (es : Trees) (vs ws : List Value) (out1 out2 : List ℕ) (h : all_mean n es env out ≡ Completes vs (printing out1)) (same : ws ≡ vs) where
-      pub recur_done : e ≡ Recur es m → means n e env out ≡ Recurs ws (printing out1)
-      recur_done is = ap (λ x. means n x env out) is ∙ ap (λ c. bind c (λ us s1. Recurs us s1)) h ∙ ap (λ us. Recurs us (printing out1)) (sym same)
+      pub println_stop : e ≡ Println es m → Stops y out1 (means setting e env out)
+      println_stop is = stops_whole y out1 (means setting e env out) (all_mean setting es env out) (λ vs s1. fx.print false vs s1) (ap (λ x. means setting x env out) is) h
 
-      pub core_done : (op : Op) (r : Result Step EvalStop) → e ≡ Core op es m → out2 ≡ out1 → Steps r out2 (result_of (core op ws) m.span (printing out2)) → Steps r out1 (means n e env out)
+    module _ (es : Trees) (vs ws : List Value) (out1 out2 : List ℕ) (h : all_mean setting es env out ≡ Completes vs (printing out1)) (same : ws ≡ vs) where
+      pub recur_done : e ≡ Recur es m → means setting e env out ≡ Recurs ws (printing out1)
+      recur_done is = ap (λ x. means setting x env out) is ∙ ap (λ c. bind c (λ us s1. Recurs us s1)) h ∙ ap (λ us. Recurs us (printing out1)) (sym same)
+
+      pub core_done : (op : Op) (r : Result Step ThreadStop) → e ≡ Core op es m → out2 ≡ out1 → Steps r out2 (result_of (core op ws) m.span (printing out2)) → Steps r out1 (means setting e env out)
       core_done op r is same_out g =
-          let step : means n e env out ≡ result_of (core op vs) m.span (printing out1) = ap (λ x. means n x env out) is ∙ ap (λ c. bind c (λ us s1. result_of (core op us) m.span s1)) h in
+          let step : means setting e env out ≡ result_of (core op vs) m.span (printing out1) = ap (λ x. means setting x env out) is ∙ ap (λ c. bind c (λ us s1. result_of (core op us) m.span s1)) h in
           let there : Steps r out1 (result_of (core op vs) m.span (printing out1)) = subst₂ (λ us o. Steps r o (result_of (core op us) m.span (printing o))) same same_out g in
           subst (λ c. Steps r out1 c) (sym step) there
 
-      pub vector_done : (r : Result Step EvalStop) → e ≡ VectorOf es m → out2 ≡ out1 → Steps r out2 (result_of (vector_of ws) m.span (printing out2)) → Steps r out1 (means n e env out)
+      pub call_is : (f : ℕ) → e ≡ Call f es m → means setting e env out ≡ call_means setting f ws out1
+      call_is f is = ap (λ x. means setting x env out) is ∙ ap (λ c. bind c (λ us s1. call false f us s1)) h ∙ ap (λ us. call_means setting f us out1) (sym same)
+
+      pub vector_done : (r : Result Step ThreadStop) → e ≡ VectorOf es m → out2 ≡ out1 → Steps r out2 (result_of (vector_of ws) m.span (printing out2)) → Steps r out1 (means setting e env out)
       vector_done r is same_out g =
-          let step : means n e env out ≡ result_of (vector_of vs) m.span (printing out1) = ap (λ x. means n x env out) is ∙ ap (λ c. bind c (λ us s1. result_of (vector_of us) m.span s1)) h in
+          let step : means setting e env out ≡ result_of (vector_of vs) m.span (printing out1) = ap (λ x. means setting x env out) is ∙ ap (λ c. bind c (λ us s1. result_of (vector_of us) m.span s1)) h in
           let there : Steps r out1 (result_of (vector_of vs) m.span (printing out1)) = subst₂ (λ us o. Steps r o (result_of (vector_of us) m.span (printing o))) same same_out g in
           subst (λ c. Steps r out1 c) (sym step) there
 
-      pub println_done : e ≡ Println es m → out2 ≡ out1 ++ printed_line ws → means n e env out ≡ Completes Nil (printing out2)
+      pub println_done : e ≡ Println es m → out2 ≡ out1 ++ printed_line ws → means setting e env out ≡ Completes Nil (printing out2)
       println_done is g =
-          ap (λ x. means n x env out) is ∙ ap (λ c. bind c (λ us s1. fx.print false us s1)) h
+          ap (λ x. means setting x env out) is ∙ ap (λ c. bind c (λ us s1. fx.print false us s1)) h
           ∙ ap (λ us. Completes Nil (printing (out1 ++ printed_line us))) (sym same) ∙ ap (λ o. Completes Nil (printing o)) (sym g)
 
   -- one node more
@@ -245,98 +254,115 @@ module _ (n : ℕ) where
     rest : Trees
     rest = trees_of (drop (i + 1) ns)
 
-    here : {A : Type 0} (go : Value → ThreadState → Completion ThreadState A) (v : Value) → means n (tree_of x) now out ≡ Completes v (printing out1) → bind (means n (tree_of x) env out) go ≡ go v (printing out1)
-    here go v h = ap (λ c. bind c go) (subst (λ l. means n (tree_of x) l out ≡ Completes v (printing out1)) same h)
+    here : {A : Type 0} (go : Value → ThreadState → Completion ThreadState A) (v : Value) → means setting (tree_of x) now out ≡ Completes v (printing out1) → bind (means setting (tree_of x) env out) go ≡ go v (printing out1)
+    here go v h = ap (λ c. bind c go) (subst (λ l. means setting (tree_of x) l out ≡ Completes v (printing out1)) same h)
 
-    stops_here : (y : EvalStop) → Stops y out1 (means n (tree_of x) now out) → Stops y out1 (means n (tree_of x) env out)
-    stops_here y h = subst (λ l. Stops y out1 (means n (tree_of x) l out)) same h
+    stops_here : (y : ThreadStop) → Stops y out1 (means setting (tree_of x) now out) → Stops y out1 (means setting (tree_of x) env out)
+    stops_here y h = subst (λ l. Stops y out1 (means setting (tree_of x) l out)) same h
 
-    all_next : (vs : List Value) → collects fx call n false vs (trees_of (drop i ns)) env (printing out) ≡ bind (means n (tree_of x) env out) (λ v s1. collects fx call n false (vs ++ v ∷ []) (trees_of (drop (i + 1) ns)) env s1)
-    all_next vs = ap (λ es. collects fx call n false vs es env (printing out)) (trees_from ns i x lt is) ∙ collects-more fx call n false vs (tree_of x) (trees_of (drop (i + 1) ns)) env (printing out)
+    all_next : (vs : List Value) → collects fx call setting.turns false vs (trees_of (drop i ns)) env (printing out) ≡ bind (means setting (tree_of x) env out) (λ v s1. collects fx call setting.turns false (vs ++ v ∷ []) (trees_of (drop (i + 1) ns)) env s1)
+    all_next vs = ap (λ es. collects fx call setting.turns false vs es env (printing out)) (trees_from ns i x lt is) ∙ collects-more fx call setting.turns false vs (tree_of x) (trees_of (drop (i + 1) ns)) env (printing out)
 
-    pub all_more : (vs us : List Value) (v : Value) → means n (tree_of x) now out ≡ Completes v (printing out1) → us ≡ vs ++ v ∷ []
-        → collects fx call n false vs (trees_of (drop i ns)) env (printing out) ≡ collects fx call n false us (trees_of (drop (i + 1) ns)) env (printing out1)
+    pub all_more : (vs us : List Value) (v : Value) → means setting (tree_of x) now out ≡ Completes v (printing out1) → us ≡ vs ++ v ∷ []
+        → collects fx call setting.turns false vs (trees_of (drop i ns)) env (printing out) ≡ collects fx call setting.turns false us (trees_of (drop (i + 1) ns)) env (printing out1)
     all_more vs us v h pushed =
-        all_next vs ∙ here (λ w s1. collects fx call n false (vs ++ w ∷ []) (trees_of (drop (i + 1) ns)) env s1) v h
-        ∙ ap (λ ws. collects fx call n false ws (trees_of (drop (i + 1) ns)) env (printing out1)) (sym pushed)
+        all_next vs ∙ here (λ w s1. collects fx call setting.turns false (vs ++ w ∷ []) (trees_of (drop (i + 1) ns)) env s1) v h
+        ∙ ap (λ ws. collects fx call setting.turns false ws (trees_of (drop (i + 1) ns)) env (printing out1)) (sym pushed)
 
-    pub all_stop : (vs : List Value) (y : EvalStop) → Stops y out1 (means n (tree_of x) now out) → Stops y out1 (collects fx call n false vs (trees_of (drop i ns)) env (printing out))
+    pub all_stop : (vs : List Value) (y : ThreadStop) → Stops y out1 (means setting (tree_of x) now out) → Stops y out1 (collects fx call setting.turns false vs (trees_of (drop i ns)) env (printing out))
     all_stop vs y h =
-        stops_whole y out1 (collects fx call n false vs (trees_of (drop i ns)) env (printing out)) (means n (tree_of x) env out) (λ v s1. collects fx call n false (vs ++ v ∷ []) (trees_of (drop (i + 1) ns)) env s1) (all_next vs) (stops_here y h)
+        stops_whole y out1 (collects fx call setting.turns false vs (trees_of (drop i ns)) env (printing out)) (means setting (tree_of x) env out) (λ v s1. collects fx call setting.turns false (vs ++ v ∷ []) (trees_of (drop (i + 1) ns)) env s1) (all_next vs) (stops_here y h)
 
-    do_next : (last : Tree) → do_then (trees_of (drop i ns)) last env out ≡ bind (means n (tree_of x) env out) (λ v s1. then_last fx call n false (trees_of (drop (i + 1) ns)) last env s1)
+    do_next : (last : Tree) → do_then (trees_of (drop i ns)) last env out ≡ bind (means setting (tree_of x) env out) (λ v s1. then_last fx call setting.turns false (trees_of (drop (i + 1) ns)) last env s1)
     do_next last = ap (λ es. do_then es last env out) (trees_from ns i x lt is)
 
-    pub do_more : (last : Tree) (v : Value) → means n (tree_of x) now out ≡ Completes v (printing out1) → do_then (trees_of (drop i ns)) last env out ≡ do_then (trees_of (drop (i + 1) ns)) last env out1
-    do_more last v h = do_next last ∙ here (λ w s1. then_last fx call n false (trees_of (drop (i + 1) ns)) last env s1) v h
+    pub do_more : (last : Tree) (v : Value) → means setting (tree_of x) now out ≡ Completes v (printing out1) → do_then (trees_of (drop i ns)) last env out ≡ do_then (trees_of (drop (i + 1) ns)) last env out1
+    do_more last v h = do_next last ∙ here (λ w s1. then_last fx call setting.turns false (trees_of (drop (i + 1) ns)) last env s1) v h
 
-    pub do_stop : (last : Tree) (y : EvalStop) → Stops y out1 (means n (tree_of x) now out) → Stops y out1 (do_then (trees_of (drop i ns)) last env out)
+    pub do_stop : (last : Tree) (y : ThreadStop) → Stops y out1 (means setting (tree_of x) now out) → Stops y out1 (do_then (trees_of (drop i ns)) last env out)
     do_stop last y h =
-        stops_whole y out1 (do_then (trees_of (drop i ns)) last env out) (means n (tree_of x) env out) (λ v s1. then_last fx call n false (trees_of (drop (i + 1) ns)) last env s1) (do_next last) (stops_here y h)
+        stops_whole y out1 (do_then (trees_of (drop i ns)) last env out) (means setting (tree_of x) env out) (λ v s1. then_last fx call setting.turns false (trees_of (drop (i + 1) ns)) last env s1) (do_next last) (stops_here y h)
 
-    locals_next : locals_mean n (trees_of (drop i ns)) env out ≡ bind (means n (tree_of x) env out) (λ v s1. locals_after fx call n false (trees_of (drop (i + 1) ns)) (env ++ v ∷ []) s1)
-    locals_next = ap (λ es. locals_mean n es env out) (trees_from ns i x lt is) ∙ locals_after-more fx call n false (tree_of x) (trees_of (drop (i + 1) ns)) env (printing out)
+    locals_next : locals_mean setting (trees_of (drop i ns)) env out ≡ bind (means setting (tree_of x) env out) (λ v s1. locals_after fx call setting.turns false (trees_of (drop (i + 1) ns)) (env ++ v ∷ []) s1)
+    locals_next = ap (λ es. locals_mean setting es env out) (trees_from ns i x lt is) ∙ locals_after-more fx call setting.turns false (tree_of x) (trees_of (drop (i + 1) ns)) env (printing out)
 
-    pub locals_more : (v : Value) (longer : List Value) → means n (tree_of x) now out ≡ Completes v (printing out1) → longer ≡ env ++ v ∷ []
-        → locals_mean n (trees_of (drop i ns)) env out ≡ locals_mean n (trees_of (drop (i + 1) ns)) longer out1
+    pub locals_more : (v : Value) (longer : List Value) → means setting (tree_of x) now out ≡ Completes v (printing out1) → longer ≡ env ++ v ∷ []
+        → locals_mean setting (trees_of (drop i ns)) env out ≡ locals_mean setting (trees_of (drop (i + 1) ns)) longer out1
     locals_more v longer h pushed =
-        locals_next ∙ here (λ w s1. locals_after fx call n false (trees_of (drop (i + 1) ns)) (env ++ w ∷ []) s1) v h
-        ∙ ap (λ l. locals_mean n (trees_of (drop (i + 1) ns)) l out1) (sym pushed)
+        locals_next ∙ here (λ w s1. locals_after fx call setting.turns false (trees_of (drop (i + 1) ns)) (env ++ w ∷ []) s1) v h
+        ∙ ap (λ l. locals_mean setting (trees_of (drop (i + 1) ns)) l out1) (sym pushed)
 
-    pub locals_stop : (y : EvalStop) → Stops y out1 (means n (tree_of x) now out) → Stops y out1 (locals_mean n (trees_of (drop i ns)) env out)
+    pub locals_stop : (y : ThreadStop) → Stops y out1 (means setting (tree_of x) now out) → Stops y out1 (locals_mean setting (trees_of (drop i ns)) env out)
     locals_stop y h =
-        stops_whole y out1 (locals_mean n (trees_of (drop i ns)) env out) (means n (tree_of x) env out) (λ v s1. locals_after fx call n false (trees_of (drop (i + 1) ns)) (env ++ v ∷ []) s1) locals_next (stops_here y h)
+        stops_whole y out1 (locals_mean setting (trees_of (drop i ns)) env out) (means setting (tree_of x) env out) (λ v s1. locals_after fx call setting.turns false (trees_of (drop (i + 1) ns)) (env ++ v ∷ []) s1) locals_next (stops_here y h)
 
-  pub do_start : (before ns : List Node) (last : Node) (env : List Value) (out : List ℕ) → ns ≡ before ++ last ∷ [] → do_means n (trees_of ns) env out ≡ do_then (trees_of before) (tree_of last) env out
-  do_start before ns last env out is = ap (λ l. do_means n (trees_of l) env out) is ∙ do-then_last fx call n false before last env (printing out)
+  pub do_start : (before ns : List Node) (last : Node) (env : List Value) (out : List ℕ) → ns ≡ before ++ last ∷ [] → do_means setting (trees_of ns) env out ≡ do_then (trees_of before) (tree_of last) env out
+  do_start before ns last env out is = ap (λ l. do_means setting (trees_of l) env out) is ∙ do-then_last fx call setting.turns false before last env (printing out)
 
   -- a body after its new locals
   module _ (es : Trees) (body : Tree) (env : List Value) (out : List ℕ) where
     one_turn : List Value → ThreadState → Completion ThreadState Value
-    one_turn = λ ws s. eval fx call n false body (env ++ ws) s
+    one_turn = λ ws s. eval fx call setting.turns false body (env ++ ws) s
 
-    let_is : let_means n es body env out ≡ bind (locals_mean n es env out) (λ ls s1. eval fx call n false body ls s1)
-    let_is = sym (bind-bind (eval_let fx call n false es env (printing out)) (λ vs s1. Completes (env ++ vs) s1) (λ ls s1. eval fx call n false body ls s1))
+    let_is : let_means setting es body env out ≡ bind (locals_mean setting es env out) (λ ls s1. eval fx call setting.turns false body ls s1)
+    let_is = sym (bind-bind (eval_let fx call setting.turns false es env (printing out)) (λ vs s1. Completes (env ++ vs) s1) (λ ls s1. eval fx call setting.turns false body ls s1))
 
-    loop_is : loop_means n es body env out ≡ bind (locals_mean n es env out) (λ ls s1. turns n (count es) (λ ws s2. eval fx call n false body (env ++ ws) s2) (drop (length env) ls) s1)
-    loop_is = after_locals fx call n false es env (printing out) (λ vs s1. turns n (count es) (λ ws s2. eval fx call n false body (env ++ ws) s2) vs s1)
+    loop_is : loop_means setting es body env out ≡ bind (locals_mean setting es env out) (λ ls s1. turns setting.turns (count es) (λ ws s2. eval fx call setting.turns false body (env ++ ws) s2) (drop (length env) ls) s1)
+    loop_is = after_locals fx call setting.turns false es env (printing out) (λ vs s1. turns setting.turns (count es) (λ ws s2. eval fx call setting.turns false body (env ++ ws) s2) vs s1)
 
-    pub let_stop : (y : EvalStop) (out1 : List ℕ) → Stops y out1 (locals_mean n es env out) → Stops y out1 (let_means n es body env out)
-    let_stop y out1 h = stops_whole y out1 (let_means n es body env out) (locals_mean n es env out) (λ ls s1. eval fx call n false body ls s1) let_is h
+    pub let_stop : (y : ThreadStop) (out1 : List ℕ) → Stops y out1 (locals_mean setting es env out) → Stops y out1 (let_means setting es body env out)
+    let_stop y out1 h = stops_whole y out1 (let_means setting es body env out) (locals_mean setting es env out) (λ ls s1. eval fx call setting.turns false body ls s1) let_is h
 
-    pub loop_stop : (y : EvalStop) (out1 : List ℕ) → Stops y out1 (locals_mean n es env out) → Stops y out1 (loop_means n es body env out)
+    pub loop_stop : (y : ThreadStop) (out1 : List ℕ) → Stops y out1 (locals_mean setting es env out) → Stops y out1 (loop_means setting es body env out)
     loop_stop y out1 h =
-        stops_whole y out1 (loop_means n es body env out) (locals_mean n es env out) (λ ls s1. turns n (count es) (λ ws s2. eval fx call n false body (env ++ ws) s2) (drop (length env) ls) s1) loop_is h
+        stops_whole y out1 (loop_means setting es body env out) (locals_mean setting es env out) (λ ls s1. turns setting.turns (count es) (λ ws s2. eval fx call setting.turns false body (env ++ ws) s2) (drop (length env) ls) s1) loop_is h
 
-    module _ (now : List Value) (out1 out2 : List ℕ) (r : Result Step EvalStop) (h : locals_mean n es env out ≡ Completes now (printing out1)) where
-      pub let_done : Steps r out2 (means n body now out1) → Steps r out2 (let_means n es body env out)
-      let_done g = subst (λ c. Steps r out2 c) (sym (let_is ∙ ap (λ c. bind c (λ ls s1. eval fx call n false body ls s1)) h)) g
+    module _ (now : List Value) (out1 out2 : List ℕ) (r : Result Step ThreadStop) (h : locals_mean setting es env out ≡ Completes now (printing out1)) where
+      pub let_done : Steps r out2 (means setting body now out1) → Steps r out2 (let_means setting es body env out)
+      let_done g = subst (λ c. Steps r out2 c) (sym (let_is ∙ ap (λ c. bind c (λ ls s1. eval fx call setting.turns false body ls s1)) h)) g
 
-      pub loop_done : (b d : ℕ) → b ≡ length env → d ≡ count es → take b now ≡ env → Steps r out2 (turns_mean n n d body (take b now) (drop b now) out1) → Steps r out2 (loop_means n es body env out)
+      pub loop_done : (b d : ℕ) → b ≡ length env → d ≡ count es → take b now ≡ env → Steps r out2 (turns_mean setting setting.turns d body (take b now) (drop b now) out1) → Steps r out2 (loop_means setting es body env out)
       loop_done b d place many kept g =
-          let there : Steps r out2 (turns_mean n n (count es) body env (drop (length env) now) out1) =
-          subst₂ (λ j l. Steps r out2 (turns_mean n n (count es) body l (drop j now) out1)) place kept (subst (λ k. Steps r out2 (turns_mean n n k body (take b now) (drop b now) out1)) many g) in
-          subst (λ c. Steps r out2 c) (sym (loop_is ∙ ap (λ c. bind c (λ ls s1. turns n (count es) (λ ws s2. eval fx call n false body (env ++ ws) s2) (drop (length env) ls) s1)) h)) there
+          let there : Steps r out2 (turns_mean setting setting.turns (count es) body env (drop (length env) now) out1) =
+          subst₂ (λ j l. Steps r out2 (turns_mean setting setting.turns (count es) body l (drop j now) out1)) place kept (subst (λ k. Steps r out2 (turns_mean setting setting.turns k body (take b now) (drop b now) out1)) many g) in
+          subst (λ c. Steps r out2 c) (sym (loop_is ∙ ap (λ c. bind c (λ ls s1. turns setting.turns (count es) (λ ws s2. eval fx call setting.turns false body (env ++ ws) s2) (drop (length env) ls) s1)) h)) there
 
   -- one turn of a loop, with these locals and as many turns after it
   module _ (body : Tree) (b d k m : ℕ) (env now : List Value) (out out1 : List ℕ) (left : k ≡ suc m) (kept : take b now ≡ env) (many : length (drop b now) ≡ d) where
-    turn_next : turns_mean n k d body env (drop b now) out ≡ again (means n body now out) (turns m d (λ ws s. eval fx call n false body (env ++ ws) s))
+    turn_next : turns_mean setting k d body env (drop b now) out ≡ again (means setting body now out) (turns m d (λ ws s. eval fx call setting.turns false body (env ++ ws) s))
     turn_next =
         let joined : env ++ drop b now ≡ now = ap (λ l. l ++ drop b now) (sym kept) ∙ take-append-drop b now in
-        ap (λ j. turns_mean n j d body env (drop b now) out) left
-        ∙ turns-more m d (λ ws s. eval fx call n false body (env ++ ws) s) (drop b now) (printing out) many
-        ∙ ap (λ l. again (means n body l out) (turns m d (λ ws s. eval fx call n false body (env ++ ws) s))) joined
+        ap (λ j. turns_mean setting j d body env (drop b now) out) left
+        ∙ turns-more m d (λ ws s. eval fx call setting.turns false body (env ++ ws) s) (drop b now) (printing out) many
+        ∙ ap (λ l. again (means setting body l out) (turns m d (λ ws s. eval fx call setting.turns false body (env ++ ws) s))) joined
 
-    pub turn_value : (v : Value) → means n body now out ≡ Completes v (printing out1) → turns_mean n k d body env (drop b now) out ≡ Completes v (printing out1)
-    turn_value v h = turn_next ∙ ap (λ c. again c (turns m d (λ ws s. eval fx call n false body (env ++ ws) s))) h
+    pub turn_value : (v : Value) → means setting body now out ≡ Completes v (printing out1) → turns_mean setting k d body env (drop b now) out ≡ Completes v (printing out1)
+    turn_value v h = turn_next ∙ ap (λ c. again c (turns m d (λ ws s. eval fx call setting.turns false body (env ++ ws) s))) h
 
-    pub turn_stop : (y : EvalStop) → Stops y out1 (means n body now out) → Stops y out1 (turns_mean n k d body env (drop b now) out)
-    turn_stop y h = subst (λ c. Stops y out1 c) (sym turn_next) (stops_again y out1 (means n body now out) (turns m d (λ ws s. eval fx call n false body (env ++ ws) s)) h)
+    pub turn_stop : (y : ThreadStop) → Stops y out1 (means setting body now out) → Stops y out1 (turns_mean setting k d body env (drop b now) out)
+    turn_stop y h = subst (λ c. Stops y out1 c) (sym turn_next) (stops_again y out1 (means setting body now out) (turns m d (λ ws s. eval fx call setting.turns false body (env ++ ws) s)) h)
 
-    pub turn_recur : (ws later : List Value) → means n body now out ≡ Recurs ws (printing out1) → drop b later ≡ ws → turns_mean n k d body env (drop b now) out ≡ turns_mean n m d body env (drop b later) out1
+    pub turn_recur : (ws later : List Value) → means setting body now out ≡ Recurs ws (printing out1) → drop b later ≡ ws → turns_mean setting k d body env (drop b now) out ≡ turns_mean setting m d body env (drop b later) out1
     turn_recur ws later h rebound =
-        turn_next ∙ ap (λ c. again c (turns m d (λ us s. eval fx call n false body (env ++ us) s))) h
-        ∙ ap (λ us. turns m d (λ us s. eval fx call n false body (env ++ us) s) us (printing out1)) (sym rebound)
+        turn_next ∙ ap (λ c. again c (turns m d (λ us s. eval fx call setting.turns false body (env ++ us) s))) h
+        ∙ ap (λ us. turns m d (λ us s. eval fx call setting.turns false body (env ++ us) s) us (printing out1)) (sym rebound)
+
+-- a call is the turns of the function's body, one level deeper
+module _ (setting : Setting) (f : ℕ) (fun : PlainFunction) (left : 0 < setting.depth) (there : nth (functions_of setting.functions) f ≡ Some fun) where
+  abbrev fx_at : ℕ → Effects ThreadState
+  fx_at = on_events setting.turns (functions_of setting.functions)
+
+  abbrev body_at : PlainFunction → List Value → ThreadState → Completion ThreadState Value
+  body_at g = λ ws t. eval (fx_at (setting.depth - 1)) (call_at fx_at setting.turns (functions_of setting.functions) (setting.depth - 1)) setting.turns false g.body ws t
+
+  pub call_turns : (d : ℕ) (vs env ws : List Value) (out : List ℕ) → fun.parameters ≡ d → env ≡ [] → ws ≡ vs → call_means setting f vs out ≡ turns_mean (deeper setting) setting.turns d fun.body env ws out
+  call_turns d vs env ws out many none_before same =
+      let one_more : setting.depth ≡ suc (setting.depth - 1) = omega (arith, left) in
+      ap (λ k. call_at fx_at setting.turns (functions_of setting.functions) k false f vs (printing out)) one_more
+      ∙ ap (λ o. bind (give o (printing out)) (λ g t. turns setting.turns g.parameters (body_at g) vs t)) there
+      ∙ ap (λ k. turns setting.turns k (body_at fun) vs (printing out)) many
+      ∙ ap (λ us. turns setting.turns d (body_at fun) us (printing out)) (sym same)
+      ∙ ap (λ l. turns_mean (deeper setting) setting.turns d fun.body l ws out) (sym none_before)
 
 -- the values of the next turn behind the locals before them
 pub rebound : (b : ℕ) (now later ws : List Value) → b ≤ length now → later ≡ take b now ++ ws → (take b later ≡ take b now) × (length later ≡ b + length ws) × (drop b later ≡ ws)

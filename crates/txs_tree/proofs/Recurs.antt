@@ -1,6 +1,5 @@
 -- A recur of a sound node has as many values as the loop in whose tail position the node stands.
 use Rattle.std.proofs.Common.{ℕ, zero, suc, Bool, true, false, List, [], ◌∷◌, ◌++◌, Option, Some, None, Result, Ok, Err, sym, ap, ◌∙◌, subst, refl, length, nat_eq, if◌then◌else◌, ◌≡◌, ◌+◌}
-use Rattle.std.proofs.lemmas.Bool.{false≢true}
 use Rattle.txs_value.specs.Ask.{Writes, same_writes, same_cell}
 use Rattle.txs_value.specs.Cells.{World, any_cell}
 use Rattle.txs_value.specs.Core.{core, vector_of}
@@ -12,12 +11,15 @@ use Rattle.txs_value.specs.declared.fault.Span.{Span}
 use Rattle.txs_value.specs.declared.value.CellId.{CellId}
 use Rattle.txs_value.specs.declared.value.Value.{Value}
 use Rattle.txs_value.specs.declared.value.Value.TheVariants.{Nil, Truth, Int, Key, Text, Vector, Cell}
-use Rattle.txs_tree.specs.Evaluated.{means, printing}
-use Rattle.txs_tree.specs.Meaning.{Completion, Completes, Recurs, Faults, Retries, Waits, OutOfTurns, Invalid, bind, again, give, result_of, turns, eval, eval_all, eval_let, eval_do, call_at}
-use Rattle.txs_tree.specs.Sound.{SoundTree, SoundDo}
+use Rattle.txs_tree.specs.Evaluated.{no_events, calls_in, means, printing}
+use Rattle.txs_tree.specs.Known.{Known}
+use Rattle.txs_tree.specs.Meaning.{Completion, Completes, Recurs, Faults, Retries, Waits, OutOfTurns, Invalid, bind, again, give, result_of, turns, Effects, eval, eval_all, eval_let, eval_do, call_at}
+use Rattle.txs_tree.specs.Setting.{Setting}
+use Rattle.txs_tree.specs.Sound.{SoundTree, SoundDo, in_thread}
 use Rattle.txs_tree.specs.Thread.{SeenEvent, Read, Committed, Retried, Aborted, ThreadState, on_events, eats_read, reads, eats_tx, commits, aborts}
 use Rattle.txs_tree.specs.Transaction.{TxState, tx_meaning}
-use Rattle.txs_tree.specs.Tree.{Tree, Const, Local, If, Do, Let, Loop, Recur, Core, Call, VectorOf, Println, Dosync, Deref, Alter, Trees, none, more, count}
+use Rattle.txs_tree.specs.Tree.{Tree, Const, Local, If, Do, Let, Loop, Recur, Core, Call, VectorOf, Println, Dosync, Deref, Alter, Trees, none, more, count, PlainFunction}
+use Rattle.txs_tree.specs.View.{functions_of}
 
 -- a recur has as many values as are given
 abbrev RecursAs : {S A : Type 0} → Option ℕ → Completion S A → Type 0
@@ -28,6 +30,14 @@ RecursAs tail (Retries s) = Unit {0}
 RecursAs tail (Waits s) = Unit {0}
 RecursAs tail (OutOfTurns s) = Unit {0}
 RecursAs tail Invalid = Unit {0}
+
+abbrev many_in : Option ℕ → ℕ
+many_in None = 0
+many_in (Some k) = k
+
+abbrev IsSome : Option ℕ → Type 0
+IsSome None = ⊥
+IsSome (Some a) = Unit {0}
 
 -- so many values are given
 abbrev Counts : {S : Type 0} → ℕ → Completion S (List Value) → Type 0
@@ -74,6 +84,12 @@ module _ {S : Type 0} where
     result_as : (r : Result Value FaultKind) (span : Span) (s : S) → RecursAs tail (result_of r span s)
     result_as (Ok v) span s = tt
     result_as (Err k) span s = tt
+
+    call_at_as : (fx : ℕ → Effects S) (n : ℕ) (functions : List PlainFunction) (b f : ℕ) (vs : List Value) (s : S) → RecursAs tail (call_at fx n functions b false f vs s)
+    call_at_as fx n functions zero f vs s = tt
+    call_at_as fx n functions (suc b) f vs s =
+        bind_as (give (nth functions f) s) (λ fun s1. turns n fun.parameters (λ ws s2. eval (fx b) (call_at fx n functions b) n false fun.body ws s2) vs s1)
+        (λ fun s1. turns_as n fun.parameters (λ ws s2. eval (fx b) (call_at fx n functions b) n false fun.body ws s2) vs s1)
 
     choose_as : (v : Value) (c d : Completion S Value) → RecursAs tail c → RecursAs tail d → RecursAs tail (choose v c d)
     choose_as Nil c d f g = g
@@ -156,60 +172,58 @@ module _ (tail : Option ℕ) where
   eats_tx_as (suc k) span body (Aborted R ∷ es) out = aborts_as (body R) (record { todo = es; printed = out })
   eats_tx_as (suc k) span body (Read cell C ∷ es) out = tt
 
-module _ (n : ℕ) (call : Bool → ℕ → List Value → ThreadState → Completion ThreadState Value) where
-  all_counts : (es : Trees) (env : List Value) (s : ThreadState) → Counts (count es) (eval_all (on_events n [] 0) call n false es env s)
+module _ (setting : Setting) (ks : List Known) (call : Bool → ℕ → List Value → ThreadState → Completion ThreadState Value) (call_as : (tail : Option ℕ) (f : ℕ) (vs : List Value) (s : ThreadState) → RecursAs tail (call false f vs s)) where
+  all_counts : (es : Trees) (env : List Value) (s : ThreadState) → Counts (count es) (eval_all (no_events setting) call setting.turns false es env s)
   all_counts none env s = refl
   all_counts (more e rest) env s =
-      bind_counts (suc (count rest)) (eval (on_events n [] 0) call n false e env s) (λ v s1. bind (eval_all (on_events n [] 0) call n false rest env s1) (λ vs s2. Completes (v ∷ vs) s2))
-      (λ v s1. one_more (count rest) v (eval_all (on_events n [] 0) call n false rest env s1) (all_counts rest env s1))
+      bind_counts (suc (count rest)) (eval (no_events setting) call setting.turns false e env s) (λ v s1. bind (eval_all (no_events setting) call setting.turns false rest env s1) (λ vs s2. Completes (v ∷ vs) s2))
+      (λ v s1. one_more (count rest) v (eval_all (no_events setting) call setting.turns false rest env s1) (all_counts rest env s1))
 
   mutual
-    tree_as : (e : Tree) (d : ℕ) (tail : Option ℕ) (env : List Value) (s : ThreadState) → SoundTree false d tail e → RecursAs tail (eval (on_events n [] 0) call n false e env s)
+    tree_as : (e : Tree) (d : ℕ) (tail : Option ℕ) (env : List Value) (s : ThreadState) → SoundTree ks in_thread d tail e → RecursAs tail (eval (no_events setting) call setting.turns false e env s)
     tree_as (Const v m) d tail env s h = tt
     tree_as (Local i m) d tail env s h = give_as tail (nth env i) s
     tree_as (If c a b m) d tail env s h =
-        bind_as tail (eval (on_events n [] 0) call n false c env s) (λ v s1. choose v (eval (on_events n [] 0) call n false a env s1) (eval (on_events n [] 0) call n false b env s1))
-        (λ v s1. choose_as tail v (eval (on_events n [] 0) call n false a env s1) (eval (on_events n [] 0) call n false b env s1) (tree_as a d tail env s1 h.1) (tree_as b d tail env s1 h.2))
+        bind_as tail (eval (no_events setting) call setting.turns false c env s) (λ v s1. choose v (eval (no_events setting) call setting.turns false a env s1) (eval (no_events setting) call setting.turns false b env s1))
+        (λ v s1. choose_as tail v (eval (no_events setting) call setting.turns false a env s1) (eval (no_events setting) call setting.turns false b env s1) (tree_as a d tail env s1 h.1) (tree_as b d tail env s1 h.2))
     tree_as (Do items m) d tail env s h = do_as items d tail env s h
     tree_as (Let values body m) d tail env s h =
-        bind_as tail (eval_let (on_events n [] 0) call n false values env s) (λ vs s1. eval (on_events n [] 0) call n false body (env ++ vs) s1) (λ vs s1. tree_as body (d + count values) tail (env ++ vs) s1 h.1)
+        bind_as tail (eval_let (no_events setting) call setting.turns false values env s) (λ vs s1. eval (no_events setting) call setting.turns false body (env ++ vs) s1) (λ vs s1. tree_as body (d + count values) tail (env ++ vs) s1 h.1)
     tree_as (Loop values body m) d tail env s h =
-        bind_as tail (eval_let (on_events n [] 0) call n false values env s) (λ vs s1. turns n (count values) (λ ws s2. eval (on_events n [] 0) call n false body (env ++ ws) s2) vs s1)
-        (λ vs s1. turns_as tail n (count values) (λ ws s2. eval (on_events n [] 0) call n false body (env ++ ws) s2) vs s1)
-    tree_as (Recur values m) d tail env s h = recur_as tail (count values) (eval_all (on_events n [] 0) call n false values env s) (all_counts values env s) h.0
+        bind_as tail (eval_let (no_events setting) call setting.turns false values env s) (λ vs s1. turns setting.turns (count values) (λ ws s2. eval (no_events setting) call setting.turns false body (env ++ ws) s2) vs s1)
+        (λ vs s1. turns_as tail setting.turns (count values) (λ ws s2. eval (no_events setting) call setting.turns false body (env ++ ws) s2) vs s1)
+    tree_as (Recur values m) d tail env s h = recur_as tail (count values) (eval_all (no_events setting) call setting.turns false values env s) (all_counts values env s) h.0
     tree_as (Core op args m) d tail env s h =
-        bind_as tail (eval_all (on_events n [] 0) call n false args env s) (λ vs s1. result_of (core op vs) m.span s1) (λ vs s1. result_as tail (core op vs) m.span s1)
-    tree_as (Call f args m) d tail env s h = absurd h
+        bind_as tail (eval_all (no_events setting) call setting.turns false args env s) (λ vs s1. result_of (core op vs) m.span s1) (λ vs s1. result_as tail (core op vs) m.span s1)
+    tree_as (Call f args m) d tail env s h =
+        bind_as tail (eval_all (no_events setting) call setting.turns false args env s) (λ vs s1. call false f vs s1) (λ vs s1. call_as tail f vs s1)
     tree_as (VectorOf items m) d tail env s h =
-        bind_as tail (eval_all (on_events n [] 0) call n false items env s) (λ vs s1. result_of (vector_of vs) m.span s1) (λ vs s1. result_as tail (vector_of vs) m.span s1)
+        bind_as tail (eval_all (no_events setting) call setting.turns false items env s) (λ vs s1. result_of (vector_of vs) m.span s1) (λ vs s1. result_as tail (vector_of vs) m.span s1)
     tree_as (Println args m) d tail env s h =
-        bind_as tail (eval_all (on_events n [] 0) call n false args env s) (λ vs s1. (on_events n [] 0).print false vs s1) (λ vs s1. tt)
-    tree_as (Dosync body m) d tail env s h = eats_tx_as tail (suc reruns) m.span (tx_meaning n [] 0 body env) s.todo s.printed
+        bind_as tail (eval_all (no_events setting) call setting.turns false args env s) (λ vs s1. (no_events setting).print false vs s1) (λ vs s1. tt)
+    tree_as (Dosync body m) d tail env s h = eats_tx_as tail (suc reruns) m.span (tx_meaning setting.turns (functions_of setting.functions) setting.depth body env) s.todo s.printed
     tree_as (Deref cell m) d tail env s h =
-        bind_as tail (eval (on_events n [] 0) call n false cell env s) (λ v s1. (on_events n [] 0).deref false m.span v s1) (λ v s1. reads_as tail m.span (any_cell v) s1)
-    tree_as (Alter cell callee args m) d tail env s h = absurd (false≢true h.0)
+        bind_as tail (eval (no_events setting) call setting.turns false cell env s) (λ v s1. (no_events setting).deref false m.span v s1) (λ v s1. reads_as tail m.span (any_cell v) s1)
+    tree_as (Alter cell callee args m) d tail env s h = absurd h.0
 
-    do_as : (es : Trees) (d : ℕ) (tail : Option ℕ) (env : List Value) (s : ThreadState) → SoundDo false d tail es → RecursAs tail (eval_do (on_events n [] 0) call n false es env s)
+    do_as : (es : Trees) (d : ℕ) (tail : Option ℕ) (env : List Value) (s : ThreadState) → SoundDo ks in_thread d tail es → RecursAs tail (eval_do (no_events setting) call setting.turns false es env s)
     do_as none d tail env s h = absurd h
     do_as (more e none) d tail env s h = tree_as e d tail env s h
     do_as (more e (more f rest)) d tail env s h =
-        bind_as tail (eval (on_events n [] 0) call n false e env s) (λ v s1. eval_do (on_events n [] 0) call n false (more f rest) env s1) (λ v s1. do_as (more f rest) d tail env s1 h.1)
+        bind_as tail (eval (no_events setting) call setting.turns false e env s) (λ v s1. eval_do (no_events setting) call setting.turns false (more f rest) env s1) (λ v s1. do_as (more f rest) d tail env s1 h.1)
 
-pub recurs_as : (n : ℕ) (e : Tree) (d : ℕ) (tail : Option ℕ) (env : List Value) (out out1 : List ℕ) (vs : List Value) → SoundTree false d tail e → means n e env out ≡ Recurs vs (printing out1) → tail ≡ Some (length vs)
-recurs_as n e d tail env out out1 vs h is = subst (λ c. RecursAs tail c) is (tree_as n (call_at (on_events n []) n [] 0) e d tail env (printing out) h)
+-- no recur leaves a function
+calls_as : (setting : Setting) (tail : Option ℕ) (f : ℕ) (vs : List Value) (s : ThreadState) → RecursAs tail (calls_in setting false f vs s)
+calls_as setting tail f vs s = call_at_as tail (on_events setting.turns (functions_of setting.functions)) setting.turns (functions_of setting.functions) setting.depth f vs s
 
-abbrev many_in : Option ℕ → ℕ
-many_in None = 0
-many_in (Some k) = k
+module _ (setting : Setting) (ks : List Known) (e : Tree) (d : ℕ) (env : List Value) (out out1 : List ℕ) (vs : List Value) where
+  recurs_as : (tail : Option ℕ) → SoundTree ks in_thread d tail e → means setting e env out ≡ Recurs vs (printing out1) → tail ≡ Some (length vs)
+  recurs_as tail h is = subst (λ c. RecursAs tail c) is (tree_as setting ks (calls_in setting) (calls_as setting) e d tail env (printing out) h)
 
--- a recur in tail position of a loop has as many values
-pub recurs_many : (n : ℕ) (e : Tree) (d k : ℕ) (env : List Value) (out out1 : List ℕ) (vs : List Value) → SoundTree false d (Some k) e → means n e env out ≡ Recurs vs (printing out1) → length vs ≡ k
-recurs_many n e d k env out out1 vs h is = sym (ap many_in (recurs_as n e d (Some k) env out out1 vs h is))
+  -- a recur in tail position of a loop has as many values
+  pub recurs_many : (k : ℕ) → SoundTree ks in_thread d (Some k) e → means setting e env out ≡ Recurs vs (printing out1) → length vs ≡ k
+  recurs_many k h is = sym (ap many_in (recurs_as (Some k) h is))
 
-abbrev IsSome : Option ℕ → Type 0
-IsSome None = ⊥
-IsSome (Some a) = Unit {0}
-
--- in no tail position there is no recur
-pub never_recurs : (n : ℕ) (e : Tree) (d : ℕ) (env : List Value) (out out1 : List ℕ) (vs : List Value) → SoundTree false d None e → means n e env out ≡ Recurs vs (printing out1) → ⊥
-never_recurs n e d env out out1 vs h is = subst IsSome (sym (recurs_as n e d None env out out1 vs h is)) tt
+  -- in no tail position there is no recur
+  pub never_recurs : SoundTree ks in_thread d None e → means setting e env out ≡ Recurs vs (printing out1) → ⊥
+  never_recurs h is = subst IsSome (sym (recurs_as None h is)) tt

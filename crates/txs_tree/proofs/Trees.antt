@@ -8,7 +8,7 @@ use Rattle.txs_tree.specs.Tree as tree
 use Rattle.txs_tree.specs.View.{kind_tree, row_trees, tree_of, trees_of, mark_of}
 use Rattle.txs_tree.specs.declared.node.Node.{Node}
 use Rattle.txs_tree.specs.declared.node.NodeKind.{Row_of-Node, end_of-Node, more_of-Node, items-the_row-Node, the_lemmas}
-use Rattle.txs_tree.specs.declared.node.NodeKind.TheVariants.{Const, Local, If, Do, Let, Loop, Recur, Core, Vector, Println, Dosync, Deref, Alter}
+use Rattle.txs_tree.specs.declared.node.NodeKind.TheVariants.{Const, Local, If, Do, Let, Loop, Recur, Core, Call, Vector, Println, Dosync, Deref, Alter}
 
 pub row_list : {n : _} (row : Row_of-Node n) → row_trees row ≡ trees_of (items-the_row-Node n row)
 row_list end_of-Node = refl
@@ -31,6 +31,9 @@ recur_tree values m = search (rules, the_lemmas, row_list)
 
 pub core_tree : (op : Op) (args : Vec Node Global) (m : Mark) → kind_tree (Core op args) m ≡ tree.Core op (trees_of args.items) m
 core_tree op args m = search (rules, the_lemmas, row_list)
+
+pub call_tree : (f : ℕ) (args : Vec Node Global) (m : Mark) → kind_tree (Call f args) m ≡ tree.Call f (trees_of args.items) m
+call_tree f args m = search (rules, the_lemmas, row_list)
 
 pub vector_tree : (items : Vec Node Global) (m : Mark) → kind_tree (Vector items) m ≡ tree.VectorOf (trees_of items.items) m
 vector_tree items m = search (rules, the_lemmas, row_list)
@@ -85,6 +88,11 @@ module _ (n : Node) where
   core_node op args ns is same =
       let m = mark_of n.span n.wanted in
       ap (λ k. kind_tree k m) is ∙ core_tree op args m ∙ ap (λ l. tree.Core op (trees_of l) m) (sym same)
+
+  pub call_node : (f : ℕ) (args : Vec Node Global) (ns : List Node) → n.kind ≡ Call f args → ns ≡ args.items → tree_of n ≡ tree.Call f (trees_of ns) (mark_of n.span n.wanted)
+  call_node f args ns is same =
+      let m = mark_of n.span n.wanted in
+      ap (λ k. kind_tree k m) is ∙ call_tree f args m ∙ ap (λ l. tree.Call f (trees_of l) m) (sym same)
 
   pub vector_node : (items : Vec Node Global) (ns : List Node) → n.kind ≡ Vector items → ns ≡ items.items → tree_of n ≡ tree.VectorOf (trees_of ns) (mark_of n.span n.wanted)
   vector_node items ns is same =

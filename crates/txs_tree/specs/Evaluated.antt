@@ -1,14 +1,16 @@
 -- What the plain evaluator answers.
-use Rattle.std.specs.Prelude.{◌≡◌, ℕ, false, List, [], ◌++◌, Option, Some, None, Result, Ok, Err, ⊤}
+use Rattle.std.specs.Prelude.{◌≡◌, ℕ, Bool, false, List, [], ◌++◌, Option, Some, None, Result, Ok, Err, ⊤}
 use Rattle.txs_value.specs.Places.{nth}
 use Rattle.txs_value.specs.declared.event.Outcome.{Outcome}
 use Rattle.txs_value.specs.declared.event.Outcome.TheVariants.{Done, Failed}
 use Rattle.txs_value.specs.declared.value.Value.{Value}
-use Rattle.txs_tree.specs.Meaning.{Completion, Completes, Recurs, Faults, Retries, Waits, OutOfTurns, Invalid, bind, turns, eval, eval_all, eval_let, eval_do, call_at}
+use Rattle.txs_tree.specs.Meaning.{Completion, Completes, Recurs, Faults, Retries, Waits, OutOfTurns, Invalid, bind, turns, Effects, eval, eval_all, eval_let, eval_do, call_at}
+use Rattle.txs_tree.specs.Setting.{Setting}
 use Rattle.txs_tree.specs.Thread.{ThreadState, on_events}
 use Rattle.txs_tree.specs.Tree.{Tree, Trees, count, PlainProgram, PlainThread, ThreadSource}
-use Rattle.txs_tree.specs.declared.evaluate.EvalStop.{EvalStop}
-use Rattle.txs_tree.specs.declared.evaluate.EvalStop.TheVariants.{Fault, Event as NoEvent, Turns as NoTurns, Memory}
+use Rattle.txs_tree.specs.View.{functions_of}
+use Rattle.txs_tree.specs.declared.evaluate.ThreadStop.{ThreadStop}
+use Rattle.txs_tree.specs.declared.evaluate.ThreadStop.TheVariants.{Fault, Event as NoEvent, Turns as NoTurns, Memory}
 use Rattle.txs_tree.specs.declared.evaluate.Step.{Step}
 use Rattle.txs_tree.specs.declared.evaluate.Step.TheVariants.{Value as AValue, Recur as ARecur}
 use Rattle.txs_tree.specs.declared.meaning.Needs.{Needs}
@@ -44,59 +46,68 @@ Tells m Invalid = (m.needs ≡ Wrong) × (m.outcome ≡ None)
 abbrev pub printing : List ℕ → ThreadState
 printing out = record { todo = []; printed = out }
 
--- what a node means outside every transaction, with these locals, after these bytes were printed
-abbrev pub means : ℕ → Tree → List Value → List ℕ → Completion ThreadState Value
-means n e env out = eval (on_events n [] 0) (call_at (on_events n []) n [] 0) n false e env (printing out)
+-- what the forms on cells do outside every transaction, where no event is there
+abbrev pub no_events : Setting → Effects ThreadState
+no_events s = on_events s.turns (functions_of s.functions) s.depth
+
+-- what the functions mean there
+abbrev pub calls_in : Setting → Bool → ℕ → List Value → ThreadState → Completion ThreadState Value
+calls_in s = call_at (on_events s.turns (functions_of s.functions)) s.turns (functions_of s.functions) s.depth
+
+-- what a node means there, with these locals, after these bytes were printed
+abbrev pub means : Setting → Tree → List Value → List ℕ → Completion ThreadState Value
+means s e env out = eval (no_events s) (calls_in s) s.turns false e env (printing out)
 
 -- the same of nodes whose values are all wanted
-abbrev pub all_mean : ℕ → Trees → List Value → List ℕ → Completion ThreadState (List Value)
-all_mean n es env out = eval_all (on_events n [] 0) (call_at (on_events n []) n [] 0) n false es env (printing out)
+abbrev pub all_mean : Setting → Trees → List Value → List ℕ → Completion ThreadState (List Value)
+all_mean s es env out = eval_all (no_events s) (calls_in s) s.turns false es env (printing out)
 
 -- the same of nodes of which the last one's value is wanted
-abbrev pub do_means : ℕ → Trees → List Value → List ℕ → Completion ThreadState Value
-do_means n es env out = eval_do (on_events n [] 0) (call_at (on_events n []) n [] 0) n false es env (printing out)
+abbrev pub do_means : Setting → Trees → List Value → List ℕ → Completion ThreadState Value
+do_means s es env out = eval_do (no_events s) (calls_in s) s.turns false es env (printing out)
 
 -- the same of a body after its new locals
-abbrev pub let_means : ℕ → Trees → Tree → List Value → List ℕ → Completion ThreadState Value
-let_means n es body env out =
-    bind (eval_let (on_events n [] 0) (call_at (on_events n []) n [] 0) n false es env (printing out))
-    (λ vs s. eval (on_events n [] 0) (call_at (on_events n []) n [] 0) n false body (env ++ vs) s)
+abbrev pub let_means : Setting → Trees → Tree → List Value → List ℕ → Completion ThreadState Value
+let_means s es body env out =
+    bind (eval_let (no_events s) (calls_in s) s.turns false es env (printing out)) (λ vs t. eval (no_events s) (calls_in s) s.turns false body (env ++ vs) t)
 
 -- the locals with the new ones behind them
-abbrev pub locals_mean : ℕ → Trees → List Value → List ℕ → Completion ThreadState (List Value)
-locals_mean n es env out =
-    bind (eval_let (on_events n [] 0) (call_at (on_events n []) n [] 0) n false es env (printing out)) (λ vs s. Completes (env ++ vs) s)
+abbrev pub locals_mean : Setting → Trees → List Value → List ℕ → Completion ThreadState (List Value)
+locals_mean s es env out = bind (eval_let (no_events s) (calls_in s) s.turns false es env (printing out)) (λ vs t. Completes (env ++ vs) t)
 
 -- at most k turns of a body, each of which has d locals of its own
-abbrev pub turns_mean : ℕ → ℕ → ℕ → Tree → List Value → List Value → List ℕ → Completion ThreadState Value
-turns_mean n k d body env vs out =
-    turns k d (λ ws s. eval (on_events n [] 0) (call_at (on_events n []) n [] 0) n false body (env ++ ws) s) vs (printing out)
+abbrev pub turns_mean : Setting → ℕ → ℕ → Tree → List Value → List Value → List ℕ → Completion ThreadState Value
+turns_mean s k d body env vs out = turns k d (λ ws t. eval (no_events s) (calls_in s) s.turns false body (env ++ ws) t) vs (printing out)
 
 -- the turns of a body after its new locals
-abbrev pub loop_means : ℕ → Trees → Tree → List Value → List ℕ → Completion ThreadState Value
-loop_means n es body env out =
-    bind (eval_let (on_events n [] 0) (call_at (on_events n []) n [] 0) n false es env (printing out))
-    (λ vs s. turns n (count es) (λ ws s1. eval (on_events n [] 0) (call_at (on_events n []) n [] 0) n false body (env ++ ws) s1) vs s)
+abbrev pub loop_means : Setting → Trees → Tree → List Value → List ℕ → Completion ThreadState Value
+loop_means s es body env out =
+    bind (eval_let (no_events s) (calls_in s) s.turns false es env (printing out))
+    (λ vs t. turns s.turns (count es) (λ ws t1. eval (no_events s) (calls_in s) s.turns false body (env ++ ws) t1) vs t)
+
+-- a function on these values
+abbrev pub call_means : Setting → ℕ → List Value → List ℕ → Completion ThreadState Value
+call_means s f vs out = calls_in s false f vs (printing out)
 
 -- a stop and the printed bytes are those of the meaning, or there was no memory for them
-abbrev pub Stops : {A : Type 0} → EvalStop → List ℕ → Completion ThreadState A → Type 0
+abbrev pub Stops : {A : Type 0} → ThreadStop → List ℕ → Completion ThreadState A → Type 0
 Stops (Fault f) out c = c ≡ Faults f (printing out)
 Stops NoEvent out c = c ≡ Waits (printing out)
 Stops NoTurns out c = c ≡ OutOfTurns (printing out)
 Stops Memory out c = ⊤
 
 -- the value and the printed bytes are those of the meaning, or it stops so
-abbrev pub Gives : {A : Type 0} → Result A EvalStop → List ℕ → Completion ThreadState A → Type 0
+abbrev pub Gives : {A : Type 0} → Result A ThreadStop → List ℕ → Completion ThreadState A → Type 0
 Gives (Ok v) out c = c ≡ Completes v (printing out)
 Gives (Err e) out c = Stops e out c
 
 -- the same of a list of values
-abbrev pub GivesAll : {V : Type 0} → (V → List Value) → Result V EvalStop → List ℕ → Completion ThreadState (List Value) → Type 0
+abbrev pub GivesAll : {V : Type 0} → (V → List Value) → Result V ThreadStop → List ℕ → Completion ThreadState (List Value) → Type 0
 GivesAll items (Ok v) out c = c ≡ Completes (items v) (printing out)
 GivesAll items (Err e) out c = Stops e out c
 
 -- the same of a node in tail position, which may recur
-abbrev pub Steps : Result Step EvalStop → List ℕ → Completion ThreadState Value → Type 0
+abbrev pub Steps : Result Step ThreadStop → List ℕ → Completion ThreadState Value → Type 0
 Steps (Ok (AValue v)) out c = c ≡ Completes v (printing out)
 Steps (Ok (ARecur vs)) out c = c ≡ Recurs vs.items (printing out)
 Steps (Err e) out c = Stops e out c

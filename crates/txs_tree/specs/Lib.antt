@@ -1,5 +1,9 @@
 pub mod Evaluated
+pub mod Known
 pub mod Meaning
+pub mod Pure
+pub mod Scoped
+pub mod Setting
 pub mod Sound
 pub mod Thread
 pub mod Transaction

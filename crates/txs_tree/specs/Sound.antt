@@ -1,60 +1,98 @@
 -- Which programs are sound: those that the checks accept.
-use Rattle.std.specs.Prelude.{◌≡◌, ◌<◌, ◌≤◌, ◌+◌, ℕ, suc, max, Bool, true, false, List, [], ◌∷◌, length, Option, Some, None}
+use Rattle.std.specs.Prelude.{◌≡◌, ◌<◌, ◌≤◌, ◌+◌, ℕ, suc, true, false, List, [], ◌∷◌, ◌++◌, length, Option, Some, None}
 use Rattle.txs_value.specs.Core.{takes}
+use Rattle.txs_value.specs.Places.{nth}
 use Rattle.txs_value.specs.declared.op.Op.{Op}
 use Rattle.txs_value.specs.declared.op.Callee.{Callee}
 use Rattle.txs_value.specs.declared.op.Callee.TheVariants.{Core as CoreOp, Function}
-use Rattle.txs_tree.specs.Tree.{Tree, Const, Local, If, Do, Let, Loop, Recur, Core, Call, VectorOf, Println, Dosync, Deref, Alter, Trees, none, more, count, PlainThread, PlainProgram, ThreadSource}
+use Rattle.txs_tree.specs.Known.{Known, known_of, known, levels}
+use Rattle.txs_tree.specs.Tree.{Tree, Const, Local, If, Do, Let, Loop, Recur, Core, Call, VectorOf, Println, Dosync, Deref, Alter, Trees, none, more, count, PlainFunction, PlainThread, PlainProgram, ThreadSource}
+
+-- where a node stands: in a function, which may be called inside transactions and outside; in a thread outside every
+-- transaction; or in a transaction
+pub data Zone : Type 0 where
+  in_function in_thread in_dosync : Zone
+
+-- what is for outside alone may stand here
+abbrev pub MayLeave : Zone → Type 0
+MayLeave in_function = Unit {0}
+MayLeave in_thread = Unit {0}
+MayLeave in_dosync = ⊥
+
+-- what is for transactions alone may stand here
+abbrev pub MayEnter : Zone → Type 0
+MayEnter in_function = Unit {0}
+MayEnter in_thread = ⊥
+MayEnter in_dosync = Unit {0}
+
+-- this function may be called here
+abbrev pub MayCall : Zone → Known → Type 0
+MayCall in_function k = Unit {0}
+MayCall in_thread k = k.inside ≡ false
+MayCall in_dosync k = k.outside ≡ false
 
 -- an operation takes so many arguments, and an instruction can name as many
 abbrev pub TakesFew : Op → ℕ → Type 0
 TakesFew op n = (takes op n ≡ true) × (n ≤ 65535)
 
+-- a function that is defined before takes so many arguments, and may be called here
+pub record SoundCall (ks : List Known) (zone : Zone) (f n : ℕ) : Type 0 where
+  pub function : Known
+  pub found : nth ks f ≡ Some function
+  pub arity : function.parameters ≡ n
+  pub zoned : MayCall zone function
+
+-- a pure function that is defined before takes so many arguments
+pub record PureCall (ks : List Known) (f n : ℕ) : Type 0 where
+  pub function : Known
+  pub found : nth ks f ≡ Some function
+  pub arity : function.parameters ≡ n
+  pub pure : function.pure ≡ true
+
 -- a callee of so many arguments, the cell's value among them
-abbrev pub SoundCallee : Callee → ℕ → Type 0
-SoundCallee (CoreOp op) n = TakesFew op n
-SoundCallee (Function f) n = ⊥
+abbrev pub SoundCallee : List Known → Callee → ℕ → Type 0
+SoundCallee ks (CoreOp op) n = TakesFew op n
+SoundCallee ks (Function f) n = PureCall ks f n
 
--- A node with so many locals, inside a transaction or outside. In tail position of a loop the number of the loop's
--- values is given: a recur stands there alone, with as many.
+-- A node with so many locals, where these functions are defined, in this zone. In tail position of a loop or function the
+-- number of its values is given: a recur stands there alone, with as many.
 abbrev mutual
-  pub SoundTree : Bool → ℕ → Option ℕ → Tree → Type 0
-  SoundTree inside d tail (Const v m) = Unit {0}
-  SoundTree inside d tail (Local i m) = i < d
-  SoundTree inside d tail (If c a b m) = SoundTree inside d None c × SoundTree inside d tail a × SoundTree inside d tail b
-  SoundTree inside d tail (Do items m) = SoundDo inside d tail items
-  SoundTree inside d tail (Let values body m) =
-      SoundLet inside d values × SoundTree inside (d + count values) tail body
-  SoundTree inside d tail (Loop values body m) =
-      SoundLet inside d values × SoundTree inside (d + count values) (Some (count values)) body
-  SoundTree inside d tail (Recur values m) = (tail ≡ Some (count values)) × SoundAll inside d values
-  SoundTree inside d tail (Core op args m) = TakesFew op (count args) × SoundAll inside d args
-  -- no function is defined yet
-  SoundTree inside d tail (Call f args m) = ⊥
-  SoundTree inside d tail (VectorOf items m) = (count items ≤ 65535) × SoundAll inside d items
+  pub SoundTree : List Known → Zone → ℕ → Option ℕ → Tree → Type 0
+  SoundTree ks zone d tail (Const v m) = Unit {0}
+  SoundTree ks zone d tail (Local i m) = i < d
+  SoundTree ks zone d tail (If c a b m) = SoundTree ks zone d None c × SoundTree ks zone d tail a × SoundTree ks zone d tail b
+  SoundTree ks zone d tail (Do items m) = SoundDo ks zone d tail items
+  SoundTree ks zone d tail (Let values body m) =
+      SoundLet ks zone d values × SoundTree ks zone (d + count values) tail body
+  SoundTree ks zone d tail (Loop values body m) =
+      SoundLet ks zone d values × SoundTree ks zone (d + count values) (Some (count values)) body
+  SoundTree ks zone d tail (Recur values m) = (tail ≡ Some (count values)) × SoundAll ks zone d values
+  SoundTree ks zone d tail (Core op args m) = TakesFew op (count args) × SoundAll ks zone d args
+  SoundTree ks zone d tail (Call f args m) = SoundCall ks zone f (count args) × SoundAll ks zone d args
+  SoundTree ks zone d tail (VectorOf items m) = (count items ≤ 65535) × SoundAll ks zone d items
   -- printing is for outside
-  SoundTree inside d tail (Println args m) = (inside ≡ false) × (count args ≤ 65535) × SoundAll inside d args
+  SoundTree ks zone d tail (Println args m) = MayLeave zone × (count args ≤ 65535) × SoundAll ks zone d args
   -- a barrier for recur; an inner one joins
-  SoundTree inside d tail (Dosync body m) = SoundTree true d None body
-  SoundTree inside d tail (Deref cell m) = SoundTree inside d None cell
+  SoundTree ks zone d tail (Dosync body m) = SoundTree ks in_dosync d None body
+  SoundTree ks zone d tail (Deref cell m) = SoundTree ks zone d None cell
   -- setting a ref is for inside
-  SoundTree inside d tail (Alter cell callee args m) =
-      (inside ≡ true) × SoundTree inside d None cell × SoundCallee callee (suc (count args)) × SoundAll inside d args
+  SoundTree ks zone d tail (Alter cell callee args m) =
+      MayEnter zone × SoundTree ks zone d None cell × SoundCallee ks callee (suc (count args)) × SoundAll ks zone d args
 
-  pub SoundAll : Bool → ℕ → Trees → Type 0
-  SoundAll inside d none = Unit {0}
-  SoundAll inside d (more e rest) = SoundTree inside d None e × SoundAll inside d rest
+  pub SoundAll : List Known → Zone → ℕ → Trees → Type 0
+  SoundAll ks zone d none = Unit {0}
+  SoundAll ks zone d (more e rest) = SoundTree ks zone d None e × SoundAll ks zone d rest
 
   -- each value sees the locals before it
-  pub SoundLet : Bool → ℕ → Trees → Type 0
-  SoundLet inside d none = d ≤ 200
-  SoundLet inside d (more e rest) = SoundTree inside d None e × SoundLet inside (d + 1) rest
+  pub SoundLet : List Known → Zone → ℕ → Trees → Type 0
+  SoundLet ks zone d none = d ≤ 200
+  SoundLet ks zone d (more e rest) = SoundTree ks zone d None e × SoundLet ks zone (d + 1) rest
 
   -- the last one is in tail position
-  pub SoundDo : Bool → ℕ → Option ℕ → Trees → Type 0
-  SoundDo inside d tail none = ⊥
-  SoundDo inside d tail (more e none) = SoundTree inside d tail e
-  SoundDo inside d tail (more e (more f rest)) = SoundTree inside d None e × SoundDo inside d tail (more f rest)
+  pub SoundDo : List Known → Zone → ℕ → Option ℕ → Trees → Type 0
+  SoundDo ks zone d tail none = ⊥
+  SoundDo ks zone d tail (more e none) = SoundTree ks zone d tail e
+  SoundDo ks zone d tail (more e (more f rest)) = SoundTree ks zone d None e × SoundDo ks zone d tail (more f rest)
 
 -- in tail position of some loop, or of none
 pub record InSomeTail (P : Option ℕ → Type 0) : Type 0 where
@@ -83,35 +121,26 @@ abbrev mutual
   nodes_in none = 0
   nodes_in (more e rest) = nodes e + nodes_in rest
 
--- how many nodes stand in one another
-abbrev mutual
-  pub levels : Tree → ℕ
-  levels (Const v m) = 1
-  levels (Local i m) = 1
-  levels (If c a b m) = suc (max (levels c) (max (levels a) (levels b)))
-  levels (Do items m) = suc (levels_in items)
-  levels (Let values body m) = suc (max (levels_in values) (levels body))
-  levels (Loop values body m) = suc (max (levels_in values) (levels body))
-  levels (Recur values m) = suc (levels_in values)
-  levels (Core op args m) = suc (levels_in args)
-  levels (Call f args m) = suc (levels_in args)
-  levels (VectorOf items m) = suc (levels_in items)
-  levels (Println args m) = suc (levels_in args)
-  levels (Dosync body m) = suc (levels body)
-  levels (Deref cell m) = suc (levels cell)
-  levels (Alter cell callee args m) = suc (max (levels cell) (levels_in args))
+-- a function's body: its parameters are its first locals, and it is a target of recur
+abbrev pub SoundFunction : List Known → PlainFunction → Type 0
+SoundFunction ks f = (f.parameters ≤ 20) × SoundTree ks in_function f.parameters (Some f.parameters) f.body × (levels ks f.body ≤ 1000)
 
-  pub levels_in : Trees → ℕ
-  levels_in none = 0
-  levels_in (more e rest) = max (levels e) (levels_in rest)
+-- each function calls those before it alone
+abbrev pub SoundFunctions : List Known → List PlainFunction → Type 0
+SoundFunctions ks [] = Unit {0}
+SoundFunctions ks (f ∷ fs) = SoundFunction ks f × SoundFunctions (ks ++ known_of ks f ∷ []) fs
 
 -- a thread's body: outside every transaction, with no locals yet
-abbrev pub SoundThread : PlainThread → Type 0
-SoundThread t = SoundTree false 0 None t.body × (levels t.body ≤ 1000)
+abbrev pub SoundThread : List Known → PlainThread → Type 0
+SoundThread ks t = SoundTree ks in_thread 0 None t.body × (levels ks t.body ≤ 1000)
 
-abbrev pub SoundThreads : List PlainThread → Type 0
-SoundThreads [] = Unit {0}
-SoundThreads (t ∷ ts) = SoundThread t × SoundThreads ts
+abbrev pub SoundThreads : List Known → List PlainThread → Type 0
+SoundThreads ks [] = Unit {0}
+SoundThreads ks (t ∷ ts) = SoundThread ks t × SoundThreads ks ts
+
+abbrev pub nodes_of_functions : List PlainFunction → ℕ
+nodes_of_functions [] = 0
+nodes_of_functions (f ∷ fs) = nodes f.body + nodes_of_functions fs
 
 abbrev pub nodes_of_all : List PlainThread → ℕ
 nodes_of_all [] = 0
@@ -119,13 +148,14 @@ nodes_of_all (t ∷ ts) = nodes t.body + nodes_of_all ts
 
 -- a program that the checks accept
 pub record Sound (p : PlainProgram) : Type 0 where
-  pub threads : SoundThreads p.threads
+  pub functions : SoundFunctions [] p.functions
+  pub threads : SoundThreads (known p.functions) p.threads
   pub few_cells : length p.cells ≤ 1000
+  pub few_functions : length p.functions ≤ 1000
   pub few_threads : length p.threads ≤ 64
-  pub few_nodes : nodes_of_all p.threads ≤ 200000
-  -- no function is defined yet
-  pub no_functions : p.functions ≡ []
+  pub few_nodes : nodes_of_functions p.functions + nodes_of_all p.threads ≤ 200000
 
 -- one thread that the checks accept
-abbrev pub SoundSource : ThreadSource → Type 0
-SoundSource p = (p.functions ≡ []) × SoundTree false 0 None p.main
+pub record SoundSource (p : ThreadSource) : Type 0 where
+  pub functions : SoundFunctions [] p.functions
+  pub main : SoundTree (known p.functions) in_thread 0 None p.main

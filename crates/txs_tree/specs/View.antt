@@ -2,10 +2,11 @@
 use Rattle.std.specs.Prelude.{Bool, List, [], ◌∷◌}
 use Rattle.txs_value.specs.declared.cell.CellDefinition.{CellDefinition}
 use Rattle.txs_value.specs.declared.fault.Span.{Span}
-use Rattle.txs_tree.specs.Tree.{Tree, Trees, Mark, none, more, PlainThread, PlainProgram}
+use Rattle.txs_tree.specs.Tree.{Tree, Trees, Mark, none, more, PlainFunction, PlainThread, PlainProgram}
 use Rattle.txs_tree.specs.Tree as tree
 use Rattle.txs_tree.specs.declared.node.Node.{Node}
-use Rattle.txs_tree.specs.declared.node.NodeKind.{NodeKind, Const, Local, If', Do', Let', Loop', Recur', Core', Vector', Println', Dosync', Deref', Alter', Row_of-Node, end_of-Node, more_of-Node}
+use Rattle.txs_tree.specs.declared.node.NodeKind.{NodeKind, Const, Local, If', Do', Let', Loop', Recur', Core', Vector', Println', Dosync', Deref', Alter', Call', Row_of-Node, end_of-Node, more_of-Node}
+use Rattle.txs_tree.specs.declared.node.Function.{Function}
 use Rattle.txs_tree.specs.declared.node.Thread.{Thread}
 
 abbrev pub mark_of : Span → Bool → Mark
@@ -23,6 +24,7 @@ abbrev mutual
   kind_tree (Loop' shape values q body span wanted) m = tree.Loop (row_trees values) (kind_tree body (mark_of span wanted)) m
   kind_tree (Recur' shape values) m = tree.Recur (row_trees values) m
   kind_tree (Core' op shape args) m = tree.Core op (row_trees args) m
+  kind_tree (Call' f shape args) m = tree.Call f (row_trees args) m
   kind_tree (Vector' shape items) m = tree.VectorOf (row_trees items) m
   kind_tree (Println' shape args) m = tree.Println (row_trees args) m
   kind_tree (Dosync' q body span wanted) m = tree.Dosync (kind_tree body (mark_of span wanted)) m
@@ -41,6 +43,13 @@ abbrev pub trees_of : List Node → Trees
 trees_of [] = none
 trees_of (n ∷ ns) = more (tree_of n) (trees_of ns)
 
+abbrev pub function_of : Function → PlainFunction
+function_of f = record { parameters = f.parameters; body = tree_of f.body; span = f.span }
+
+abbrev pub functions_of : List Function → List PlainFunction
+functions_of [] = []
+functions_of (f ∷ fs) = function_of f ∷ functions_of fs
+
 abbrev pub thread_of : Thread → PlainThread
 thread_of t = record { body = tree_of t.body; span = t.span }
 
@@ -48,11 +57,12 @@ abbrev pub threads_of : List Thread → List PlainThread
 threads_of [] = []
 threads_of (t ∷ ts) = thread_of t ∷ threads_of ts
 
--- what a program is made of: its cells and its threads, each in script order
+-- what a program is made of: its cells, functions and threads, each in script order
 pub record Parts : Type 0 where
   pub cells : List CellDefinition
+  pub functions : List Function
   pub threads : List Thread
 
 -- the program of these parts
 abbrev pub program_of : Parts → PlainProgram
-program_of p = record { functions = []; cells = p.cells; threads = threads_of p.threads }
+program_of p = record { functions = functions_of p.functions; cells = p.cells; threads = threads_of p.threads }

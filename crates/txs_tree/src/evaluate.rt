@@ -1,25 +1,27 @@
 //! The meaning of nodes outside every transaction, by plain recursion.
 
-ghost use Rattle.std.specs.Prelude.{◌≡◌, ◌≤◌, ◌-◌, ◌+◌, ◌++◌, length, take, drop, false, None, Some, IsTrue, IfOk, OnOk};
+ghost use Rattle.std.specs.Prelude.{◌≡◌, ◌≤◌, ◌-◌, ◌+◌, ◌++◌, length, take, drop, None, Some, IsTrue, IfOk, OnOk};
 ghost use Rattle.txs_value.specs.Cells.{any_cell};
 ghost use Rattle.txs_value.specs.Core.{core, takes, vector_of};
-ghost use Rattle.txs_tree.specs.Evaluated.{Stops, Gives, GivesAll, Steps, means, all_mean, do_means, let_means, locals_mean, loop_means, turns_mean, printing};
+ghost use Rattle.txs_tree.specs.Evaluated.{Stops, Gives, GivesAll, Steps, means, all_mean, do_means, let_means, locals_mean, loop_means, turns_mean, call_means, printing};
 ghost use Rattle.txs_tree.specs.Meaning.{result_of};
-ghost use Rattle.txs_tree.specs.Sound.{InSomeTail, SoundTree, SoundAll, SoundDo, SoundLet};
+ghost use Rattle.txs_tree.specs.Setting.{callable};
+ghost use Rattle.txs_tree.specs.Sound.{InSomeTail, SoundCall, SoundTree, SoundAll, SoundDo, SoundLet, in_thread};
 ghost use Rattle.txs_tree.specs.Thread.{reads};
 ghost use Rattle.txs_tree.specs.Tree.{count};
 ghost use Rattle.txs_tree.specs.View.{tree_of, trees_of};
-ghost use Rattle.txs_tree.specs.declared.evaluate.EvalStop.TheVariants.{Memory};
+ghost use Rattle.txs_tree.specs.declared.evaluate.ThreadStop.TheVariants.{Memory};
 
+use crate::context::Context;
 use crate::node::{Node, NodeKind};
 use std::alloc::{AllocError, AllocFailed, Global};
 use txs_value::{
     Fault, FaultKind, Op, Span, Stop, Value, apply, copy_value, is_false, make_vector, write_line,
 };
 
-/// Why an evaluation gives no value.
+/// Why an evaluation outside every transaction gives no value.
 #[derive(Debug, Drop)]
-pub enum EvalStop {
+pub(crate) enum ThreadStop {
     /// A form faults.
     Fault(Fault),
     /// What it needs of the shared state isn't there.
@@ -38,19 +40,19 @@ enum Step {
     Recur(Vec<Value>),
 }
 
-impl From<AllocError> for EvalStop {
+impl From<AllocError> for ThreadStop {
     ghost from_gives = { λ _ s. s ≡ Memory };
 
-    fn from(_e: AllocError) -> EvalStop {
-        EvalStop::Memory
+    fn from(_e: AllocError) -> ThreadStop {
+        ThreadStop::Memory
     }
 }
 
-impl<T: Drop> From<AllocFailed<T>> for EvalStop {
+impl<T: Drop> From<AllocFailed<T>> for ThreadStop {
     ghost from_gives = { λ _ s. s ≡ Memory };
 
-    fn from(_e: AllocFailed<T>) -> EvalStop {
-        EvalStop::Memory
+    fn from(_e: AllocFailed<T>) -> ThreadStop {
+        ThreadStop::Memory
     }
 }
 
@@ -61,34 +63,34 @@ fn operate(
     args: &[Value],
     span: Span,
     printed: &[u8],
-) -> Result<Step, EvalStop>
+) -> Result<Step, ThreadStop>
     requires { IsTrue (takes op (length args.now)) }
     ensures { Steps result printed.now (result_of (core op args.now) span (printing printed.now)) }
 {
     match apply(alloc, op, args) {
         Ok(value) => Ok(Step::Value(value)),
-        Err(Stop::Fault(kind)) => Err(EvalStop::Fault(Fault { kind, span })),
-        Err(Stop::Memory) => Err(EvalStop::Memory),
+        Err(Stop::Fault(kind)) => Err(ThreadStop::Fault(Fault { kind, span })),
+        Err(Stop::Memory) => Err(ThreadStop::Memory),
     }
 }
 
 /// The vector of the items; a fault has the span.
-fn collect(items: Vec<Value>, span: Span, printed: &[u8]) -> Result<Step, EvalStop>
+fn collect(items: Vec<Value>, span: Span, printed: &[u8]) -> Result<Step, ThreadStop>
     ensures { Steps result printed.now (result_of (vector_of items.items) span (printing printed.now)) }
 {
     match make_vector(items) {
         Ok(value) => Ok(Step::Value(value)),
-        Err(kind) => Err(EvalStop::Fault(Fault { kind, span })),
+        Err(kind) => Err(ThreadStop::Fault(Fault { kind, span })),
     }
 }
 
 /// A read outside every transaction, where no event is there: it waits for one, unless the value is no cell.
-fn read(value: &Value, span: Span, printed: &[u8]) -> EvalStop
+fn read(value: &Value, span: Span, printed: &[u8]) -> ThreadStop
     ensures { Stops result printed.now (reads span (any_cell value.now) (printing printed.now)) }
 {
     match value {
-        Value::Cell(_) => EvalStop::Event,
-        _ => EvalStop::Fault(Fault {
+        Value::Cell(_) => ThreadStop::Event,
+        _ => ThreadStop::Fault(Fault {
             kind: FaultKind::NotACell,
             span,
         }),
@@ -107,17 +109,17 @@ fn rebind(locals: &mut Vec<Value>, from: usize, mut values: Vec<Value>) -> Resul
 #[cycle(evaluate)]
 pub(crate) fn evaluate(
     alloc: Global,
+    context: &Context<'_>,
     node: &Node,
-    turns: u32,
     locals: &mut Vec<Value>,
     printed: &mut Vec<u8>,
-) -> Result<Value, EvalStop>
-    requires { SoundTree false (length locals.old.items) None (tree_of node.now) }
+) -> Result<Value, ThreadStop>
+    requires { SoundTree (callable context.now) in_thread (length locals.old.items) None (tree_of node.now) }
     ensures value { Gives result printed.new.items
-        (means turns (tree_of node.now) locals.old.items printed.old.items) }
+        (means context.now (tree_of node.now) locals.old.items printed.old.items) }
     ensures kept { OnOk result (locals.new.items ≡ locals.old.items) }
 {
-    match evaluate_tail(alloc, node, turns, locals, printed)? {
+    match evaluate_tail(alloc, context, node, locals, printed)? {
         Step::Value(value) => Ok(value),
         Step::Recur(_) => unreachable!(),
     }
@@ -127,14 +129,14 @@ pub(crate) fn evaluate(
 #[cycle(evaluate)]
 fn evaluate_tail(
     alloc: Global,
+    context: &Context<'_>,
     node: &Node,
-    turns: u32,
     locals: &mut Vec<Value>,
     printed: &mut Vec<u8>,
-) -> Result<Step, EvalStop>
-    requires { InSomeTail (λ tail. SoundTree false (length locals.old.items) tail (tree_of node.now)) }
+) -> Result<Step, ThreadStop>
+    requires { InSomeTail (λ tail. SoundTree (callable context.now) in_thread (length locals.old.items) tail (tree_of node.now)) }
     ensures value { Steps result printed.new.items
-        (means turns (tree_of node.now) locals.old.items printed.old.items) }
+        (means context.now (tree_of node.now) locals.old.items printed.old.items) }
     ensures kept { OnOk result (locals.new.items ≡ locals.old.items) }
 {
     match &node.kind {
@@ -143,35 +145,42 @@ fn evaluate_tail(
             Ok(Step::Value(copy_value(alloc, &locals[usize::from(*place)])?))
         }
         NodeKind::If(test, yes, no) => {
-            let value = evaluate(alloc, test, turns, locals, printed)?;
+            let value = evaluate(alloc, context, test, locals, printed)?;
             if is_false(&value) {
-                return evaluate_tail(alloc, no, turns, locals, printed);
+                return evaluate_tail(alloc, context, no, locals, printed);
             }
-            evaluate_tail(alloc, yes, turns, locals, printed)
+            evaluate_tail(alloc, context, yes, locals, printed)
         }
-        NodeKind::Do(items) => evaluate_do(alloc, items, turns, locals, printed),
-        NodeKind::Let(values, body) => evaluate_let(alloc, values, body, turns, locals, printed),
-        NodeKind::Loop(values, body) => evaluate_loop(alloc, values, body, turns, locals, printed),
+        NodeKind::Do(items) => evaluate_do(alloc, context, items, locals, printed),
+        NodeKind::Let(values, body) => evaluate_let(alloc, context, values, body, locals, printed),
+        NodeKind::Loop(values, body) => evaluate_loop(
+            alloc, context, values, body, locals, printed,
+        ),
         NodeKind::Recur(values) => {
-            let values = evaluate_all(alloc, values, turns, locals, printed)?;
+            let values = evaluate_all(alloc, context, values, locals, printed)?;
             Ok(Step::Recur(values))
         }
         NodeKind::Core(op, args) => {
-            let values = evaluate_all(alloc, args, turns, locals, printed)?;
+            let values = evaluate_all(alloc, context, args, locals, printed)?;
             operate(alloc, *op, &values, node.span, printed)
         }
+        NodeKind::Call(function, args) => {
+            let values = evaluate_all(alloc, context, args, locals, printed)?;
+            let value = call(alloc, context, *function, values, printed)?;
+            Ok(Step::Value(value))
+        }
         NodeKind::Vector(items) => {
-            let values = evaluate_all(alloc, items, turns, locals, printed)?;
+            let values = evaluate_all(alloc, context, items, locals, printed)?;
             collect(values, node.span, printed)
         }
         NodeKind::Println(args) => {
-            let values = evaluate_all(alloc, args, turns, locals, printed)?;
+            let values = evaluate_all(alloc, context, args, locals, printed)?;
             write_line(&values, printed)?;
             Ok(Step::Value(Value::Nil))
         }
-        NodeKind::Dosync(_) => Err(EvalStop::Event),
+        NodeKind::Dosync(_) => Err(ThreadStop::Event),
         NodeKind::Deref(cell) => {
-            let value = evaluate(alloc, cell, turns, locals, printed)?;
+            let value = evaluate(alloc, context, cell, locals, printed)?;
             Err(read(&value, node.span, printed))
         }
         NodeKind::Alter(_, _, _) => unreachable!(),
@@ -182,20 +191,20 @@ fn evaluate_tail(
 #[cycle(evaluate)]
 fn evaluate_all(
     alloc: Global,
+    context: &Context<'_>,
     nodes: &[Node],
-    turns: u32,
     locals: &mut Vec<Value>,
     printed: &mut Vec<u8>,
-) -> Result<Vec<Value>, EvalStop>
-    requires { SoundAll false (length locals.old.items) (trees_of nodes.now) }
+) -> Result<Vec<Value>, ThreadStop>
+    requires { SoundAll (callable context.now) in_thread (length locals.old.items) (trees_of nodes.now) }
     ensures value { GivesAll (λ v. v.items) result printed.new.items
-        (all_mean turns (trees_of nodes.now) locals.old.items printed.old.items) }
+        (all_mean context.now (trees_of nodes.now) locals.old.items printed.old.items) }
     ensures count { IfOk result (λ v. length v.items ≡ count (trees_of nodes.now)) }
     ensures kept { OnOk result (locals.new.items ≡ locals.old.items) }
 {
     let mut values = Vec::with_capacity(alloc, nodes.len())?;
     for node in nodes {
-        let value = evaluate(alloc, node, turns, locals, printed)?;
+        let value = evaluate(alloc, context, node, locals, printed)?;
         values.push(value)?;
     }
     Ok(values)
@@ -205,42 +214,42 @@ fn evaluate_all(
 #[cycle(evaluate)]
 fn evaluate_do(
     alloc: Global,
+    context: &Context<'_>,
     nodes: &[Node],
-    turns: u32,
     locals: &mut Vec<Value>,
     printed: &mut Vec<u8>,
-) -> Result<Step, EvalStop>
-    requires { InSomeTail (λ tail. SoundDo false (length locals.old.items) tail (trees_of nodes.now)) }
+) -> Result<Step, ThreadStop>
+    requires { InSomeTail (λ tail. SoundDo (callable context.now) in_thread (length locals.old.items) tail (trees_of nodes.now)) }
     ensures value { Steps result printed.new.items
-        (do_means turns (trees_of nodes.now) locals.old.items printed.old.items) }
+        (do_means context.now (trees_of nodes.now) locals.old.items printed.old.items) }
     ensures kept { OnOk result (locals.new.items ≡ locals.old.items) }
 {
     let Some((last, before)) = nodes.split_last() else {
         unreachable!()
     };
     for node in before {
-        evaluate(alloc, node, turns, locals, printed)?;
+        evaluate(alloc, context, node, locals, printed)?;
     }
-    evaluate_tail(alloc, last, turns, locals, printed)
+    evaluate_tail(alloc, context, last, locals, printed)
 }
 
 /// Binds the nodes' values to further locals, each of which sees the earlier ones.
 #[cycle(evaluate)]
 fn bind_locals(
     alloc: Global,
+    context: &Context<'_>,
     nodes: &[Node],
-    turns: u32,
     locals: &mut Vec<Value>,
     printed: &mut Vec<u8>,
-) -> Result<(), EvalStop>
-    requires { SoundLet false (length locals.old.items) (trees_of nodes.now) }
+) -> Result<(), ThreadStop>
+    requires { SoundLet (callable context.now) in_thread (length locals.old.items) (trees_of nodes.now) }
     ensures value { GivesAll (λ _. locals.new.items) result printed.new.items
-        (locals_mean turns (trees_of nodes.now) locals.old.items printed.old.items) }
+        (locals_mean context.now (trees_of nodes.now) locals.old.items printed.old.items) }
     ensures count { OnOk result (length locals.new.items ≡ length locals.old.items + count (trees_of nodes.now)) }
     ensures kept { OnOk result (take (length locals.old.items) locals.new.items ≡ locals.old.items) }
 {
     for node in nodes {
-        let value = evaluate(alloc, node, turns, locals, printed)?;
+        let value = evaluate(alloc, context, node, locals, printed)?;
         locals.push(value)?;
     }
     Ok(())
@@ -250,21 +259,21 @@ fn bind_locals(
 #[cycle(evaluate)]
 fn evaluate_let(
     alloc: Global,
+    context: &Context<'_>,
     nodes: &[Node],
     body: &Node,
-    turns: u32,
     locals: &mut Vec<Value>,
     printed: &mut Vec<u8>,
-) -> Result<Step, EvalStop>
-    requires values { SoundLet false (length locals.old.items) (trees_of nodes.now) }
-    requires body { InSomeTail (λ tail. SoundTree false (length locals.old.items + count (trees_of nodes.now)) tail (tree_of body.now)) }
+) -> Result<Step, ThreadStop>
+    requires values { SoundLet (callable context.now) in_thread (length locals.old.items) (trees_of nodes.now) }
+    requires body { InSomeTail (λ tail. SoundTree (callable context.now) in_thread (length locals.old.items + count (trees_of nodes.now)) tail (tree_of body.now)) }
     ensures value { Steps result printed.new.items
-        (let_means turns (trees_of nodes.now) (tree_of body.now) locals.old.items printed.old.items) }
+        (let_means context.now (trees_of nodes.now) (tree_of body.now) locals.old.items printed.old.items) }
     ensures kept { OnOk result (locals.new.items ≡ locals.old.items) }
 {
     let before = locals.len();
-    bind_locals(alloc, nodes, turns, locals, printed)?;
-    let step = evaluate_tail(alloc, body, turns, locals, printed)?;
+    bind_locals(alloc, context, nodes, locals, printed)?;
+    let step = evaluate_tail(alloc, context, body, locals, printed)?;
     locals.truncate(before);
     Ok(step)
 }
@@ -273,46 +282,64 @@ fn evaluate_let(
 #[cycle(evaluate)]
 fn evaluate_loop(
     alloc: Global,
+    context: &Context<'_>,
     nodes: &[Node],
     body: &Node,
-    turns: u32,
     locals: &mut Vec<Value>,
     printed: &mut Vec<u8>,
-) -> Result<Step, EvalStop>
-    requires values { SoundLet false (length locals.old.items) (trees_of nodes.now) }
-    requires body { SoundTree false (length locals.old.items + count (trees_of nodes.now)) (Some (count (trees_of nodes.now))) (tree_of body.now) }
+) -> Result<Step, ThreadStop>
+    requires values { SoundLet (callable context.now) in_thread (length locals.old.items) (trees_of nodes.now) }
+    requires body { SoundTree (callable context.now) in_thread (length locals.old.items + count (trees_of nodes.now)) (Some (count (trees_of nodes.now))) (tree_of body.now) }
     ensures value { Steps result printed.new.items
-        (loop_means turns (trees_of nodes.now) (tree_of body.now) locals.old.items printed.old.items) }
+        (loop_means context.now (trees_of nodes.now) (tree_of body.now) locals.old.items printed.old.items) }
     ensures kept { OnOk result (locals.new.items ≡ locals.old.items) }
 {
     let before = locals.len();
-    bind_locals(alloc, nodes, turns, locals, printed)?;
-    let step = run_turns(alloc, body, before, turns, locals, printed)?;
+    bind_locals(alloc, context, nodes, locals, printed)?;
+    let value = run_turns(alloc, context, body, before, locals, printed)?;
     locals.truncate(before);
-    Ok(step)
+    Ok(Step::Value(value))
 }
 
 /// The turns of a body, whose own locals are those from `before` on: what it gives in the last one.
 #[cycle(evaluate)]
 fn run_turns(
     alloc: Global,
+    context: &Context<'_>,
     body: &Node,
     before: usize,
-    turns: u32,
     locals: &mut Vec<Value>,
     printed: &mut Vec<u8>,
-) -> Result<Step, EvalStop>
+) -> Result<Value, ThreadStop>
     requires place { before ≤ length locals.old.items }
-    requires body { SoundTree false (length locals.old.items) (Some (length locals.old.items - before)) (tree_of body.now) }
-    ensures value { Steps result printed.new.items
-        (turns_mean turns turns (length locals.old.items - before) (tree_of body.now) (take before locals.old.items) (drop before locals.old.items) printed.old.items) }
+    requires body { SoundTree (callable context.now) in_thread (length locals.old.items) (Some (length locals.old.items - before)) (tree_of body.now) }
+    ensures value { Gives result printed.new.items
+        (turns_mean context.now context.now.turns (length locals.old.items - before) (tree_of body.now) (take before locals.old.items) (drop before locals.old.items) printed.old.items) }
     ensures kept { OnOk result (take before locals.new.items ≡ take before locals.old.items) }
 {
-    for _turn in 0..turns {
-        match evaluate_tail(alloc, body, turns, locals, printed)? {
-            Step::Value(value) => return Ok(Step::Value(value)),
+    for _turn in 0..context.turns() {
+        match evaluate_tail(alloc, context, body, locals, printed)? {
+            Step::Value(value) => return Ok(value),
             Step::Recur(values) => rebind(locals, before, values)?,
         }
     }
-    Err(EvalStop::Turns)
+    Err(ThreadStop::Turns)
+}
+
+/// What the function of this number gives on these values, which are its first locals.
+#[cycle(evaluate)]
+pub(crate) fn call(
+    alloc: Global,
+    context: &Context<'_>,
+    number: u16,
+    mut values: Vec<Value>,
+    printed: &mut Vec<u8>,
+) -> Result<Value, ThreadStop>
+    requires { SoundCall (callable context.now) in_thread number (length values.items) }
+    ensures { Gives result printed.new.items
+        (call_means context.now number values.items printed.old.items) }
+{
+    let function = context.function(usize::from(number));
+    let inner = context.deeper();
+    run_turns(alloc, &inner, &function.body, 0, &mut values, printed)
 }

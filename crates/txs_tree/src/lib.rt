@@ -1,20 +1,22 @@
 //! Programs as trees, and what they mean. A node is a plain tree to every contract (`tree_of`), a program
-//! the sound program of its cells and threads. `is_sound` tells exactly which cells and threads are a sound
-//! program, and `eval_thread` answers exactly the thread meaning on no events: its printed bytes, what it
-//! needs, and how it ends.
+//! the sound program of its cells, functions and threads. `eval_thread` answers exactly the thread meaning on
+//! no events: its printed bytes, what it needs, and how it ends. `eval_pure` answers exactly the pure meaning
+//! of a callee.
 #![tactic(auto)]
 
-pub mod evaluate;
+mod context;
+mod evaluate;
 pub mod meaning;
 pub mod node;
 pub mod program;
-pub mod sound;
+pub mod pure_call;
+pub mod raw;
 
-pub use evaluate::EvalStop;
 pub use meaning::{Needs, ThreadMeaning, eval_thread};
-pub use node::{Node, NodeKind, Thread};
+pub use node::{Function, Node, NodeKind, Thread};
 pub use program::Program;
-pub use sound::is_sound;
+pub use pure_call::{EvalStop, eval_pure, more_turns_change_no_answer};
+pub use raw::Raw;
 
 #[cfg(test)]
 mod tests;

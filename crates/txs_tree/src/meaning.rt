@@ -6,7 +6,8 @@ ghost use Rattle.txs_tree.specs.Thread.{thread_meaning};
 ghost use Rattle.txs_tree.specs.declared.meaning.Needs.TheVariants.{Nothing};
 ghost use Rattle.txs_tree.specs.View.{program_of};
 
-use crate::evaluate::{EvalStop, evaluate};
+use crate::context::Context;
+use crate::evaluate::{ThreadStop, evaluate};
 use crate::program::Program;
 use std::alloc::{AllocError, Global};
 use txs_value::{Listed, Outcome};
@@ -67,14 +68,16 @@ pub fn eval_thread(
     ensures { IfOk result (λ m. IfSome (thread_source (program_of program.now) thread)
         (λ p. Tells m (thread_meaning p turns []))) }
 {
+    program.is_sound();
+    let context = Context::new(program.functions(), turns);
     let mut locals = Vec::new(alloc);
     let mut printed = Vec::new(alloc);
     let body = &program.threads()[thread].body;
-    match evaluate(alloc, body, turns, &mut locals, &mut printed) {
+    match evaluate(alloc, &context, body, &mut locals, &mut printed) {
         Ok(_) => Ok(ended(printed, Outcome::Done)),
-        Err(EvalStop::Fault(fault)) => Ok(ended(printed, Outcome::Failed(fault))),
-        Err(EvalStop::Event) => Ok(unended(printed, Needs::Event)),
-        Err(EvalStop::Turns) => Ok(unended(printed, Needs::Turns)),
-        Err(EvalStop::Memory) => Err(AllocError),
+        Err(ThreadStop::Fault(fault)) => Ok(ended(printed, Outcome::Failed(fault))),
+        Err(ThreadStop::Event) => Ok(unended(printed, Needs::Event)),
+        Err(ThreadStop::Turns) => Ok(unended(printed, Needs::Turns)),
+        Err(ThreadStop::Memory) => Err(AllocError),
     }
 }

@@ -8,7 +8,7 @@ use txs_value::{Callee, Op, Span, Value};
 pub enum NodeKind {
     /// A constant.
     Const(Value),
-    /// A local, by its number: locals are numbered by nesting, from 0.
+    /// A local, by its number: locals are numbered by nesting, from 0, parameters first.
     Local(u8),
     /// The test, and then one branch alone: the first, or where the test's value is nil or false the second.
     If(Box<Node>, Box<Node>, Box<Node>),
@@ -18,10 +18,12 @@ pub enum NodeKind {
     Let(Vec<Node>, Box<Node>),
     /// A let whose body a recur runs again.
     Loop(Vec<Node>, Box<Node>),
-    /// The values in order, for the next turn of the nearest loop, in whose tail position it stands.
+    /// The values in order, for the next turn of the nearest loop or function, in whose tail position it stands.
     Recur(Vec<Node>),
     /// A core operation on its arguments.
     Core(Op, Vec<Node>),
+    /// A function, by its number, on its arguments.
+    Call(u16, Vec<Node>),
     /// The vector of the items.
     Vector(Vec<Node>),
     /// Prints its arguments as a line, outside every transaction.
@@ -41,6 +43,15 @@ pub struct Node {
     pub kind: NodeKind,
     pub span: Span,
     pub wanted: bool,
+}
+
+/// A function: how many parameters it has, its body, and where its definition stands in the script. It calls
+/// functions before it alone.
+#[derive(Debug, Drop)]
+pub struct Function {
+    pub parameters: u8,
+    pub body: Node,
+    pub span: Span,
 }
 
 /// A thread: the body of a future, and where the future stands in the script.

@@ -1,19 +1,19 @@
-//! Programs: cells and threads that the checks accepted.
+//! Programs: cells, functions and threads that the checks accepted.
 
 ghost use Rattle.std.specs.Prelude.{◌≡◌};
 ghost use Rattle.txs_tree.specs.Sound.{Sound};
 ghost use Rattle.txs_tree.specs.View.{Parts, program_of};
 
-use crate::node::Thread;
+use crate::node::{Function, Thread};
+use crate::raw::Raw;
 use std::marker::Model;
 use txs_value::CellDefinition;
 
-/// A program that the checks accepted: the cells that it defines, in the order of their numbers, and its
-/// threads, in script order. Contracts see it as `program_of` its parts, which is sound.
+/// A program that the checks accepted: the cells that it defines, in the order of their numbers, its functions
+/// and its threads, each in script order. Contracts see it as `program_of` its parts, which is sound.
 #[derive(Debug, Drop)]
 pub struct Program {
-    cells: Vec<CellDefinition>,
-    threads: Vec<Thread>,
+    raw: Raw,
 }
 
 impl Model for Program {
@@ -26,28 +26,35 @@ impl Model for Program {
 
     ghost coded = { Prim.hlevel (codes, node.the_row.coded, value.the_row.coded) };
 
-    ghost view = { λ p. record { cells = p.cells.items; threads = p.threads.items } };
+    ghost view = { λ p. p.raw };
 
     ghost use Rattle.txs_tree.specs.Sound.{Sound};
     ghost use Rattle.txs_tree.specs.View.{program_of};
 
-    ghost invariant = { λ p. Sound (program_of (record { cells = p.cells.items; threads = p.threads.items })) };
+    ghost invariant = { λ p. Sound (program_of p.raw) };
 }
 
 impl Program {
-    /// The program of these cells and threads, which are sound.
-    pub fn new(cells: Vec<CellDefinition>, threads: Vec<Thread>) -> Program
-        requires { Sound (program_of (record { cells = cells.items; threads = threads.items })) }
-        ensures { result ≡ record { cells = cells.items; threads = threads.items } }
+    /// Takes a program that is sound.
+    pub fn new(raw: Raw) -> Program
+        requires { Sound (program_of raw) }
+        ensures { result ≡ raw }
     {
-        Program { cells, threads }
+        Program { raw }
     }
 
     /// The cells, in the order of their numbers.
     pub fn cells(&self) -> &[CellDefinition]
         ensures { result.now ≡ self.now.cells }
     {
-        self.cells.as_slice()
+        self.raw.cells()
+    }
+
+    /// The functions, in the order of their numbers.
+    pub fn functions(&self) -> &[Function]
+        ensures { result.now ≡ self.now.functions }
+    {
+        self.raw.functions()
     }
 
     /// The threads, in script order.
@@ -55,6 +62,13 @@ impl Program {
         ensures value { result.now ≡ self.now.threads }
         ensures sound { Sound (program_of self.now) }
     {
-        self.threads.as_slice()
+        self.raw.threads()
+    }
+
+    /// The program is sound.
+    pub fn is_sound(&self)
+        ensures { Sound (program_of self.now) }
+    {
+        let _ = &self.raw;
     }
 }

@@ -1,13 +1,23 @@
-use Rattle.std.proofs.Common.{arith, ◌≡◌, ◌+◌, ◌-◌, suc, true, Some, None, [], ◌∷◌, eqb, length, drop, refl, sym, ap, ◌∙◌, subst, OnOk, length-drop, length-append}
-use Rattle.txs_tree.specs.Sound.{SoundCallee, nodes, nodes_in}
+use Rattle.std.proofs.Common.{arith, ◌≡◌, ◌+◌, ◌-◌, suc, Some, None, [], ◌∷◌, eqb, length, drop, refl, sym, ap, ◌∙◌, subst, OnOk, length-drop, length-append}
+use Rattle.txs_tree.specs.Sound.{nodes, nodes_in}
 use Rattle.txs_tree.specs.Tree.{count, is_none}
 use Rattle.txs_tree.specs.View.{tree_of, trees_of, mark_of}
 use Rattle.txs_code.specs.declared.instr.Instr.TheVariants as instr
-use Rattle.txs_gen.specs.Emission.{Emission, emission, emits, emits_all, emits_do, emits_let, IsPlaced, IsPlacedAll, IsPlacedLet, IsWithin, with_instr, with_constant, with_locals, with_pop, with_room, with_set, with_stores, with_call}
-use Rattle.txs_gen.proofs.Emissions.{IsPlacedLeft, around, emits_const, emits_local, emits_do_is, emits_core, emits_vector, emits_println, emits_let_is, emits_if_is, emits_loop_is, emits_dosync_is, emits_deref, emits_alter_is, emits_recur_is, emits_all_none, emits_all_more, emits_let_none, emits_let_more, emits_do_none, emits_do_more, is_none_trees, left_first, left_rest, within_more, nodes_positive, emits_constants, emits_let_constants, emits_instrs, emits_let_instrs, let_locals, left_is, nothing_left, nodes_left, pop_constants, pop_instrs, put_instrs, set_instrs, emits_grows, if_tested, if_first, if_else, if_made, loop_made, dosync_made, alter_made, recur_made, callee_few}
+use Rattle.txs_gen.specs.Emission.{Emission, emission, emits, emits_all, emits_do, emits_let, in_transaction, IsPlaced, IsPlacedAll, IsPlacedLet, IsWithin, with_instr, with_constant, with_locals, with_pop, with_room, with_set, with_stores, with_call}
+use Rattle.txs_gen.proofs.Emissions.{IsPlacedLeft, around, emits_const, emits_local, emits_do_is, emits_core, emits_call, emits_vector, emits_println, emits_let_is, emits_if_is, emits_loop_is, emits_dosync_is, emits_deref, emits_alter_is, emits_recur_is, emits_all_none, emits_all_more, emits_let_none, emits_let_more, emits_do_none, emits_do_more, is_none_trees, left_placed, left_first, left_rest, within_more, nodes_positive, emits_constants, emits_let_constants, emits_instrs, emits_let_instrs, let_locals, left_is, nothing_left, nodes_left, pop_constants, pop_instrs, put_instrs, set_instrs, emits_grows, if_tested, if_first, if_else, if_made, loop_made, dosync_made, alter_made, recur_made, callee_few}
 use Rattle.txs_tree.proofs.Soundness.{count-trees_of}
-use Rattle.txs_tree.proofs.Trees.{const_node, local_node, if_node, do_node, let_node, loop_node, recur_node, core_node, vector_node, println_node, dosync_node, deref_node, alter_node}
+use Rattle.txs_tree.proofs.Trees.{const_node, local_node, if_node, do_node, let_node, loop_node, recur_node, core_node, call_node, vector_node, println_node, dosync_node, deref_node, alter_node}
 use Rattle.txs_gen.proofs.emit.+emit.Goals as goal
+
+pub emit_do-loop-item-init : goal.emit_do-loop-item-init
+emit_do-loop-item-init t c = record {
+  made = refl;
+  part = left_placed c.args.at.depth c.args.at.base (trees_of c.args.items.now) c.requires.part;
+  few_constants = c.requires.few_constants;
+  few_instrs = c.requires.few_instrs;
+  low = c.requires.low;
+  left = omega arith;
+}
 
 pub emit-emit_do-requires : goal.emit-emit_do-requires
 emit-emit_do-requires t c =
@@ -80,6 +90,13 @@ emit-overflow_cast-len t c =
     let e = core_node c.args.node.now c.in-Core.op c.in-Core.args c.deref-in-Core.result.now c.in-Core.is c.deref-in-Core.ensures.value in
     let p = subst (λ x. IsPlaced c.args.at.depth c.args.at.base x) e c.requires.part in
     omega (arith, p.3.0.1, count-trees_of c.deref-in-Core.result.now, ap length c.deref-in-Core.ensures.value)
+
+pub emit-emit_all-requires-in-Call : goal.emit-emit_all-requires-in-Call
+emit-emit_all-requires-in-Call t c =
+    let e = call_node c.args.node.now c.in-Call.function c.in-Call.args c.deref-in-Call.result.now c.in-Call.is c.deref-in-Call.ensures.value in
+    let n = ap nodes e in
+    let p = subst (λ x. IsPlaced c.args.at.depth c.args.at.base x) e c.requires.part in
+    (omega (arith, n), ((p.0, p.3.1), (omega (arith, n, c.requires.few_constants), (omega (arith, n, c.requires.few_instrs), omega (arith, n, c.requires.low)))))
 
 pub emit-emit_all-requires-in-Vector : goal.emit-emit_all-requires-in-Vector
 emit-emit_all-requires-in-Vector t c =
@@ -188,6 +205,18 @@ emit-returns-in_ok-emit_all-in-Core t c =
     ∙ ap (λ x. with_instr (instr.Core c.in-Core.op (count (trees_of xs))) m.span x) c.in_ok-emit_all-in-Core.ensures
     ∙ emits_core c.in-Core.op (trees_of xs) m c.args.at (emission c.args.to.now) ∙ ap (λ x. emits x c.args.at (emission c.args.to.now)) (sym e))
     c.put-in-Core.ensures
+
+pub emit-returns-in_ok-emit_all-in-Call : goal.emit-returns-in_ok-emit_all-in-Call
+emit-returns-in_ok-emit_all-in-Call t c =
+    let f = c.in-Call.function in
+    let xs = c.deref-in-Call.result.now in
+    let e = call_node c.args.node.now f c.in-Call.args xs c.in-Call.is c.deref-in-Call.ensures.value in
+    let m = mark_of c.args.node.now.span c.args.node.now.wanted in
+    subst (λ l. OnOk c.put-in-Call.result (emission c.put-in-Call.new.self ≡ l))
+    (ap (λ x. with_instr (instr.Call f) m.span x) c.rise-in-Call.ensures
+    ∙ ap (λ x. with_instr (instr.Call f) m.span (with_room (c.args.at.height + 1) x)) c.in_ok-emit_all-in-Call.ensures
+    ∙ emits_call f (trees_of xs) m c.args.at (emission c.args.to.now) ∙ ap (λ x. emits x c.args.at (emission c.args.to.now)) (sym e))
+    c.put-in-Call.ensures
 
 pub emit-returns-in_ok-emit_all-in-Vector : goal.emit-returns-in_ok-emit_all-in-Vector
 emit-returns-in_ok-emit_all-in-Vector t c =
@@ -559,7 +588,7 @@ emit-emit_dosync-requires t c =
     let e = dosync_node c.args.node.now c.in-Dosync.body c.deref-in-Dosync.result.now c.in-Dosync.is c.deref-in-Dosync.ensures in
     let n = ap nodes e in
     let p = subst (λ x. IsPlaced c.args.at.depth c.args.at.base x) e c.requires.part in
-    (omega (arith, n), ((true, None, tt, p.3), (omega (arith, n, c.requires.few_constants), (omega (arith, n, c.requires.few_instrs), omega (arith, n, c.requires.low)))))
+    (omega (arith, n), ((in_transaction p.0, None, tt, p.3), (omega (arith, n, c.requires.few_constants), (omega (arith, n, c.requires.few_instrs), omega (arith, n, c.requires.low)))))
 
 pub emit-emit-requires-in-Deref : goal.emit-emit-requires-in-Deref
 emit-emit-requires-in-Deref t c =
@@ -575,8 +604,7 @@ emit-emit_alter-requires t c =
     let e = alter_node c.args.node.now c.in-Alter.cell c.in-Alter.callee c.in-Alter.args x xs c.in-Alter.is c.deref-in-Alter.ensures c.deref-in-Alter-2.ensures.value in
     let n = ap nodes e in
     let p = subst (λ l. IsPlaced c.args.at.depth c.args.at.base l) e c.requires.part in
-    let f : suc (count (trees_of xs)) ≡ count (trees_of xs) + 1 = omega arith in
-    (omega (arith, n), ((p.0, None, tt, p.3.1), (subst (λ m. SoundCallee c.in-Alter.callee m) f p.3.2, ((p.0, p.3.3), (omega (arith, n, c.requires.few_constants), (omega (arith, n, c.requires.few_instrs), omega (arith, n, c.requires.low)))))))
+    (omega (arith, n), ((p.0, None, tt, p.3.1), (callee_few p.0 c.in-Alter.callee (count (trees_of xs)) p.3.2, ((p.0, p.3.3), (omega (arith, n, c.requires.few_constants), (omega (arith, n, c.requires.few_instrs), omega (arith, n, c.requires.low)))))))
 
 pub emit-returns-in-Dosync : goal.emit-returns-in-Dosync
 emit-returns-in-Dosync t c =
@@ -610,7 +638,7 @@ emit-returns-in-Alter t c =
 pub emit_alter-overflow_cast-count : goal.emit_alter-overflow_cast-count
 emit_alter-overflow_cast-count t c =
     let xs = c.args.args.now in
-    omega (arith, callee_few c.args.callee (count (trees_of xs) + 1) c.requires.callee, count-trees_of xs)
+    omega (arith, c.requires.few_args, count-trees_of xs)
 
 pub emit_alter-emit_all-requires : goal.emit_alter-emit_all-requires
 emit_alter-emit_all-requires t c =
@@ -624,22 +652,17 @@ emit_alter-emit_all-requires t c =
 pub emit_alter-overflow_add-at : goal.emit_alter-overflow_add-at
 emit_alter-overflow_add-at t c =
     let xs = c.args.args.now in
-    omega (arith, c.from.ensures, callee_few c.args.callee (count (trees_of xs) + 1) c.requires.callee, count-trees_of xs, c.requires.low)
+    omega (arith, c.from.ensures, c.requires.few_args, count-trees_of xs, c.requires.low)
 
 pub emit_alter-overflow_add-at-2 : goal.emit_alter-overflow_add-at-2
 emit_alter-overflow_add-at-2 t c =
     let xs = c.args.args.now in
-    omega (arith, c.from.ensures, callee_few c.args.callee (count (trees_of xs) + 1) c.requires.callee, count-trees_of xs, c.requires.low)
+    omega (arith, c.from.ensures, c.requires.few_args, count-trees_of xs, c.requires.low)
 
 pub emit_alter-overflow_add-count : goal.emit_alter-overflow_add-count
 emit_alter-overflow_add-count t c =
     let xs = c.args.args.now in
-    omega (arith, callee_few c.args.callee (count (trees_of xs) + 1) c.requires.callee, count-trees_of xs)
-
-pub emit_alter-call-requires : goal.emit_alter-call-requires
-emit_alter-call-requires t c =
-    let e : count (trees_of c.args.args.now) + 1 ≡ length c.args.args.now + 1 = omega (arith, count-trees_of c.args.args.now) in
-    subst (λ n. SoundCallee c.args.callee n) e c.requires.callee
+    omega (arith, c.requires.few_args, count-trees_of xs)
 
 pub emit_alter-returns : goal.emit_alter-returns
 emit_alter-returns t c =

@@ -1,4 +1,3 @@
-use Rattle.txs_machine.proofs.Effects
 use Rattle.txs_machine.proofs.Following
 use Rattle.txs_machine.proofs.law.actors_run.Goals as goal
 

@@ -1,4 +1,4 @@
-use Rattle.std.proofs.Common.{◌≡◌, ◌≤◌, ◌<◌, ap, sym, ◌∙◌, arith, rules, Some, None}
+use Rattle.std.proofs.Common.{ap, sym, ◌∙◌, arith, Some}
 use Rattle.txs_value.specs.declared.value.CellId.{CellId}
 use Rattle.txs_value.specs.declared.value.Value.{Value}
 use Rattle.txs_machine.proofs.OwnWrites.{own_there, none_there, none_past, read_at}

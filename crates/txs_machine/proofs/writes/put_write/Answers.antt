@@ -1,4 +1,4 @@
-use Rattle.std.proofs.Common.{◌≡◌, ◌≤◌, ◌<◌, ℕ, set, ap, sym, ◌∙◌, subst, arith, rules, Some, None}
+use Rattle.std.proofs.Common.{◌≡◌, ap, ◌∙◌, subst, arith}
 use Rattle.std.specs.Prelude.{insert}
 use Rattle.txs_value.specs.Ask.{Writes, with_write}
 use Rattle.txs_value.specs.declared.value.Value.{Value}

@@ -1,0 +1,195 @@
+-- A program is sound exactly where nothing of it is refused, and it is refused for one reason.
+use Rattle.std.proofs.Common.{◌≡◌, ◌≢◌, ℕ, suc, ◌≤◌, ◌⊎◌, inl, inr, Bool, true, false, not, eqb, leb, if◌then◌else◌, ◌-◌, Option, List, [], ◌∷◌, ◌++◌, map, Some, None, Ok, Err, refl, sym, ap, ◌∙◌, subst}
+use Rattle.txs_value.specs.Core.{takes}
+use Rattle.txs_value.specs.Places.{nth}
+use Rattle.txs_value.specs.declared.fault.Span.{Span}
+use Rattle.txs_value.specs.declared.op.Callee.{Callee}
+use Rattle.txs_value.specs.declared.op.Callee.TheVariants.{Core as CoreOp, Function}
+use Rattle.txs_tree.specs.Known.{Known, is_pure, known_of, known_from, known}
+use Rattle.txs_tree.specs.Scoped.{Scoped, ScopedFunctions, ScopedThreads}
+use Rattle.txs_tree.specs.Sound.{Sound, SoundFunctions, SoundThreads, nodes}
+use Rattle.txs_tree.specs.Tree.{Tree, Const, Local, If, Do, Let, Loop, Recur, Core, Call, VectorOf, Println, Dosync, Deref, Alter, Trees, none, more, count, PlainFunction, PlainThread, PlainProgram}
+use Rattle.txs_tree.specs.View.{functions_of, threads_of, program_of}
+use Rattle.txs_tree.specs.declared.node.Function.{Function as AFunction}
+use Rattle.txs_tree.specs.declared.node.Thread.{Thread}
+use Rattle.txs_value.specs.declared.cell.CellDefinition.{CellDefinition}
+use Rattle.txs_check.specs.Signatures.{bare}
+use Rattle.txs_check.specs.declared.error.CheckError.{CheckError}
+use Rattle.txs_check.specs.declared.error.CheckErrorKind.TheVariants.{RecurNotTail, RecurCount, Arity, NotPure, InsideOnly, OutsideOnly, CodeTooLarge, Memory}
+use Rattle.txs_check.specs.declared.place.Target.{Target}
+use Rattle.txs_check.specs.declared.place.Target.TheVariants.{Nowhere, Across, Nearest}
+use Rattle.txs_check.specs.declared.place.Zone.{Zone}
+use Rattle.txs_check.specs.declared.place.Zone.TheVariants.{InFunction, InFuture, InDosync}
+use Rattle.txs_check.specs.Refused.{Checked, fine, ◌>>◌, only, inner, across, operates, recurs, accepts, zoned, calls, called, prints, alters, checked, checked_all, checked_do, Body, function_body, thread_body, in_order, checked_body, checked_bodies, ◌>>=◌, room, few, refusal, CheckStops}
+use Rattle.txs_check.proofs.Steps.{first, second, both, err_not_fine, Told, told_then, told_only, told_kind}
+use Rattle.txs_check.proofs.Accepted.{accepted_sound, sound_accepted}
+use Rattle.txs_check.proofs.Order.{order_accepted, accepted_order, total_order, room_few, few_room}
+use Rattle.txs_check.proofs.Same.{bodies_same, checked_front, known_front}
+
+-- a function's body is checked among all functions as among those before it
+function_front : (ks : List Known) (f : PlainFunction) (fs : List PlainFunction) → ScopedFunctions ks (f ∷ fs) → checked_body (known_from ks (f ∷ fs)) (function_body f) ≡ checked_body ks (function_body f)
+function_front ks f fs s =
+    let r = known_front ks (f ∷ fs) in
+    ap (λ l. checked_body l (function_body f)) r.1 ∙ checked_front ks r.0 InFunction (Nearest f.parameters true) f.parameters f.body s.0.1
+
+functions_sound : (ks : List Known) (fs : List PlainFunction) → ScopedFunctions ks fs → checked_bodies (known_from ks fs) (map function_body fs) ≡ fine → SoundFunctions ks fs
+functions_sound ks [] s h = tt
+functions_sound ks (f ∷ fs) s h =
+    let K = known_from ks (f ∷ fs) in
+    let x = checked_body K (function_body f) in
+    let y = checked_bodies K (map function_body fs) in (
+      (s.0.0, accepted_sound ks InFunction (Nearest f.parameters true) f.parameters f.body s.0.1 (sym (function_front ks f fs s) ∙ first x y h), s.0.2),
+      functions_sound (ks ++ known_of ks f ∷ []) fs s.1 (second x y h),
+    )
+
+functions_accepted : (ks : List Known) (fs : List PlainFunction) → ScopedFunctions ks fs → SoundFunctions ks fs → checked_bodies (known_from ks fs) (map function_body fs) ≡ fine
+functions_accepted ks [] s h = refl
+functions_accepted ks (f ∷ fs) s h =
+    let K = known_from ks (f ∷ fs) in
+    let x = checked_body K (function_body f) in
+    let y = checked_bodies K (map function_body fs) in
+    both x y (function_front ks f fs s ∙ sound_accepted ks InFunction (Nearest f.parameters true) f.parameters f.body h.0.1)
+    (functions_accepted (ks ++ known_of ks f ∷ []) fs s.1 h.1)
+
+threads_sound : (ks : List Known) (ts : List PlainThread) → ScopedThreads ks ts → checked_bodies ks (map thread_body ts) ≡ fine → SoundThreads ks ts
+threads_sound ks [] s h = tt
+threads_sound ks (t ∷ ts) s h =
+    let x = checked_body ks (thread_body t) in
+    let y = checked_bodies ks (map thread_body ts) in
+    ((accepted_sound ks InFuture Nowhere 0 t.body s.0.0 (first x y h), s.0.1), threads_sound ks ts s.1 (second x y h))
+
+threads_accepted : (ks : List Known) (ts : List PlainThread) → SoundThreads ks ts → checked_bodies ks (map thread_body ts) ≡ fine
+threads_accepted ks [] h = refl
+threads_accepted ks (t ∷ ts) h =
+    both (checked_body ks (thread_body t)) (checked_bodies ks (map thread_body ts)) (sound_accepted ks InFuture Nowhere 0 t.body h.0.0) (threads_accepted ks ts h.1)
+
+pub fine_sound : (p : PlainProgram) → Scoped p → refusal p ≡ fine → Sound p
+fine_sound p s h =
+    let ks = known p.functions in
+    let bs = in_order p.functions p.threads in
+    let x = checked_bodies ks bs in
+    let y = few (room 200000 bs) in
+    let both_fine = order_accepted ks p.functions p.threads (first x y h) in
+    record {
+      functions = functions_sound [] p.functions s.functions both_fine.0;
+      threads = threads_sound ks p.threads s.threads both_fine.1;
+      few_cells = s.few_cells;
+      few_functions = s.few_functions;
+      few_threads = s.few_threads;
+      few_nodes = subst (λ n. n ≤ 200000) (total_order p.functions p.threads) (few_room 200000 bs (second x y h));
+    }
+
+pub sound_fine : (p : PlainProgram) → Scoped p → Sound p → refusal p ≡ fine
+sound_fine p s h =
+    let ks = known p.functions in
+    let bs = in_order p.functions p.threads in
+    both (checked_bodies ks bs) (few (room 200000 bs))
+    (accepted_order ks p.functions p.threads (functions_accepted [] p.functions s.functions h.functions) (threads_accepted ks p.threads h.threads))
+    (room_few 200000 bs (subst (λ n. n ≤ 200000) (sym (total_order p.functions p.threads)) h.few_nodes))
+
+-- ---- no refusal is a want of memory
+
+told_recurs : (t : Target) (n : ℕ) (at : Span) → Told (recurs t n at)
+told_recurs Nowhere n at = λ m. m
+told_recurs Across n at = λ m. m
+told_recurs (Nearest k tail) n at = told_then (only tail RecurNotTail at) (only (eqb k n) RecurCount at) (told_only tail RecurNotTail at (λ m. m)) (told_only (eqb k n) RecurCount at (λ m. m))
+
+told_zoned : (z : Zone) (o : Option Known) (at : Span) → Told (zoned z o at)
+told_zoned z None at = tt
+told_zoned InFunction (Some k) at = tt
+told_zoned InFuture (Some k) at = told_only (not k.inside) InsideOnly at (λ m. m)
+told_zoned InDosync (Some k) at = told_only (not k.outside) OutsideOnly at (λ m. m)
+
+told_calls : (ks : List Known) (z : Zone) (f n : ℕ) (at : Span) → Told (calls ks z f n at)
+told_calls ks z f n at = told_then (only (accepts (nth ks f) n) Arity at) (zoned z (nth ks f) at) (told_only (accepts (nth ks f) n) Arity at (λ m. m)) (told_zoned z (nth ks f) at)
+
+told_called : (ks : List Known) (c : Callee) (n : ℕ) (at : Span) → Told (called ks c n at)
+told_called ks (CoreOp op) n at = told_only (takes op n) Arity at (λ m. m)
+told_called ks (Function f) n at = told_then (only (accepts (nth ks f) n) Arity at) (only (is_pure (nth ks f)) NotPure at) (told_only (accepts (nth ks f) n) Arity at (λ m. m)) (told_only (is_pure (nth ks f)) NotPure at (λ m. m))
+
+told_prints : (z : Zone) (at : Span) → Told (prints z at)
+told_prints InFunction at = tt
+told_prints InFuture at = tt
+told_prints InDosync at = λ m. m
+
+told_alters : (z : Zone) (at : Span) → Told (alters z at)
+told_alters InFunction at = tt
+told_alters InFuture at = λ m. m
+told_alters InDosync at = tt
+
+module _ (ks : List Known) where
+  mutual
+    told_checked : (z : Zone) (t : Target) (e : Tree) → Told (checked ks z t e)
+    told_checked z t (Const v m) = tt
+    told_checked z t (Local i m) = tt
+    told_checked z t (If c a b m) = told_then (checked ks z (inner t) c) (checked ks z t a >> checked ks z t b) (told_checked z (inner t) c) (told_then (checked ks z t a) (checked ks z t b) (told_checked z t a) (told_checked z t b))
+    told_checked z t (Do items m) = told_do z t items
+    told_checked z t (Let values body m) = told_then (checked_all ks z (inner t) values) (checked ks z t body) (told_all z (inner t) values) (told_checked z t body)
+    told_checked z t (Loop values body m) = told_then (checked_all ks z (inner t) values) (checked ks z (Nearest (count values) true) body) (told_all z (inner t) values) (told_checked z (Nearest (count values) true) body)
+    told_checked z t (Recur values m) = told_then (recurs t (count values) m.span) (checked_all ks z (inner t) values) (told_recurs t (count values) m.span) (told_all z (inner t) values)
+    told_checked z t (Core op args m) = told_then (operates op (count args) m.span) (checked_all ks z (inner t) args) (told_only (takes op (count args)) Arity m.span (λ x. x)) (told_all z (inner t) args)
+    told_checked z t (Call f args m) = told_then (calls ks z f (count args) m.span) (checked_all ks z (inner t) args) (told_calls ks z f (count args) m.span) (told_all z (inner t) args)
+    told_checked z t (VectorOf items m) = told_all z (inner t) items
+    told_checked z t (Println args m) = told_then (prints z m.span) (checked_all ks z (inner t) args) (told_prints z m.span) (told_all z (inner t) args)
+    told_checked z t (Dosync body m) = told_checked InDosync (across t) body
+    told_checked z t (Deref cell m) = told_checked z (inner t) cell
+    told_checked z t (Alter cell callee args m) =
+        let n = suc (count args) in
+        told_then (called ks callee n m.span >> alters z m.span) (checked ks z (inner t) cell >> checked_all ks z (inner t) args)
+        (told_then (called ks callee n m.span) (alters z m.span) (told_called ks callee n m.span) (told_alters z m.span))
+        (told_then (checked ks z (inner t) cell) (checked_all ks z (inner t) args) (told_checked z (inner t) cell) (told_all z (inner t) args))
+
+    told_all : (z : Zone) (t : Target) (es : Trees) → Told (checked_all ks z t es)
+    told_all z t none = tt
+    told_all z t (more e rest) = told_then (checked ks z t e) (checked_all ks z t rest) (told_checked z t e) (told_all z t rest)
+
+    told_do : (z : Zone) (t : Target) (es : Trees) → Told (checked_do ks z t es)
+    told_do z t none = tt
+    told_do z t (more e none) = told_checked z t e
+    told_do z t (more e (more f rest)) = told_then (checked ks z (inner t) e) (checked_do ks z t (more f rest)) (told_checked z (inner t) e) (told_do z t (more f rest))
+
+  told_bodies : (bs : List Body) → Told (checked_bodies ks bs)
+  told_bodies [] = tt
+  told_bodies (b ∷ bs) = told_then (checked_body ks b) (checked_bodies ks bs) (told_checked b.zone b.target b.tree) (told_bodies bs)
+
+told_room : (left : ℕ) (bs : List Body) → Told (few (room left bs))
+told_room left [] = tt
+told_room left (b ∷ bs) = by (told_room (left - nodes b.tree) bs) (leb (nodes b.tree) left)
+  where
+    by : Told (few (room (left - nodes b.tree) bs)) → (x : Bool) → Told (few ((if x then Ok (left - nodes b.tree) else Err (record { kind = CodeTooLarge; at = b.span })) >>= λ rest. room rest bs))
+    by rest true = rest
+    by rest false = λ m. m
+
+pub told_refusal : (p : PlainProgram) → Told (refusal p)
+told_refusal p =
+    let ks = known p.functions in
+    let bs = in_order p.functions p.threads in
+    told_then (checked_bodies ks bs) (few (room 200000 bs)) (told_bodies ks bs) (told_room 200000 bs)
+
+pub no_want : (p : PlainProgram) (e : CheckError) → CheckStops p e → e.kind ≢ Memory
+no_want p e h = told_kind (refusal p) e (told_refusal p) h
+
+pub decided : (p : PlainProgram) → Scoped p → Sound p ⊎ ((e : CheckError) × CheckStops p e)
+decided p s = by (refusal p) refl
+  where
+    by : (a : Checked) → refusal p ≡ a → Sound p ⊎ ((e : CheckError) × CheckStops p e)
+    by (Ok u) is = inl (fine_sound p s is)
+    by (Err e) is = inr (e, is)
+
+abbrev error_or : CheckError → Checked → CheckError
+error_or d (Ok u) = d
+error_or d (Err e) = e
+
+pub one_stop : (p : PlainProgram) (d e : CheckError) → CheckStops p d → CheckStops p e → d ≡ e
+one_stop p d e g h = ap (λ a. error_or d a) (sym g ∙ h)
+
+pub not_both : (p : PlainProgram) (e : CheckError) → Scoped p → Sound p → CheckStops p e → ⊥
+not_both p e s h g = err_not_fine (refusal p) e g (sound_fine p s h)
+
+-- the first refusal, by what the table of functions says
+pub refusal_of : (cells : List CellDefinition) (fs : List AFunction) (ts : List Thread) (ks : List Known) → bare ks ≡ bare (known (functions_of fs)) →
+    refusal (program_of (record { cells = cells; functions = fs; threads = ts }))
+    ≡ checked_bodies ks (in_order (functions_of fs) (threads_of ts)) >> few (room 200000 (in_order (functions_of fs) (threads_of ts)))
+refusal_of cells fs ts ks same =
+    let bs = in_order (functions_of fs) (threads_of ts) in
+    ap (λ x. x >> few (room 200000 bs)) (sym (bodies_same (known (functions_of fs)) ks same bs))

@@ -1,0 +1,69 @@
+-- Nodes, functions and threads from a place on.
+use Rattle.std.proofs.Common.{◌≡◌, ℕ, zero, suc, ◌+◌, ◌<◌, List, [], ◌∷◌, ◌++◌, length, get_or, map, take, drop, refl, sym, ap, ◌∙◌, arith}
+use Rattle.std.proofs.lemmas.List.{drop_more}
+use Rattle.txs_tree.specs.Tree.{none, more, count}
+use Rattle.txs_tree.specs.View.{tree_of, trees_of, function_of, functions_of, thread_of, threads_of}
+use Rattle.txs_tree.specs.declared.node.Function.{Function}
+use Rattle.txs_tree.specs.declared.node.Node.{Node}
+use Rattle.txs_tree.specs.declared.node.Thread.{Thread}
+use Rattle.txs_tree.specs.Known.{Known}
+use Rattle.txs_check.specs.declared.place.Target.{Target}
+use Rattle.txs_check.specs.declared.place.Zone.{Zone}
+use Rattle.txs_check.specs.Refused.{fine, ◌>>◌, ◌>>=◌, inner, checked, checked_all, checked_do, before, function_body, thread_body, in_order, checked_body, checked_bodies, taken, room}
+use Rattle.txs_check.proofs.Order.{bodies_append, room_append}
+use Rattle.txs_check.proofs.Steps.{then_same}
+
+pub trees_left : (ns : List Node) (i : ℕ) (n : Node) → i < length ns → n ≡ get_or ns i n → trees_of (drop i ns) ≡ more (tree_of n) (trees_of (drop (i + 1) ns))
+trees_left ns i n lt is = ap trees_of (drop_more ns i n lt) ∙ ap (λ m. more (tree_of m) (trees_of (drop (i + 1) ns))) (sym is)
+
+pub functions_left : (fs : List Function) (i : ℕ) (f : Function) → i < length fs → f ≡ get_or fs i f → functions_of (drop i fs) ≡ function_of f ∷ functions_of (drop (i + 1) fs)
+functions_left fs i f lt is = ap functions_of (drop_more fs i f lt) ∙ ap (λ g. function_of g ∷ functions_of (drop (i + 1) fs)) (sym is)
+
+pub threads_left : (ts : List Thread) (i : ℕ) (t : Thread) → i < length ts → t ≡ get_or ts i t → threads_of (drop i ts) ≡ thread_of t ∷ threads_of (drop (i + 1) ts)
+threads_left ts i t lt is = ap threads_of (drop_more ts i t lt) ∙ ap (λ u. thread_of u ∷ threads_of (drop (i + 1) ts)) (sym is)
+
+pub count_nodes : (ns : List Node) → count (trees_of ns) ≡ length ns
+count_nodes [] = refl
+count_nodes (n ∷ ns) = ap suc (count_nodes ns)
+
+pub threads_take : (n : ℕ) (ts : List Thread) → threads_of (take n ts) ≡ take n (threads_of ts)
+threads_take zero ts = refl
+threads_take (suc n) [] = refl
+threads_take (suc n) (t ∷ ts) = ap (λ l. thread_of t ∷ l) (threads_take n ts)
+
+pub threads_drop : (n : ℕ) (ts : List Thread) → threads_of (drop n ts) ≡ drop n (threads_of ts)
+threads_drop zero ts = refl
+threads_drop (suc n) [] = refl
+threads_drop (suc n) (t ∷ ts) = threads_drop n ts
+
+-- the nodes before the last one, and the last one
+pub do_parts : (ks : List Known) (z : Zone) (t : Target) (ns : List Node) (x : Node) → checked_do ks z t (trees_of (ns ++ x ∷ [])) ≡ checked_all ks z (inner t) (trees_of ns) >> checked ks z t (tree_of x)
+do_parts ks z t [] x = refl
+do_parts ks z t (m ∷ []) x = sym (then_same (checked ks z (inner t) (tree_of m)) (checked_all ks z (inner t) none) (checked ks z t (tree_of x)))
+do_parts ks z t (m ∷ n ∷ ns) x =
+    ap (λ c. checked ks z (inner t) (tree_of m) >> c) (do_parts ks z t (n ∷ ns) x)
+    ∙ sym (then_same (checked ks z (inner t) (tree_of m)) (checked_all ks z (inner t) (trees_of (n ∷ ns))) (checked ks z t (tree_of x)))
+
+pub do_nothing : (ks : List Known) (z : Zone) (t : Target) (ns : List Node) → length ns ≡ 0 → fine ≡ checked_do ks z t (trees_of ns)
+do_nothing ks z t [] e = refl
+do_nothing ks z t (n ∷ ns) e = absurd (omega (arith, e))
+
+-- a step of a walk over the bodies in script order: the threads before the next function, and the function
+module _ (fs : List Function) (i : ℕ) (f : Function) (lt : i < length fs) (is : f ≡ get_or fs i f) (ts : List Thread) (n : ℕ) (many : n ≡ before f.span.from (threads_of ts)) where
+  order_of : in_order (functions_of (drop i fs)) (threads_of ts)
+      ≡ map thread_body (threads_of (take n ts)) ++ function_body (function_of f) ∷ in_order (functions_of (drop (i + 1) fs)) (threads_of (drop n ts))
+  order_of =
+      let g = function_of f in
+      let rest = functions_of (drop (i + 1) fs) in
+      ap (λ l. in_order l (threads_of ts)) (functions_left fs i f lt is)
+      ∙ ap (λ k. map thread_body (take k (threads_of ts)) ++ function_body g ∷ in_order rest (drop k (threads_of ts))) (sym many)
+      ∙ ap (λ l. map thread_body l ++ function_body g ∷ in_order rest (drop n (threads_of ts))) (sym (threads_take n ts))
+      ∙ ap (λ l. map thread_body (threads_of (take n ts)) ++ function_body g ∷ in_order rest l) (sym (threads_drop n ts))
+
+  pub bodies_step : (ks : List Known) → checked_bodies ks (in_order (functions_of (drop i fs)) (threads_of ts))
+      ≡ checked_bodies ks (map thread_body (threads_of (take n ts))) >> (checked_body ks (function_body (function_of f)) >> checked_bodies ks (in_order (functions_of (drop (i + 1) fs)) (threads_of (drop n ts))))
+  bodies_step ks = ap (λ l. checked_bodies ks l) order_of ∙ bodies_append ks (map thread_body (threads_of (take n ts))) (function_body (function_of f) ∷ in_order (functions_of (drop (i + 1) fs)) (threads_of (drop n ts)))
+
+  pub room_step : (left : ℕ) → room left (in_order (functions_of (drop i fs)) (threads_of ts))
+      ≡ room left (map thread_body (threads_of (take n ts))) >>= (λ x. taken x (tree_of f.body) f.span >>= (λ y. room y (in_order (functions_of (drop (i + 1) fs)) (threads_of (drop n ts)))))
+  room_step left = ap (λ l. room left l) order_of ∙ room_append left (map thread_body (threads_of (take n ts))) (function_body (function_of f) ∷ in_order (functions_of (drop (i + 1) fs)) (threads_of (drop n ts)))

@@ -1,0 +1,8 @@
+use Rattle.std.proofs.Common.{◌≡◌, drop}
+use Rattle.txs_tree.specs.View.{functions_of, threads_of}
+use Rattle.txs_check.specs.Refused.{checked_bodies, in_order}
+use Rattle.txs_check.specs.Signatures.{known_as}
+use Rattle.txs_check.proofs.bodies.check_bodies.Given as goal
+
+abbrev pub invariant-loop-function : goal.invariant-loop-function
+invariant-loop-function l = checked_bodies (known_as l.signatures) (in_order (functions_of (drop l.function-index l.functions)) (threads_of l.rest)) ≡ checked_bodies (known_as l.signatures) (in_order (functions_of l.functions) (threads_of l.threads))

@@ -1,0 +1,163 @@
+use Rattle.std.proofs.Common.{rules, ◌≡◌, true, length, [], ◌∷◌, ◌++◌, Err, refl, sym, ap, ◌∙◌}
+use Rattle.txs_tree.specs.Tree.{count}
+use Rattle.txs_tree.specs.View.{tree_of, trees_of}
+use Rattle.txs_check.specs.declared.place.Target.TheVariants.{Nearest}
+use Rattle.txs_check.specs.Refused.{◌>>◌, here, inner, checked, checked_all, checked_do}
+use Rattle.txs_check.specs.Signatures.{known_as}
+use Rattle.txs_check.proofs.Lists.{count_nodes, do_nothing, do_parts}
+use Rattle.txs_check.proofs.Trees.{do_node, let_node, loop_node, recur_node, core_node, call_node, vector_node, println_node, alter_node}
+use Rattle.txs_check.proofs.walk.+walk.Goals as goal
+
+pub check_node-returns-in-Recur : goal.check_node-returns-in-Recur
+check_node-returns-in-Recur t c =
+    let ks = known_as c.args.signatures.now in
+    let z = c.args.zone in
+    let t0 = c.args.target in
+    let e = recur_node c.args.node.now c.in-Recur.values c.deref-in-Recur.result.now c.in-Recur.is c.deref-in-Recur.ensures.value in
+    let es = trees_of c.deref-in-Recur.result.now in
+    let parts = checked_all ks z (inner t0) es in
+    let own = c.in_ok-check_here.ensures ∙ ap (λ x. here ks z t0 x) e in
+    c.check_all-in-Recur.ensures ∙ ap (λ i. checked_all ks z i es) c.inner-in-Recur.ensures ∙ ap (λ x. x >> parts) own ∙ sym (ap (λ x. checked ks z t0 x) e)
+
+pub check_node-returns-in-Core : goal.check_node-returns-in-Core
+check_node-returns-in-Core t c =
+    let ks = known_as c.args.signatures.now in
+    let z = c.args.zone in
+    let t0 = c.args.target in
+    let e = core_node c.args.node.now c.in-Core.field-0 c.in-Core.args c.deref-in-Core.result.now c.in-Core.is c.deref-in-Core.ensures.value in
+    let es = trees_of c.deref-in-Core.result.now in
+    let parts = checked_all ks z (inner t0) es in
+    let own = c.in_ok-check_here.ensures ∙ ap (λ x. here ks z t0 x) e in
+    c.check_all-in-Core.ensures ∙ ap (λ i. checked_all ks z i es) c.inner-in-Core.ensures ∙ ap (λ x. x >> parts) own ∙ sym (ap (λ x. checked ks z t0 x) e)
+
+pub check_node-returns-in-Call : goal.check_node-returns-in-Call
+check_node-returns-in-Call t c =
+    let ks = known_as c.args.signatures.now in
+    let z = c.args.zone in
+    let t0 = c.args.target in
+    let e = call_node c.args.node.now c.in-Call.field-0 c.in-Call.args c.deref-in-Call.result.now c.in-Call.is c.deref-in-Call.ensures.value in
+    let es = trees_of c.deref-in-Call.result.now in
+    let parts = checked_all ks z (inner t0) es in
+    let own = c.in_ok-check_here.ensures ∙ ap (λ x. here ks z t0 x) e in
+    c.check_all-in-Call.ensures ∙ ap (λ i. checked_all ks z i es) c.inner-in-Call.ensures ∙ ap (λ x. x >> parts) own ∙ sym (ap (λ x. checked ks z t0 x) e)
+
+pub check_node-returns-in-Println : goal.check_node-returns-in-Println
+check_node-returns-in-Println t c =
+    let ks = known_as c.args.signatures.now in
+    let z = c.args.zone in
+    let t0 = c.args.target in
+    let e = println_node c.args.node.now c.in-Println.args c.deref-in-Println.result.now c.in-Println.is c.deref-in-Println.ensures.value in
+    let es = trees_of c.deref-in-Println.result.now in
+    let parts = checked_all ks z (inner t0) es in
+    let own = c.in_ok-check_here.ensures ∙ ap (λ x. here ks z t0 x) e in
+    c.check_all-in-Println.ensures ∙ ap (λ i. checked_all ks z i es) c.inner-in-Println.ensures ∙ ap (λ x. x >> parts) own ∙ sym (ap (λ x. checked ks z t0 x) e)
+
+pub check_node-returns-in-Vector : goal.check_node-returns-in-Vector
+check_node-returns-in-Vector t c =
+    let ks = known_as c.args.signatures.now in
+    let z = c.args.zone in
+    let t0 = c.args.target in
+    let e = vector_node c.args.node.now c.in-Vector.items c.deref-in-Vector.result.now c.in-Vector.is c.deref-in-Vector.ensures.value in
+    let es = trees_of c.deref-in-Vector.result.now in
+    c.check_all-in-Vector.ensures ∙ ap (λ i. checked_all ks z i es) c.inner-in-Vector.ensures ∙ sym (ap (λ x. checked ks z t0 x) e)
+
+pub check_node-returns-in_err-check_all-in-Let : goal.check_node-returns-in_err-check_all-in-Let
+check_node-returns-in_err-check_all-in-Let t c =
+    let ks = known_as c.args.signatures.now in
+    let z = c.args.zone in
+    let t0 = c.args.target in
+    let e = let_node c.args.node.now c.in-Let.values c.in-Let.body c.deref-in-Let.result.now c.in-Let.body.value c.in-Let.is c.deref-in-Let.ensures.value refl in
+    let es = trees_of c.deref-in-Let.result.now in
+    let body = checked ks z (t0) (tree_of c.in-Let.body.value) in
+    let refused : c.from_residual-in_err-check_all-in-Let.result ≡ Err c.in_err-check_all-in-Let.field-0.0 = search rules in
+    refused ∙ ap (λ x. x >> body) (c.in_err-check_all-in-Let.ensures ∙ ap (λ i. checked_all ks z i es) c.inner-in-Let.ensures) ∙ sym (ap (λ x. checked ks z t0 x) e)
+
+pub check_node-returns-in_err-check_all-in-Loop : goal.check_node-returns-in_err-check_all-in-Loop
+check_node-returns-in_err-check_all-in-Loop t c =
+    let ks = known_as c.args.signatures.now in
+    let z = c.args.zone in
+    let t0 = c.args.target in
+    let e = loop_node c.args.node.now c.in-Loop.values c.in-Loop.body c.deref-in-Loop.result.now c.in-Loop.body.value c.in-Loop.is c.deref-in-Loop.ensures.value refl in
+    let es = trees_of c.deref-in-Loop.result.now in
+    let body = checked ks z (Nearest (count es) true) (tree_of c.in-Loop.body.value) in
+    let refused : c.from_residual-in_err-check_all-in-Loop.result ≡ Err c.in_err-check_all-in-Loop.field-0.0 = search rules in
+    refused ∙ ap (λ x. x >> body) (c.in_err-check_all-in-Loop.ensures ∙ ap (λ i. checked_all ks z i es) c.inner-in-Loop.ensures) ∙ sym (ap (λ x. checked ks z t0 x) e)
+
+pub check_node-returns-in_ok-check_all-in-Let : goal.check_node-returns-in_ok-check_all-in-Let
+check_node-returns-in_ok-check_all-in-Let t c =
+    let ks = known_as c.args.signatures.now in
+    let z = c.args.zone in
+    let t0 = c.args.target in
+    let b = c.deref-in-Let-2.result.now in
+    let e = let_node c.args.node.now c.in-Let.values c.in-Let.body c.deref-in-Let.result.now c.deref-in-Let-2.result.now c.in-Let.is c.deref-in-Let.ensures.value c.deref-in-Let-2.ensures in
+    let es = trees_of c.deref-in-Let.result.now in
+    let body = checked ks z t0 (tree_of b) in
+    c.check_node-in-Let.ensures ∙ ap (λ x. x >> body) (c.in_ok-check_all-in-Let.ensures ∙ ap (λ i. checked_all ks z i es) c.inner-in-Let.ensures) ∙ sym (ap (λ x. checked ks z t0 x) e)
+
+pub check_node-returns-in_ok-check_all-in-Loop : goal.check_node-returns-in_ok-check_all-in-Loop
+check_node-returns-in_ok-check_all-in-Loop t c =
+    let ks = known_as c.args.signatures.now in
+    let z = c.args.zone in
+    let t0 = c.args.target in
+    let ns = c.deref-in-Loop.result.now in
+    let b = c.deref-in-Loop-2.result.now in
+    let e = loop_node c.args.node.now c.in-Loop.values c.in-Loop.body c.deref-in-Loop.result.now c.deref-in-Loop-2.result.now c.in-Loop.is c.deref-in-Loop.ensures.value c.deref-in-Loop-2.ensures in
+    let es = trees_of ns in
+    let many : c.len.result ≡ length c.in-Loop.values.items = search rules in
+    let same : c.len.result ≡ count es = many ∙ sym (ap length c.deref-in-Loop.ensures.value) ∙ sym (count_nodes ns) in
+    let body = checked ks z (Nearest (count es) true) (tree_of b) in
+    c.check_node-in-Loop.ensures ∙ ap (λ n. checked ks z (Nearest n true) (tree_of b)) same ∙ ap (λ x. x >> body) (c.in_ok-check_all-in-Loop.ensures ∙ ap (λ i. checked_all ks z i es) c.inner-in-Loop.ensures) ∙ sym (ap (λ x. checked ks z t0 x) e)
+
+pub check_node-returns-in-None : goal.check_node-returns-in-None
+check_node-returns-in-None t c =
+    let ks = known_as c.args.signatures.now in
+    let z = c.args.zone in
+    let t0 = c.args.target in
+    let ns = c.deref-in-Do.result.now in
+    let e = do_node c.args.node.now c.in-Do.items ns c.in-Do.is c.deref-in-Do.ensures.value in
+    do_nothing ks z t0 ns c.in-None.ensures.cases ∙ sym (ap (λ x. checked ks z t0 x) e)
+
+pub check_node-returns-in_err-check_all-in-Some : goal.check_node-returns-in_err-check_all-in-Some
+check_node-returns-in_err-check_all-in-Some t c =
+    let ks = known_as c.args.signatures.now in
+    let z = c.args.zone in
+    let t0 = c.args.target in
+    let ns = c.deref-in-Do.result.now in
+    let before = c.in-Some.before.now in
+    let last = c.in-Some.last.now in
+    let e = do_node c.args.node.now c.in-Do.items ns c.in-Do.is c.deref-in-Do.ensures.value in
+    let parts : ns ≡ before ++ last ∷ [] = c.in-Some.ensures.cases.0 in
+    let end = checked ks z t0 (tree_of last) in
+    let whole = ap (λ x. checked ks z t0 x) e ∙ ap (λ l. checked_do ks z t0 (trees_of l)) parts ∙ do_parts ks z t0 before last in
+    let refused : c.from_residual-in_err-check_all-in-Some.result ≡ Err c.in_err-check_all-in-Some.field-0.0 = search rules in
+    refused ∙ ap (λ x. x >> end) (c.in_err-check_all-in-Some.ensures ∙ ap (λ i. checked_all ks z i (trees_of before)) c.inner-in-Some.ensures) ∙ sym whole
+
+pub check_node-returns-in_ok-check_all-in-Some : goal.check_node-returns-in_ok-check_all-in-Some
+check_node-returns-in_ok-check_all-in-Some t c =
+    let ks = known_as c.args.signatures.now in
+    let z = c.args.zone in
+    let t0 = c.args.target in
+    let ns = c.deref-in-Do.result.now in
+    let before = c.in-Some.before.now in
+    let last = c.in-Some.last.now in
+    let e = do_node c.args.node.now c.in-Do.items ns c.in-Do.is c.deref-in-Do.ensures.value in
+    let parts : ns ≡ before ++ last ∷ [] = c.in-Some.ensures.cases.0 in
+    let end = checked ks z t0 (tree_of last) in
+    let whole = ap (λ x. checked ks z t0 x) e ∙ ap (λ l. checked_do ks z t0 (trees_of l)) parts ∙ do_parts ks z t0 before last in
+    c.check_node-in-Some.ensures ∙ ap (λ x. x >> end) (c.in_ok-check_all-in-Some.ensures ∙ ap (λ i. checked_all ks z i (trees_of before)) c.inner-in-Some.ensures) ∙ sym whole
+
+pub check_node-returns-in_ok-check_node-in-Alter : goal.check_node-returns-in_ok-check_node-in-Alter
+check_node-returns-in_ok-check_node-in-Alter t c =
+    let ks = known_as c.args.signatures.now in
+    let z = c.args.zone in
+    let t0 = c.args.target in
+    let b = c.deref-in-Alter.result.now in
+    let ns = c.deref-in-Alter-2.result.now in
+    let e = alter_node c.args.node.now c.in-Alter.cell c.in-Alter.field-1 c.in-Alter.args b ns c.in-Alter.is c.deref-in-Alter.ensures c.deref-in-Alter-2.ensures.value in
+    let es = trees_of ns in
+    let own = c.in_ok-check_here.ensures ∙ ap (λ x. here ks z t0 x) e in
+    let args = checked_all ks z (inner t0) es in
+    c.check_all-in-Alter.ensures ∙ ap (λ i. checked_all ks z i es) c.inner-in-Alter-2.ensures
+    ∙ ap (λ x. x >> args) (c.in_ok-check_node-in-Alter.ensures ∙ ap (λ i. checked ks z i (tree_of b)) c.inner-in-Alter.ensures)
+    ∙ ap (λ x. x >> (checked ks z (inner t0) (tree_of b) >> args)) own
+    ∙ sym (ap (λ x. checked ks z t0 x) e)

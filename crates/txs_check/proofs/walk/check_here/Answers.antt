@@ -1,0 +1,39 @@
+use Rattle.std.proofs.Common.{rules, ◌≡◌, suc, length, refl, sym, ap, ◌∙◌}
+use Rattle.txs_tree.specs.Tree.{count}
+use Rattle.txs_tree.specs.View.{trees_of}
+use Rattle.txs_check.specs.Refused.{alter_here, calls, here, operates, recurs}
+use Rattle.txs_check.specs.Signatures.{known_as}
+use Rattle.txs_check.proofs.Lists.{count_nodes}
+use Rattle.txs_check.proofs.Trees.{recur_node, core_node, call_node, alter_node}
+use Rattle.txs_check.proofs.walk.check_here.Goals as goal
+
+pub returns-in-Recur : goal.returns-in-Recur
+returns-in-Recur c =
+    let ks = known_as c.args.signatures.now in
+    let ns = c.in-Recur.values.items in
+    let many : c.len.result ≡ length ns = search rules in
+    let same : c.len.result ≡ count (trees_of ns) = many ∙ sym (count_nodes ns) in
+    c.check_recur.ensures ∙ ap (λ n. recurs c.args.target n c.args.node.now.span) same ∙ sym (ap (λ e. here ks c.args.zone c.args.target e) (recur_node c.args.node.now c.in-Recur.values ns c.in-Recur.is refl))
+
+pub returns-in-Core : goal.returns-in-Core
+returns-in-Core c =
+    let ks = known_as c.args.signatures.now in
+    let ns = c.in-Core.args.items in
+    let many : c.len-in-Core.result ≡ length ns = search rules in
+    let same : c.len-in-Core.result ≡ count (trees_of ns) = many ∙ sym (count_nodes ns) in
+    c.check_operation.ensures ∙ ap (λ n. operates c.in-Core.op n c.args.node.now.span) same ∙ sym (ap (λ e. here ks c.args.zone c.args.target e) (core_node c.args.node.now c.in-Core.op c.in-Core.args ns c.in-Core.is refl))
+
+pub returns-in-Call : goal.returns-in-Call
+returns-in-Call c =
+    let ks = known_as c.args.signatures.now in
+    let ns = c.in-Call.args.items in
+    let many : c.len-in-Call.result ≡ length ns = search rules in
+    let same : c.len-in-Call.result ≡ count (trees_of ns) = many ∙ sym (count_nodes ns) in
+    c.check_call.ensures ∙ ap (λ n. calls ks c.args.zone c.in-Call.number n c.args.node.now.span) same ∙ sym (ap (λ e. here ks c.args.zone c.args.target e) (call_node c.args.node.now c.in-Call.number c.in-Call.args ns c.in-Call.is refl))
+
+pub returns-in-Alter : goal.returns-in-Alter
+returns-in-Alter c =
+    let ks = known_as c.args.signatures.now in
+    let ns = c.deref.result.now in
+    c.check_alter.ensures ∙ ap (λ n. alter_here ks c.args.zone c.in-Alter.callee (suc n) c.args.node.now.span) (sym (count_nodes ns))
+    ∙ sym (ap (λ e. here ks c.args.zone c.args.target e) (alter_node c.args.node.now c.in-Alter.field-0 c.in-Alter.callee c.in-Alter.args c.in-Alter.field-0.value ns c.in-Alter.is refl c.deref.ensures.value))

@@ -1,0 +1,4 @@
+pub mod Errors
+pub mod Order
+pub mod Refused
+pub mod Signatures

@@ -1,0 +1,207 @@
+-- Which programs the checks refuse, and with what: the first refusal in source order.
+use Rattle.std.specs.Prelude.{◌≡◌, ℕ, suc, Bool, true, false, not, ◌-◌, nat_lt, nat_le, nat_eq, if◌then◌else◌, List, [], ◌∷◌, ◌++◌, map, take, drop, Option, Some, None, Result, Ok, Err}
+use Rattle.txs_value.specs.Core.{takes}
+use Rattle.txs_value.specs.Places.{nth}
+use Rattle.txs_value.specs.declared.fault.Span.{Span}
+use Rattle.txs_value.specs.declared.op.Op.{Op}
+use Rattle.txs_value.specs.declared.op.Callee.{Callee}
+use Rattle.txs_value.specs.declared.op.Callee.TheVariants.{Core as CoreOp, Function}
+use Rattle.txs_tree.specs.Known.{Known, is_pure, known}
+use Rattle.txs_tree.specs.Sound.{nodes}
+use Rattle.txs_tree.specs.Tree.{Tree, Const, Local, If, Do, Let, Loop, Recur, Core, Call, VectorOf, Println, Dosync, Deref, Alter, Trees, none, more, count, PlainFunction, PlainThread, PlainProgram}
+use Rattle.txs_check.specs.declared.error.CheckError.{CheckError}
+use Rattle.txs_check.specs.declared.error.CheckErrorKind.{CheckErrorKind}
+use Rattle.txs_check.specs.declared.error.CheckErrorKind.TheVariants.{RecurNotTail, RecurCount, RecurAcrossDosync, Arity, NotPure, InsideOnly, OutsideOnly, CodeTooLarge}
+use Rattle.txs_check.specs.declared.place.Target.{Target}
+use Rattle.txs_check.specs.declared.place.Target.TheVariants.{Nowhere, Across, Nearest}
+use Rattle.txs_check.specs.declared.place.Zone.{Zone}
+use Rattle.txs_check.specs.declared.place.Zone.TheVariants.{InFunction, InFuture, InDosync}
+
+-- nothing is refused, or this is the first refusal
+abbrev pub Checked : Type 0
+Checked = Result (Unit {0}) CheckError
+
+abbrev pub fine : Checked
+fine = Ok tt
+
+abbrev pub refused : CheckErrorKind → Span → Checked
+refused kind at = Err (record { kind = kind; at = at })
+
+-- one after the other: the first refusal is the answer
+infixr 10 ◌>>◌
+abbrev pub ◌>>◌ : Checked → Checked → Checked
+Ok u >> next = next
+Err e >> next = Err e
+
+-- refused unless this holds
+abbrev pub only : Bool → CheckErrorKind → Span → Checked
+only true kind at = fine
+only false kind at = refused kind at
+
+-- ---- what a node itself is refused for
+
+-- what a recur meets in a part that isn't in tail position
+abbrev pub inner : Target → Target
+inner Nowhere = Nowhere
+inner Across = Across
+inner (Nearest n tail) = Nearest n false
+
+-- and in the body of a dosync, which is a barrier for it
+abbrev pub across : Target → Target
+across Nowhere = Nowhere
+across Across = Across
+across (Nearest n tail) = Across
+
+-- a recur of so many values stands in tail position of its target, which has as many, and no dosync is between
+abbrev pub recurs : Target → ℕ → Span → Checked
+recurs Nowhere n at = refused RecurNotTail at
+recurs Across n at = refused RecurAcrossDosync at
+recurs (Nearest k tail) n at = only tail RecurNotTail at >> only (nat_eq k n) RecurCount at
+
+-- an operation takes so many arguments
+abbrev pub operates : Op → ℕ → Span → Checked
+operates op n at = only (takes op n) Arity at
+
+-- a function takes as many arguments as it has parameters
+abbrev pub accepts : Option Known → ℕ → Bool
+accepts None n = false
+accepts (Some k) n = nat_eq k.parameters n
+
+-- a function that is for transactions alone isn't called in a future outside them, nor one that is for outside alone in them
+abbrev pub zoned : Zone → Option Known → Span → Checked
+zoned zone None at = fine
+zoned InFunction (Some k) at = fine
+zoned InFuture (Some k) at = only (not k.inside) InsideOnly at
+zoned InDosync (Some k) at = only (not k.outside) OutsideOnly at
+
+-- a call
+abbrev pub calls : List Known → Zone → ℕ → ℕ → Span → Checked
+calls ks zone f n at = only (accepts (nth ks f) n) Arity at >> zoned zone (nth ks f) at
+
+-- a callee of so many arguments, the cell's value among them: a function is pure
+abbrev pub called : List Known → Callee → ℕ → Span → Checked
+called ks (CoreOp op) n at = operates op n at
+called ks (Function f) n at = only (accepts (nth ks f) n) Arity at >> only (is_pure (nth ks f)) NotPure at
+
+-- printing is for outside
+abbrev pub prints : Zone → Span → Checked
+prints InFunction at = fine
+prints InFuture at = fine
+prints InDosync at = refused OutsideOnly at
+
+-- setting a ref is for transactions
+abbrev pub alters : Zone → Span → Checked
+alters InFunction at = fine
+alters InFuture at = refused InsideOnly at
+alters InDosync at = fine
+
+-- an alter, whose callee is handed so many arguments with the ref's value
+abbrev pub alter_here : List Known → Zone → Callee → ℕ → Span → Checked
+alter_here ks zone callee n at = called ks callee n at >> alters zone at
+
+-- the node itself, without its parts
+abbrev pub here : List Known → Zone → Target → Tree → Checked
+here ks zone target (Const v m) = fine
+here ks zone target (Local i m) = fine
+here ks zone target (If c a b m) = fine
+here ks zone target (Do items m) = fine
+here ks zone target (Let values body m) = fine
+here ks zone target (Loop values body m) = fine
+here ks zone target (Recur values m) = recurs target (count values) m.span
+here ks zone target (Core op args m) = operates op (count args) m.span
+here ks zone target (Call f args m) = calls ks zone f (count args) m.span
+here ks zone target (VectorOf items m) = fine
+here ks zone target (Println args m) = prints zone m.span
+here ks zone target (Dosync body m) = fine
+here ks zone target (Deref cell m) = fine
+here ks zone target (Alter cell callee args m) = alter_here ks zone callee (suc (count args)) m.span
+
+-- ---- the walk: a node before its parts, the parts from left to right
+
+abbrev mutual
+  pub checked : List Known → Zone → Target → Tree → Checked
+  checked ks zone target (Const v m) = here ks zone target (Const v m)
+  checked ks zone target (Local i m) = here ks zone target (Local i m)
+  checked ks zone target (If c a b m) = here ks zone target (If c a b m) >> (checked ks zone (inner target) c >> (checked ks zone target a >> checked ks zone target b))
+  checked ks zone target (Do items m) = here ks zone target (Do items m) >> checked_do ks zone target items
+  checked ks zone target (Let values body m) = here ks zone target (Let values body m) >> (checked_all ks zone (inner target) values >> checked ks zone target body)
+  -- a loop is the target of its body
+  checked ks zone target (Loop values body m) = here ks zone target (Loop values body m) >> (checked_all ks zone (inner target) values >> checked ks zone (Nearest (count values) true) body)
+  checked ks zone target (Recur values m) = here ks zone target (Recur values m) >> checked_all ks zone (inner target) values
+  checked ks zone target (Core op args m) = here ks zone target (Core op args m) >> checked_all ks zone (inner target) args
+  checked ks zone target (Call f args m) = here ks zone target (Call f args m) >> checked_all ks zone (inner target) args
+  checked ks zone target (VectorOf items m) = here ks zone target (VectorOf items m) >> checked_all ks zone (inner target) items
+  checked ks zone target (Println args m) = here ks zone target (Println args m) >> checked_all ks zone (inner target) args
+  checked ks zone target (Dosync body m) = here ks zone target (Dosync body m) >> checked ks InDosync (across target) body
+  checked ks zone target (Deref cell m) = here ks zone target (Deref cell m) >> checked ks zone (inner target) cell
+  checked ks zone target (Alter cell callee args m) = here ks zone target (Alter cell callee args m) >> (checked ks zone (inner target) cell >> checked_all ks zone (inner target) args)
+
+  pub checked_all : List Known → Zone → Target → Trees → Checked
+  checked_all ks zone target none = fine
+  checked_all ks zone target (more e rest) = checked ks zone target e >> checked_all ks zone target rest
+
+  -- the last one stands where the form does
+  pub checked_do : List Known → Zone → Target → Trees → Checked
+  checked_do ks zone target none = fine
+  checked_do ks zone target (more e none) = checked ks zone target e
+  checked_do ks zone target (more e (more f rest)) = checked ks zone (inner target) e >> checked_do ks zone target (more f rest)
+
+-- ---- a program
+
+-- the body of a function or of a future: where it stands, what a recur meets there, and the span of the definition or future
+pub record Body : Type 0 where
+  pub zone : Zone
+  pub target : Target
+  pub tree : Tree
+  pub span : Span
+
+-- a function is a target of recur
+abbrev pub function_body : PlainFunction → Body
+function_body f = record { zone = InFunction; target = Nearest f.parameters true; tree = f.body; span = f.span }
+
+abbrev pub thread_body : PlainThread → Body
+thread_body t = record { zone = InFuture; target = Nowhere; tree = t.body; span = t.span }
+
+-- how many of the first threads stand before this place of the script
+abbrev pub before : ℕ → List PlainThread → ℕ
+before from [] = 0
+before from (t ∷ ts) = if nat_lt t.span.from from then suc (before from ts) else 0
+
+-- functions and threads, each in script order, together in script order
+abbrev pub in_order : List PlainFunction → List PlainThread → List Body
+in_order [] ts = map thread_body ts
+in_order (f ∷ fs) ts = map thread_body (take (before f.span.from ts) ts) ++ function_body f ∷ in_order fs (drop (before f.span.from ts) ts)
+
+abbrev pub checked_body : List Known → Body → Checked
+checked_body ks b = checked ks b.zone b.target b.tree
+
+abbrev pub checked_bodies : List Known → List Body → Checked
+checked_bodies ks [] = fine
+checked_bodies ks (b ∷ bs) = checked_body ks b >> checked_bodies ks bs
+
+-- how many of so many nodes are left after those of a body, and after those of all: the first body with more is refused
+abbrev pub taken : ℕ → Tree → Span → Result ℕ CheckError
+taken left e at = if nat_le (nodes e) left then Ok (left - nodes e) else Err (record { kind = CodeTooLarge; at = at })
+
+infixl 10 ◌>>=◌
+abbrev pub ◌>>=◌ : Result ℕ CheckError → (ℕ → Result ℕ CheckError) → Result ℕ CheckError
+Ok left >>= next = next left
+Err e >>= next = Err e
+
+abbrev pub room : ℕ → List Body → Result ℕ CheckError
+room left [] = Ok left
+room left (b ∷ bs) = taken left b.tree b.span >>= λ rest. room rest bs
+
+abbrev pub few : Result ℕ CheckError → Checked
+few (Ok left) = fine
+few (Err e) = Err e
+
+-- the first refusal of a program, if there is one: of a form in source order, and then of the size
+abbrev pub refusal : PlainProgram → Checked
+refusal p =
+    let bodies = in_order p.functions p.threads in
+    checked_bodies (known p.functions) bodies >> few (room 200000 bodies)
+
+-- the checks refuse the program so
+abbrev pub CheckStops : PlainProgram → CheckError → Type 0
+CheckStops p e = refusal p ≡ Err e

@@ -1,0 +1,39 @@
+-- What the table of functions says of them: all that is known but how deep they are.
+use Rattle.std.specs.Prelude.{◌&&◌, ◌||◌, List, map, Option, Some, None}
+use Rattle.txs_tree.specs.Known.{Known, is_inside, is_outside, is_pure, inside_in, any_inside, outside_in, any_outside, pure_in, all_pure}
+use Rattle.txs_tree.specs.Tree.{Tree, Trees}
+use Rattle.txs_check.specs.declared.class.Class.{Class}
+use Rattle.txs_check.specs.declared.class.Signature.{Signature}
+
+-- what two parts are together
+abbrev pub joined : Class → Class → Class
+joined a b = record { inside = a.inside || b.inside; outside = a.outside || b.outside; pure = a.pure && b.pure }
+
+-- what a body is
+abbrev pub class_in : List Known → Tree → Class
+class_in ks e = record { inside = inside_in ks e; outside = outside_in ks e; pure = pure_in ks e }
+
+abbrev pub class_in_all : List Known → Trees → Class
+class_in_all ks es = record { inside = any_inside ks es; outside = any_outside ks es; pure = all_pure ks es }
+
+-- what a call is
+abbrev pub class_known : Option Known → Class
+class_known k = record { inside = is_inside k; outside = is_outside k; pure = is_pure k }
+
+-- what a row of the table says, where no levels are counted
+abbrev pub known_row : Signature → Known
+known_row s = record { parameters = s.parameters; inside = s.class.inside; outside = s.class.outside; pure = s.class.pure; levels = 0 }
+
+abbrev pub known_if : Option Signature → Option Known
+known_if None = None
+known_if (Some s) = Some (known_row s)
+
+abbrev pub known_as : List Signature → List Known
+known_as ss = map known_row ss
+
+-- the same without levels
+abbrev pub bare_one : Known → Known
+bare_one k = record { parameters = k.parameters; inside = k.inside; outside = k.outside; pure = k.pure; levels = 0 }
+
+abbrev pub bare : List Known → List Known
+bare ks = map bare_one ks

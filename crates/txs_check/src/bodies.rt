@@ -1,0 +1,109 @@
+//! The bodies of a program in script order: functions and futures, each of which are in script order.
+
+ghost use Rattle.std.specs.Prelude.{◌≡◌, ◌≤◌, length, map};
+ghost use Rattle.txs_tree.specs.View.{tree_of, function_of, functions_of, threads_of};
+ghost use Rattle.txs_check.specs.Refused.{before, checked_body, checked_bodies, function_body, in_order, room, taken, thread_body};
+ghost use Rattle.txs_check.specs.Signatures.{known_as};
+
+use crate::class::Signature;
+use crate::error::{CheckError, CheckErrorKind};
+use crate::place::{Target, Zone};
+use crate::size::nodes_left;
+use crate::walk::check_node;
+use txs_tree::{Function, Node, Thread};
+use txs_value::Span;
+
+/// How many of the first threads stand before this place of the script.
+fn count_before(from: u32, threads: &[Thread]) -> usize
+    ensures few { result ≤ length threads.now }
+    ensures count { result ≡ before from (threads_of threads.now) }
+{
+    let mut count = 0;
+    for thread in threads {
+        if thread.span.from >= from {
+            return count;
+        }
+        count += 1;
+    }
+    count
+}
+
+/// Whether the function's body may stand: it is a target of recur.
+fn check_function(signatures: &[Signature], function: &Function) -> Result<(), CheckError>
+    ensures { result ≡ checked_body (known_as signatures.now) (function_body (function_of function.now)) }
+{
+    let own = Target::Nearest(usize::from(function.parameters), true);
+    check_node(signatures, Zone::InFunction, own, &function.body)
+}
+
+/// Whether each future's body may stand.
+fn check_threads(signatures: &[Signature], threads: &[Thread]) -> Result<(), CheckError>
+    ensures { result ≡ checked_bodies (known_as signatures.now) (map thread_body (threads_of threads.now)) }
+{
+    for thread in threads {
+        check_node(signatures, Zone::InFuture, Target::Nowhere, &thread.body)?;
+    }
+    Ok(())
+}
+
+/// Whether each body may stand, in script order.
+pub fn check_bodies(
+    signatures: &[Signature],
+    functions: &[Function],
+    threads: &[Thread],
+) -> Result<(), CheckError>
+    ensures { result ≡ checked_bodies (known_as signatures.now) (in_order (functions_of functions.now) (threads_of threads.now)) }
+{
+    let mut rest = threads;
+    for function in functions {
+        let (earlier, later) = rest.split_at(count_before(function.span.from, rest));
+        check_threads(signatures, earlier)?;
+        check_function(signatures, function)?;
+        rest = later;
+    }
+    check_threads(signatures, rest)
+}
+
+/// How many of so many nodes are left after those of the body; one with more is refused.
+fn room_after(left: u32, body: &Node, span: Span) -> Result<u32, CheckError>
+    ensures { result ≡ taken left (tree_of body.now) span }
+{
+    match nodes_left(body, left) {
+        Some(rest) => Ok(rest),
+        None => Err(CheckError {
+            kind: CheckErrorKind::CodeTooLarge,
+            at: span,
+        }),
+    }
+}
+
+/// The same after each future's body.
+fn room_after_threads(left: u32, threads: &[Thread]) -> Result<u32, CheckError>
+    ensures { result ≡ room left (map thread_body (threads_of threads.now)) }
+{
+    let mut left = left;
+    for thread in threads {
+        left = room_after(left, &thread.body, thread.span)?;
+    }
+    Ok(left)
+}
+
+/// How many of so many nodes are left after those of all bodies, in script order; the first body with more is
+/// refused.
+pub fn room_after_all(
+    left: u32,
+    functions: &[Function],
+    threads: &[Thread],
+) -> Result<u32, CheckError>
+    ensures { result ≡ room left (in_order (functions_of functions.now) (threads_of threads.now)) }
+{
+    let mut left = left;
+    let mut rest = threads;
+    for function in functions {
+        let (earlier, later) = rest.split_at(count_before(function.span.from, rest));
+        left = room_after_threads(left, earlier)?;
+        left = room_after(left, &function.body, function.span)?;
+        rest = later;
+    }
+    room_after_threads(left, rest)
+}

@@ -1,0 +1,161 @@
+//! What is known of functions: how many parameters each has, and what its body is.
+
+ghost use Rattle.std.specs.Prelude.{◌≡◌, false, IfOk};
+ghost use Rattle.txs_tree.specs.Known.{known};
+ghost use Rattle.txs_value.specs.Places.{nth};
+ghost use Rattle.txs_tree.specs.View.{tree_of, trees_of, function_of, functions_of};
+ghost use Rattle.txs_check.specs.Signatures.{joined, class_in, class_in_all, class_known, bare, known_as, known_if};
+
+use std::alloc::{AllocError, Global};
+use txs_tree::{Function, Node, NodeKind};
+
+/// What a body is: for transactions alone, for outside alone, or pure.
+#[derive(Clone, Copy, Debug, PartialEq, Eq)]
+pub struct Class {
+    pub inside: bool,
+    pub outside: bool,
+    pub pure: bool,
+}
+
+/// What is known of a function.
+#[derive(Clone, Copy, Debug, PartialEq, Eq)]
+pub struct Signature {
+    pub parameters: u8,
+    pub class: Class,
+}
+
+/// What has nothing in it that is for one side alone.
+const PURE: Class = Class {
+    inside: false,
+    outside: false,
+    pure: true,
+};
+
+/// What isn't pure, and may stand on both sides.
+const IMPURE: Class = Class {
+    inside: false,
+    outside: false,
+    pure: false,
+};
+
+/// What is for transactions alone.
+const INSIDE: Class = Class {
+    inside: true,
+    outside: false,
+    pure: false,
+};
+
+/// What is for outside alone.
+const OUTSIDE: Class = Class {
+    inside: false,
+    outside: true,
+    pure: false,
+};
+
+impl Class {
+    /// What two parts are together.
+    fn join(self, other: Class) -> Class
+        ensures { result ≡ joined self other }
+    {
+        Class {
+            inside: self.inside || other.inside,
+            outside: self.outside || other.outside,
+            pure: self.pure && other.pure,
+        }
+    }
+
+    /// What a transaction is whose body is this.
+    fn in_transaction(self) -> Class
+        ensures { result ≡ record { inside = false; outside = self.outside; pure = false } }
+    {
+        Class {
+            inside: false,
+            outside: self.outside,
+            pure: false,
+        }
+    }
+}
+
+/// What is known of the function of this number, if there is one.
+pub fn signature_of(signatures: &[Signature], number: u16) -> Option<Signature>
+    ensures { known_if result ≡ nth (known_as signatures.now) number }
+{
+    let number = usize::from(number);
+    if number < signatures.len() {
+        Some(signatures[number])
+    } else {
+        None
+    }
+}
+
+/// What a call of the function of this number is.
+fn class_of_function(signatures: &[Signature], number: u16) -> Class
+    ensures { result ≡ class_known (nth (known_as signatures.now) number) }
+{
+    match signature_of(signatures, number) {
+        None => IMPURE,
+        Some(signature) => signature.class,
+    }
+}
+
+/// What a node is, where so much is known of functions.
+#[cycle(class)]
+fn class_of(signatures: &[Signature], node: &Node) -> Class
+    ensures { result ≡ class_in (known_as signatures.now) (tree_of node.now) }
+{
+    match &node.kind {
+        NodeKind::Const(_) => PURE,
+        NodeKind::Local(_) => PURE,
+        NodeKind::If(test, first, second) => {
+            let branches = class_of(signatures, first).join(class_of(signatures, second));
+            class_of(signatures, test).join(branches)
+        }
+        NodeKind::Do(items) => class_of_all(signatures, items),
+        NodeKind::Let(values, body) => {
+            class_of_all(signatures, values).join(class_of(signatures, body))
+        }
+        NodeKind::Loop(values, body) => {
+            class_of_all(signatures, values).join(class_of(signatures, body))
+        }
+        NodeKind::Recur(values) => class_of_all(signatures, values),
+        NodeKind::Core(_, args) => class_of_all(signatures, args),
+        NodeKind::Call(number, args) => {
+            class_of_function(signatures, *number).join(class_of_all(signatures, args))
+        }
+        NodeKind::Vector(items) => class_of_all(signatures, items),
+        NodeKind::Println(args) => OUTSIDE.join(class_of_all(signatures, args)),
+        NodeKind::Dosync(body) => class_of(signatures, body).in_transaction(),
+        NodeKind::Deref(cell) => IMPURE.join(class_of(signatures, cell)),
+        NodeKind::Alter(cell, _, args) => {
+            let parts = class_of(signatures, cell).join(class_of_all(signatures, args));
+            INSIDE.join(parts)
+        }
+    }
+}
+
+/// What the nodes are together.
+#[cycle(class)]
+fn class_of_all(signatures: &[Signature], nodes: &[Node]) -> Class
+    ensures { result ≡ class_in_all (known_as signatures.now) (trees_of nodes.now) }
+{
+    let mut class = PURE;
+    for node in nodes {
+        class = class.join(class_of(signatures, node));
+    }
+    class
+}
+
+/// What is known of each function, all of which are in script order.
+pub fn signatures_of(alloc: Global, functions: &[Function]) -> Result<Vec<Signature>, AllocError>
+    ensures { IfOk result (λ signatures. bare (known_as signatures.items) ≡ bare (known (functions_of functions.now))) }
+{
+    let mut signatures = Vec::with_capacity(alloc, functions.len())?;
+    for function in functions {
+        let class = class_of(signatures.as_slice(), &function.body);
+        signatures.push(Signature {
+            parameters: function.parameters,
+            class,
+        })?;
+    }
+    Ok(signatures)
+}

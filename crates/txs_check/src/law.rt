@@ -1,0 +1,31 @@
+//! Laws of the checks. Each stands on a function that does nothing when it runs.
+
+ghost use Rattle.std.specs.Prelude.{◌≡◌, ◌≢◌, ◌⊎◌, ◌↔◌, List, map};
+ghost use Rattle.txs_tree.specs.Scoped.{Scoped};
+ghost use Rattle.txs_tree.specs.Sound.{Sound};
+ghost use Rattle.txs_tree.specs.Tree.{PlainFunction, PlainProgram, PlainThread};
+ghost use Rattle.txs_check.specs.Order.{Ascend, functions_in, futures_in};
+ghost use Rattle.txs_check.specs.Refused.{CheckStops, fine, function_body, in_order, refusal, thread_body};
+ghost use Rattle.txs_check.specs.declared.error.CheckError.{CheckError};
+ghost use Rattle.txs_check.specs.declared.error.CheckErrorKind.TheVariants.{Memory};
+
+/// A program whose names are resolved is sound exactly where nothing of it is refused.
+pub fn sound_where_nothing_refuses()
+    ensures { (p : PlainProgram) → Scoped p → (refusal p ≡ fine ↔ Sound p) }
+{}
+
+/// A program whose names are resolved is sound, or it is refused for one reason at one place.
+pub fn one_answer()
+    ensures decided { (p : PlainProgram) → Scoped p → Sound p ⊎ ((e : CheckError) × CheckStops p e) }
+    ensures one_stop { (p : PlainProgram) (d e : CheckError) → CheckStops p d → CheckStops p e → d ≡ e }
+    ensures not_both { (p : PlainProgram) (e : CheckError) → Scoped p → Sound p → CheckStops p e → ⊥ }
+    ensures no_want { (p : PlainProgram) (e : CheckError) → CheckStops p e → e.kind ≢ Memory }
+{}
+
+/// The bodies that are walked are those of all functions and of all futures, each in their order; and where
+/// each of the two are in script order, so are all together.
+pub fn bodies_in_script_order()
+    ensures functions { (fs : List PlainFunction) (ts : List PlainThread) → functions_in (in_order fs ts) ≡ map function_body fs }
+    ensures futures { (fs : List PlainFunction) (ts : List PlainThread) → futures_in (in_order fs ts) ≡ map thread_body ts }
+    ensures ascend { (fs : List PlainFunction) (ts : List PlainThread) → Ascend (map function_body fs) → Ascend (map thread_body ts) → Ascend (in_order fs ts) }
+{}

@@ -1,0 +1,19 @@
+//! The checks of programs whose names are resolved: recur, numbers of arguments, purity, what is for
+//! transactions alone or for outside alone, and size. A program is accepted exactly where it is sound, and
+//! else refused for the first reason in source order.
+#![tactic(auto)]
+
+mod bodies;
+mod class;
+pub mod error;
+pub mod law;
+mod place;
+pub mod program;
+mod size;
+mod walk;
+
+pub use error::{CheckError, CheckErrorKind};
+pub use program::check;
+
+#[cfg(test)]
+mod tests;

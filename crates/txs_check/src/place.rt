@@ -1,0 +1,90 @@
+//! Where a node stands: in a transaction or outside, and what a recur meets there.
+
+ghost use Rattle.std.specs.Prelude.{◌≡◌};
+ghost use Rattle.txs_check.specs.Refused.{inner, across, only, recurs, prints, alters};
+
+use crate::error::{CheckError, CheckErrorKind};
+use txs_value::Span;
+
+/// Where a node stands: in a function outside every transaction of it, in a future outside every transaction,
+/// or in a transaction.
+#[derive(Clone, Copy, Debug, PartialEq, Eq)]
+pub enum Zone {
+    InFunction,
+    InFuture,
+    InDosync,
+}
+
+/// What a recur meets: no loop or function at all, one with a `dosync` between, or one of so many values, in
+/// whose tail position it stands or not.
+#[derive(Clone, Copy, Debug, PartialEq, Eq)]
+pub enum Target {
+    Nowhere,
+    Across,
+    Nearest(usize, bool),
+}
+
+impl Target {
+    /// What a recur meets in a part that isn't in tail position.
+    pub fn inner(self) -> Target
+        ensures { result ≡ inner self }
+    {
+        match self {
+            Target::Nowhere => Target::Nowhere,
+            Target::Across => Target::Across,
+            Target::Nearest(count, _) => Target::Nearest(count, false),
+        }
+    }
+
+    /// What a recur meets in the body of a `dosync`.
+    pub fn across(self) -> Target
+        ensures { result ≡ across self }
+    {
+        match self {
+            Target::Nowhere => Target::Nowhere,
+            Target::Across => Target::Across,
+            Target::Nearest(_, _) => Target::Across,
+        }
+    }
+
+    /// Whether a recur of so many values may stand here.
+    pub fn check_recur(self, count: usize, at: Span) -> Result<(), CheckError>
+        ensures { result ≡ recurs self count at }
+    {
+        match self {
+            Target::Nowhere => only(false, CheckErrorKind::RecurNotTail, at),
+            Target::Across => only(false, CheckErrorKind::RecurAcrossDosync, at),
+            Target::Nearest(values, tail) => {
+                only(tail, CheckErrorKind::RecurNotTail, at)?;
+                only(values == count, CheckErrorKind::RecurCount, at)
+            }
+        }
+    }
+}
+
+impl Zone {
+    /// Whether a line may be printed here.
+    pub fn check_print(self, at: Span) -> Result<(), CheckError>
+        ensures { result ≡ prints self at }
+    {
+        only(self != Zone::InDosync, CheckErrorKind::OutsideOnly, at)
+    }
+
+    /// Whether a ref may be set here.
+    pub fn check_alter(self, at: Span) -> Result<(), CheckError>
+        ensures { result ≡ alters self at }
+    {
+        only(self != Zone::InFuture, CheckErrorKind::InsideOnly, at)
+    }
+}
+
+/// Nothing is refused where this holds alone.
+pub fn only(holds: bool, kind: CheckErrorKind, at: Span) -> Result<(), CheckError>
+    ensures { result ≡ only holds kind at }
+{
+    if holds {
+        Ok(())
+    } else {
+        Err(CheckError { kind, at })
+    }
+}

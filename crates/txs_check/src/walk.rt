@@ -1,0 +1,198 @@
+//! The walk over a body: a node before its parts, and the parts from left to right.
+
+ghost use Rattle.std.specs.Prelude.{◌≡◌, length, suc};
+ghost use Rattle.txs_tree.specs.View.{tree_of, trees_of};
+ghost use Rattle.txs_check.specs.Refused.{accepts, alter_here, called, calls, checked, checked_all, here, operates, zoned};
+ghost use Rattle.txs_tree.specs.Known.{is_pure};
+ghost use Rattle.txs_check.specs.Signatures.{known_as, known_if};
+
+use crate::class::{Signature, signature_of};
+use crate::error::{CheckError, CheckErrorKind};
+use crate::place::{Target, Zone, only};
+use txs_tree::{Node, NodeKind};
+use txs_value::{Callee, Op, Span, takes};
+
+/// Whether the operation takes so many arguments.
+fn check_operation(op: Op, count: usize, at: Span) -> Result<(), CheckError>
+    ensures { result ≡ operates op count at }
+{
+    only(takes(op, count), CheckErrorKind::Arity, at)
+}
+
+/// Whether there is such a function and it has so many parameters.
+fn accepts(signature: Option<Signature>, count: usize) -> bool
+    ensures { result ≡ accepts (known_if signature) count }
+{
+    match signature {
+        None => false,
+        Some(signature) => usize::from(signature.parameters) == count,
+    }
+}
+
+/// Whether what is known allows a call here.
+fn check_zone(zone: Zone, signature: Option<Signature>, at: Span) -> Result<(), CheckError>
+    ensures { result ≡ zoned zone (known_if signature) at }
+{
+    match signature {
+        None => Ok(()),
+        Some(signature) => match zone {
+            Zone::InFunction => Ok(()),
+            Zone::InFuture => only(!signature.class.inside, CheckErrorKind::InsideOnly, at),
+            Zone::InDosync => only(!signature.class.outside, CheckErrorKind::OutsideOnly, at),
+        },
+    }
+}
+
+/// Whether the function may be called here on so many arguments.
+fn check_call(
+    signatures: &[Signature],
+    zone: Zone,
+    number: u16,
+    count: usize,
+    at: Span,
+) -> Result<(), CheckError>
+    ensures { result ≡ calls (known_as signatures.now) zone number count at }
+{
+    let signature = signature_of(signatures, number);
+    only(accepts(signature, count), CheckErrorKind::Arity, at)?;
+    check_zone(zone, signature, at)
+}
+
+/// Whether what is known is that it is pure.
+fn is_pure(signature: Option<Signature>) -> bool
+    ensures { result ≡ is_pure (known_if signature) }
+{
+    match signature {
+        None => false,
+        Some(signature) => signature.class.pure,
+    }
+}
+
+/// Whether a form on a cell may call this on so many arguments, the cell's value among them.
+fn check_callee(
+    signatures: &[Signature],
+    callee: Callee,
+    count: usize,
+    at: Span,
+) -> Result<(), CheckError>
+    ensures { result ≡ called (known_as signatures.now) callee count at }
+{
+    match callee {
+        Callee::Core(op) => check_operation(op, count, at),
+        Callee::Function(number) => {
+            let signature = signature_of(signatures, number);
+            only(accepts(signature, count), CheckErrorKind::Arity, at)?;
+            only(is_pure(signature), CheckErrorKind::NotPure, at)
+        }
+    }
+}
+
+/// Whether an `alter` may stand here, with these arguments behind the ref's value.
+fn check_alter(
+    signatures: &[Signature],
+    zone: Zone,
+    callee: Callee,
+    args: &[Node],
+    at: Span,
+) -> Result<(), CheckError>
+    ensures { result ≡ alter_here (known_as signatures.now) zone callee (suc (length args.now)) at }
+{
+    check_callee(signatures, callee, args.len() + 1, at)?;
+    zone.check_alter(at)
+}
+
+/// Whether the node itself may stand here.
+fn check_here(
+    signatures: &[Signature],
+    zone: Zone,
+    target: Target,
+    node: &Node,
+) -> Result<(), CheckError>
+    ensures { result ≡ here (known_as signatures.now) zone target (tree_of node.now) }
+{
+    match &node.kind {
+        NodeKind::Const(_) => Ok(()),
+        NodeKind::Local(_) => Ok(()),
+        NodeKind::If(_, _, _) => Ok(()),
+        NodeKind::Do(_) => Ok(()),
+        NodeKind::Let(_, _) => Ok(()),
+        NodeKind::Loop(_, _) => Ok(()),
+        NodeKind::Recur(values) => target.check_recur(values.len(), node.span),
+        NodeKind::Core(op, args) => check_operation(*op, args.len(), node.span),
+        NodeKind::Call(number, args) => {
+            check_call(signatures, zone, *number, args.len(), node.span)
+        }
+        NodeKind::Vector(_) => Ok(()),
+        NodeKind::Println(_) => zone.check_print(node.span),
+        NodeKind::Dosync(_) => Ok(()),
+        NodeKind::Deref(_) => Ok(()),
+        NodeKind::Alter(_, callee, args) => {
+            check_alter(signatures, zone, *callee, args, node.span)
+        }
+    }
+}
+
+/// Whether the node may stand here, and then its parts, from left to right: the first refusal is the answer.
+#[cycle(walk)]
+pub fn check_node(
+    signatures: &[Signature],
+    zone: Zone,
+    target: Target,
+    node: &Node,
+) -> Result<(), CheckError>
+    ensures { result ≡ checked (known_as signatures.now) zone target (tree_of node.now) }
+{
+    check_here(signatures, zone, target, node)?;
+    match &node.kind {
+        NodeKind::Const(_) => Ok(()),
+        NodeKind::Local(_) => Ok(()),
+        NodeKind::If(test, first, second) => {
+            check_node(signatures, zone, target.inner(), test)?;
+            check_node(signatures, zone, target, first)?;
+            check_node(signatures, zone, target, second)
+        }
+        NodeKind::Do(items) => match items.split_last() {
+            None => Ok(()),
+            Some((last, before)) => {
+                check_all(signatures, zone, target.inner(), before)?;
+                check_node(signatures, zone, target, last)
+            }
+        },
+        NodeKind::Let(values, body) => {
+            check_all(signatures, zone, target.inner(), values)?;
+            check_node(signatures, zone, target, body)
+        }
+        NodeKind::Loop(values, body) => {
+            check_all(signatures, zone, target.inner(), values)?;
+            let own = Target::Nearest(values.len(), true);
+            check_node(signatures, zone, own, body)
+        }
+        NodeKind::Recur(values) => check_all(signatures, zone, target.inner(), values),
+        NodeKind::Core(_, args) => check_all(signatures, zone, target.inner(), args),
+        NodeKind::Call(_, args) => check_all(signatures, zone, target.inner(), args),
+        NodeKind::Vector(items) => check_all(signatures, zone, target.inner(), items),
+        NodeKind::Println(args) => check_all(signatures, zone, target.inner(), args),
+        NodeKind::Dosync(body) => check_node(signatures, Zone::InDosync, target.across(), body),
+        NodeKind::Deref(cell) => check_node(signatures, zone, target.inner(), cell),
+        NodeKind::Alter(cell, _, args) => {
+            check_node(signatures, zone, target.inner(), cell)?;
+            check_all(signatures, zone, target.inner(), args)
+        }
+    }
+}
+
+/// Each of the nodes in order.
+#[cycle(walk)]
+fn check_all(
+    signatures: &[Signature],
+    zone: Zone,
+    target: Target,
+    nodes: &[Node],
+) -> Result<(), CheckError>
+    ensures { result ≡ checked_all (known_as signatures.now) zone target (trees_of nodes.now) }
+{
+    for node in nodes {
+        check_node(signatures, zone, target, node)?;
+    }
+    Ok(())
+}

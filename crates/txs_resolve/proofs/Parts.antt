@@ -1,0 +1,52 @@
+-- What the parts of a top-level form are.
+use Rattle.std.proofs.Common.{◌≡◌, ◌≤◌, ℕ, suc, true, false, List, [], ◌∷◌, length, slice_index_or, Option, Some, None, Result, Ok, Err, refl, sym, ap, ◌∙◌, arith}
+use Rattle.txs_value.specs.declared.fault.Span.{Span}
+use Rattle.txs_reader.specs.declared.form.Form.{Form}
+use Rattle.txs_reader.specs.Tree.{tree, leaf, symbol, first}
+use Rattle.txs_resolve.specs.declared.names.FormName.TheVariants.{Ns, Ref}
+use Rattle.txs_resolve.specs.Expressions.{Answer, is_symbol}
+use Rattle.txs_resolve.specs.Given.{Gives, GivesLocals}
+use Rattle.txs_resolve.specs.Names.{named_form, names_space, ref_of, only_literal}
+use Rattle.txs_resolve.specs.declared.error.ResolveError.{ResolveError}
+use Rattle.txs_resolve.specs.declared.error.Stop.{Stop}
+use Rattle.txs_resolve.specs.declared.error.Stop.TheVariants.{Refused, Memory}
+use Rattle.txs_resolve.proofs.Building.{plain}
+
+-- a stop that was handed on
+pub failed_locals : {A B : Type 0} (f : A → B) (s : Stop) (names : List (List ℕ)) (a : Answer B) (b : Answer (List (List ℕ))) → Gives f (Err s) a → ((e : ResolveError) → a ≡ Err e → b ≡ Err e) → GivesLocals (Err s) names b
+failed_locals f (Refused e) names a b h go = go e h
+failed_locals f Memory names a b h go = tt
+
+pub not_one_form : (name : List ℕ) (at : Span) (fs : List Form) → (length fs ≡ 1 → ⊥) → named_form (first (leaf (symbol name) at) (plain fs)) ≡ None
+not_one_form name at [] h = refl
+not_one_form name at (f ∷ []) h = absurd (h refl)
+not_one_form name at (f ∷ g ∷ fs) h = refl
+
+pub one_form : (name : List ℕ) (at : Span) (fs : List Form) (d : Form) → length fs ≡ 1 → named_form (first (leaf (symbol name) at) (plain fs)) ≡ Some (record { name = name; at = at; form = tree (slice_index_or fs 0 d) })
+one_form name at [] d h = absurd (omega (arith, h))
+one_form name at (f ∷ []) d h = refl
+one_form name at (f ∷ g ∷ fs) d h = absurd (omega (arith, h))
+
+pub not_one_name : (fs : List Form) → (length fs ≡ 1 → ⊥) → names_space (Some Ns) (plain fs) ≡ false
+not_one_name [] h = refl
+not_one_name (f ∷ []) h = absurd (h refl)
+not_one_name (f ∷ g ∷ fs) h = refl
+
+pub one_name : (fs : List Form) (d : Form) → length fs ≡ 1 → names_space (Some Ns) (plain fs) ≡ is_symbol (tree (slice_index_or fs 0 d))
+one_name [] d h = absurd (omega (arith, h))
+one_name (f ∷ []) d h = refl
+one_name (f ∷ g ∷ fs) d h = absurd (omega (arith, h))
+
+pub not_one_opening : (fs : List Form) → (length fs ≡ 1 → ⊥) → ref_of (Some Ref) (plain fs) ≡ None
+not_one_opening [] h = refl
+not_one_opening (f ∷ []) h = absurd (h refl)
+not_one_opening (f ∷ g ∷ fs) h = refl
+
+pub one_opening : (fs : List Form) (d : Form) → length fs ≡ 1 → ref_of (Some Ref) (plain fs) ≡ only_literal true (tree (slice_index_or fs 0 d))
+one_opening [] d h = absurd (omega (arith, h))
+one_opening (f ∷ []) d h = refl
+one_opening (f ∷ g ∷ fs) d h = absurd (omega (arith, h))
+
+pub failed_binding : {A B : Type 0} (f : A → B) (s : Stop) (names : List (List ℕ)) (a : Answer (List (List ℕ))) (b : Answer B) → GivesLocals (Err s) names a → ((e : ResolveError) → a ≡ Err e → b ≡ Err e) → Gives f (Err s) b
+failed_binding f (Refused e) names a b h go = go e h
+failed_binding f Memory names a b h go = tt

@@ -1,0 +1,347 @@
+-- What a script defines is scoped, form by form.
+use Rattle.std.proofs.Common.{◌≡◌, ◌<◌, ◌≤◌, ◌+◌, ℕ, zero, suc, max, Bool, true, false, nat_lt, if◌then◌else◌, List, [], ◌∷◌, ◌++◌, length, Option, Some, None, Result, Ok, Err, refl, sym, ap, ◌∙◌, subst, append_assoc, length-append, arith}
+use Rattle.txs_value.specs.Operations.{op_name}
+use Rattle.txs_value.specs.Places.{nth}
+use Rattle.txs_value.specs.declared.cell.CellDefinition.{CellDefinition}
+use Rattle.txs_value.specs.declared.fault.Span.{Span}
+use Rattle.txs_value.specs.declared.op.Callee.{Callee}
+use Rattle.txs_value.specs.declared.op.Callee.TheVariants.{Core as CoreOp, Function as TheFunction}
+use Rattle.txs_value.specs.declared.value.Value.{Value}
+use Rattle.txs_reader.specs.declared.form.Bracket.TheVariants.{Round, Square}
+use Rattle.txs_reader.specs.Tree.{Tree as Form, Trees as Forms, Leaf, leaf, group, first, number, symbol, nil, truth, text, keyword}
+use Rattle.txs_reader.specs.Tree.{none as no_forms}
+use Rattle.txs_tree.specs.Known.{Known, callee_levels, levels, levels_in, levels_of, known, known_from, known_of}
+use Rattle.txs_tree.specs.Scoped.{Scoped, ScopedCallee, ScopedTree, ScopedAll, ScopedLet, ScopedFunction, ScopedFunctions, ScopedThread, ScopedThreads}
+use Rattle.txs_tree.specs.Tree.{Tree, Trees, Const, Local, If, Do, Let, Loop, Recur, Core, Call, VectorOf, Println, Dosync, Deref, Alter, none, more, count, PlainFunction, PlainThread, PlainProgram}
+use Rattle.txs_tree.proofs.Callable.{length-known}
+use Rattle.txs_resolve.specs.declared.error.ResolveErrorKind.TheVariants.{Redefined, BadForm, TooMany}
+use Rattle.txs_resolve.specs.declared.names.FormName.{FormName}
+use Rattle.txs_resolve.specs.declared.names.FormName.TheVariants as kind
+use Rattle.txs_resolve.specs.declared.scope.Definition.{Definition}
+use Rattle.txs_resolve.specs.declared.scope.Definition.TheVariants.{Constant, Cell as ACell, Function as AFunction}
+use Rattle.txs_resolve.specs.Expressions.{Answer, spot_at, named_body}
+use Rattle.txs_resolve.specs.Literals.{literal, literal_levels}
+use Rattle.txs_resolve.specs.Names.{max_levels, State, nothing, program, new_name, form_at, Defining, defining_of, new_ref, with_constant, with_ref, with_definition, defined_as_one, NamedForm, named_form, defined_at, define, parameter, parameters, Written, written, with_function, function, with_thread, future, top_level, step, steps, behind_namespace, named_script, Resolves}
+use Rattle.txs_resolve.specs.Scope.{◌>>=◌, refuse, Scope, Entry, may_bind}
+use Rattle.txs_resolve.specs.Scripts.{IsKnown, AreKnown, ScopedState}
+use Rattle.txs_resolve.proofs.Scoping.{Every, then_every, one_every, two_every, if_every, is_less, Placed, body_named}
+
+-- ---- where more functions are known
+
+abbrev IsFound : {A : Type 0} → Option A → Type 0
+IsFound None = ⊥
+IsFound (Some x) = Unit {0}
+
+nth_more : {A : Type 0} (xs ys : List A) (i : ℕ) (x : A) → nth xs i ≡ Some x → nth (xs ++ ys) i ≡ Some x
+nth_more [] ys i x h = absurd (subst IsFound (sym h) tt)
+nth_more (y ∷ xs) ys zero x h = h
+nth_more (y ∷ xs) ys (suc i) x h = nth_more xs ys i x h
+
+nth_front : {A : Type 0} (xs ys : List A) (i : ℕ) → i < length xs → nth (xs ++ ys) i ≡ nth xs i
+nth_front [] ys i lt = absurd (omega (arith, lt))
+nth_front (y ∷ xs) ys zero lt = refl
+nth_front (y ∷ xs) ys (suc i) lt = nth_front xs ys i (omega (arith, lt))
+
+nth_last : {A : Type 0} (xs : List A) (x : A) → nth (xs ++ x ∷ []) (length xs) ≡ Some x
+nth_last [] x = refl
+nth_last (y ∷ xs) x = nth_last xs x
+
+module _ (ks ls : List Known) where
+  further : (f : ℕ) → f < length ks → f < length (ks ++ ls)
+  further f lt = omega (arith, lt, length-append ks ls)
+
+  callee_front : (c : Callee) → ScopedCallee ks c → ScopedCallee (ks ++ ls) c
+  callee_front (CoreOp op) h = tt
+  callee_front (TheFunction f) h = further f h
+
+  callee_same : (c : Callee) → ScopedCallee ks c → callee_levels (ks ++ ls) c ≡ callee_levels ks c
+  callee_same (CoreOp op) h = refl
+  callee_same (TheFunction f) h = ap levels_of (nth_front ks ls f h)
+
+  mutual
+    pub tree_front : (t : Tree) (d : ℕ) → ScopedTree ks d t → ScopedTree (ks ++ ls) d t
+    tree_front (Const v m) d h = tt
+    tree_front (Local i m) d h = h
+    tree_front (If c a b m) d h = (tree_front c d h.0, tree_front a d h.1, tree_front b d h.2)
+    tree_front (Do items m) d h = (h.0, all_front items d h.1)
+    tree_front (Let values body m) d h = (let_front values d h.0, tree_front body (d + count values) h.1)
+    tree_front (Loop values body m) d h = (let_front values d h.0, tree_front body (d + count values) h.1)
+    tree_front (Recur values m) d h = all_front values d h
+    tree_front (Core op args m) d h = (h.0, all_front args d h.1)
+    tree_front (Call f args m) d h = (further f h.0, all_front args d h.1)
+    tree_front (VectorOf items m) d h = (h.0, all_front items d h.1)
+    tree_front (Println args m) d h = (h.0, all_front args d h.1)
+    tree_front (Dosync body m) d h = tree_front body d h
+    tree_front (Deref cell m) d h = tree_front cell d h
+    tree_front (Alter cell callee args m) d h = (tree_front cell d h.0, callee_front callee h.1, h.2, all_front args d h.3)
+
+    all_front : (ts : Trees) (d : ℕ) → ScopedAll ks d ts → ScopedAll (ks ++ ls) d ts
+    all_front none d h = tt
+    all_front (more e rest) d h = (tree_front e d h.0, all_front rest d h.1)
+
+    let_front : (ts : Trees) (d : ℕ) → ScopedLet ks d ts → ScopedLet (ks ++ ls) d ts
+    let_front none d h = h
+    let_front (more e rest) d h = (tree_front e d h.0, let_front rest (d + 1) h.1)
+
+  mutual
+    pub same_levels : (t : Tree) (d : ℕ) → ScopedTree ks d t → levels (ks ++ ls) t ≡ levels ks t
+    same_levels (Const v m) d h = refl
+    same_levels (Local i m) d h = refl
+    same_levels (If c a b m) d h = omega (arith, same_levels c d h.0, same_levels a d h.1, same_levels b d h.2)
+    same_levels (Do items m) d h = omega (arith, same_all items d h.1)
+    same_levels (Let values body m) d h = omega (arith, same_let values d h.0, same_levels body (d + count values) h.1)
+    same_levels (Loop values body m) d h = omega (arith, same_let values d h.0, same_levels body (d + count values) h.1)
+    same_levels (Recur values m) d h = omega (arith, same_all values d h)
+    same_levels (Core op args m) d h = omega (arith, same_all args d h.1)
+    same_levels (Call f args m) d h = omega (arith, ap levels_of (nth_front ks ls f h.0), same_all args d h.1)
+    same_levels (VectorOf items m) d h = omega (arith, same_all items d h.1)
+    same_levels (Println args m) d h = omega (arith, same_all args d h.1)
+    same_levels (Dosync body m) d h = omega (arith, same_levels body d h)
+    same_levels (Deref cell m) d h = omega (arith, same_levels cell d h)
+    same_levels (Alter cell callee args m) d h = omega (arith, same_levels cell d h.0, callee_same callee h.1, same_all args d h.3)
+
+    same_all : (ts : Trees) (d : ℕ) → ScopedAll ks d ts → levels_in (ks ++ ls) ts ≡ levels_in ks ts
+    same_all none d h = refl
+    same_all (more e rest) d h = omega (arith, same_levels e d h.0, same_all rest d h.1)
+
+    same_let : (ts : Trees) (d : ℕ) → ScopedLet ks d ts → levels_in (ks ++ ls) ts ≡ levels_in ks ts
+    same_let none d h = refl
+    same_let (more e rest) d h = omega (arith, same_levels e d h.0, same_let rest (d + 1) h.1)
+
+  threads_front : (ts : List PlainThread) → ScopedThreads ks ts → ScopedThreads (ks ++ ls) ts
+  threads_front [] h = tt
+  threads_front (t ∷ ts) h = ((tree_front t.body 0 h.0.0, omega (arith, same_levels t.body 0 h.0.0, h.0.1)), threads_front ts h.1)
+
+  is_known_front : (what : Definition) → IsKnown ks what → IsKnown (ks ++ ls) what
+  is_known_front (Constant v) h = tt
+  is_known_front (ACell n) h = tt
+  is_known_front (AFunction n l) h = (h.0, nth_more ks ls n h.0 h.1, h.2)
+
+  known_front : (es : List Entry) → AreKnown ks es → AreKnown (ks ++ ls) es
+  known_front [] h = tt
+  known_front (e ∷ es) h = (is_known_front e.what h.0, known_front es h.1)
+
+-- ---- one more
+
+known_from_more : (ks : List Known) (fs : List PlainFunction) (f : PlainFunction) → known_from ks (fs ++ f ∷ []) ≡ known_from ks fs ++ known_of (known_from ks fs) f ∷ []
+known_from_more ks [] f = refl
+known_from_more ks (g ∷ fs) f = known_from_more (ks ++ known_of ks g ∷ []) fs f
+
+pub known_more : (fs : List PlainFunction) (f : PlainFunction) → known (fs ++ f ∷ []) ≡ known fs ++ known_of (known fs) f ∷ []
+known_more fs f = known_from_more [] fs f
+
+functions_more : (ks : List Known) (fs : List PlainFunction) (f : PlainFunction) → ScopedFunctions ks fs → ScopedFunction (known_from ks fs) f → ScopedFunctions ks (fs ++ f ∷ [])
+functions_more ks [] f h one = (one, tt)
+functions_more ks (g ∷ fs) f h one = (h.0, functions_more (ks ++ known_of ks g ∷ []) fs f h.1 one)
+
+threads_more : (ks : List Known) (ts : List PlainThread) (t : PlainThread) → ScopedThreads ks ts → ScopedThread ks t → ScopedThreads ks (ts ++ t ∷ [])
+threads_more ks [] t h one = (one, tt)
+threads_more ks (u ∷ ts) t h one = (h.0, threads_more ks ts t h.1 one)
+
+entries_known : (ks : List Known) (es : List Entry) (e : Entry) → AreKnown ks es → IsKnown ks e.what → AreKnown ks (es ++ e ∷ [])
+entries_known ks [] e h one = (one, tt)
+entries_known ks (d ∷ es) e h one = (h.0, entries_known ks es e h.1 one)
+
+-- ---- top-level forms
+
+abbrev Anything : {A : Type 0} → A → Type 0
+Anything a = Unit {0}
+
+anything : {A : Type 0} (a : Answer A) → Every Anything a
+anything (Ok x) = tt
+anything (Err e) = tt
+
+pub constant_scoped : (s : State) (name : List ℕ) (v : Value) → ScopedState s → s.defs < 1000 → ScopedState (with_constant s name v)
+constant_scoped s name v h lt = record {
+  functions = h.functions;
+  threads = h.threads;
+  known = entries_known (known s.functions) s.defined (record { name = name; what = Constant v }) h.known tt;
+  few_cells = omega (arith, h.few_cells);
+  few_defs = omega (arith, lt);
+  few_functions = h.few_functions;
+  few_threads = h.few_threads;
+}
+
+pub ref_scoped : (s : State) (name : List ℕ) (v : Value) → ScopedState s → s.defs < 1000 → ScopedState (with_ref s name v)
+ref_scoped s name v h lt = record {
+  functions = h.functions;
+  threads = h.threads;
+  known = entries_known (known s.functions) s.defined (record { name = name; what = ACell (length s.cells) }) h.known tt;
+  few_cells = omega (arith, h.few_cells, length-append s.cells (new_ref name v ∷ []));
+  few_defs = omega (arith, lt);
+  few_functions = h.few_functions;
+  few_threads = h.few_threads;
+}
+
+-- a cell is defined, whatever it is and whatever number it is given
+pub cell_scoped : (s : State) (cells : List CellDefinition) (name : List ℕ) (n : ℕ) → ScopedState s → s.defs < 1000 → length cells ≡ suc (length s.cells)
+    → ScopedState (record { defined = s.defined ++ record { name = name; what = ACell n } ∷ []; cells = cells; functions = s.functions; threads = s.threads; defs = suc s.defs })
+cell_scoped s cells name n h lt longer = record {
+  functions = h.functions;
+  threads = h.threads;
+  known = entries_known (known s.functions) s.defined (record { name = name; what = ACell n }) h.known tt;
+  few_cells = omega (arith, h.few_cells, longer);
+  few_defs = omega (arith, lt);
+  few_functions = h.few_functions;
+  few_threads = h.few_threads;
+}
+
+definition_scoped : (is_ref : Bool) (s : State) (name : List ℕ) (v : Value) → ScopedState s → s.defs < 1000 → ScopedState (with_definition is_ref s name v)
+definition_scoped false s name v h lt = constant_scoped s name v h lt
+definition_scoped true s name v h lt = ref_scoped s name v h lt
+
+defined_scoped : (s : State) (name : List ℕ) (at span : Span) (o : Option Defining) → ScopedState s → Every ScopedState (defined_as_one s name at span o)
+defined_scoped s name at span None h = tt
+defined_scoped s name at span (Some d) h =
+    let v = literal literal_levels d.value in
+    let n = new_name s.defined name at in
+    if_every ScopedState (nat_lt s.defs 1000) (v >>= λ x. n >>= λ y. Ok (with_definition d.is_ref s y x)) (record { kind = TooMany; at = span })
+    (λ lt. two_every Anything Anything ScopedState v n (λ x y. with_definition d.is_ref s y x) (anything v) (anything n) (λ x y p q. definition_scoped d.is_ref s y x h (is_less s.defs 1000 lt)))
+
+named_scoped : (s : State) (span : Span) (o : Option NamedForm) → ScopedState s → Every ScopedState (defined_at s span o)
+named_scoped s span None h = tt
+named_scoped s span (Some f) h = defined_scoped s f.name f.at span (defining_of f.form) h
+
+pub define_scoped : (s : State) (span : Span) (parts : Forms) → ScopedState s → Every ScopedState (define s span parts)
+define_scoped s span parts h = named_scoped s span (named_form parts) h
+
+abbrev Few : List (List ℕ) → Type 0
+Few names = length names ≤ 20
+
+abbrev FewBefore : ℕ → List ℕ → Type 0
+FewBefore k name = k < 20
+
+parameter_few : (k : ℕ) (form : Form) → Every (FewBefore k) (parameter k form)
+parameter_few k (leaf nil at) = tt
+parameter_few k (leaf (truth b) at) = tt
+parameter_few k (leaf (number z) at) = tt
+parameter_few k (leaf (text bytes) at) = tt
+parameter_few k (leaf (keyword name) at) = tt
+parameter_few k (leaf (symbol name) at) =
+    if_every (FewBefore k) (may_bind name) (if nat_lt k 20 then Ok name else refuse TooMany at) (record { kind = BadForm; at = at })
+    (λ ok. if_every (FewBefore k) (nat_lt k 20) (Ok name) (record { kind = TooMany; at = at }) (λ lt. is_less k 20 lt))
+parameter_few k (group b forms at) = tt
+
+parameters_few : (forms : Forms) (names : List (List ℕ)) → Few names → Every Few (parameters names forms)
+parameters_few no_forms names h = h
+parameters_few (first p rest) names h =
+    then_every (FewBefore (length names)) Few (parameter (length names) p) (λ n. parameters (n ∷ names) rest) (parameter_few (length names) p) (λ n lt. parameters_few rest (n ∷ names) (omega (arith, lt)))
+
+pub function_more : (s : State) (name : List ℕ) (n : ℕ) (body : Tree) (span : Span) → ScopedState s → length s.functions < 1000 → n ≤ 20 → Placed (known s.functions) n 1000 body → ScopedState (with_function s name n body span)
+function_more s name n body span h lt few p =
+    let ks = known s.functions in
+    let f : PlainFunction = record { parameters = n; body = body; span = span } in
+    let k = known_of ks f in
+    let entry : Entry = record { name = name; what = AFunction (length s.functions) (levels ks body) } in
+    let whole = known_more s.functions f in
+    let here : nth (ks ++ k ∷ []) (length s.functions) ≡ Some k = subst (λ i. nth (ks ++ k ∷ []) i ≡ Some k) (length-known s.functions) (nth_last ks k) in
+    let threads = threads_front ks (k ∷ []) s.threads h.threads in
+    let entries = entries_known (ks ++ k ∷ []) s.defined entry (known_front ks (k ∷ []) s.defined h.known) (k, here, refl) in
+    record {
+      functions = functions_more [] s.functions f h.functions (few, p.0, p.1);
+      threads = subst (λ l. ScopedThreads l s.threads) (sym whole) threads;
+      known = subst (λ l. AreKnown l (s.defined ++ entry ∷ [])) (sym whole) entries;
+      few_cells = h.few_cells;
+      few_defs = h.few_defs;
+      few_functions = omega (arith, lt, length-append s.functions (f ∷ []));
+      few_threads = h.few_threads;
+    }
+
+abbrev inside : State → List ℕ → List (List ℕ) → Scope
+inside s name locals = record { locals = locals; defined = s.defined; current = Some name }
+
+abbrev outside : State → Scope
+outside s = record { locals = []; defined = s.defined; current = None }
+
+pub function_scoped : (s : State) (span : Span) (o : Option Written) → ScopedState s → Every ScopedState (function s span o)
+function_scoped s span None h = tt
+function_scoped s span (Some w) h =
+    let ks = known s.functions in
+    let at = spot_at max_levels span true in
+    if_every ScopedState (nat_lt (length s.functions) 1000)
+    (new_name s.defined w.name w.at >>= λ name. parameters [] w.parameters >>= λ locals. named_body (inside s name locals) at w.body >>= λ body. Ok (with_function s name (length locals) body span))
+    (record { kind = TooMany; at = span })
+    (λ lt. then_every Anything ScopedState (new_name s.defined w.name w.at)
+    (λ name. parameters [] w.parameters >>= λ locals. named_body (inside s name locals) at w.body >>= λ body. Ok (with_function s name (length locals) body span))
+    (anything (new_name s.defined w.name w.at))
+    (λ name p. then_every Few ScopedState (parameters [] w.parameters) (λ locals. named_body (inside s name locals) at w.body >>= λ body. Ok (with_function s name (length locals) body span))
+    (parameters_few w.parameters [] (omega arith))
+    (λ locals few. one_every (Placed ks (length locals) 1000) ScopedState (named_body (inside s name locals) at w.body) (λ body. with_function s name (length locals) body span)
+    (body_named ks w.body (inside s name locals) at (record { known = h.known; few = omega (arith, few) }))
+    (λ body q. function_more s name (length locals) body span h (is_less (length s.functions) 1000 lt) few q))))
+
+pub thread_more : (s : State) (body : Tree) (span : Span) → ScopedState s → length s.threads < 64 → Placed (known s.functions) 0 1000 body → ScopedState (with_thread s body span)
+thread_more s body span h lt p =
+    let t : PlainThread = record { body = body; span = span } in
+    record {
+      functions = h.functions;
+      threads = threads_more (known s.functions) s.threads t h.threads p;
+      known = h.known;
+      few_cells = h.few_cells;
+      few_defs = h.few_defs;
+      few_functions = h.few_functions;
+      few_threads = omega (arith, lt, length-append s.threads (t ∷ []));
+    }
+
+pub future_scoped : (s : State) (span : Span) (body : Forms) → ScopedState s → Every ScopedState (future s span body)
+future_scoped s span body h =
+    let ks = known s.functions in
+    let at = spot_at max_levels span false in
+    if_every ScopedState (nat_lt (length s.threads) 64) (named_body (outside s) at body >>= λ node. Ok (with_thread s node span)) (record { kind = TooMany; at = span })
+    (λ lt. one_every (Placed ks 0 1000) ScopedState (named_body (outside s) at body) (λ node. with_thread s node span)
+    (body_named ks body (outside s) at (record { known = h.known; few = omega arith }))
+    (λ node p. thread_more s node span h (is_less (length s.threads) 64 lt) p))
+
+top_scoped : (o : Option FormName) (s : State) (span : Span) (parts : Forms) → ScopedState s → Every ScopedState (top_level o s span parts)
+top_scoped None s span parts h = tt
+top_scoped (Some kind.Ns) s span parts h = tt
+top_scoped (Some kind.Def) s span parts h = define_scoped s span parts h
+top_scoped (Some kind.Defn) s span parts h = function_scoped s span (written parts) h
+top_scoped (Some kind.Future) s span parts h = future_scoped s span parts h
+top_scoped (Some kind.If) s span parts h = tt
+top_scoped (Some kind.Do) s span parts h = tt
+top_scoped (Some kind.Let) s span parts h = tt
+top_scoped (Some kind.Loop) s span parts h = tt
+top_scoped (Some kind.Recur) s span parts h = tt
+top_scoped (Some kind.When) s span parts h = tt
+top_scoped (Some kind.WhenNot) s span parts h = tt
+top_scoped (Some kind.IfNot) s span parts h = tt
+top_scoped (Some kind.And) s span parts h = tt
+top_scoped (Some kind.Or) s span parts h = tt
+top_scoped (Some kind.Cond) s span parts h = tt
+top_scoped (Some kind.Println) s span parts h = tt
+top_scoped (Some kind.Dosync) s span parts h = tt
+top_scoped (Some kind.Deref) s span parts h = tt
+top_scoped (Some kind.RefSet) s span parts h = tt
+top_scoped (Some kind.Alter) s span parts h = tt
+top_scoped (Some kind.Commute) s span parts h = tt
+top_scoped (Some kind.Ensure) s span parts h = tt
+top_scoped (Some kind.Swap) s span parts h = tt
+top_scoped (Some kind.Reset) s span parts h = tt
+top_scoped (Some kind.Send) s span parts h = tt
+top_scoped (Some kind.Ref) s span parts h = tt
+top_scoped (Some kind.Atom) s span parts h = tt
+top_scoped (Some kind.Agent) s span parts h = tt
+
+pub step_scoped : (s : State) (form : Form) → ScopedState s → Every ScopedState (step s form)
+step_scoped s (leaf x at) h = tt
+step_scoped s (group Round no_forms at) h = tt
+step_scoped s (group Round (first head parts) at) h = top_scoped (form_at head) s at parts h
+step_scoped s (group Square forms at) h = tt
+
+steps_scoped : (forms : List Form) (s : State) → ScopedState s → Every ScopedState (steps s forms)
+steps_scoped [] s h = h
+steps_scoped (form ∷ forms) s h = then_every ScopedState ScopedState (step s form) (λ t. steps t forms) (step_scoped s form h) (λ t k. steps_scoped forms t k)
+
+pub nothing_scoped : ScopedState nothing
+nothing_scoped = record { functions = tt; threads = tt; known = tt; few_cells = omega arith; few_defs = omega arith; few_functions = omega arith; few_threads = omega arith }
+
+pub program_scoped : (s : State) → ScopedState s → Scoped (program s)
+program_scoped s h = record { functions = h.functions; threads = h.threads; few_cells = omega (arith, h.few_cells, h.few_defs); few_functions = h.few_functions; few_threads = h.few_threads }
+
+pub script_scoped : (forms : List Form) → Every Scoped (named_script forms)
+script_scoped forms =
+    one_every ScopedState Scoped (steps nothing (behind_namespace forms)) program (steps_scoped (behind_namespace forms) nothing nothing_scoped) program_scoped
+
+pub resolved_scoped : (forms : List Form) (p : PlainProgram) → Resolves forms p → Scoped p
+resolved_scoped forms p h = subst (Every Scoped) h (script_scoped forms)

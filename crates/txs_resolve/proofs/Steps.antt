@@ -1,0 +1,390 @@
+-- What each form is, by the answers of its parts.
+use Rattle.std.proofs.Common.{◌≡◌, ◌<◌, ◌≤◌, ◌-◌, ◌%◌, ℕ, zero, suc, Bool, true, false, ◌&&◌, nat_lt, List, [], ◌∷◌, Result, Ok, Err, length, drop, get_or, cond, refl, sym, ap, ◌∙◌, arith, Vec, Global}
+use Rattle.txs_value.specs.declared.fault.Span.{Span}
+use Rattle.txs_value.specs.declared.op.Callee.{Callee}
+use Rattle.txs_reader.specs.declared.form.Bracket.TheVariants.{Round, Square}
+use Rattle.txs_reader.specs.declared.form.Form.{Form, Group}
+use Rattle.txs_reader.proofs.Trees.{tree-Group}
+use Rattle.txs_reader.specs.Tree.{tree, first, parts, place, Trees as Forms}
+use Rattle.txs_tree.specs.Tree.{Tree, Trees, Const, Do, Deref, Dosync, Alter, If, more}
+use Rattle.txs_value.specs.declared.value.Value.TheVariants.{Nil}
+use Rattle.txs_resolve.specs.declared.error.ResolveError.{ResolveError}
+use Rattle.txs_resolve.specs.declared.error.ResolveErrorKind.TheVariants.{BadForm, TooMany}
+use Rattle.txs_resolve.specs.declared.nodes.Head.{Head}
+use Rattle.txs_resolve.specs.declared.nodes.Spot.{Spot}
+use Rattle.txs_value.specs.declared.op.Op.{Op}
+use Rattle.txs_resolve.specs.declared.nodes.Sequence.{Sequence}
+use Rattle.txs_resolve.specs.declared.nodes.Sequence.TheVariants as sequence
+use Rattle.txs_resolve.specs.Expressions.{Answer, Bound, ByHead, below, callee_of, choice_node, choices_of, dosync_of, head_of, in_room, logic_node, may_hide, named, named_all, named_alter, named_binding, named_bindings, named_body, named_chain, named_cond, named_deref, named_if, named_list, named_logic, named_when, is_chain, is_zero, of_head, operation_of, room_for, spot_at, sequence_node, sequence_of, spot_mark, at_most_one, are_pairs, binding_node}
+use Rattle.txs_resolve.specs.Scope.{◌>>=◌, refuse, Scope, with_local}
+use Rattle.txs_resolve.proofs.Building.{plain, parts_plain, roomy, roomless}
+
+-- ---- what is made of two answers, and of three
+
+abbrev pub two : {A B D : Type 0} → Answer A → Answer B → (A → B → D) → Answer D
+two a b f = a >>= λ x. b >>= λ y. Ok (f x y)
+
+pub two_first : {A B D : Type 0} (a : Answer A) (b : Answer B) (f : A → B → D) (e : ResolveError) → a ≡ Err e → two a b f ≡ Err e
+two_first a b f e p = ap (λ o. two o b f) p
+
+pub two_second : {A B D : Type 0} (a : Answer A) (b : Answer B) (f : A → B → D) (x : A) (e : ResolveError) → a ≡ Ok x → b ≡ Err e → two a b f ≡ Err e
+two_second a b f x e p q = ap (λ o. two o b f) p ∙ ap (λ o. two (Ok x) o f) q
+
+pub two_ok : {A B D : Type 0} (a : Answer A) (b : Answer B) (f : A → B → D) (x : A) (y : B) → a ≡ Ok x → b ≡ Ok y → two a b f ≡ Ok (f x y)
+two_ok a b f x y p q = ap (λ o. two o b f) p ∙ ap (λ o. two (Ok x) o f) q
+
+abbrev pub three : {A B C D : Type 0} → Answer A → Answer B → Answer C → (A → B → C → D) → Answer D
+three a b c f = a >>= λ x. b >>= λ y. c >>= λ z. Ok (f x y z)
+
+pub three_first : {A B C D : Type 0} (a : Answer A) (b : Answer B) (c : Answer C) (f : A → B → C → D) (e : ResolveError) → a ≡ Err e → three a b c f ≡ Err e
+three_first a b c f e p = ap (λ o. three o b c f) p
+
+pub three_second : {A B C D : Type 0} (a : Answer A) (b : Answer B) (c : Answer C) (f : A → B → C → D) (x : A) (e : ResolveError) → a ≡ Ok x → b ≡ Err e → three a b c f ≡ Err e
+three_second a b c f x e p q = ap (λ o. three o b c f) p ∙ ap (λ o. three (Ok x) o c f) q
+
+pub three_third : {A B C D : Type 0} (a : Answer A) (b : Answer B) (c : Answer C) (f : A → B → C → D) (x : A) (y : B) (e : ResolveError) → a ≡ Ok x → b ≡ Ok y → c ≡ Err e → three a b c f ≡ Err e
+three_third a b c f x y e p q r = ap (λ o. three o b c f) p ∙ ap (λ o. three (Ok x) o c f) q ∙ ap (λ o. three (Ok x) (Ok y) o f) r
+
+pub three_ok : {A B C D : Type 0} (a : Answer A) (b : Answer B) (c : Answer C) (f : A → B → C → D) (x : A) (y : B) (z : C) → a ≡ Ok x → b ≡ Ok y → c ≡ Ok z → three a b c f ≡ Ok (f x y z)
+three_ok a b c f x y z p q r = ap (λ o. three o b c f) p ∙ ap (λ o. three (Ok x) o c f) q ∙ ap (λ o. three (Ok x) (Ok y) o f) r
+
+-- ---- if
+
+few : (fs : List Form) → length fs ≤ 1 → at_most_one (plain fs) ≡ true
+few [] le = refl
+few (f ∷ []) le = refl
+few (f ∷ g ∷ fs) le = absurd (omega (arith, le))
+
+many : (fs : List Form) → 1 < length fs → at_most_one (plain fs) ≡ false
+many [] lt = absurd (omega (arith, lt))
+many (f ∷ []) lt = absurd (omega (arith, lt))
+many (f ∷ g ∷ fs) lt = refl
+
+module _ (turned : Bool) (scope : Scope) (s : Spot) (args parts rest : List Form) (t o : Form) (is : args ≡ t ∷ parts) (is_too : parts ≡ o ∷ rest) where
+  abbrev pub if_whole : Answer Tree
+  if_whole = three (named scope (s.room - 1) true (tree t)) (named scope (s.room - 1) s.wanted (tree o)) (named_body scope (below 1 s) (plain rest)) (λ x y z. choice_node turned x y z (spot_mark s))
+
+  if_cons : named_if turned scope s (plain args) ≡ cond (at_most_one (plain rest)) (in_room s if_whole) (refuse BadForm s.span)
+  if_cons = ap (λ l. named_if turned scope s (plain l)) (is ∙ ap (λ (l : List Form). t ∷ l) is_too)
+
+  pub if_parts : length rest ≤ 1 → (s.room ≡ 0 → ⊥) → named_if turned scope s (plain args) ≡ if_whole
+  if_parts le room = if_cons ∙ ap (λ b. cond b (in_room s if_whole) (refuse BadForm s.span)) (few rest le) ∙ roomy s if_whole room
+
+  pub if_many : 1 < length rest → named_if turned scope s (plain args) ≡ refuse BadForm s.span
+  if_many lt = if_cons ∙ ap (λ b. cond b (in_room s if_whole) (refuse BadForm s.span)) (many rest lt)
+
+  pub if_roomless : length rest ≤ 1 → s.room ≡ 0 → named_if turned scope s (plain args) ≡ refuse TooMany s.span
+  if_roomless le room = if_cons ∙ ap (λ b. cond b (in_room s if_whole) (refuse BadForm s.span)) (few rest le) ∙ roomless s if_whole room
+
+  pub if_no_first : (le : length rest ≤ 1) (some : s.room ≡ 0 → ⊥) (e : ResolveError) → named scope (s.room - 1) true (tree t) ≡ Err e → named_if turned scope s (plain args) ≡ Err e
+  if_no_first le some e p = if_parts le some ∙ three_first (named scope (s.room - 1) true (tree t)) (named scope (s.room - 1) s.wanted (tree o)) (named_body scope (below 1 s) (plain rest)) (λ x y z. choice_node turned x y z (spot_mark s)) e p
+
+  pub if_no_second : (le : length rest ≤ 1) (some : s.room ≡ 0 → ⊥) (x : Tree) (e : ResolveError) → named scope (s.room - 1) true (tree t) ≡ Ok x → named scope (s.room - 1) s.wanted (tree o) ≡ Err e → named_if turned scope s (plain args) ≡ Err e
+  if_no_second le some x e p1 q1 = if_parts le some ∙ three_second (named scope (s.room - 1) true (tree t)) (named scope (s.room - 1) s.wanted (tree o)) (named_body scope (below 1 s) (plain rest)) (λ x y z. choice_node turned x y z (spot_mark s)) x e p1 q1
+
+  pub if_no_third : (le : length rest ≤ 1) (some : s.room ≡ 0 → ⊥) (x : Tree) (y : Tree) (e : ResolveError) → named scope (s.room - 1) true (tree t) ≡ Ok x → named scope (s.room - 1) s.wanted (tree o) ≡ Ok y → named_body scope (below 1 s) (plain rest) ≡ Err e → named_if turned scope s (plain args) ≡ Err e
+  if_no_third le some x y e p1 q1 r1 = if_parts le some ∙ three_third (named scope (s.room - 1) true (tree t)) (named scope (s.room - 1) s.wanted (tree o)) (named_body scope (below 1 s) (plain rest)) (λ x y z. choice_node turned x y z (spot_mark s)) x y e p1 q1 r1
+
+  pub if_made : (le : length rest ≤ 1) (some : s.room ≡ 0 → ⊥) (x : Tree) (y : Tree) (z : Tree) → named scope (s.room - 1) true (tree t) ≡ Ok x → named scope (s.room - 1) s.wanted (tree o) ≡ Ok y → named_body scope (below 1 s) (plain rest) ≡ Ok z → named_if turned scope s (plain args) ≡ Ok (choice_node turned x y z (spot_mark s))
+  if_made le some x y z p1 q1 r1 = if_parts le some ∙ three_ok (named scope (s.room - 1) true (tree t)) (named scope (s.room - 1) s.wanted (tree o)) (named_body scope (below 1 s) (plain rest)) (λ x y z. choice_node turned x y z (spot_mark s)) x y z p1 q1 r1
+
+-- ---- cond
+
+module _ (scope : Scope) (s : Spot) (args parts rest : List Form) (t o : Form) (is : args ≡ t ∷ parts) (is_too : parts ≡ o ∷ rest) where
+  abbrev pub cond_whole : Answer Tree
+  cond_whole = three (named scope (s.room - 1) true (tree t)) (named scope (s.room - 1) s.wanted (tree o)) (named_cond scope (below 1 s) (plain rest)) (λ x y z. If x y z (spot_mark s))
+
+  cond_cons : named_cond scope s (plain args) ≡ in_room s cond_whole
+  cond_cons = ap (λ l. named_cond scope s (plain l)) (is ∙ ap (λ (l : List Form). t ∷ l) is_too)
+
+  pub cond_parts : (s.room ≡ 0 → ⊥) → named_cond scope s (plain args) ≡ cond_whole
+  cond_parts room = cond_cons ∙ roomy s cond_whole room
+
+  pub cond_roomless : s.room ≡ 0 → named_cond scope s (plain args) ≡ refuse TooMany s.span
+  cond_roomless room = cond_cons ∙ roomless s cond_whole room
+
+  pub cond_no_first : (some : s.room ≡ 0 → ⊥) (e : ResolveError) → named scope (s.room - 1) true (tree t) ≡ Err e → named_cond scope s (plain args) ≡ Err e
+  cond_no_first some e p = cond_parts some ∙ three_first (named scope (s.room - 1) true (tree t)) (named scope (s.room - 1) s.wanted (tree o)) (named_cond scope (below 1 s) (plain rest)) (λ x y z. If x y z (spot_mark s)) e p
+
+  pub cond_no_second : (some : s.room ≡ 0 → ⊥) (x : Tree) (e : ResolveError) → named scope (s.room - 1) true (tree t) ≡ Ok x → named scope (s.room - 1) s.wanted (tree o) ≡ Err e → named_cond scope s (plain args) ≡ Err e
+  cond_no_second some x e p1 q1 = cond_parts some ∙ three_second (named scope (s.room - 1) true (tree t)) (named scope (s.room - 1) s.wanted (tree o)) (named_cond scope (below 1 s) (plain rest)) (λ x y z. If x y z (spot_mark s)) x e p1 q1
+
+  pub cond_no_third : (some : s.room ≡ 0 → ⊥) (x : Tree) (y : Tree) (e : ResolveError) → named scope (s.room - 1) true (tree t) ≡ Ok x → named scope (s.room - 1) s.wanted (tree o) ≡ Ok y → named_cond scope (below 1 s) (plain rest) ≡ Err e → named_cond scope s (plain args) ≡ Err e
+  cond_no_third some x y e p1 q1 r1 = cond_parts some ∙ three_third (named scope (s.room - 1) true (tree t)) (named scope (s.room - 1) s.wanted (tree o)) (named_cond scope (below 1 s) (plain rest)) (λ x y z. If x y z (spot_mark s)) x y e p1 q1 r1
+
+  pub cond_made : (some : s.room ≡ 0 → ⊥) (x : Tree) (y : Tree) (z : Tree) → named scope (s.room - 1) true (tree t) ≡ Ok x → named scope (s.room - 1) s.wanted (tree o) ≡ Ok y → named_cond scope (below 1 s) (plain rest) ≡ Ok z → named_cond scope s (plain args) ≡ Ok (If x y z (spot_mark s))
+  cond_made some x y z p1 q1 r1 = cond_parts some ∙ three_ok (named scope (s.room - 1) true (tree t)) (named scope (s.room - 1) s.wanted (tree o)) (named_cond scope (below 1 s) (plain rest)) (λ x y z. If x y z (spot_mark s)) x y z p1 q1 r1
+
+-- ---- when
+
+module _ (turned : Bool) (scope : Scope) (s : Spot) (args rest : List Form) (t : Form) (is : args ≡ t ∷ rest) where
+  abbrev pub when_whole : Answer Tree
+  when_whole = two (named scope (s.room - 1) true (tree t)) (named_body scope (below 1 s) (plain rest)) (λ x y. choice_node turned x y (Const Nil (spot_mark s)) (spot_mark s))
+
+  when_cons : named_when turned scope s (plain args) ≡ in_room s when_whole
+  when_cons = ap (λ l. named_when turned scope s (plain l)) is
+
+  pub when_parts : (s.room ≡ 0 → ⊥) → named_when turned scope s (plain args) ≡ when_whole
+  when_parts room = when_cons ∙ roomy s when_whole room
+
+  pub when_roomless : s.room ≡ 0 → named_when turned scope s (plain args) ≡ refuse TooMany s.span
+  when_roomless room = when_cons ∙ roomless s when_whole room
+
+  pub when_no_first : (some : s.room ≡ 0 → ⊥) (e : ResolveError) → named scope (s.room - 1) true (tree t) ≡ Err e → named_when turned scope s (plain args) ≡ Err e
+  when_no_first some e p = when_parts some ∙ two_first (named scope (s.room - 1) true (tree t)) (named_body scope (below 1 s) (plain rest)) (λ x y. choice_node turned x y (Const Nil (spot_mark s)) (spot_mark s)) e p
+
+  pub when_no_second : (some : s.room ≡ 0 → ⊥) (x : Tree) (e : ResolveError) → named scope (s.room - 1) true (tree t) ≡ Ok x → named_body scope (below 1 s) (plain rest) ≡ Err e → named_when turned scope s (plain args) ≡ Err e
+  when_no_second some x e p q = when_parts some ∙ two_second (named scope (s.room - 1) true (tree t)) (named_body scope (below 1 s) (plain rest)) (λ x y. choice_node turned x y (Const Nil (spot_mark s)) (spot_mark s)) x e p q
+
+  pub when_made : (some : s.room ≡ 0 → ⊥) (x : Tree) (y : Tree) → named scope (s.room - 1) true (tree t) ≡ Ok x → named_body scope (below 1 s) (plain rest) ≡ Ok y → named_when turned scope s (plain args) ≡ Ok (choice_node turned x y (Const Nil (spot_mark s)) (spot_mark s))
+  when_made some x y p q = when_parts some ∙ two_ok (named scope (s.room - 1) true (tree t)) (named_body scope (below 1 s) (plain rest)) (λ x y. choice_node turned x y (Const Nil (spot_mark s)) (spot_mark s)) x y p q
+
+-- ---- and, or
+
+logic_step : (is_or : Bool) (scope : Scope) (s : Spot) (v : Form) (rest : List Form) → (length rest ≡ 0 → ⊥) → named_logic is_or scope s (plain (v ∷ rest)) ≡ in_room s (named scope (s.room - 1) true (tree v) >>= λ value. cond (may_hide scope s) (named_logic is_or (with_local [] scope) (below 2 s) (plain rest) >>= λ other. Ok (logic_node is_or (length scope.locals) value other s)) (refuse TooMany s.span))
+logic_step is_or scope s v [] some = absurd (some refl)
+logic_step is_or scope s v (f ∷ rest) some = refl
+
+module _ (is_or : Bool) (scope : Scope) (s : Spot) (args rest : List Form) (v : Form) (is : args ≡ v ∷ rest) where
+  pub logic_alone : length rest ≡ 0 → named_logic is_or scope s (plain args) ≡ named scope s.room s.wanted (tree v)
+  logic_alone none = ap (λ l. named_logic is_or scope s (plain l)) is ∙ alone rest none where
+    alone : (l : List Form) → length l ≡ 0 → named_logic is_or scope s (plain (v ∷ l)) ≡ named scope s.room s.wanted (tree v)
+    alone [] none = refl
+    alone (f ∷ l) none = absurd (omega (arith, none))
+
+  abbrev pub logic_choice : Bool → Answer Tree
+  logic_choice b = named scope (s.room - 1) true (tree v) >>= λ value. cond b (named_logic is_or (with_local [] scope) (below 2 s) (plain rest) >>= λ other. Ok (logic_node is_or (length scope.locals) value other s)) (refuse TooMany s.span)
+
+  abbrev pub logic_whole : Answer Tree
+  logic_whole = two (named scope (s.room - 1) true (tree v)) (named_logic is_or (with_local [] scope) (below 2 s) (plain rest)) (λ x y. logic_node is_or (length scope.locals) x y s)
+
+  pub logic_cons : (length rest ≡ 0 → ⊥) → named_logic is_or scope s (plain args) ≡ in_room s (logic_choice (may_hide scope s))
+  logic_cons some = ap (λ l. named_logic is_or scope s (plain l)) is ∙ logic_step is_or scope s v rest some
+
+  pub logic_roomless : (length rest ≡ 0 → ⊥) → s.room ≡ 0 → named_logic is_or scope s (plain args) ≡ refuse TooMany s.span
+  logic_roomless some room = logic_cons some ∙ roomless s (logic_choice (may_hide scope s)) room
+
+  pub logic_unvalued : (length rest ≡ 0 → ⊥) → (s.room ≡ 0 → ⊥) → (e : ResolveError) → named scope (s.room - 1) true (tree v) ≡ Err e → named_logic is_or scope s (plain args) ≡ Err e
+  logic_unvalued some room e p =
+      logic_cons some ∙ roomy s (logic_choice (may_hide scope s)) room
+      ∙ ap (λ (o : Answer Tree). o >>= λ value. cond (may_hide scope s) (named_logic is_or (with_local [] scope) (below 2 s) (plain rest) >>= λ other. Ok (logic_node is_or (length scope.locals) value other s)) (refuse TooMany s.span)) p
+
+  pub logic_full : (length rest ≡ 0 → ⊥) → (s.room ≡ 0 → ⊥) → (x : Tree) → named scope (s.room - 1) true (tree v) ≡ Ok x → may_hide scope s ≡ false → named_logic is_or scope s (plain args) ≡ refuse TooMany s.span
+  logic_full some room x p full =
+      logic_cons some ∙ roomy s (logic_choice (may_hide scope s)) room
+      ∙ ap logic_choice full
+      ∙ ap (λ (o : Answer Tree). o >>= λ value. refuse TooMany s.span) p
+
+  pub logic_parts : (length rest ≡ 0 → ⊥) → (s.room ≡ 0 → ⊥) → may_hide scope s ≡ true → named_logic is_or scope s (plain args) ≡ logic_whole
+  logic_parts some room hides = logic_cons some ∙ roomy s (logic_choice (may_hide scope s)) room ∙ ap logic_choice hides
+
+  pub logic_no_first : (others : length rest ≡ 0 → ⊥) (some : s.room ≡ 0 → ⊥) (hides : may_hide scope s ≡ true) (e : ResolveError) → named scope (s.room - 1) true (tree v) ≡ Err e → named_logic is_or scope s (plain args) ≡ Err e
+  logic_no_first others some hides e p = logic_parts others some hides ∙ two_first (named scope (s.room - 1) true (tree v)) (named_logic is_or (with_local [] scope) (below 2 s) (plain rest)) (λ x y. logic_node is_or (length scope.locals) x y s) e p
+
+  pub logic_no_second : (others : length rest ≡ 0 → ⊥) (some : s.room ≡ 0 → ⊥) (hides : may_hide scope s ≡ true) (x : Tree) (e : ResolveError) → named scope (s.room - 1) true (tree v) ≡ Ok x → named_logic is_or (with_local [] scope) (below 2 s) (plain rest) ≡ Err e → named_logic is_or scope s (plain args) ≡ Err e
+  logic_no_second others some hides x e p q = logic_parts others some hides ∙ two_second (named scope (s.room - 1) true (tree v)) (named_logic is_or (with_local [] scope) (below 2 s) (plain rest)) (λ x y. logic_node is_or (length scope.locals) x y s) x e p q
+
+  pub logic_made : (others : length rest ≡ 0 → ⊥) (some : s.room ≡ 0 → ⊥) (hides : may_hide scope s ≡ true) (x : Tree) (y : Tree) → named scope (s.room - 1) true (tree v) ≡ Ok x → named_logic is_or (with_local [] scope) (below 2 s) (plain rest) ≡ Ok y → named_logic is_or scope s (plain args) ≡ Ok (logic_node is_or (length scope.locals) x y s)
+  logic_made others some hides x y p q = logic_parts others some hides ∙ two_ok (named scope (s.room - 1) true (tree v)) (named_logic is_or (with_local [] scope) (below 2 s) (plain rest)) (λ x y. logic_node is_or (length scope.locals) x y s) x y p q
+
+-- ---- deref, alter
+
+pub deref_parts : (scope : Scope) (s : Spot) (args : List Form) (d : Form) → length args ≡ 1 → named_deref scope s (plain args) ≡ in_room s (named scope (s.room - 1) true (tree (get_or args 0 d)) >>= λ cell. Ok (Deref cell (spot_mark s)))
+deref_parts scope s [] d one = absurd (omega (arith, one))
+deref_parts scope s (a ∷ []) d one = refl
+deref_parts scope s (a ∷ b ∷ args) d one = absurd (omega (arith, one))
+
+pub deref_other : (scope : Scope) (s : Spot) (args : List Form) → (length args ≡ 1 → ⊥) → named_deref scope s (plain args) ≡ refuse BadForm s.span
+deref_other scope s [] other = refl
+deref_other scope s (a ∷ []) other = absurd (other refl)
+deref_other scope s (a ∷ b ∷ args) other = refl
+
+module _ (scope : Scope) (s : Spot) (args parts rest : List Form) (r f : Form) (is : args ≡ r ∷ parts) (is_too : parts ≡ f ∷ rest) where
+  abbrev pub alter_whole : Answer Tree
+  alter_whole = three (named scope (s.room - 1) true (tree r)) (callee_of scope s (tree f)) (named_all scope (s.room - 1) true true (plain rest)) (λ x y z. Alter x y z (spot_mark s))
+
+  alter_cons : named_alter scope s (plain args) ≡ in_room s alter_whole
+  alter_cons = ap (λ l. named_alter scope s (plain l)) (is ∙ ap (λ (l : List Form). r ∷ l) is_too)
+
+  pub alter_parts : (s.room ≡ 0 → ⊥) → named_alter scope s (plain args) ≡ alter_whole
+  alter_parts room = alter_cons ∙ roomy s alter_whole room
+
+  pub alter_roomless : s.room ≡ 0 → named_alter scope s (plain args) ≡ refuse TooMany s.span
+  alter_roomless room = alter_cons ∙ roomless s alter_whole room
+
+  pub alter_no_first : (some : s.room ≡ 0 → ⊥) (e : ResolveError) → named scope (s.room - 1) true (tree r) ≡ Err e → named_alter scope s (plain args) ≡ Err e
+  alter_no_first some e p = alter_parts some ∙ three_first (named scope (s.room - 1) true (tree r)) (callee_of scope s (tree f)) (named_all scope (s.room - 1) true true (plain rest)) (λ x y z. Alter x y z (spot_mark s)) e p
+
+  pub alter_no_second : (some : s.room ≡ 0 → ⊥) (x : Tree) (e : ResolveError) → named scope (s.room - 1) true (tree r) ≡ Ok x → callee_of scope s (tree f) ≡ Err e → named_alter scope s (plain args) ≡ Err e
+  alter_no_second some x e p1 q1 = alter_parts some ∙ three_second (named scope (s.room - 1) true (tree r)) (callee_of scope s (tree f)) (named_all scope (s.room - 1) true true (plain rest)) (λ x y z. Alter x y z (spot_mark s)) x e p1 q1
+
+  pub alter_no_third : (some : s.room ≡ 0 → ⊥) (x : Tree) (y : Callee) (e : ResolveError) → named scope (s.room - 1) true (tree r) ≡ Ok x → callee_of scope s (tree f) ≡ Ok y → named_all scope (s.room - 1) true true (plain rest) ≡ Err e → named_alter scope s (plain args) ≡ Err e
+  alter_no_third some x y e p1 q1 r1 = alter_parts some ∙ three_third (named scope (s.room - 1) true (tree r)) (callee_of scope s (tree f)) (named_all scope (s.room - 1) true true (plain rest)) (λ x y z. Alter x y z (spot_mark s)) x y e p1 q1 r1
+
+  pub alter_made : (some : s.room ≡ 0 → ⊥) (x : Tree) (y : Callee) (z : Trees) → named scope (s.room - 1) true (tree r) ≡ Ok x → callee_of scope s (tree f) ≡ Ok y → named_all scope (s.room - 1) true true (plain rest) ≡ Ok z → named_alter scope s (plain args) ≡ Ok (Alter x y z (spot_mark s))
+  alter_made some x y z p1 q1 r1 = alter_parts some ∙ three_ok (named scope (s.room - 1) true (tree r)) (callee_of scope s (tree f)) (named_all scope (s.room - 1) true true (plain rest)) (λ x y z. Alter x y z (spot_mark s)) x y z p1 q1 r1
+
+-- ---- let, loop
+
+module _ (is_loop : Bool) (scope : Scope) (s : Spot) (args forms ps : List Form) (f : Form) (pairs : Vec Form Global) (at : Span) (cons : args ≡ f ∷ forms) (square : f ≡ Group Square pairs at) (items : ps ≡ pairs.items) where
+  abbrev pub binding_of : Answer Bound → Answer Tree
+  binding_of o = o >>= λ bound. named_body bound.scope (below 1 s) (plain forms) >>= λ node. Ok (binding_node is_loop bound.values node (spot_mark s))
+
+  binding_cons : named_binding is_loop scope s (plain args) ≡ cond (are_pairs (plain ps)) (in_room s (binding_of (named_bindings scope (s.room - 1) (plain ps)))) (refuse BadForm s.span)
+  binding_cons =
+      ap (λ l. named_binding is_loop scope s (plain l)) cons
+      ∙ ap (λ t. named_binding is_loop scope s (first t (plain forms))) (ap tree square ∙ tree-Group Square pairs at)
+      ∙ ap (λ l. cond (are_pairs (plain l)) (in_room s (binding_of (named_bindings scope (s.room - 1) (plain l)))) (refuse BadForm s.span)) (sym items)
+
+  pub binding_odd : are_pairs (plain ps) ≡ false → named_binding is_loop scope s (plain args) ≡ refuse BadForm s.span
+  binding_odd p = binding_cons ∙ ap (λ b. cond b (in_room s (binding_of (named_bindings scope (s.room - 1) (plain ps)))) (refuse BadForm s.span)) p
+
+  pub binding_roomless : are_pairs (plain ps) ≡ true → s.room ≡ 0 → named_binding is_loop scope s (plain args) ≡ refuse TooMany s.span
+  binding_roomless p room =
+      binding_cons ∙ ap (λ b. cond b (in_room s (binding_of (named_bindings scope (s.room - 1) (plain ps)))) (refuse BadForm s.span)) p
+      ∙ roomless s (binding_of (named_bindings scope (s.room - 1) (plain ps))) room
+
+  pub binding_parts : are_pairs (plain ps) ≡ true → (s.room ≡ 0 → ⊥) → named_binding is_loop scope s (plain args) ≡ binding_of (named_bindings scope (s.room - 1) (plain ps))
+  binding_parts p room =
+      binding_cons ∙ ap (λ b. cond b (in_room s (binding_of (named_bindings scope (s.room - 1) (plain ps)))) (refuse BadForm s.span)) p
+      ∙ roomy s (binding_of (named_bindings scope (s.room - 1) (plain ps))) room
+
+-- ---- bodies
+
+do_assoc : (a : Answer Tree) (b : Answer Trees) (s : Spot) → (a >>= λ n. b >>= λ ns. Ok (Do (more n ns) (spot_mark s))) ≡ ((a >>= λ n. b >>= λ ns. Ok (more n ns)) >>= λ items. Ok (Do items (spot_mark s)))
+do_assoc (Err e) b s = refl
+do_assoc (Ok n) (Err e) s = refl
+do_assoc (Ok n) (Ok ns) s = refl
+
+pub body_one : (scope : Scope) (s : Spot) (fs : List Form) (d : Form) → length fs ≡ 1 → named_body scope s (plain fs) ≡ named scope s.room s.wanted (tree (get_or fs 0 d))
+body_one scope s [] d one = absurd (omega (arith, one))
+body_one scope s (f ∷ []) d one = refl
+body_one scope s (f ∷ g ∷ fs) d one = absurd (omega (arith, one))
+
+abbrev pub do_of : Spot → Answer Trees → Answer Tree
+do_of s o = o >>= λ items. Ok (Do items (spot_mark s))
+
+pub body_several : (scope : Scope) (s : Spot) (fs : List Form) → 2 ≤ length fs → named_body scope s (plain fs) ≡ in_room s (do_of s (named_all scope (s.room - 1) false s.wanted (plain fs)))
+body_several scope s [] le = absurd (omega (arith, le))
+body_several scope s (f ∷ []) le = absurd (omega (arith, le))
+body_several scope s (f ∷ g ∷ fs) le =
+    ap (in_room s) (do_assoc (named scope (s.room - 1) false (tree f)) (named_all scope (s.room - 1) false s.wanted (plain (g ∷ fs))) s)
+
+-- ---- lists
+
+-- what a list with this head is
+abbrev pub made_of : Scope → Spot → Forms → ByHead
+made_of scope s args = record {
+  applied = λ op. operation_of op s (parts args) (named_chain op scope s args) (named_all scope (s.room - 1) true true args);
+  called = λ n. sequence_of (sequence.Call n) s (named_all scope (s.room - 1) true true args);
+  branches = λ turned. named_if turned scope s args;
+  block = named_body scope s args;
+  bindings = λ is_loop. named_binding is_loop scope s args;
+  turn = sequence_of sequence.Recur s (named_all scope (s.room - 1) true true args);
+  guarded = λ turned. named_when turned scope s args;
+  logic = λ is_or. named_logic is_or scope s args;
+  choices = choices_of s (parts args) (named_cond scope s args);
+  line = sequence_of sequence.Println s (named_all scope (s.room - 1) true true args);
+  transaction = dosync_of s (named_body scope (below 1 s) args);
+  reading = named_deref scope s args;
+  change = named_alter scope s args;
+  misplaced = refuse BadForm s.span;
+}
+
+module _ (scope : Scope) (s : Spot) (forms args : List Form) (f : Form) (is : forms ≡ f ∷ args) where
+  pub list_head : (h : Head) → head_of scope s (tree f) ≡ Ok h → named_list scope s (plain forms) ≡ of_head h (made_of scope s (plain args))
+  list_head h p = ap (λ l. named_list scope s (plain l)) is ∙ ap (λ (o : Answer Head). o >>= λ h. of_head h (made_of scope s (plain args))) p
+
+  pub list_headless : (e : ResolveError) → head_of scope s (tree f) ≡ Err e → named_list scope s (plain forms) ≡ Err e
+  list_headless e p = ap (λ l. named_list scope s (plain l)) is ∙ ap (λ (o : Answer Head). o >>= λ h. of_head h (made_of scope s (plain args))) p
+
+-- ---- rows of nodes, transactions
+
+module _ (s : Spot) (some : s.room ≡ 0 → ⊥) where
+  pub sequence_no : (k : Sequence) (items : Answer Trees) (e : ResolveError) → items ≡ Err e → sequence_of k s items ≡ Err e
+  sequence_no k items e p = roomy s (items >>= λ nodes. Ok (sequence_node k nodes (spot_mark s))) some ∙ ap (λ (o : Answer Trees). o >>= λ nodes. Ok (sequence_node k nodes (spot_mark s))) p
+
+  pub sequence_made : (k : Sequence) (items : Answer Trees) (ts : Trees) → items ≡ Ok ts → sequence_of k s items ≡ Ok (sequence_node k ts (spot_mark s))
+  sequence_made k items ts p = roomy s (items >>= λ nodes. Ok (sequence_node k nodes (spot_mark s))) some ∙ ap (λ (o : Answer Trees). o >>= λ nodes. Ok (sequence_node k nodes (spot_mark s))) p
+
+  pub dosync_no : (made : Answer Tree) (e : ResolveError) → made ≡ Err e → dosync_of s made ≡ Err e
+  dosync_no made e p = roomy s (made >>= λ body. Ok (Dosync body (spot_mark s))) some ∙ ap (λ (o : Answer Tree). o >>= λ body. Ok (Dosync body (spot_mark s))) p
+
+  pub dosync_made : (made : Answer Tree) (t : Tree) → made ≡ Ok t → dosync_of s made ≡ Ok (Dosync t (spot_mark s))
+  dosync_made made t p = roomy s (made >>= λ body. Ok (Dosync body (spot_mark s))) some ∙ ap (λ (o : Answer Tree). o >>= λ body. Ok (Dosync body (spot_mark s))) p
+
+  pub do_no : (items : Answer Trees) (e : ResolveError) → items ≡ Err e → in_room s (do_of s items) ≡ Err e
+  do_no items e p = roomy s (do_of s items) some ∙ ap (do_of s) p
+
+  pub do_made : (items : Answer Trees) (ts : Trees) → items ≡ Ok ts → in_room s (do_of s items) ≡ Ok (Do ts (spot_mark s))
+  do_made items ts p = roomy s (do_of s items) some ∙ ap (do_of s) p
+
+  abbrev pub deref_of : Answer Tree → Answer Tree
+  deref_of o = o >>= λ cell. Ok (Deref cell (spot_mark s))
+
+  pub deref_no : (made : Answer Tree) (e : ResolveError) → made ≡ Err e → in_room s (deref_of made) ≡ Err e
+  deref_no made e p = roomy s (deref_of made) some ∙ ap deref_of p
+
+  pub deref_made : (made : Answer Tree) (t : Tree) → made ≡ Ok t → in_room s (deref_of made) ≡ Ok (Deref t (spot_mark s))
+  deref_made made t p = roomy s (deref_of made) some ∙ ap deref_of p
+
+-- ---- operations
+
+module _ (op : Op) (s : Spot) (n : ℕ) (chain : Answer Tree) (items : Answer Trees) where
+  pub operation_plain : is_chain op n ≡ false → operation_of op s n chain items ≡ sequence_of (sequence.Core op) s items
+  operation_plain p = ap (λ b. cond b (cond (nat_lt s.room (n - 1)) (refuse TooMany s.span) chain) (sequence_of (sequence.Core op) s items)) p
+
+  pub operation_low : is_chain op n ≡ true → nat_lt s.room (n - 1) ≡ true → operation_of op s n chain items ≡ refuse TooMany s.span
+  operation_low p q =
+      ap (λ b. cond b (cond (nat_lt s.room (n - 1)) (refuse TooMany s.span) chain) (sequence_of (sequence.Core op) s items)) p
+      ∙ ap (λ b. cond b (refuse TooMany s.span) chain) q
+
+  pub operation_chain : is_chain op n ≡ true → nat_lt s.room (n - 1) ≡ false → operation_of op s n chain items ≡ chain
+  operation_chain p q =
+      ap (λ b. cond b (cond (nat_lt s.room (n - 1)) (refuse TooMany s.span) chain) (sequence_of (sequence.Core op) s items)) p
+      ∙ ap (λ b. cond b (refuse TooMany s.span) chain) q
+
+-- ---- counts
+
+pub uneven : (n : ℕ) → (n ≡ 0 → ⊥) → is_zero n ≡ false
+uneven zero h = absurd (h refl)
+uneven (suc n) h = refl
+
+pub choices_odd : (s : Spot) (n : ℕ) (made : Answer Tree) → (n % 2 ≡ 0 → ⊥) → choices_of s n made ≡ refuse BadForm s.span
+choices_odd s n made h = ap (λ b. cond b made (refuse BadForm s.span)) (uneven (n % 2) h)
+
+pub choices_even : (s : Spot) (n : ℕ) (made : Answer Tree) → n % 2 ≡ 0 → choices_of s n made ≡ made
+choices_even s n made h = ap (λ (k : ℕ). cond (is_zero k) made (refuse BadForm s.span)) h
+
+module _ (scope : Scope) (s : Spot) (args : List Form) where
+  pub operation_counted : (op : Op) → operation_of op s (parts (plain args)) (named_chain op scope s (plain args)) (named_all scope (s.room - 1) true true (plain args)) ≡ operation_of op s (length args) (named_chain op scope s (plain args)) (named_all scope (s.room - 1) true true (plain args))
+  operation_counted op = ap (λ (n : ℕ). operation_of op s n (named_chain op scope s (plain args)) (named_all scope (s.room - 1) true true (plain args))) (parts_plain args)
+
+  pub choices_counted : choices_of s (parts (plain args)) (named_cond scope s (plain args)) ≡ choices_of s (length args) (named_cond scope s (plain args))
+  choices_counted = ap (λ (n : ℕ). choices_of s n (named_cond scope s (plain args))) (parts_plain args)
+
+pub deref_roomless : (scope : Scope) (s : Spot) (args : List Form) → length args ≡ 1 → s.room ≡ 0 → named_deref scope s (plain args) ≡ refuse TooMany s.span
+deref_roomless scope s [] one room = absurd (omega (arith, one))
+deref_roomless scope s (a ∷ []) one room = roomless s (named scope (s.room - 1) true (tree a) >>= λ cell. Ok (Deref cell (spot_mark s))) room
+deref_roomless scope s (a ∷ b ∷ args) one room = absurd (omega (arith, one))
+
+-- ---- groups
+
+module _ (scope : Scope) (room : ℕ) (wanted : Bool) (form : Form) (v : Vec Form Global) (at sp : Span) (fs : List Form) (r n : ℕ) (fs_is : fs ≡ v.items) (n_is : n ≡ length v.items) (r_is : r ≡ room_for room n) (sp_is : sp ≡ place (tree form)) where
+  module _ (made : Spot → Forms → Answer Tree) where
+    group_made : at ≡ sp → made (spot_at (room_for room (parts (plain v.items))) at wanted) (plain v.items) ≡ made (spot_at r sp wanted) (plain fs)
+    group_made p =
+        ap (λ (k : ℕ). made (spot_at (room_for room k) at wanted) (plain v.items)) (parts_plain v.items ∙ sym n_is)
+        ∙ ap (λ (k : ℕ). made (spot_at k at wanted) (plain v.items)) (sym r_is)
+        ∙ ap (λ (x : Span). made (spot_at r x wanted) (plain v.items)) p
+        ∙ ap (λ (l : List Form). made (spot_at r sp wanted) (plain l)) (sym fs_is)
+
+  pub group_round : form ≡ Group Round v at → named scope room wanted (tree form) ≡ named_list scope (spot_at r sp wanted) (plain fs)
+  group_round is =
+      let g = ap tree is ∙ tree-Group Round v at in
+      ap (named scope room wanted) g ∙ group_made (named_list scope) (sym (sp_is ∙ ap place g))
+
+  pub group_square : form ≡ Group Square v at → named scope room wanted (tree form) ≡ sequence_of sequence.Vector (spot_at r sp wanted) (named_all scope (r - 1) true true (plain fs))
+  group_square is =
+      let g = ap tree is ∙ tree-Group Square v at in
+      ap (named scope room wanted) g ∙ group_made (λ s l. sequence_of sequence.Vector s (named_all scope (s.room - 1) true true l)) (sym (sp_is ∙ ap place g))

@@ -1,0 +1,442 @@
+use Rattle.std.proofs.Common.{◌≡◌, ◌<◌, ◌≤◌, ◌+◌, ◌-◌, ◌*◌, ◌∷◌, [], ◌++◌, ℕ, Bool, true, false, List, Result, Ok, Err, length, drop, get_or, refl, sym, ap, ◌∙◌, subst, arith, rules, Vec, Global}
+use Rattle.std.proofs.lemmas.Result.{err_from_is_err_and}
+use Rattle.txs_reader.proofs.form.Form.TheLaws.{the_size}
+use Rattle.txs_reader.specs.declared.form.Bracket.TheVariants.{Round, Square}
+use Rattle.txs_reader.specs.declared.form.Form.{Form, Group, the_lemmas}
+use Rattle.txs_reader.specs.Tree.{tree}
+use Rattle.txs_tree.specs.Tree.{Tree, Trees, Do, If, Deref, Dosync, Alter}
+use Rattle.txs_tree.specs.declared.node.Node.{Node}
+use Rattle.txs_tree.specs.View.{tree_of, trees_of, mark_of}
+use Rattle.txs_resolve.specs.declared.names.FormName.TheVariants as kind
+use Rattle.txs_resolve.specs.declared.nodes.Head.TheVariants.{Form as AForm, Called}
+use Rattle.txs_resolve.specs.declared.nodes.Sequence.TheVariants as sequence
+use Rattle.txs_resolve.specs.declared.nodes.Spot.{Spot}
+use Rattle.txs_value.specs.declared.op.Callee.TheVariants.{Core as CoreOp}
+use Rattle.txs_resolve.specs.Expressions.{Answer, Bound, below, choices_of, may_hide, bound_name, callee_of, choice_node, flag, head_of, logic_node, named, named_all, named_body, named_bindings, named_chain, named_cond, named_deref, named_if, named_logic, binding_node, named_pairs, pair_node, sequence_node, sequence_of, spot_mark}
+use Rattle.txs_resolve.specs.Given.{Gives, IsWithin}
+use Rattle.txs_resolve.specs.Scope.{◌>>=◌, Scope, with_local}
+use Rattle.txs_resolve.proofs.Building.{plain, all_after, bound_after, failed, failed_let, failed_bound, tail_most, roomy, roomless, all_step, all_stop, all_end, bindings_step, bindings_unvalued, bindings_unbound, bindings_odd, bindings_end, failed_name, chain_first, pairs_step, pairs_stop, within_push}
+use Rattle.txs_resolve.proofs.Steps.{if_many, if_roomless, if_no_first, if_no_second, if_no_third, if_made, cond_roomless, cond_no_first, cond_no_second, cond_no_third, cond_made, when_roomless, when_no_first, when_no_second, when_made, logic_alone, logic_roomless, logic_unvalued, logic_full, logic_no_second, logic_made, deref_parts, deref_other, deref_no, deref_made, alter_roomless, alter_no_first, alter_no_second, alter_no_third, alter_made, binding_odd, binding_roomless, binding_parts, body_one, body_several, do_of, do_no, do_made, deref_roomless, choices_odd, choices_even, operation_counted, choices_counted, group_round, group_square, list_head, list_headless, made_of, sequence_no, sequence_made, dosync_no, dosync_made, operation_plain, operation_low, operation_chain}
+use Rattle.txs_resolve.proofs.NodeTrees.{do_tree, if_tree, deref_tree, dosync_tree, alter_tree}
+use Rattle.txs_resolve.proofs.expression.+resolve.Goals as goal
+
+-- ---- rows
+
+pub sequence-returns-in_err-nodes-clause-node : goal.sequence-returns-in_err-nodes-clause-node
+sequence-returns-in_err-nodes-clause-node t c =
+    let p = err_from_is_err_and c.from_residual.result c.from_residual.ensures.1 in
+    rw (p.1, p.2) (failed (λ (v : Vec Node Global). trees_of v.items) tree_of _ _ _ c.in_err-nodes.ensures.nodes (λ e no.
+    sequence_no c.args.spot c.if-spot-eq0.false c.args.kind (named_all c.args.scope.now (c.args.spot.room - 1) true true (plain c.args.forms.now)) e no))
+
+pub sequence-returns-clause-node : goal.sequence-returns-clause-node
+sequence-returns-clause-node t c =
+    sequence_made c.args.spot c.if-spot-eq0.false c.args.kind (named_all c.args.scope.now (c.args.spot.room - 1) true true (plain c.args.forms.now)) (trees_of c.in_ok-nodes.nodes.items) c.in_ok-nodes.ensures.nodes
+    ∙ ap (λ (x : Tree). Ok x) (sym c.sequence_node.ensures)
+
+-- ---- transactions and reads
+
+pub dosync-returns-in_err-inner-clause-node : goal.dosync-returns-in_err-inner-clause-node
+dosync-returns-in_err-inner-clause-node t c =
+    let p = err_from_is_err_and c.from_residual.result c.from_residual.ensures.1 in
+    rw (p.1, p.2) (failed tree_of tree_of _ _ _ c.in_err-inner.ensures.node (λ e no.
+    dosync_no c.args.spot c.if-spot-eq0.false (named_body c.args.scope.now (below 1 c.args.spot) (plain c.args.args.now)) e (ap (λ (s : Spot). named_body c.args.scope.now s (plain c.args.args.now)) (sym c.below.ensures) ∙ no)))
+
+pub dosync-returns-clause-node : goal.dosync-returns-clause-node
+dosync-returns-clause-node t c =
+    dosync_made c.args.spot c.if-spot-eq0.false (named_body c.args.scope.now (below 1 c.args.spot) (plain c.args.args.now)) (tree_of c.in_ok-inner.inner)
+    (ap (λ (s : Spot). named_body c.args.scope.now s (plain c.args.args.now)) (sym c.below.ensures) ∙ c.in_ok-inner.ensures.node)
+    ∙ ap (λ (x : Tree). Ok x) (sym (ap tree_of c.node.ensures ∙ dosync_tree c.in_ok-inner-2.inner (spot_mark c.args.spot) ∙ ap (λ (n : Node). Dosync (tree_of n) (spot_mark c.args.spot)) c.in_ok-inner-2.ensures.ok))
+
+pub deref-returns-then-args-ne1-clause-node : goal.deref-returns-then-args-ne1-clause-node
+deref-returns-then-args-ne1-clause-node t c =
+    subst (λ st. Gives tree_of (Err st) (named_deref c.args.scope.now c.args.spot (plain c.args.args.now))) (sym c.refused.ensures)
+    (deref_other c.args.scope.now c.args.spot c.args.args.now c.if-args-ne1.true)
+
+pub deref-returns-in_err-cell-clause-node : goal.deref-returns-in_err-cell-clause-node
+deref-returns-in_err-cell-clause-node t c =
+    let p = err_from_is_err_and c.from_residual.result c.from_residual.ensures.1 in
+    rw (p.1, p.2) (failed tree_of tree_of _ _ _ c.in_err-cell.ensures.node (λ e no.
+    deref_parts c.args.scope.now c.args.spot c.args.args.now c.index-args-0.result c.if-args-ne1.false ∙ deref_no c.args.spot c.if-spot-eq0.false (named c.args.scope.now (c.args.spot.room - 1) true (tree (get_or c.args.args.now 0 c.index-args-0.result))) e (ap (λ f. named c.args.scope.now (c.args.spot.room - 1) true (tree f)) (sym c.index-args-0.is) ∙ no)))
+
+pub deref-returns-clause-node : goal.deref-returns-clause-node
+deref-returns-clause-node t c =
+    deref_parts c.args.scope.now c.args.spot c.args.args.now c.index-args-0.result c.if-args-ne1.false
+    ∙ deref_made c.args.spot c.if-spot-eq0.false (named c.args.scope.now (c.args.spot.room - 1) true (tree (get_or c.args.args.now 0 c.index-args-0.result))) (tree_of c.in_ok-cell.cell) (ap (λ f. named c.args.scope.now (c.args.spot.room - 1) true (tree f)) (sym c.index-args-0.is) ∙ c.in_ok-cell.ensures.node)
+    ∙ ap (λ (x : Tree). Ok x) (sym (ap tree_of c.node.ensures ∙ deref_tree c.in_ok-cell-2.cell (spot_mark c.args.spot) ∙ ap (λ (n : Node). Deref (tree_of n) (spot_mark c.args.spot)) c.in_ok-cell-2.ensures.ok))
+
+-- ---- if
+
+pub branches-returns-then-rest-gt1-clause-node : goal.branches-returns-then-rest-gt1-clause-node
+branches-returns-then-rest-gt1-clause-node t c =
+    subst (λ st. Gives tree_of (Err st) (named_if c.args.turned c.args.scope.now c.args.spot (plain c.args.args.now))) (sym c.refused-then-rest-gt1.ensures)
+    (if_many c.args.turned c.args.scope.now c.args.spot c.args.args.now c.in-Some.parts.now c.in-Some-split_first.rest.now c.in-Some.test.now c.in-Some-split_first.one.now c.in-Some.ensures.cases.0 c.in-Some-split_first.ensures.cases.0 c.if-rest-gt1.true)
+
+pub branches-returns-then-spot-eq0-clause-node : goal.branches-returns-then-spot-eq0-clause-node
+branches-returns-then-spot-eq0-clause-node t c =
+    subst (λ st. Gives tree_of (Err st) (named_if c.args.turned c.args.scope.now c.args.spot (plain c.args.args.now))) (sym c.refused-then-spot-eq0.ensures)
+    (if_roomless c.args.turned c.args.scope.now c.args.spot c.args.args.now c.in-Some.parts.now c.in-Some-split_first.rest.now c.in-Some.test.now c.in-Some-split_first.one.now c.in-Some.ensures.cases.0 c.in-Some-split_first.ensures.cases.0 (omega (arith, c.if-rest-gt1.false)) c.if-spot-eq0.true)
+
+pub branches-returns-in_err-test-clause-node : goal.branches-returns-in_err-test-clause-node
+branches-returns-in_err-test-clause-node t c =
+    let p = err_from_is_err_and c.from_residual.result c.from_residual.ensures.1 in
+    rw (p.1, p.2) (failed tree_of tree_of _ _ _ c.in_err-test.ensures.node (λ e no.
+    if_no_first c.args.turned c.args.scope.now c.args.spot c.args.args.now c.in-Some.parts.now c.in-Some-split_first.rest.now c.in-Some.test.now c.in-Some-split_first.one.now c.in-Some.ensures.cases.0 c.in-Some-split_first.ensures.cases.0 (omega (arith, c.if-rest-gt1.false)) c.if-spot-eq0.false e no))
+
+pub branches-returns-in_err-one-clause-node : goal.branches-returns-in_err-one-clause-node
+branches-returns-in_err-one-clause-node t c =
+    let p = err_from_is_err_and c.from_residual-in_err-one.result c.from_residual-in_err-one.ensures.1 in
+    rw (p.1, p.2) (failed tree_of tree_of _ _ _ c.in_err-one.ensures.node (λ e no.
+    if_no_second c.args.turned c.args.scope.now c.args.spot c.args.args.now c.in-Some.parts.now c.in-Some-split_first.rest.now c.in-Some.test.now c.in-Some-split_first.one.now c.in-Some.ensures.cases.0 c.in-Some-split_first.ensures.cases.0 (omega (arith, c.if-rest-gt1.false)) c.if-spot-eq0.false (tree_of c.in_ok-test.test) e c.in_ok-test.ensures.node (ap (λ (s : Scope). named s (c.args.spot.room - 1) c.args.spot.wanted (tree c.in-Some-split_first.one.now)) (sym c.in_ok-test.ensures.kept) ∙ no)))
+
+pub branches-returns-in_err-other-clause-node : goal.branches-returns-in_err-other-clause-node
+branches-returns-in_err-other-clause-node t c =
+    let p = err_from_is_err_and c.from_residual-in_err-other.result c.from_residual-in_err-other.ensures.1 in
+    rw (p.1, p.2) (failed tree_of tree_of _ _ _ c.in_err-other.ensures.node (λ e no.
+    if_no_third c.args.turned c.args.scope.now c.args.spot c.args.args.now c.in-Some.parts.now c.in-Some-split_first.rest.now c.in-Some.test.now c.in-Some-split_first.one.now c.in-Some.ensures.cases.0 c.in-Some-split_first.ensures.cases.0 (omega (arith, c.if-rest-gt1.false)) c.if-spot-eq0.false (tree_of c.in_ok-test.test) (tree_of c.in_ok-one.one) e c.in_ok-test.ensures.node (ap (λ (s : Scope). named s (c.args.spot.room - 1) c.args.spot.wanted (tree c.in-Some-split_first.one.now)) (sym c.in_ok-test.ensures.kept) ∙ c.in_ok-one.ensures.node) (ap (λ (x : Spot). named_body c.args.scope.now x (plain c.in-Some-split_first.rest.now)) (sym c.below.ensures) ∙ ap (λ (s : Scope). named_body s c.below.result (plain c.in-Some-split_first.rest.now)) (sym (c.in_ok-one.ensures.kept ∙ c.in_ok-test.ensures.kept)) ∙ no)))
+
+pub branches-returns-clause-node : goal.branches-returns-clause-node
+branches-returns-clause-node t c =
+    if_made c.args.turned c.args.scope.now c.args.spot c.args.args.now c.in-Some.parts.now c.in-Some-split_first.rest.now c.in-Some.test.now c.in-Some-split_first.one.now c.in-Some.ensures.cases.0 c.in-Some-split_first.ensures.cases.0 (omega (arith, c.if-rest-gt1.false)) c.if-spot-eq0.false (tree_of c.in_ok-test.test) (tree_of c.in_ok-one.one) (tree_of c.in_ok-other.other) c.in_ok-test.ensures.node (ap (λ (s : Scope). named s (c.args.spot.room - 1) c.args.spot.wanted (tree c.in-Some-split_first.one.now)) (sym c.in_ok-test.ensures.kept) ∙ c.in_ok-one.ensures.node) (ap (λ (x : Spot). named_body c.args.scope.now x (plain c.in-Some-split_first.rest.now)) (sym c.below.ensures) ∙ ap (λ (s : Scope). named_body s c.below.result (plain c.in-Some-split_first.rest.now)) (sym (c.in_ok-one.ensures.kept ∙ c.in_ok-test.ensures.kept)) ∙ c.in_ok-other.ensures.node)
+    ∙ ap (λ (x : Tree). Ok x) (sym c.in_ok-choice_node.ensures)
+
+-- ---- cond
+
+pub cond-returns-in_err-test-clause-node : goal.cond-returns-in_err-test-clause-node
+cond-returns-in_err-test-clause-node t c =
+    let p = err_from_is_err_and c.from_residual.result c.from_residual.ensures.1 in
+    rw (p.1, p.2) (failed tree_of tree_of _ _ _ c.in_err-test.ensures.node (λ e no.
+    cond_no_first c.args.scope.now c.args.spot c.args.args.now c.in-Some.parts.now c.in-Some-split_first.rest.now c.in-Some.test.now c.in-Some-split_first.one.now c.in-Some.ensures.cases.0 c.in-Some-split_first.ensures.cases.0 c.if-spot-eq0.false e no))
+
+pub cond-returns-in_err-one-clause-node : goal.cond-returns-in_err-one-clause-node
+cond-returns-in_err-one-clause-node t c =
+    let p = err_from_is_err_and c.from_residual-in_err-one.result c.from_residual-in_err-one.ensures.1 in
+    rw (p.1, p.2) (failed tree_of tree_of _ _ _ c.in_err-one.ensures.node (λ e no.
+    cond_no_second c.args.scope.now c.args.spot c.args.args.now c.in-Some.parts.now c.in-Some-split_first.rest.now c.in-Some.test.now c.in-Some-split_first.one.now c.in-Some.ensures.cases.0 c.in-Some-split_first.ensures.cases.0 c.if-spot-eq0.false (tree_of c.in_ok-test.test) e c.in_ok-test.ensures.node (ap (λ (s : Scope). named s (c.args.spot.room - 1) c.args.spot.wanted (tree c.in-Some-split_first.one.now)) (sym c.in_ok-test.ensures.kept) ∙ no)))
+
+pub cond-returns-in_err-other-clause-node : goal.cond-returns-in_err-other-clause-node
+cond-returns-in_err-other-clause-node t c =
+    let p = err_from_is_err_and c.from_residual-in_err-other.result c.from_residual-in_err-other.ensures.1 in
+    rw (p.1, p.2) (failed tree_of tree_of _ _ _ c.in_err-other.ensures.node (λ e no.
+    cond_no_third c.args.scope.now c.args.spot c.args.args.now c.in-Some.parts.now c.in-Some-split_first.rest.now c.in-Some.test.now c.in-Some-split_first.one.now c.in-Some.ensures.cases.0 c.in-Some-split_first.ensures.cases.0 c.if-spot-eq0.false (tree_of c.in_ok-test.test) (tree_of c.in_ok-one.one) e c.in_ok-test.ensures.node (ap (λ (s : Scope). named s (c.args.spot.room - 1) c.args.spot.wanted (tree c.in-Some-split_first.one.now)) (sym c.in_ok-test.ensures.kept) ∙ c.in_ok-one.ensures.node) (ap (λ (x : Spot). named_cond c.args.scope.now x (plain c.in-Some-split_first.rest.now)) (sym c.below.ensures) ∙ ap (λ (s : Scope). named_cond s c.below.result (plain c.in-Some-split_first.rest.now)) (sym (c.in_ok-one.ensures.kept ∙ c.in_ok-test.ensures.kept)) ∙ no)))
+
+pub cond-returns-clause-node : goal.cond-returns-clause-node
+cond-returns-clause-node t c =
+    cond_made c.args.scope.now c.args.spot c.args.args.now c.in-Some.parts.now c.in-Some-split_first.rest.now c.in-Some.test.now c.in-Some-split_first.one.now c.in-Some.ensures.cases.0 c.in-Some-split_first.ensures.cases.0 c.if-spot-eq0.false (tree_of c.in_ok-test.test) (tree_of c.in_ok-one.one) (tree_of c.in_ok-other.other) c.in_ok-test.ensures.node (ap (λ (s : Scope). named s (c.args.spot.room - 1) c.args.spot.wanted (tree c.in-Some-split_first.one.now)) (sym c.in_ok-test.ensures.kept) ∙ c.in_ok-one.ensures.node) (ap (λ (x : Spot). named_cond c.args.scope.now x (plain c.in-Some-split_first.rest.now)) (sym c.below.ensures) ∙ ap (λ (s : Scope). named_cond s c.below.result (plain c.in-Some-split_first.rest.now)) (sym (c.in_ok-one.ensures.kept ∙ c.in_ok-test.ensures.kept)) ∙ c.in_ok-other.ensures.node)
+    ∙ ap (λ (x : Tree). Ok x) (sym c.in_ok-choice_node.ensures)
+
+-- ---- when
+
+pub guarded-returns-in_err-test-clause-node : goal.guarded-returns-in_err-test-clause-node
+guarded-returns-in_err-test-clause-node t c =
+    let p = err_from_is_err_and c.from_residual.result c.from_residual.ensures.1 in
+    rw (p.1, p.2) (failed tree_of tree_of _ _ _ c.in_err-test.ensures.node (λ e no.
+    when_no_first c.args.turned c.args.scope.now c.args.spot c.args.args.now c.in-Some.rest.now c.in-Some.test.now c.in-Some.ensures.cases.0 c.if-spot-eq0.false e no))
+
+pub guarded-returns-in_err-one-clause-node : goal.guarded-returns-in_err-one-clause-node
+guarded-returns-in_err-one-clause-node t c =
+    let p = err_from_is_err_and c.from_residual-in_err-one.result c.from_residual-in_err-one.ensures.1 in
+    rw (p.1, p.2) (failed tree_of tree_of _ _ _ c.in_err-one.ensures.node (λ e no.
+    when_no_second c.args.turned c.args.scope.now c.args.spot c.args.args.now c.in-Some.rest.now c.in-Some.test.now c.in-Some.ensures.cases.0 c.if-spot-eq0.false (tree_of c.in_ok-test.test) e c.in_ok-test.ensures.node (ap (λ (x : Spot). named_body c.args.scope.now x (plain c.in-Some.rest.now)) (sym c.below.ensures) ∙ ap (λ (s : Scope). named_body s c.below.result (plain c.in-Some.rest.now)) (sym c.in_ok-test.ensures.kept) ∙ no)))
+
+pub guarded-returns-clause-node : goal.guarded-returns-clause-node
+guarded-returns-clause-node t c =
+    when_made c.args.turned c.args.scope.now c.args.spot c.args.args.now c.in-Some.rest.now c.in-Some.test.now c.in-Some.ensures.cases.0 c.if-spot-eq0.false (tree_of c.in_ok-test.test) (tree_of c.in_ok-one.one) c.in_ok-test.ensures.node (ap (λ (x : Spot). named_body c.args.scope.now x (plain c.in-Some.rest.now)) (sym c.below.ensures) ∙ ap (λ (s : Scope). named_body s c.below.result (plain c.in-Some.rest.now)) (sym c.in_ok-test.ensures.kept) ∙ c.in_ok-one.ensures.node)
+    ∙ ap (λ (n : Node). Ok (choice_node c.args.turned (tree_of c.in_ok-test.test) (tree_of c.in_ok-one.one) (tree_of n) (spot_mark c.args.spot))) (sym c.node-other.ensures)
+    ∙ ap (λ (x : Tree). Ok x) (sym c.in_ok-choice_node.ensures)
+
+-- ---- alter
+
+pub alter-returns-in_err-cell-clause-node : goal.alter-returns-in_err-cell-clause-node
+alter-returns-in_err-cell-clause-node t c =
+    let p = err_from_is_err_and c.from_residual.result c.from_residual.ensures.1 in
+    rw (p.1, p.2) (failed tree_of tree_of _ _ _ c.in_err-cell.ensures.node (λ e no.
+    alter_no_first c.args.scope.now c.args.spot c.args.args.now c.in-Some.parts.now c.in-Some-split_first.further.now c.in-Some.cell.now c.in-Some-split_first.function.now c.in-Some.ensures.cases.0 c.in-Some-split_first.ensures.cases.0 c.if-spot-eq0.false e no))
+
+pub alter-returns-in_err-called-clause-node : goal.alter-returns-in_err-called-clause-node
+alter-returns-in_err-called-clause-node t c =
+    let p = err_from_is_err_and c.from_residual-in_err-called.result c.from_residual-in_err-called.ensures.1 in
+    rw (p.1, p.2) (failed (λ c. c) tree_of _ _ _ c.in_err-called.ensures (λ e no.
+    alter_no_second c.args.scope.now c.args.spot c.args.args.now c.in-Some.parts.now c.in-Some-split_first.further.now c.in-Some.cell.now c.in-Some-split_first.function.now c.in-Some.ensures.cases.0 c.in-Some-split_first.ensures.cases.0 c.if-spot-eq0.false (tree_of c.in_ok-cell.cell) e c.in_ok-cell.ensures.node (ap (λ (s : Scope). callee_of s c.args.spot (tree c.in-Some-split_first.function.now)) (sym c.in_ok-cell.ensures.kept) ∙ no)))
+
+pub alter-returns-in_err-nodes-clause-node : goal.alter-returns-in_err-nodes-clause-node
+alter-returns-in_err-nodes-clause-node t c =
+    let p = err_from_is_err_and c.from_residual-in_err-nodes.result c.from_residual-in_err-nodes.ensures.1 in
+    rw (p.1, p.2) (failed (λ (v : Vec Node Global). trees_of v.items) tree_of _ _ _ c.in_err-nodes.ensures.nodes (λ e no.
+    alter_no_third c.args.scope.now c.args.spot c.args.args.now c.in-Some.parts.now c.in-Some-split_first.further.now c.in-Some.cell.now c.in-Some-split_first.function.now c.in-Some.ensures.cases.0 c.in-Some-split_first.ensures.cases.0 c.if-spot-eq0.false (tree_of c.in_ok-cell.cell) c.in_ok-called.called e c.in_ok-cell.ensures.node (ap (λ (s : Scope). callee_of s c.args.spot (tree c.in-Some-split_first.function.now)) (sym c.in_ok-cell.ensures.kept) ∙ c.in_ok-called.ensures) (ap (λ (s : Scope). named_all s (c.args.spot.room - 1) true true (plain c.in-Some-split_first.further.now)) (sym c.in_ok-cell.ensures.kept) ∙ no)))
+
+pub alter-returns-clause-node : goal.alter-returns-clause-node
+alter-returns-clause-node t c =
+    alter_made c.args.scope.now c.args.spot c.args.args.now c.in-Some.parts.now c.in-Some-split_first.further.now c.in-Some.cell.now c.in-Some-split_first.function.now c.in-Some.ensures.cases.0 c.in-Some-split_first.ensures.cases.0 c.if-spot-eq0.false (tree_of c.in_ok-cell.cell) c.in_ok-called.called (trees_of c.in_ok-nodes.nodes.items) c.in_ok-cell.ensures.node (ap (λ (s : Scope). callee_of s c.args.spot (tree c.in-Some-split_first.function.now)) (sym c.in_ok-cell.ensures.kept) ∙ c.in_ok-called.ensures) (ap (λ (s : Scope). named_all s (c.args.spot.room - 1) true true (plain c.in-Some-split_first.further.now)) (sym c.in_ok-cell.ensures.kept) ∙ c.in_ok-nodes.ensures.nodes)
+    ∙ ap (λ (x : Tree). Ok x) (sym (ap tree_of c.node.ensures ∙ alter_tree c.in_ok-cell-2.cell c.in_ok-called.called c.in_ok-nodes.nodes (spot_mark c.args.spot) ∙ ap (λ (n : Node). Alter (tree_of n) c.in_ok-called.called (trees_of c.in_ok-nodes.nodes.items) (spot_mark c.args.spot)) c.in_ok-cell-2.ensures.ok))
+
+-- ---- and, or
+
+-- ---- forms one after the other
+
+pub all-loop-i-preserved : goal.all-loop-i-preserved
+all-loop-i-preserved t c =
+    let fs = c.args.forms.now in
+    let i = c.loop-i.i in
+    let d = c.index-forms-i.result in
+    let value : named c.args.scope.now c.args.room (flag c.args.inner c.args.last (plain (drop (i + 1) fs))) (tree (get_or fs i d)) ≡ Ok (tree_of c.in_ok-node.node) =
+    ap (λ f. named c.args.scope.now c.args.room (flag c.args.inner c.args.last (plain (drop (i + 1) fs))) (tree f)) (sym c.index-forms-i.is)
+    ∙ ap (λ w. named c.args.scope.now c.args.room w (tree d)) (sym c.flag_at.ensures)
+    ∙ ap (λ s. named s c.args.room c.flag_at.result (tree d)) (sym c.loop-i.invariant.kept)
+    ∙ c.in_ok-node.ensures.node in
+    record {
+      same =
+          c.loop-i.invariant.same
+          ∙ all_step c.args.scope.now c.args.room c.args.inner c.args.last fs i d c.in_ok-node.node c.loop-i.nodes.items c.loop-i-test.true value
+          ∙ ap (λ ns. all_after ns (named_all c.args.scope.now c.args.room c.args.inner c.args.last (plain (drop (i + 1) fs)))) (sym c.in_ok-push.ensures.items);
+      kept = c.in_ok-node.ensures.kept ∙ c.loop-i.invariant.kept;
+    }
+
+pub all-returns-clause-nodes : goal.all-returns-clause-nodes
+all-returns-clause-nodes t c =
+    c.loop-i.invariant.same
+    ∙ all_end c.args.scope.now c.args.room c.args.inner c.args.last c.args.forms.now c.loop-i.i c.loop-i.nodes.items c.loop-i-test.false
+
+pub deref-returns-then-spot-eq0-clause-node : goal.deref-returns-then-spot-eq0-clause-node
+deref-returns-then-spot-eq0-clause-node t c =
+    subst (λ st. Gives tree_of (Err st) (named_deref c.args.scope.now c.args.spot (plain c.args.args.now))) (sym c.refused-then-spot-eq0.ensures)
+    (deref_roomless c.args.scope.now c.args.spot c.args.args.now c.if-args-ne1.false c.if-spot-eq0.true)
+
+-- ---- let, loop
+
+pub binding-returns-in_err-values-clause-node : goal.binding-returns-in_err-values-clause-node
+binding-returns-in_err-values-clause-node t c =
+    let p = err_from_is_err_and c.from_residual.result c.from_residual.ensures.1 in
+    let items : c.deref.result.now ≡ c.in-Some-Group-Square-default-default-default.pairs.items = first_of (search (rules, the_lemmas), search (rules, the_lemmas, c.deref.ensures.value, c.in-Some-Group-Square-default-default-default.field-0-0-is), search (rules, the_lemmas) depth 8) in
+    let square : c.in-Some-Group-Square-default-default-default.field-0-0.now ≡ Group Square c.in-Some-Group-Square-default-default-default.pairs c.in-Some-Group-Square-default-default-default.field-0-0-2 = search (rules, the_lemmas) in
+    let items_too : c.deref-2.result.now ≡ c.in-Some-Group-Square-default-default-default.pairs.items = first_of (search (rules, the_lemmas), search (rules, the_lemmas, c.deref-2.ensures.value, c.in-Some-Group-Square-default-default-default.field-0-0-is), search (rules, the_lemmas) depth 8) in
+    let e = binding_parts c.args.is_loop c.args.scope.now c.args.spot c.args.args.now c.in-Some-Group-Square-default-default-default.forms.now c.deref.result.now c.in-Some-Group-Square-default-default-default.field-0-0.now c.in-Some-Group-Square-default-default-default.pairs c.in-Some-Group-Square-default-default-default.field-0-0-2 c.in-Some-Group-Square-default-default-default.ensures.cases.0 square items (sym c.if-not-are_pairs.ensures) c.if-spot-eq0.false
+    ∙ ap (λ l. (λ (o : Answer Bound). o >>= λ bound. named_body bound.scope (below 1 c.args.spot) (plain c.in-Some-Group-Square-default-default-default.forms.now) >>= λ node. Ok (binding_node c.args.is_loop bound.values node (spot_mark c.args.spot))) (named_bindings c.args.scope.now (c.args.spot.room - 1) (plain l))) (items ∙ sym items_too) in
+    rw (p.1, p.2) (failed_let tree_of _ _ _ _ c.in_err-values.ensures.values (λ x no.
+    e ∙ ap (λ (o : Answer Bound). o >>= λ bound. named_body bound.scope (below 1 c.args.spot) (plain c.in-Some-Group-Square-default-default-default.forms.now) >>= λ node. Ok (binding_node c.args.is_loop bound.values node (spot_mark c.args.spot))) no))
+
+pub binding-returns-in_err-inner-clause-node : goal.binding-returns-in_err-inner-clause-node
+binding-returns-in_err-inner-clause-node t c =
+    let p = err_from_is_err_and c.from_residual-in_err-inner.result c.from_residual-in_err-inner.ensures.1 in
+    let items : c.deref.result.now ≡ c.in-Some-Group-Square-default-default-default.pairs.items = first_of (search (rules, the_lemmas), search (rules, the_lemmas, c.deref.ensures.value, c.in-Some-Group-Square-default-default-default.field-0-0-is), search (rules, the_lemmas) depth 8) in
+    let square : c.in-Some-Group-Square-default-default-default.field-0-0.now ≡ Group Square c.in-Some-Group-Square-default-default-default.pairs c.in-Some-Group-Square-default-default-default.field-0-0-2 = search (rules, the_lemmas) in
+    let items_too : c.deref-2.result.now ≡ c.in-Some-Group-Square-default-default-default.pairs.items = first_of (search (rules, the_lemmas), search (rules, the_lemmas, c.deref-2.ensures.value, c.in-Some-Group-Square-default-default-default.field-0-0-is), search (rules, the_lemmas) depth 8) in
+    let e = binding_parts c.args.is_loop c.args.scope.now c.args.spot c.args.args.now c.in-Some-Group-Square-default-default-default.forms.now c.deref.result.now c.in-Some-Group-Square-default-default-default.field-0-0.now c.in-Some-Group-Square-default-default-default.pairs c.in-Some-Group-Square-default-default-default.field-0-0-2 c.in-Some-Group-Square-default-default-default.ensures.cases.0 square items (sym c.if-not-are_pairs.ensures) c.if-spot-eq0.false
+    ∙ ap (λ l. (λ (o : Answer Bound). o >>= λ bound. named_body bound.scope (below 1 c.args.spot) (plain c.in-Some-Group-Square-default-default-default.forms.now) >>= λ node. Ok (binding_node c.args.is_loop bound.values node (spot_mark c.args.spot))) (named_bindings c.args.scope.now (c.args.spot.room - 1) (plain l))) (items ∙ sym items_too) in
+    rw (p.1, p.2) (failed tree_of tree_of _ _ _ c.in_err-inner.ensures.node (λ x no.
+    e
+    ∙ ap (λ (o : Answer Bound). o >>= λ bound. named_body bound.scope (below 1 c.args.spot) (plain c.in-Some-Group-Square-default-default-default.forms.now) >>= λ node. Ok (binding_node c.args.is_loop bound.values node (spot_mark c.args.spot))) c.in_ok-values.ensures.values
+    ∙ ap (λ (o : Answer Tree). o >>= λ node. Ok (binding_node c.args.is_loop (trees_of c.in_ok-values.values.items) node (spot_mark c.args.spot)))
+    (ap (λ (x : Spot). named_body c.bindings.new.scope x (plain c.in-Some-Group-Square-default-default-default.forms.now)) (sym c.below.ensures) ∙ no)))
+
+pub binding-returns-clause-node : goal.binding-returns-clause-node
+binding-returns-clause-node t c =
+    let items : c.deref.result.now ≡ c.in-Some-Group-Square-default-default-default.pairs.items = first_of (search (rules, the_lemmas), search (rules, the_lemmas, c.deref.ensures.value, c.in-Some-Group-Square-default-default-default.field-0-0-is), search (rules, the_lemmas) depth 8) in
+    let square : c.in-Some-Group-Square-default-default-default.field-0-0.now ≡ Group Square c.in-Some-Group-Square-default-default-default.pairs c.in-Some-Group-Square-default-default-default.field-0-0-2 = search (rules, the_lemmas) in
+    let items_too : c.deref-2.result.now ≡ c.in-Some-Group-Square-default-default-default.pairs.items = first_of (search (rules, the_lemmas), search (rules, the_lemmas, c.deref-2.ensures.value, c.in-Some-Group-Square-default-default-default.field-0-0-is), search (rules, the_lemmas) depth 8) in
+    let e = binding_parts c.args.is_loop c.args.scope.now c.args.spot c.args.args.now c.in-Some-Group-Square-default-default-default.forms.now c.deref.result.now c.in-Some-Group-Square-default-default-default.field-0-0.now c.in-Some-Group-Square-default-default-default.pairs c.in-Some-Group-Square-default-default-default.field-0-0-2 c.in-Some-Group-Square-default-default-default.ensures.cases.0 square items (sym c.if-not-are_pairs.ensures) c.if-spot-eq0.false
+    ∙ ap (λ l. (λ (o : Answer Bound). o >>= λ bound. named_body bound.scope (below 1 c.args.spot) (plain c.in-Some-Group-Square-default-default-default.forms.now) >>= λ node. Ok (binding_node c.args.is_loop bound.values node (spot_mark c.args.spot))) (named_bindings c.args.scope.now (c.args.spot.room - 1) (plain l))) (items ∙ sym items_too) in
+    e
+    ∙ ap (λ (o : Answer Bound). o >>= λ bound. named_body bound.scope (below 1 c.args.spot) (plain c.in-Some-Group-Square-default-default-default.forms.now) >>= λ node. Ok (binding_node c.args.is_loop bound.values node (spot_mark c.args.spot))) c.in_ok-values.ensures.values
+    ∙ ap (λ (o : Answer Tree). o >>= λ node. Ok (binding_node c.args.is_loop (trees_of c.in_ok-values.values.items) node (spot_mark c.args.spot)))
+    (ap (λ (x : Spot). named_body c.bindings.new.scope x (plain c.in-Some-Group-Square-default-default-default.forms.now)) (sym c.below.ensures) ∙ c.in_ok-inner.ensures.node)
+    ∙ ap (λ (x : Tree). Ok x) (sym c.in_ok-binding_node.ensures)
+
+pub bindings-returns-in_err-value-clause-values : goal.bindings-returns-in_err-value-clause-values
+bindings-returns-in_err-value-clause-values t c =
+    let p = err_from_is_err_and c.from_residual.result c.from_residual.ensures.1 in
+    rw (p.1, p.2) (failed_bound tree_of _ _ _ _ c.in_err-value.ensures.node (λ e no.
+    c.loop-at.invariant.same
+    ∙ bindings_unvalued c.loop-at.scope c.args.room c.args.pairs.now c.loop-at.at c.loop-at.values.items c.index-pairs-at.result c.index-pairs-at.result e c.loop-at-test.true
+    (ap (λ f. named c.loop-at.scope c.args.room true (tree f)) (sym c.index-pairs-at.is) ∙ no)))
+
+pub bindings-returns-in_err-name-clause-values : goal.bindings-returns-in_err-name-clause-values
+bindings-returns-in_err-name-clause-values t c =
+    let p = err_from_is_err_and c.from_residual-in_err-name.result c.from_residual-in_err-name.ensures.1 in
+    rw (p.1, p.2) (failed_name _ c.expression.new.scope c.expression.new.scope (tree c.index-pairs-at-in-loop-at.result) _ c.in_err-name.ensures (λ e no.
+    c.loop-at.invariant.same
+    ∙ bindings_unbound c.loop-at.scope c.args.room c.args.pairs.now c.loop-at.at c.loop-at.values.items c.index-pairs-at-in-loop-at.result c.index-pairs-at.result (tree_of c.in_ok-value.value) e c.loop-at-test.true
+    (ap (λ f. named c.loop-at.scope c.args.room true (tree f)) (sym c.index-pairs-at.is) ∙ c.in_ok-value.ensures.node)
+    (ap (λ f. bound_name c.loop-at.scope (tree f)) (sym c.index-pairs-at-in-loop-at.is) ∙ ap (λ (s : Scope). bound_name s (tree c.index-pairs-at-in-loop-at.result)) (sym c.in_ok-value.ensures.kept) ∙ no)))
+
+pub bindings-loop-at-preserved : goal.bindings-loop-at-preserved
+bindings-loop-at-preserved t c =
+    let name = c.in_ok-name.name.now in
+    let scope : c.push-in-loop-at.new.self ≡ with_local name c.loop-at.scope = c.in_ok-push-2.ensures ∙ ap (λ l. with_local l c.expression.new.scope) c.as_bytes.ensures.value ∙ ap (λ (s : Scope). with_local name s) c.in_ok-value.ensures.kept in
+    record {
+      same =
+          c.loop-at.invariant.same
+          ∙ bindings_step c.loop-at.scope c.args.room c.args.pairs.now c.loop-at.at c.loop-at.values.items c.index-pairs-at-in-loop-at.result c.index-pairs-at.result name c.in_ok-value.value c.loop-at-test.true
+          (ap (λ f. named c.loop-at.scope c.args.room true (tree f)) (sym c.index-pairs-at.is) ∙ c.in_ok-value.ensures.node)
+          (ap (λ f. bound_name c.loop-at.scope (tree f)) (sym c.index-pairs-at-in-loop-at.is) ∙ ap (λ (s : Scope). bound_name s (tree c.index-pairs-at-in-loop-at.result)) (sym c.in_ok-value.ensures.kept) ∙ c.in_ok-name.ensures.1)
+          ∙ ap (λ (s : Scope). bound_after (c.loop-at.values.items ++ c.in_ok-value.value ∷ []) (named_bindings s c.args.room (plain (drop (c.loop-at.at + 2) c.args.pairs.now)))) (sym scope)
+          ∙ ap (λ ns. bound_after ns (named_bindings c.push-in-loop-at.new.self c.args.room (plain (drop (c.loop-at.at + 2) c.args.pairs.now)))) (sym c.in_ok-push.ensures.items);
+      within = subst (λ s. IsWithin c.args.scope.now s) (sym scope) (within_push c.args.scope.now c.loop-at.scope name c.loop-at.invariant.within);
+      inside = omega (arith, c.loop-at-test.true);
+    }
+
+pub bindings-returns-clause-values : goal.bindings-returns-clause-values
+bindings-returns-clause-values t c =
+    c.loop-at.invariant.same
+    ∙ bindings_end c.loop-at.scope c.args.room c.args.pairs.now c.loop-at.at c.loop-at.values.items c.if-at-pairs.false
+
+-- ---- bodies
+
+pub body-returns-in-len1-clause-node : goal.body-returns-in-len1-clause-node
+body-returns-in-len1-clause-node t c =
+    subst (λ a. Gives tree_of c.expression.result a)
+    (sym (body_one c.args.scope.now c.args.spot c.args.forms.now c.form-item.result (omega (arith, c.in-len1.len_at_least, c.in-len1.len_below)) ∙ ap (λ f. named c.args.scope.now c.args.spot.room c.args.spot.wanted (tree f)) (sym c.form-item.is)))
+    c.expression.ensures.node
+
+pub body-returns-then-spot-eq0-clause-node : goal.body-returns-then-spot-eq0-clause-node
+body-returns-then-spot-eq0-clause-node t c =
+    subst (λ st. Gives tree_of (Err st) (named_body c.args.scope.now c.args.spot (plain c.args.forms.now))) (sym c.refused.ensures)
+    (body_several c.args.scope.now c.args.spot c.args.forms.now (omega (arith, c.in_default.len_at_least))
+    ∙ roomless c.args.spot (do_of c.args.spot (named_all c.args.scope.now (c.args.spot.room - 1) false c.args.spot.wanted (plain c.args.forms.now))) c.if-spot-eq0.true)
+
+pub body-returns-in_err-items-in_default-clause-node : goal.body-returns-in_err-items-in_default-clause-node
+body-returns-in_err-items-in_default-clause-node t c =
+    let p = err_from_is_err_and c.from_residual.result c.from_residual.ensures.1 in
+    rw (p.1, p.2) (failed (λ (v : Vec Node Global). trees_of v.items) tree_of _ _ _ c.in_err-items-in_default.ensures.nodes (λ e no.
+    body_several c.args.scope.now c.args.spot c.args.forms.now (omega (arith, c.in_default.len_at_least))
+    ∙ do_no c.args.spot c.if-spot-eq0.false (named_all c.args.scope.now (c.args.spot.room - 1) false c.args.spot.wanted (plain c.args.forms.now)) e no))
+
+pub body-returns-in_ok-items-in_default-clause-node : goal.body-returns-in_ok-items-in_default-clause-node
+body-returns-in_ok-items-in_default-clause-node t c =
+    body_several c.args.scope.now c.args.spot c.args.forms.now (omega (arith, c.in_default.len_at_least))
+    ∙ do_made c.args.spot c.if-spot-eq0.false (named_all c.args.scope.now (c.args.spot.room - 1) false c.args.spot.wanted (plain c.args.forms.now)) (trees_of c.in_ok-items-in_default.items.items) c.in_ok-items-in_default.ensures.nodes
+    ∙ ap (λ (x : Tree). Ok x) (sym (ap tree_of c.node.ensures ∙ do_tree c.in_ok-items-in_default.items (spot_mark c.args.spot)))
+
+-- ---- chains
+
+pub chain-returns-in_err-total-clause-node : goal.chain-returns-in_err-total-clause-node
+chain-returns-in_err-total-clause-node t c =
+    let p = err_from_is_err_and c.from_residual.result c.from_residual.ensures.1 in
+    let room = c.args.spot.room - (length c.args.args.now - 1) in
+    rw (p.1, p.2) (failed tree_of tree_of _ _ _ c.in_err-total.ensures.node (λ e no.
+    chain_first c.args.op c.args.scope.now c.args.spot c.args.args.now c.index-args-0.result c.requires.few
+    ∙ ap (λ (o : Answer Tree). o >>= λ total. named_pairs c.args.op c.args.scope.now c.args.spot total (plain (drop 1 c.args.args.now)))
+    (ap (λ f. named c.args.scope.now room true (tree f)) (sym c.index-args-0.is)
+    ∙ ap (λ (k : ℕ). named c.args.scope.now k true (tree c.index-args-0.result)) (sym c.saturating_sub-room.ensures)
+    ∙ no)))
+
+pub chain-loop-i-init : goal.chain-loop-i-init
+chain-loop-i-init t c =
+    let room = c.args.spot.room - (length c.args.args.now - 1) in
+    record {
+      same =
+          chain_first c.args.op c.args.scope.now c.args.spot c.args.args.now c.index-args-0.result c.requires.few
+          ∙ ap (λ (o : Answer Tree). o >>= λ total. named_pairs c.args.op c.args.scope.now c.args.spot total (plain (drop 1 c.args.args.now)))
+          (ap (λ f. named c.args.scope.now room true (tree f)) (sym c.index-args-0.is)
+          ∙ ap (λ (k : ℕ). named c.args.scope.now k true (tree c.index-args-0.result)) (sym c.saturating_sub-room.ensures)
+          ∙ c.in_ok-total.ensures.node);
+      kept = c.in_ok-total.ensures.kept;
+    }
+
+pub chain-returns-in_err-term-clause-node : goal.chain-returns-in_err-term-clause-node
+chain-returns-in_err-term-clause-node t c =
+    let p = err_from_is_err_and c.from_residual-in_err-term.result c.from_residual-in_err-term.ensures.1 in
+    let room = c.args.spot.room - (length c.args.args.now - c.loop-i.i) in
+    rw (p.1, p.2) (failed tree_of tree_of _ _ _ c.in_err-term.ensures.node (λ e no.
+    c.loop-i.invariant.same
+    ∙ pairs_stop c.args.op c.args.scope.now c.args.spot c.args.args.now c.loop-i.i c.index-args-i.result (tree_of c.loop-i.total) (omega arith) e
+    (ap (λ f. named c.args.scope.now room true (tree f)) (sym c.index-args-i.is)
+    ∙ ap (λ (k : ℕ). named c.args.scope.now k true (tree c.index-args-i.result)) (sym c.saturating_sub-room-in-loop-i.ensures)
+    ∙ ap (λ (s : Scope). named s c.saturating_sub-room-in-loop-i.result true (tree c.index-args-i.result)) (sym c.loop-i.invariant.kept)
+    ∙ no)))
+
+pub chain-loop-i-preserved : goal.chain-loop-i-preserved
+chain-loop-i-preserved t c =
+    let room = c.args.spot.room - (length c.args.args.now - c.loop-i.i) in
+    let rest = plain (drop (c.loop-i.i + 1) c.args.args.now) in
+    let total : pair_node c.args.op (tree_of c.loop-i.total) (tree_of c.in_ok-term.term) (mark_of c.args.spot.span (flag true c.args.spot.wanted rest)) ≡ tree_of c.in_ok-total-2.total =
+    sym (c.in_ok-total-2.ensures ∙ ap (λ w. pair_node c.args.op (tree_of c.loop-i.total) (tree_of c.in_ok-term.term) (mark_of c.args.spot.span w)) c.flag_at-wanted.ensures) in
+    record {
+      same =
+          c.loop-i.invariant.same
+          ∙ pairs_step c.args.op c.args.scope.now c.args.spot c.args.args.now c.loop-i.i c.index-args-i.result (tree_of c.loop-i.total) (omega arith) (tree_of c.in_ok-term.term)
+          (ap (λ f. named c.args.scope.now room true (tree f)) (sym c.index-args-i.is)
+          ∙ ap (λ (k : ℕ). named c.args.scope.now k true (tree c.index-args-i.result)) (sym c.saturating_sub-room-in-loop-i.ensures)
+          ∙ ap (λ (s : Scope). named s c.saturating_sub-room-in-loop-i.result true (tree c.index-args-i.result)) (sym c.loop-i.invariant.kept)
+          ∙ c.in_ok-term.ensures.node)
+          ∙ ap (λ (n : Tree). named_pairs c.args.op c.args.scope.now c.args.spot n rest) total;
+      kept = c.in_ok-term.ensures.kept ∙ c.loop-i.invariant.kept;
+    }
+
+-- ---- lists
+
+-- ---- lists
+
+pub list-returns-in-Called-Core-clause-node : goal.list-returns-in-Called-Core-clause-node
+list-returns-in-Called-Core-clause-node t c =
+    subst (λ a. Gives tree_of c.operation.result a)
+    (sym (list_head c.args.scope.now c.args.spot c.args.forms.now c.in-Some.args.now c.in-Some.first.now c.in-Some.ensures.cases.0 (Called (CoreOp c.in-Called-Core.op)) (c.in_ok-op.ensures ∙ ap (λ h. Ok h) (c.in-Called-Core.is ∙ ap (λ f. Called f) c.in-Called-Core.field-0-is))
+    ∙ operation_counted c.args.scope.now c.args.spot c.in-Some.args.now c.in-Called-Core.op))
+    c.operation.ensures.node
+
+pub list-returns-in-Form-Cond-clause-node : goal.list-returns-in-Form-Cond-clause-node
+list-returns-in-Form-Cond-clause-node t c =
+    subst (λ a. Gives tree_of c.choices.result a)
+    (sym (list_head c.args.scope.now c.args.spot c.args.forms.now c.in-Some.args.now c.in-Some.first.now c.in-Some.ensures.cases.0 (AForm kind.Cond) (c.in_ok-op.ensures ∙ ap (λ h. Ok h) (c.in-Form-Cond.is ∙ ap (λ f. AForm f) c.in-Form-Cond.field-0-is))
+    ∙ choices_counted c.args.scope.now c.args.spot c.in-Some.args.now))
+    c.choices.ensures.node
+
+pub choices-returns-clause-node : goal.choices-returns-clause-node
+choices-returns-clause-node t c =
+    subst (λ a. Gives tree_of c.cond.result a)
+    (sym (choices_even c.args.spot (length c.args.args.now) (named_cond c.args.scope.now c.args.spot (plain c.args.args.now)) c.if-args-ne0.false)) c.cond.ensures.node
+
+pub choices-returns-then-args-ne0-clause-node : goal.choices-returns-then-args-ne0-clause-node
+choices-returns-then-args-ne0-clause-node t c =
+    subst (λ st. Gives tree_of (Err st) (choices_of c.args.spot (length c.args.args.now) (named_cond c.args.scope.now c.args.spot (plain c.args.args.now)))) (sym c.refused.ensures)
+    (choices_odd c.args.spot (length c.args.args.now) (named_cond c.args.scope.now c.args.spot (plain c.args.args.now)) c.if-args-ne0.true)
+
+-- ---- and, or
+
+pub logic-returns-then-rest-eq0-clause-node : goal.logic-returns-then-rest-eq0-clause-node
+logic-returns-then-rest-eq0-clause-node t c =
+    subst (λ a. Gives tree_of c.expression.result a) (sym (logic_alone c.args.is_or c.args.scope.now c.args.spot c.args.args.now c.in-Some.rest.now c.in-Some.value.now c.in-Some.ensures.cases.0 c.if-rest-eq0.true)) c.expression.ensures.node
+
+pub logic-returns-then-spot-eq0-clause-node : goal.logic-returns-then-spot-eq0-clause-node
+logic-returns-then-spot-eq0-clause-node t c =
+    subst (λ st. Gives tree_of (Err st) (named_logic c.args.is_or c.args.scope.now c.args.spot (plain c.args.args.now))) (sym c.refused.ensures) (logic_roomless c.args.is_or c.args.scope.now c.args.spot c.args.args.now c.in-Some.rest.now c.in-Some.value.now c.in-Some.ensures.cases.0 c.if-rest-eq0.false c.if-spot-eq0.true)
+
+pub logic-returns-in_err-value-clause-node : goal.logic-returns-in_err-value-clause-node
+logic-returns-in_err-value-clause-node t c =
+    let p = err_from_is_err_and c.from_residual.result c.from_residual.ensures.1 in
+    rw (p.1, p.2) (failed tree_of tree_of _ _ _ c.in_err-value.ensures.node (λ e no.
+    logic_unvalued c.args.is_or c.args.scope.now c.args.spot c.args.args.now c.in-Some.rest.now c.in-Some.value.now c.in-Some.ensures.cases.0 c.if-rest-eq0.false c.if-spot-eq0.false e no))
+
+pub logic-returns-then-not-may_hide-clause-node : goal.logic-returns-then-not-may_hide-clause-node
+logic-returns-then-not-may_hide-clause-node t c =
+    subst (λ st. Gives tree_of (Err st) (named_logic c.args.is_or c.args.scope.now c.args.spot (plain c.args.args.now))) (sym c.refused-then-not-may_hide.ensures)
+    (logic_full c.args.is_or c.args.scope.now c.args.spot c.args.args.now c.in-Some.rest.now c.in-Some.value.now c.in-Some.ensures.cases.0 c.if-rest-eq0.false c.if-spot-eq0.false (tree_of c.in_ok-value.value) c.in_ok-value.ensures.node (ap (λ (z : Scope). may_hide z c.args.spot) (sym c.in_ok-value.ensures.kept) ∙ sym c.if-not-may_hide.ensures))
+
+pub logic-returns-in_err-other-clause-node : goal.logic-returns-in_err-other-clause-node
+logic-returns-in_err-other-clause-node t c =
+    let p = err_from_is_err_and c.from_residual-in_err-other.result c.from_residual-in_err-other.ensures.1 in
+    rw (p.1, p.2) (failed tree_of tree_of _ _ _ c.in_err-other.ensures.node (λ e no.
+    logic_no_second c.args.is_or c.args.scope.now c.args.spot c.args.args.now c.in-Some.rest.now c.in-Some.value.now c.in-Some.ensures.cases.0 c.if-rest-eq0.false c.if-spot-eq0.false (ap (λ (z : Scope). may_hide z c.args.spot) (sym c.in_ok-value.ensures.kept) ∙ sym c.if-not-may_hide.ensures) (tree_of c.in_ok-value.value) e c.in_ok-value.ensures.node
+    (ap (λ (z : Scope). named_logic c.args.is_or (with_local [] z) (below 2 c.args.spot) (plain c.in-Some.rest.now)) (sym c.in_ok-value.ensures.kept) ∙ ap (λ (z : Scope). named_logic c.args.is_or z (below 2 c.args.spot) (plain c.in-Some.rest.now)) (sym c.in_ok-push.ensures) ∙ ap (λ (z : Spot). named_logic c.args.is_or c.push.new.self z (plain c.in-Some.rest.now)) (sym c.below.ensures) ∙ no)))
+
+pub logic-returns-clause-node : goal.logic-returns-clause-node
+logic-returns-clause-node t c =
+    logic_made c.args.is_or c.args.scope.now c.args.spot c.args.args.now c.in-Some.rest.now c.in-Some.value.now c.in-Some.ensures.cases.0 c.if-rest-eq0.false c.if-spot-eq0.false (ap (λ (z : Scope). may_hide z c.args.spot) (sym c.in_ok-value.ensures.kept) ∙ sym c.if-not-may_hide.ensures) (tree_of c.in_ok-value.value) (tree_of c.in_ok-other.other) c.in_ok-value.ensures.node
+    (ap (λ (z : Scope). named_logic c.args.is_or (with_local [] z) (below 2 c.args.spot) (plain c.in-Some.rest.now)) (sym c.in_ok-value.ensures.kept) ∙ ap (λ (z : Scope). named_logic c.args.is_or z (below 2 c.args.spot) (plain c.in-Some.rest.now)) (sym c.in_ok-push.ensures) ∙ ap (λ (z : Spot). named_logic c.args.is_or c.push.new.self z (plain c.in-Some.rest.now)) (sym c.below.ensures) ∙ c.in_ok-other.ensures.node)
+    ∙ ap (λ (i : ℕ). Ok (logic_node c.args.is_or i (tree_of c.in_ok-value.value) (tree_of c.in_ok-other.other) c.args.spot)) (ap (λ (z : Scope). length z.locals) (sym c.in_ok-value.ensures.kept) ∙ sym c.len-local.ensures)
+    ∙ ap (λ (x : Tree). Ok x) (sym c.in_ok-logic_node.ensures)
+
+-- ---- groups
+
+pub expression-returns-in-Group-Round-default-default-clause-node : goal.expression-returns-in-Group-Round-default-default-clause-node
+expression-returns-in-Group-Round-default-default-clause-node t c =
+    let whole : c.args.form.now ≡ Group Round c.in-Group-Round-default-default.forms c.in-Group-Round-default-default.field-2 = search (rules, the_lemmas) in
+    subst (λ a. Gives tree_of c.list.result a)
+    (sym (group_round c.args.scope.now c.args.room c.args.wanted c.args.form.now c.in-Group-Round-default-default.forms c.in-Group-Round-default-default.field-2 c.span-span.result c.deref.result.now c.room_for-room.result c.len.result c.deref.ensures.value (c.len.ensures ∙ omega (arith, c.in-Group-Round-default-default.forms.ok)) c.room_for-room.ensures.value c.span-span.ensures whole))
+    c.list.ensures.node
+
+pub expression-returns-in-Group-Square-default-default-clause-node : goal.expression-returns-in-Group-Square-default-default-clause-node
+expression-returns-in-Group-Square-default-default-clause-node t c =
+    let whole : c.args.form.now ≡ Group Square c.in-Group-Square-default-default.forms c.in-Group-Square-default-default.field-2 = search (rules, the_lemmas) in
+    subst (λ a. Gives tree_of c.sequence.result a)
+    (sym (group_square c.args.scope.now c.args.room c.args.wanted c.args.form.now c.in-Group-Square-default-default.forms c.in-Group-Square-default-default.field-2 c.span-span.result c.deref-in-Group-Square-default-default.result.now c.room_for-room-in-Group-Square-default-default.result c.len-in-Group-Square-default-default.result c.deref-in-Group-Square-default-default.ensures.value (c.len-in-Group-Square-default-default.ensures ∙ omega (arith, c.in-Group-Square-default-default.forms.ok)) c.room_for-room-in-Group-Square-default-default.ensures.value c.span-span.ensures whole))
+    c.sequence.ensures.node

@@ -1,0 +1,244 @@
+-- Which program the forms of a script are, or the first refusal met.
+use Rattle.std.specs.Prelude.{◌≡◌, ℕ, suc, Bool, true, false, ◌&&◌, nat_lt, List, [], ◌∷◌, ◌++◌, length, Option, Some, None, Result, Ok, Err, if◌then◌else◌}
+use Rattle.txs_value.specs.Operations.{op_name}
+use Rattle.txs_value.specs.declared.fault.Span.{Span}
+use Rattle.txs_value.specs.declared.cell.CellDefinition.{CellDefinition}
+use Rattle.txs_value.specs.declared.value.CellKind.TheVariants.{Ref}
+use Rattle.txs_value.specs.declared.value.Value.{Value}
+use Rattle.txs_reader.specs.declared.form.Bracket.TheVariants.{Round, Square}
+use Rattle.txs_reader.specs.Tree.{Tree as Form, Trees as Forms, leaf, group, first, place, symbol, text}
+use Rattle.txs_reader.specs.Tree.{none as no_forms}
+use Rattle.txs_tree.specs.Known.{levels, known}
+use Rattle.txs_tree.specs.Tree.{Tree, PlainFunction, PlainThread, PlainProgram}
+use Rattle.txs_resolve.specs.declared.error.ResolveError.{ResolveError}
+use Rattle.txs_resolve.specs.declared.error.ResolveErrorKind.TheVariants.{Redefined, BadForm, TooMany}
+use Rattle.txs_resolve.specs.declared.names.FormName.{FormName}
+use Rattle.txs_resolve.specs.declared.names.FormName.TheVariants as kind
+use Rattle.txs_resolve.specs.declared.scope.Definition.TheVariants.{Constant, Cell, Function}
+use Rattle.txs_resolve.specs.Expressions.{Answer, spot_at, is_symbol, named_body}
+use Rattle.txs_resolve.specs.Literals.{is_literal, literal, literal_levels}
+use Rattle.txs_resolve.specs.Scope.{◌>>=◌, refuse, Scope, Entry, definition_of, with_name, form_name, form_names, operations, may_bind, is_none}
+
+-- the levels that a tree may have
+abbrev pub max_levels : ℕ
+max_levels = 1000
+
+-- what a script has defined so far: names; cells; functions; threads; and how often `def` stood
+pub record State : Type 0 where
+  pub defined : List Entry
+  pub cells : List CellDefinition
+  pub functions : List PlainFunction
+  pub threads : List PlainThread
+  pub defs : ℕ
+
+abbrev pub nothing : State
+nothing = record { defined = []; cells = []; functions = []; threads = []; defs = 0 }
+
+-- the program of what is defined
+abbrev pub program : State → PlainProgram
+program s = record { functions = s.functions; cells = s.cells; threads = s.threads }
+
+-- the form that a list is, by the name at its head
+abbrev pub form_at : Form → Option FormName
+form_at (leaf (symbol name) at) = with_name form_name name form_names
+form_at _ = None
+
+-- ---- names that are defined
+
+-- whether a name can be defined: that of a form and one with a dot can't, that of a core operation or of a definition is one already
+abbrev pub new_name : List Entry → List ℕ → Span → Answer (List ℕ)
+new_name defined name at =
+    if may_bind name
+    then (if is_none (with_name op_name name operations) && is_none (definition_of name defined) then Ok name else refuse Redefined at)
+    else refuse BadForm at
+
+-- ---- definitions of constants and refs
+
+-- what a definition is of: a constant, or a ref that opens with it
+pub record Defining : Type 0 where
+  pub is_ref : Bool
+  pub value : Form
+
+abbrev pub only_literal : Bool → Form → Option Defining
+only_literal is_ref form = if is_literal form then Some (record { is_ref = is_ref; value = form }) else None
+
+-- `(ref L)` with this head and these parts
+abbrev pub ref_of : Option FormName → Forms → Option Defining
+ref_of (Some kind.Ref) (first form no_forms) = only_literal true form
+ref_of _ _ = None
+
+-- a literal, or `(ref L)`; atoms and agents come with the trees that use them
+abbrev pub defining_of : Form → Option Defining
+defining_of (group Round (first head args) at) = ref_of (form_at head) args
+defining_of form = only_literal false form
+
+abbrev pub new_ref : List ℕ → Value → CellDefinition
+new_ref name v = record { kind = Ref; name = name; opening = v }
+
+abbrev pub with_constant : State → List ℕ → Value → State
+with_constant s name v = record {
+  defined = s.defined ++ record { name = name; what = Constant v } ∷ [];
+  cells = s.cells;
+  functions = s.functions;
+  threads = s.threads;
+  defs = suc s.defs;
+}
+
+abbrev pub with_ref : State → List ℕ → Value → State
+with_ref s name v = record {
+  defined = s.defined ++ record { name = name; what = Cell (length s.cells) } ∷ [];
+  cells = s.cells ++ new_ref name v ∷ [];
+  functions = s.functions;
+  threads = s.threads;
+  defs = suc s.defs;
+}
+
+abbrev pub with_definition : Bool → State → List ℕ → Value → State
+with_definition false s name v = with_constant s name v
+with_definition true s name v = with_ref s name v
+
+-- a definition of this name; there are at most 1,000
+abbrev pub defined_as_one : State → List ℕ → Span → Span → Option Defining → Answer State
+defined_as_one s name at span None = refuse BadForm span
+defined_as_one s name at span (Some d) =
+    if nat_lt s.defs 1000 then (
+    literal literal_levels d.value >>= λ v.
+    new_name s.defined name at >>= λ n.
+    Ok (with_definition d.is_ref s n v))
+    else refuse TooMany span
+
+-- `name form`
+pub record NamedForm : Type 0 where
+  pub name : List ℕ
+  pub at : Span
+  pub form : Form
+
+abbrev pub named_form : Forms → Option NamedForm
+named_form (first (leaf (symbol name) at) (first form no_forms)) = Some (record { name = name; at = at; form = form })
+named_form _ = None
+
+abbrev pub defined_at : State → Span → Option NamedForm → Answer State
+defined_at s span None = refuse BadForm span
+defined_at s span (Some f) = defined_as_one s f.name f.at span (defining_of f.form)
+
+abbrev pub define : State → Span → Forms → Answer State
+define s span parts = defined_at s span (named_form parts)
+
+-- ---- functions
+
+-- the name of a parameter after so many: there are at most 20
+abbrev pub parameter : ℕ → Form → Answer (List ℕ)
+parameter k (leaf (symbol name) at) = if may_bind name then (if nat_lt k 20 then Ok name else refuse TooMany at) else refuse BadForm at
+parameter k form = refuse BadForm (place form)
+
+-- the names of parameters behind these, the last first
+abbrev pub parameters : List (List ℕ) → Forms → Answer (List (List ℕ))
+parameters names no_forms = Ok names
+parameters names (first p rest) = parameter (length names) p >>= λ n. parameters (n ∷ names) rest
+
+abbrev pub are_symbols : Forms → Bool
+are_symbols no_forms = true
+are_symbols (first p rest) = is_symbol p && are_symbols rest
+
+-- a function's parts: its name, its parameters and its body; a text behind the name tells of it
+pub record Written : Type 0 where
+  pub name : List ℕ
+  pub at : Span
+  pub parameters : Forms
+  pub body : Forms
+
+abbrev pub written_behind : List ℕ → Span → Forms → Option Written
+written_behind name at (first (group Square params there) body) =
+    if are_symbols params then Some (record { name = name; at = at; parameters = params; body = body }) else None
+written_behind name at _ = None
+
+abbrev pub untold : Forms → Forms
+untold (first (leaf (text bytes) at) rest) = rest
+untold forms = forms
+
+abbrev pub written : Forms → Option Written
+written (first (leaf (symbol name) at) rest) = written_behind name at (untold rest)
+written _ = None
+
+abbrev pub with_function : State → List ℕ → ℕ → Tree → Span → State
+with_function s name n body span = record {
+  defined = s.defined ++ record { name = name; what = Function (length s.functions) (levels (known s.functions) body) } ∷ [];
+  cells = s.cells;
+  functions = s.functions ++ record { parameters = n; body = body; span = span } ∷ [];
+  threads = s.threads;
+  defs = s.defs;
+}
+
+-- a function; there are at most 1,000. Its parameters are its first locals, and the result of its body is wanted
+abbrev pub function : State → Span → Option Written → Answer State
+function s span None = refuse BadForm span
+function s span (Some w) =
+    if nat_lt (length s.functions) 1000 then (
+    new_name s.defined w.name w.at >>= λ name.
+    parameters [] w.parameters >>= λ locals.
+    named_body (record { locals = locals; defined = s.defined; current = Some name }) (spot_at max_levels span true) w.body >>= λ body.
+    Ok (with_function s name (length locals) body span))
+    else refuse TooMany span
+
+-- ---- threads
+
+abbrev pub with_thread : State → Tree → Span → State
+with_thread s body span = record {
+  defined = s.defined;
+  cells = s.cells;
+  functions = s.functions;
+  threads = s.threads ++ record { body = body; span = span } ∷ [];
+  defs = s.defs;
+}
+
+-- a thread; there are at most 64. The result of its body isn't wanted
+abbrev pub future : State → Span → Forms → Answer State
+future s span body =
+    if nat_lt (length s.threads) 64 then (
+    named_body (record { locals = []; defined = s.defined; current = None }) (spot_at max_levels span false) body >>= λ node.
+    Ok (with_thread s node span))
+    else refuse TooMany span
+
+-- ---- scripts
+
+abbrev pub top_level : Option FormName → State → Span → Forms → Answer State
+top_level (Some kind.Def) s span parts = define s span parts
+top_level (Some kind.Defn) s span parts = function s span (written parts)
+top_level (Some kind.Future) s span parts = future s span parts
+top_level _ s span parts = refuse BadForm span
+
+-- a top-level form
+abbrev pub step : State → Form → Answer State
+step s (group Round (first head parts) at) = top_level (form_at head) s at parts
+step s form = refuse BadForm (place form)
+
+-- top-level forms in order
+abbrev pub steps : State → List Form → Answer State
+steps s [] = Ok s
+steps s (form ∷ forms) = step s form >>= λ t. steps t forms
+
+-- `(ns name)`
+abbrev pub names_space : Option FormName → Forms → Bool
+names_space (Some kind.Ns) (first name no_forms) = is_symbol name
+names_space _ _ = false
+
+abbrev pub is_namespace : Form → Bool
+is_namespace (group Round (first head parts) at) = names_space (form_at head) parts
+is_namespace form = false
+
+-- a script's forms behind its `(ns name)`, if it begins with one
+abbrev pub behind_namespace : List Form → List Form
+behind_namespace [] = []
+behind_namespace (form ∷ forms) = if is_namespace form then forms else form ∷ forms
+
+-- the program of a script, or the first refusal met
+abbrev pub named_script : List Form → Answer PlainProgram
+named_script forms = steps nothing (behind_namespace forms) >>= λ s. Ok (program s)
+
+-- the forms are this program
+abbrev pub Resolves : List Form → PlainProgram → Type 0
+Resolves forms p = named_script forms ≡ Ok p
+
+-- the forms are no program, for this reason
+abbrev pub ResolveStops : List Form → ResolveError → Type 0
+ResolveStops forms e = named_script forms ≡ Err e

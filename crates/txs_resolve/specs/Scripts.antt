@@ -1,0 +1,65 @@
+-- What a script has defined so far, as plain data.
+use Rattle.std.specs.Prelude.{◌≡◌, ◌≤◌, ℕ, Bool, List, [], ◌∷◌, length, map, Option, Some, None}
+use Rattle.std.specs.Borrow.{Bor}
+use Rattle.txs_reader.specs.declared.form.Form.{Form as AForm}
+use Rattle.txs_reader.specs.Tree.{tree, trees, trees_of, Trees as Forms}
+use Rattle.txs_tree.specs.Known.{Known, known}
+use Rattle.txs_tree.specs.Scoped.{ScopedFunctions, ScopedThreads}
+use Rattle.txs_tree.specs.View.{functions_of, threads_of}
+use Rattle.txs_value.specs.Places.{nth}
+use Rattle.txs_value.specs.declared.fault.Span.{Span}
+use Rattle.txs_resolve.specs.declared.scope.Definition.{Definition}
+use Rattle.txs_resolve.specs.declared.scope.Definition.TheVariants.{Constant, Cell, Function}
+use Rattle.txs_resolve.specs.declared.script.Script.{Script}
+use Rattle.txs_resolve.specs.declared.script.Signature.{Signature}
+use Rattle.txs_resolve.specs.Names.{State, Defining, Written, NamedForm}
+use Rattle.txs_resolve.specs.Scope.{Scope, Entry}
+
+abbrev pub state_of : Script → State
+state_of s = record {
+  defined = s.scope.defined;
+  cells = s.cells.items;
+  functions = functions_of s.functions.items;
+  threads = threads_of s.threads.items;
+  defs = s.defs;
+}
+
+-- a function that is defined is known, with its levels
+abbrev pub IsKnown : List Known → Definition → Type 0
+IsKnown ks (Constant v) = Unit {0}
+IsKnown ks (Cell n) = Unit {0}
+IsKnown ks (Function n levels) = (k : Known) × (nth ks n ≡ Some k) × (k.levels ≡ levels)
+
+abbrev pub AreKnown : List Known → List Entry → Type 0
+AreKnown ks [] = Unit {0}
+AreKnown ks (e ∷ es) = IsKnown ks e.what × AreKnown ks es
+
+-- what is defined so far is scoped, and keeps the limits
+pub record ScopedState (s : State) : Type 0 where
+  pub functions : ScopedFunctions [] s.functions
+  pub threads : ScopedThreads (known s.functions) s.threads
+  pub known : AreKnown (known s.functions) s.defined
+  pub few_cells : length s.cells ≤ s.defs
+  pub few_defs : s.defs ≤ 1000
+  pub few_functions : length s.functions ≤ 1000
+  pub few_threads : length s.threads ≤ 64
+
+-- between two top-level forms no local is in scope, and the levels of the functions are known
+pub record IsScript (s : Script) : Type 0 where
+  pub outside : s.scope.locals ≡ []
+  pub idle : s.scope.current ≡ None
+  pub levels : s.levels.items ≡ map (λ k. k.levels) (known (functions_of s.functions.items))
+  pub scoped : ScopedState (state_of s)
+
+-- what a definition is of
+abbrev pub defining : Option (Bool × Bor AForm) → Option Defining
+defining None = None
+defining (Some d) = Some (record { is_ref = d.0; value = tree d.1.now })
+
+abbrev pub written_in : Option Signature → Option Written
+written_in None = None
+written_in (Some s) = Some (record { name = s.name.now; at = s.at; parameters = trees_of (trees s.parameters.now); body = trees_of (trees s.body.now) })
+
+abbrev pub name_and_form : Option (Bor (List ℕ) × Span × Bor AForm) → Option NamedForm
+name_and_form None = None
+name_and_form (Some f) = Some (record { name = f.0.now; at = f.1; form = tree f.2.now })

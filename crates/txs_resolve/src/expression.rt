@@ -1,0 +1,480 @@
+//! Expressions: forms to nodes.
+
+ghost use Rattle.std.specs.Prelude.{◌≡◌, ◌<◌, ◌≤◌, ◌-◌, true, length, OnOk};
+ghost use Rattle.txs_resolve.specs.Expressions.{named, named_list, named_chain, named_if, named_when, named_cond, named_logic, named_deref, named_alter, named_binding, named_bindings, named_body, named_all, operation_of, sequence_of, choices_of, dosync_of, below, room_for};
+ghost use Rattle.txs_resolve.specs.Given.{Gives, GivesBound, IsWithin};
+ghost use Rattle.txs_reader.specs.Tree.{tree, trees, trees_of};
+ghost use Rattle.txs_tree.specs.View.{tree_of, trees_of as nodes_tree};
+
+use crate::error::{ResolveErrorKind, Stop, refused};
+use crate::names::FormName;
+use crate::nodes::{
+    Head, Sequence, Spot, are_pairs, bindable, binding_node, callee, choice_node, constant,
+    empty_logic, flag_at, head_of, is_chain, logic_node, may_hide, pair_of, sequence_node, symbol,
+};
+use crate::scope::Scope;
+use std::alloc::Global;
+use txs_reader::{Bracket, Form};
+use txs_tree::{Node, NodeKind};
+use txs_value::{Callee, Op, Span, Value};
+
+/// How many parts of a list or vector an instruction can count.
+const MAX_PARTS: usize = 65_535;
+
+/// The room for a list or vector of so many parts.
+fn room_for(room: usize, parts: usize) -> usize
+    ensures value { result ≡ room_for room parts }
+    ensures low { result ≤ room }
+{
+    if parts > MAX_PARTS { 0 } else { room }
+}
+
+/// The node of a form that may have so many levels.
+#[cycle(resolve)]
+pub fn expression<'a>(
+    alloc: Global,
+    scope: &mut Scope<'a>,
+    room: usize,
+    wanted: bool,
+    form: &'a Form,
+) -> Result<Node, Stop>
+    requires { room ≤ 1000 }
+    ensures node { Gives tree_of result (named scope.old room wanted (tree form.now)) }
+    ensures kept { OnOk result (scope.new ≡ scope.old) }
+{
+    let span = form.span();
+    let spot = Spot { room, span, wanted };
+    match form {
+        Form::Nil(_) => constant(Value::Nil, spot),
+        Form::Truth(b, _) => constant(Value::Truth(*b), spot),
+        Form::Number(n, _) => constant(Value::Int(*n), spot),
+        Form::Text(text, _) => constant(Value::Text(text.copy(alloc)?), spot),
+        Form::Keyword(name, _) => constant(Value::Key(name.copy(alloc)?), spot),
+        Form::Symbol(name, _) => symbol(alloc, scope, name, spot),
+        Form::Group(Bracket::Round, forms, _) => {
+            let room = room_for(room, forms.len());
+            list(alloc, scope, Spot { room, span, wanted }, forms)
+        }
+        Form::Group(Bracket::Square, forms, _) => {
+            let room = room_for(room, forms.len());
+            let spot = Spot { room, span, wanted };
+            sequence(alloc, scope, spot, Sequence::Vector, forms)
+        }
+    }
+}
+
+/// The node of a list, by what stands at its head.
+#[cycle(resolve)]
+fn list<'a>(
+    alloc: Global,
+    scope: &mut Scope<'a>,
+    spot: Spot,
+    forms: &'a [Form],
+) -> Result<Node, Stop>
+    requires { spot.room ≤ 1000 }
+    ensures node { Gives tree_of result (named_list scope.old spot (trees_of (trees forms.now))) }
+    ensures kept { OnOk result (scope.new ≡ scope.old) }
+{
+    let Some((first, args)) = forms.split_first() else {
+        return Err(refused(ResolveErrorKind::BadForm, spot.span));
+    };
+    match head_of(scope, spot, first)? {
+        Head::Called(Callee::Core(op)) => operation(alloc, scope, spot, op, args),
+        Head::Called(Callee::Function(number)) => {
+            sequence(alloc, scope, spot, Sequence::Call(number), args)
+        }
+        Head::Form(FormName::If) => branches(alloc, scope, spot, false, args),
+        Head::Form(FormName::IfNot) => branches(alloc, scope, spot, true, args),
+        Head::Form(FormName::Do) => body(alloc, scope, spot, args),
+        Head::Form(FormName::Let) => binding(alloc, scope, spot, false, args),
+        Head::Form(FormName::Loop) => binding(alloc, scope, spot, true, args),
+        Head::Form(FormName::Recur) => sequence(alloc, scope, spot, Sequence::Recur, args),
+        Head::Form(FormName::When) => guarded(alloc, scope, spot, false, args),
+        Head::Form(FormName::WhenNot) => guarded(alloc, scope, spot, true, args),
+        Head::Form(FormName::And) => logic(alloc, scope, spot, false, args),
+        Head::Form(FormName::Or) => logic(alloc, scope, spot, true, args),
+        Head::Form(FormName::Cond) => choices(alloc, scope, spot, args),
+        Head::Form(FormName::Println) => sequence(alloc, scope, spot, Sequence::Println, args),
+        Head::Form(FormName::Dosync) => dosync(alloc, scope, spot, args),
+        Head::Form(FormName::Deref) => deref(alloc, scope, spot, args),
+        Head::Form(FormName::Alter) => alter(alloc, scope, spot, args),
+        Head::Form(_) => Err(refused(ResolveErrorKind::BadForm, spot.span)),
+    }
+}
+
+/// The node of a row of forms.
+#[cycle(resolve)]
+fn sequence<'a>(
+    alloc: Global,
+    scope: &mut Scope<'a>,
+    spot: Spot,
+    kind: Sequence,
+    forms: &'a [Form],
+) -> Result<Node, Stop>
+    requires { spot.room ≤ 1000 }
+    ensures node { Gives tree_of result (sequence_of kind spot (named_all scope.old (spot.room - 1) true true (trees_of (trees forms.now)))) }
+    ensures kept { OnOk result (scope.new ≡ scope.old) }
+{
+    if spot.room == 0 {
+        return Err(refused(ResolveErrorKind::TooMany, spot.span));
+    }
+    let nodes = all(alloc, scope, spot.room - 1, true, true, forms)?;
+    Ok(sequence_node(kind, nodes, spot))
+}
+
+/// The node of an operation on so many arguments.
+#[cycle(resolve)]
+fn operation<'a>(
+    alloc: Global,
+    scope: &mut Scope<'a>,
+    spot: Spot,
+    op: Op,
+    args: &'a [Form],
+) -> Result<Node, Stop>
+    requires { spot.room ≤ 1000 }
+    ensures node { Gives tree_of result (operation_of op spot (length args.now)
+        (named_chain op scope.old spot (trees_of (trees args.now)))
+        (named_all scope.old (spot.room - 1) true true (trees_of (trees args.now)))) }
+    ensures kept { OnOk result (scope.new ≡ scope.old) }
+{
+    if !is_chain(op, args.len()) {
+        return sequence(alloc, scope, spot, Sequence::Core(op), args);
+    }
+    if spot.room < args.len() - 1 {
+        return Err(refused(ResolveErrorKind::TooMany, spot.span));
+    }
+    chain(alloc, scope, spot, op, args)
+}
+
+/// The node of an operation on two arguments or more, from the left.
+#[cycle(resolve)]
+fn chain<'a>(
+    alloc: Global,
+    scope: &mut Scope<'a>,
+    spot: Spot,
+    op: Op,
+    args: &'a [Form],
+) -> Result<Node, Stop>
+    requires few { 2 ≤ length args.now }
+    requires low { spot.room ≤ 1000 }
+    ensures node { Gives tree_of result (named_chain op scope.old spot (trees_of (trees args.now))) }
+    ensures kept { OnOk result (scope.new ≡ scope.old) }
+{
+    let room = spot.room.saturating_sub(args.len() - 1);
+    let mut total = expression(alloc, scope, room, true, &args[0])?;
+    for i in 1..args.len() {
+        let room = spot.room.saturating_sub(args.len() - i);
+        let term = expression(alloc, scope, room, true, &args[i])?;
+        let wanted = flag_at(true, spot.wanted, args, i);
+        total = pair_of(alloc, op, total, term, spot.span, wanted)?;
+    }
+    Ok(total)
+}
+
+/// The node of an `if`, or of an `if-not`, whose branches are turned.
+#[cycle(resolve)]
+fn branches<'a>(
+    alloc: Global,
+    scope: &mut Scope<'a>,
+    spot: Spot,
+    turned: bool,
+    args: &'a [Form],
+) -> Result<Node, Stop>
+    requires { spot.room ≤ 1000 }
+    ensures node { Gives tree_of result (named_if turned scope.old spot (trees_of (trees args.now))) }
+    ensures kept { OnOk result (scope.new ≡ scope.old) }
+{
+    let Some((test, parts)) = args.split_first() else {
+        return Err(refused(ResolveErrorKind::BadForm, spot.span));
+    };
+    let Some((one, rest)) = parts.split_first() else {
+        return Err(refused(ResolveErrorKind::BadForm, spot.span));
+    };
+    if rest.len() > 1 {
+        return Err(refused(ResolveErrorKind::BadForm, spot.span));
+    }
+    if spot.room == 0 {
+        return Err(refused(ResolveErrorKind::TooMany, spot.span));
+    }
+    let test = expression(alloc, scope, spot.room - 1, true, test)?;
+    let one = expression(alloc, scope, spot.room - 1, spot.wanted, one)?;
+    let other = body(alloc, scope, spot.below(1), rest)?;
+    Ok(choice_node(alloc, turned, test, one, other, spot)?)
+}
+
+/// The node of a `when`, or of a `when-not`, whose branches are turned.
+#[cycle(resolve)]
+fn guarded<'a>(
+    alloc: Global,
+    scope: &mut Scope<'a>,
+    spot: Spot,
+    turned: bool,
+    args: &'a [Form],
+) -> Result<Node, Stop>
+    requires { spot.room ≤ 1000 }
+    ensures node { Gives tree_of result (named_when turned scope.old spot (trees_of (trees args.now))) }
+    ensures kept { OnOk result (scope.new ≡ scope.old) }
+{
+    let Some((test, rest)) = args.split_first() else {
+        return Err(refused(ResolveErrorKind::BadForm, spot.span));
+    };
+    if spot.room == 0 {
+        return Err(refused(ResolveErrorKind::TooMany, spot.span));
+    }
+    let test = expression(alloc, scope, spot.room - 1, true, test)?;
+    let one = body(alloc, scope, spot.below(1), rest)?;
+    let other = spot.node(NodeKind::Const(Value::Nil));
+    Ok(choice_node(alloc, turned, test, one, other, spot)?)
+}
+
+/// The node of a `cond`, of tests and branches in turn.
+#[cycle(resolve)]
+fn choices<'a>(
+    alloc: Global,
+    scope: &mut Scope<'a>,
+    spot: Spot,
+    args: &'a [Form],
+) -> Result<Node, Stop>
+    requires { spot.room ≤ 1000 }
+    ensures node { Gives tree_of result (choices_of spot (length args.now) (named_cond scope.old spot (trees_of (trees args.now)))) }
+    ensures kept { OnOk result (scope.new ≡ scope.old) }
+{
+    if args.len() % 2 != 0 {
+        return Err(refused(ResolveErrorKind::BadForm, spot.span));
+    }
+    cond(alloc, scope, spot, args)
+}
+
+/// The node of tests and branches in turn: nil where there are none.
+#[cycle(resolve)]
+fn cond<'a>(
+    alloc: Global,
+    scope: &mut Scope<'a>,
+    spot: Spot,
+    args: &'a [Form],
+) -> Result<Node, Stop>
+    requires { spot.room ≤ 1000 }
+    ensures node { Gives tree_of result (named_cond scope.old spot (trees_of (trees args.now))) }
+    ensures kept { OnOk result (scope.new ≡ scope.old) }
+{
+    let Some((test, parts)) = args.split_first() else {
+        return constant(Value::Nil, spot);
+    };
+    let Some((one, rest)) = parts.split_first() else {
+        return Err(refused(ResolveErrorKind::BadForm, spot.span));
+    };
+    if spot.room == 0 {
+        return Err(refused(ResolveErrorKind::TooMany, spot.span));
+    }
+    let test = expression(alloc, scope, spot.room - 1, true, test)?;
+    let one = expression(alloc, scope, spot.room - 1, spot.wanted, one)?;
+    let other = cond(alloc, scope, spot.below(1), rest)?;
+    Ok(choice_node(alloc, false, test, one, other, spot)?)
+}
+
+/// The node of an `and`, or of an `or`. Each value but the last is bound to a hidden local.
+#[cycle(resolve)]
+fn logic<'a>(
+    alloc: Global,
+    scope: &mut Scope<'a>,
+    spot: Spot,
+    is_or: bool,
+    args: &'a [Form],
+) -> Result<Node, Stop>
+    requires { spot.room ≤ 1000 }
+    ensures node { Gives tree_of result (named_logic is_or scope.old spot (trees_of (trees args.now))) }
+    ensures kept { OnOk result (scope.new ≡ scope.old) }
+{
+    let Some((value, rest)) = args.split_first() else {
+        return constant(empty_logic(is_or), spot);
+    };
+    if rest.len() == 0 {
+        return expression(alloc, scope, spot.room, spot.wanted, value);
+    }
+    if spot.room == 0 {
+        return Err(refused(ResolveErrorKind::TooMany, spot.span));
+    }
+    let value = expression(alloc, scope, spot.room - 1, true, value)?;
+    if !may_hide(scope, spot) {
+        return Err(refused(ResolveErrorKind::TooMany, spot.span));
+    }
+    let local = scope.len();
+    scope.push(&[])?;
+    let other = logic(alloc, scope, spot.below(2), is_or, rest)?;
+    scope.truncate(local);
+    Ok(logic_node(alloc, is_or, local as u8, value, other, spot)?)
+}
+
+/// The node of a `dosync`.
+#[cycle(resolve)]
+fn dosync<'a>(
+    alloc: Global,
+    scope: &mut Scope<'a>,
+    spot: Spot,
+    args: &'a [Form],
+) -> Result<Node, Stop>
+    requires { spot.room ≤ 1000 }
+    ensures node { Gives tree_of result (dosync_of spot (named_body scope.old (below 1 spot) (trees_of (trees args.now)))) }
+    ensures kept { OnOk result (scope.new ≡ scope.old) }
+{
+    if spot.room == 0 {
+        return Err(refused(ResolveErrorKind::TooMany, spot.span));
+    }
+    let inner = body(alloc, scope, spot.below(1), args)?;
+    let inner = Box::new(alloc, inner)?;
+    Ok(spot.node(NodeKind::Dosync(inner)))
+}
+
+/// The node of a `deref`.
+#[cycle(resolve)]
+fn deref<'a>(
+    alloc: Global,
+    scope: &mut Scope<'a>,
+    spot: Spot,
+    args: &'a [Form],
+) -> Result<Node, Stop>
+    requires { spot.room ≤ 1000 }
+    ensures node { Gives tree_of result (named_deref scope.old spot (trees_of (trees args.now))) }
+    ensures kept { OnOk result (scope.new ≡ scope.old) }
+{
+    if args.len() != 1 {
+        return Err(refused(ResolveErrorKind::BadForm, spot.span));
+    }
+    if spot.room == 0 {
+        return Err(refused(ResolveErrorKind::TooMany, spot.span));
+    }
+    let cell = expression(alloc, scope, spot.room - 1, true, &args[0])?;
+    let cell = Box::new(alloc, cell)?;
+    Ok(spot.node(NodeKind::Deref(cell)))
+}
+
+/// The node of an `alter`.
+#[cycle(resolve)]
+fn alter<'a>(
+    alloc: Global,
+    scope: &mut Scope<'a>,
+    spot: Spot,
+    args: &'a [Form],
+) -> Result<Node, Stop>
+    requires { spot.room ≤ 1000 }
+    ensures node { Gives tree_of result (named_alter scope.old spot (trees_of (trees args.now))) }
+    ensures kept { OnOk result (scope.new ≡ scope.old) }
+{
+    let Some((cell, parts)) = args.split_first() else {
+        return Err(refused(ResolveErrorKind::BadForm, spot.span));
+    };
+    let Some((function, further)) = parts.split_first() else {
+        return Err(refused(ResolveErrorKind::BadForm, spot.span));
+    };
+    if spot.room == 0 {
+        return Err(refused(ResolveErrorKind::TooMany, spot.span));
+    }
+    let cell = expression(alloc, scope, spot.room - 1, true, cell)?;
+    let called = callee(scope, spot, function)?;
+    let nodes = all(alloc, scope, spot.room - 1, true, true, further)?;
+    let cell = Box::new(alloc, cell)?;
+    Ok(spot.node(NodeKind::Alter(cell, called, nodes)))
+}
+
+/// The node of a `let`, or of a `loop`.
+#[cycle(resolve)]
+fn binding<'a>(
+    alloc: Global,
+    scope: &mut Scope<'a>,
+    spot: Spot,
+    is_loop: bool,
+    args: &'a [Form],
+) -> Result<Node, Stop>
+    requires { spot.room ≤ 1000 }
+    ensures node { Gives tree_of result (named_binding is_loop scope.old spot (trees_of (trees args.now))) }
+    ensures kept { OnOk result (scope.new ≡ scope.old) }
+{
+    let Some((Form::Group(Bracket::Square, pairs, _), forms)) = args.split_first() else {
+        return Err(refused(ResolveErrorKind::BadForm, spot.span));
+    };
+    if !are_pairs(pairs) {
+        return Err(refused(ResolveErrorKind::BadForm, spot.span));
+    }
+    if spot.room == 0 {
+        return Err(refused(ResolveErrorKind::TooMany, spot.span));
+    }
+    let outer = scope.len();
+    let values = bindings(alloc, scope, spot.room - 1, pairs)?;
+    let inner = body(alloc, scope, spot.below(1), forms)?;
+    scope.truncate(outer);
+    Ok(binding_node(alloc, is_loop, values, inner, spot)?)
+}
+
+/// The values of a `let` or a `loop`, with its names in scope.
+#[cycle(resolve)]
+fn bindings<'a>(
+    alloc: Global,
+    scope: &mut Scope<'a>,
+    room: usize,
+    pairs: &'a [Form],
+) -> Result<Vec<Node>, Stop>
+    requires { room ≤ 1000 }
+    ensures values { GivesBound result scope.new (named_bindings scope.old room (trees_of (trees pairs.now))) }
+    ensures outer { OnOk result (IsWithin scope.old scope.new) }
+{
+    let mut values = Vec::new(alloc);
+    let mut at = 0;
+    while at + 1 < pairs.len() {
+        let value = expression(alloc, scope, room, true, &pairs[at + 1])?;
+        let name = bindable(scope, &pairs[at])?;
+        values.push(value)?;
+        scope.push(name.as_bytes())?;
+        at += 2;
+    }
+    if at < pairs.len() {
+        return Err(refused(ResolveErrorKind::BadForm, pairs[at].span()));
+    }
+    Ok(values)
+}
+
+/// The node of a body: nil where it is empty, and a `do` where it has several forms.
+#[cycle(resolve)]
+pub fn body<'a>(
+    alloc: Global,
+    scope: &mut Scope<'a>,
+    spot: Spot,
+    forms: &'a [Form],
+) -> Result<Node, Stop>
+    requires { spot.room ≤ 1000 }
+    ensures node { Gives tree_of result (named_body scope.old spot (trees_of (trees forms.now))) }
+    ensures kept { OnOk result (scope.new ≡ scope.old) }
+{
+    match forms {
+        [] => constant(Value::Nil, spot),
+        [form] => expression(alloc, scope, spot.room, spot.wanted, form),
+        _ => {
+            if spot.room == 0 {
+                return Err(refused(ResolveErrorKind::TooMany, spot.span));
+            }
+            let items = all(alloc, scope, spot.room - 1, false, spot.wanted, forms)?;
+            Ok(spot.node(NodeKind::Do(items)))
+        }
+    }
+}
+
+/// The nodes of forms, of which the last has a flag of its own.
+#[cycle(resolve)]
+fn all<'a>(
+    alloc: Global,
+    scope: &mut Scope<'a>,
+    room: usize,
+    inner: bool,
+    last: bool,
+    forms: &'a [Form],
+) -> Result<Vec<Node>, Stop>
+    requires { room ≤ 1000 }
+    ensures nodes { Gives (λ v. nodes_tree v.items) result (named_all scope.old room inner last (trees_of (trees forms.now))) }
+    ensures kept { OnOk result (scope.new ≡ scope.old) }
+{
+    let mut nodes = Vec::new(alloc);
+    for (i, form) in forms.iter().enumerate() {
+        let node = expression(alloc, scope, room, flag_at(inner, last, forms, i), form)?;
+        nodes.push(node)?;
+    }
+    Ok(nodes)
+}

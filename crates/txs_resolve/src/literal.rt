@@ -1,0 +1,82 @@
+//! Literals: forms to values.
+
+ghost use Rattle.std.specs.Prelude.{◌≡◌, ◌≤◌, length, IfOk};
+ghost use Rattle.txs_resolve.specs.Given.{Gives};
+ghost use Rattle.txs_resolve.specs.Literals.{is_literal, are_literals, literal, literals};
+ghost use Rattle.txs_reader.specs.Tree.{tree, trees, trees_of};
+ghost use Rattle.txs_value.specs.PlainValue.{depth, row_depth, plain_row};
+ghost use Rattle.txs_value.specs.View.{plain_of, plains_of};
+
+use crate::error::{ResolveErrorKind, Stop, refused};
+use std::alloc::Global;
+use txs_reader::{Bracket, Form};
+use txs_value::{Items, Value};
+
+/// How many parts a vector may have.
+const MAX_PARTS: usize = 65_535;
+
+/// Whether there is no symbol and no list in the form.
+#[cycle(is_literal)]
+pub fn is_literal(form: &Form) -> bool
+    ensures { result ≡ is_literal (tree form.now) }
+{
+    match form {
+        Form::Symbol(_, _) => false,
+        Form::Group(Bracket::Round, _, _) => false,
+        Form::Group(Bracket::Square, forms, _) => are_literals(forms),
+        _ => true,
+    }
+}
+
+/// Whether there is none in any of the forms.
+#[cycle(is_literal)]
+fn are_literals(forms: &[Form]) -> bool
+    ensures { result ≡ are_literals (trees_of (trees forms.now)) }
+{
+    for form in forms {
+        if !is_literal(form) {
+            return false;
+        }
+    }
+    true
+}
+
+/// The value of a literal whose vectors may have so many levels.
+#[cycle(literal)]
+pub fn literal(alloc: Global, room: usize, form: &Form) -> Result<Value, Stop>
+    requires { room ≤ 32 }
+    ensures value { Gives (λ v. v) result (literal room (tree form.now)) }
+    ensures depth { IfOk result (λ v. depth (plain_of v) ≤ room) }
+{
+    match form {
+        Form::Nil(_) => Ok(Value::Nil),
+        Form::Truth(b, _) => Ok(Value::Truth(*b)),
+        Form::Number(n, _) => Ok(Value::Int(*n)),
+        Form::Text(text, _) => Ok(Value::Text(text.copy(alloc)?)),
+        Form::Keyword(name, _) => Ok(Value::Key(name.copy(alloc)?)),
+        Form::Group(Bracket::Square, forms, span) => {
+            if room == 0 || forms.len() > MAX_PARTS {
+                return Err(refused(ResolveErrorKind::TooMany, *span));
+            }
+            let items = literals(alloc, room - 1, forms)?;
+            Ok(Value::Vector(Items::from_vec(items)))
+        }
+        _ => Err(refused(ResolveErrorKind::BadForm, form.span())),
+    }
+}
+
+/// The values of literals.
+#[cycle(literal)]
+fn literals(alloc: Global, room: usize, forms: &[Form]) -> Result<Vec<Value>, Stop>
+    requires { room ≤ 31 }
+    ensures values { Gives (λ vs. vs.items) result (literals room (trees_of (trees forms.now))) }
+    ensures depth { IfOk result (λ vs. row_depth (plain_row (plains_of vs.items)) ≤ room) }
+    ensures len { IfOk result (λ vs. length vs.items ≡ length forms.now) }
+{
+    let mut values = Vec::new(alloc);
+    for form in forms {
+        let value = literal(alloc, room, form)?;
+        values.push(value)?;
+    }
+    Ok(values)
+}

@@ -1,0 +1,71 @@
+//! A script's forms to the program that they are.
+
+ghost use Rattle.std.specs.Prelude.{◌≡◌, ◌≢◌, Ok, IfOk, IfErr};
+ghost use Rattle.txs_resolve.specs.Given.{Gives};
+ghost use Rattle.txs_resolve.specs.Names.{Resolves, ResolveStops, behind_namespace, nothing, steps};
+ghost use Rattle.txs_resolve.specs.Scripts.{state_of, IsScript};
+ghost use Rattle.txs_resolve.specs.declared.error.ResolveErrorKind.TheVariants.{Memory};
+ghost use Rattle.txs_reader.specs.Tree.{trees};
+ghost use Rattle.txs_tree.specs.View.{program_of};
+
+use crate::error::{ResolveError, ResolveErrorKind, Stop};
+use crate::scope::Scope;
+use crate::script::{Script, is_namespace, step};
+use std::alloc::Global;
+use txs_reader::Form;
+use txs_tree::Raw;
+use txs_value::Span;
+
+/// The forms behind the `(ns name)` that they begin with, if they do.
+fn behind_namespace(forms: &[Form]) -> &[Form]
+    ensures { trees result.now ≡ behind_namespace (trees forms.now) }
+{
+    match forms.split_first() {
+        Some((form, rest)) if is_namespace(form) => rest,
+        _ => forms,
+    }
+}
+
+/// What all top-level forms define.
+fn script<'a>(alloc: Global, forms: &'a [Form]) -> Result<Script<'a>, Stop>
+    ensures state { Gives state_of result (steps nothing (trees forms.now)) }
+    ensures next { IfOk result IsScript }
+{
+    let mut script = Script {
+        scope: Scope::new(alloc),
+        cells: Vec::new(alloc),
+        functions: Vec::new(alloc),
+        threads: Vec::new(alloc),
+        levels: Vec::new(alloc),
+        defs: 0,
+    };
+    for form in forms {
+        script = step(alloc, script, form)?;
+    }
+    Ok(script)
+}
+
+/// The program that the forms of a script are: an optional `(ns name)`, and then definitions of constants and
+/// refs, functions and futures. Each symbol stands for the nearest enclosing local, else for the definition
+/// before it, else for a core operation. Forms are walked in source order, each before its parts, and an
+/// initial value before its name; at one form the lower number comes first. A form's shape is looked at before
+/// whether its node finds room among the 1,000 levels. What a form on a cell calls is looked at behind the
+/// cell. Atoms and agents, and the forms `ref-set`, `commute`, `ensure`, `swap!`, `reset!` and `send`, have no
+/// nodes, and are `BadForm`.
+///
+/// # Errors
+/// The first refusal met, with the span of the symbol or form that is refused; `Memory` at 0..0 where the
+/// program didn't fit into memory.
+pub fn resolve(alloc: Global, forms: &[Form]) -> Result<Raw, ResolveError>
+    ensures ok { IfOk result (λ raw. Resolves (trees forms.now) (program_of raw)) }
+    ensures err { IfErr result (λ e. e.kind ≢ Memory → ResolveStops (trees forms.now) e) }
+{
+    match script(alloc, behind_namespace(forms)) {
+        Ok(script) => Ok(Raw::new(script.cells, script.functions, script.threads)),
+        Err(Stop::Refused(error)) => Err(error),
+        Err(Stop::Memory) => Err(ResolveError {
+            kind: ResolveErrorKind::Memory,
+            at: Span { from: 0, to: 0 },
+        }),
+    }
+}

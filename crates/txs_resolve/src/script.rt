@@ -1,0 +1,466 @@
+//! Top-level forms: definitions, functions and threads.
+
+ghost use Rattle.std.specs.Prelude.{◌≡◌, ◌<◌, ◌≤◌, [], length, Some, OnOk, Ok, IfOk};
+ghost use Rattle.txs_resolve.specs.Given.{Gives, GivesLocals};
+ghost use Rattle.txs_resolve.specs.Names.{new_name, form_at, only_literal, ref_of, defining_of, named_form, define, untold, written, function, future, parameter, parameters, are_symbols, step, with_constant, with_ref, with_function, names_space, is_namespace};
+ghost use Rattle.txs_resolve.specs.Expressions.{is_symbol};
+ghost use Rattle.txs_resolve.specs.declared.names.FormName.TheVariants.{Ns, Ref};
+ghost use Rattle.txs_resolve.specs.Scope.{with_locals};
+ghost use Rattle.txs_resolve.specs.Scripts.{state_of, IsScript, defining, written_in, name_and_form};
+ghost use Rattle.txs_reader.specs.declared.form.Bracket.TheVariants.{Round};
+ghost use Rattle.txs_reader.specs.Tree.{tree, trees, trees_of, group};
+ghost use Rattle.txs_tree.specs.Known.{known, levels};
+ghost use Rattle.txs_tree.specs.Scoped.{ScopedTree};
+ghost use Rattle.txs_tree.specs.View.{functions_of, tree_of};
+
+use crate::error::{ResolveErrorKind, Stop, refused};
+use crate::expression::body;
+use crate::levels::levels;
+use crate::literal::{is_literal, literal};
+use crate::names::{FormName, form_of, may_bind, operation_of};
+use crate::nodes::{Spot, is_symbol};
+use crate::scope::{Definition, Scope};
+use std::alloc::Global;
+use txs_reader::{Bracket, Form};
+use txs_tree::{Function, Node, Thread};
+use txs_value::{CellDefinition, CellKind, Name, Span, Value};
+
+/// How many levels a tree may have.
+const MAX_LEVELS: usize = 1_000;
+
+/// How many levels the vectors of a literal may have.
+const MAX_DEPTH: usize = 32;
+
+/// How often `def` may stand in a script.
+const MAX_DEFINITIONS: usize = 1_000;
+
+/// How many functions a script may have.
+const MAX_FUNCTIONS: usize = 1_000;
+
+/// How many threads a script may have.
+const MAX_THREADS: usize = 64;
+
+/// How many parameters a function may have.
+const MAX_PARAMETERS: usize = 20;
+
+/// What a script has defined so far: names, cells, functions and threads, the levels of the functions by their
+/// numbers, and how often `def` stood.
+#[derive(Drop)]
+pub struct Script<'a> {
+    pub scope: Scope<'a>,
+    pub cells: Vec<CellDefinition>,
+    pub functions: Vec<Function>,
+    pub threads: Vec<Thread>,
+    pub levels: Vec<u16>,
+    pub defs: usize,
+}
+
+/// A function as it is written: its name and where it stands, its parameters and its body.
+#[derive(Clone, Copy, Debug)]
+pub struct Signature<'a> {
+    pub name: &'a Name,
+    pub at: Span,
+    pub parameters: &'a [Form],
+    pub body: &'a [Form],
+}
+
+/// The form that a list is, by the name at its head.
+fn form_at(form: &Form) -> Option<FormName>
+    ensures { result ≡ form_at (tree form.now) }
+{
+    match form {
+        Form::Symbol(name, _) => form_of(name.as_bytes()),
+        _ => None,
+    }
+}
+
+/// The name, where it can be defined.
+fn new_name<'a>(scope: &Scope<'_>, name: &'a Name, at: Span) -> Result<&'a Name, Stop>
+    ensures { Gives (λ n. n.now) result (new_name scope.now.defined name.now at) }
+{
+    if !may_bind(name.as_bytes()) {
+        return Err(refused(ResolveErrorKind::BadForm, at));
+    }
+    if operation_of(name.as_bytes()).is_some() {
+        return Err(refused(ResolveErrorKind::Redefined, at));
+    }
+    if scope.definition(name).is_some() {
+        return Err(refused(ResolveErrorKind::Redefined, at));
+    }
+    Ok(name)
+}
+
+/// The form, where it is a literal.
+fn only_literal(is_ref: bool, form: &Form) -> Option<(bool, &Form)>
+    ensures { defining result ≡ only_literal is_ref (tree form.now) }
+{
+    if is_literal(form) {
+        Some((is_ref, form))
+    } else {
+        None
+    }
+}
+
+/// The literal in `(ref L)` with these parts.
+fn opening(parts: &[Form]) -> Option<(bool, &Form)>
+    ensures { defining result ≡ ref_of (Some Ref) (trees_of (trees parts.now)) }
+{
+    if parts.len() != 1 {
+        return None;
+    }
+    only_literal(true, &parts[0])
+}
+
+/// The literal in `(ref L)` with this head and these parts.
+fn ref_of<'f>(head: &Form, parts: &'f [Form]) -> Option<(bool, &'f Form)>
+    ensures { defining result ≡ ref_of (form_at (tree head.now)) (trees_of (trees parts.now)) }
+{
+    match form_at(head) {
+        Some(FormName::Ref) => opening(parts),
+        _ => None,
+    }
+}
+
+/// What a definition is of, a literal or `(ref L)`: whether it is a ref, and the literal.
+fn defining_of(form: &Form) -> Option<(bool, &Form)>
+    ensures { defining result ≡ defining_of (tree form.now) }
+{
+    let Form::Group(Bracket::Round, forms, _) = form else {
+        return only_literal(false, form);
+    };
+    let (head, parts) = forms.split_first()?;
+    ref_of(head, parts)
+}
+
+/// A constant is defined.
+fn with_constant<'a>(script: Script<'a>, name: &'a Name, value: Value) -> Result<Script<'a>, Stop>
+    requires script { IsScript script }
+    requires room { script.defs < 1000 }
+    ensures state { Gives state_of result (Ok (with_constant (state_of script.entry) name.now value)) }
+    ensures next { IfOk result IsScript }
+{
+    let mut script = script;
+    script.scope.define(name, Definition::Constant(value))?;
+    script.defs += 1;
+    Ok(script)
+}
+
+/// A ref is defined, which opens with this value.
+fn with_ref<'a>(
+    alloc: Global,
+    script: Script<'a>,
+    name: &'a Name,
+    value: Value,
+) -> Result<Script<'a>, Stop>
+    requires script { IsScript script }
+    requires room { script.defs < 1000 }
+    ensures state { Gives state_of result (Ok (with_ref (state_of script.entry) name.now value)) }
+    ensures next { IfOk result IsScript }
+{
+    let mut script = script;
+    let number = script.cells.len() as u16;
+    let cell = CellDefinition {
+        kind: CellKind::Ref,
+        name: name.copy(alloc)?,
+        opening: value,
+    };
+    script.cells.push(cell)?;
+    script.scope.define(name, Definition::Cell(number))?;
+    script.defs += 1;
+    Ok(script)
+}
+
+/// The name and the form in `(def name form)` with these parts.
+fn named_form(parts: &[Form]) -> Option<(&Name, Span, &Form)>
+    ensures { name_and_form result ≡ named_form (trees_of (trees parts.now)) }
+{
+    let (first, behind) = parts.split_first()?;
+    let Form::Symbol(name, at) = first else {
+        return None;
+    };
+    if behind.len() != 1 {
+        return None;
+    }
+    Some((name, *at, &behind[0]))
+}
+
+/// What the script has defined behind a `def` with these parts.
+fn define<'a>(
+    alloc: Global,
+    script: Script<'a>,
+    span: Span,
+    parts: &'a [Form],
+) -> Result<Script<'a>, Stop>
+    requires { IsScript script }
+    ensures state { Gives state_of result (define (state_of script.entry) span (trees_of (trees parts.now))) }
+    ensures next { IfOk result IsScript }
+{
+    let Some((name, at, what)) = named_form(parts) else {
+        return Err(refused(ResolveErrorKind::BadForm, span));
+    };
+    let Some((is_ref, what)) = defining_of(what) else {
+        return Err(refused(ResolveErrorKind::BadForm, span));
+    };
+    if script.defs >= MAX_DEFINITIONS {
+        return Err(refused(ResolveErrorKind::TooMany, span));
+    }
+    let value = literal(alloc, MAX_DEPTH, what)?;
+    let name = new_name(&script.scope, name, at)?;
+    if is_ref {
+        return with_ref(alloc, script, name, value);
+    }
+    with_constant(script, name, value)
+}
+
+/// The forms without a text in front of them.
+fn untold(forms: &[Form]) -> &[Form]
+    ensures { trees_of (trees result.now) ≡ untold (trees_of (trees forms.now)) }
+{
+    match forms.split_first() {
+        Some((Form::Text(_, _), rest)) => rest,
+        _ => forms,
+    }
+}
+
+/// Whether all forms are symbols.
+fn are_symbols(forms: &[Form]) -> bool
+    ensures { result ≡ are_symbols (trees_of (trees forms.now)) }
+{
+    for form in forms {
+        if !is_symbol(form) {
+            return false;
+        }
+    }
+    true
+}
+
+/// A function as it is written behind `defn`.
+fn signature_of(parts: &[Form]) -> Option<Signature<'_>>
+    ensures { written_in result ≡ written (trees_of (trees parts.now)) }
+{
+    let (first, behind) = parts.split_first()?;
+    let Form::Symbol(name, at) = first else {
+        return None;
+    };
+    let (second, body) = untold(behind).split_first()?;
+    let Form::Group(Bracket::Square, parameters, _) = second else {
+        return None;
+    };
+    if !are_symbols(parameters) {
+        return None;
+    }
+    Some(Signature {
+        name,
+        at: *at,
+        parameters,
+        body,
+    })
+}
+
+/// The name of a parameter after so many.
+fn parameter(count: usize, form: &Form) -> Result<&Name, Stop>
+    ensures name { Gives (λ n. n.now) result (parameter count (tree form.now)) }
+    ensures room { OnOk result (count < 20) }
+{
+    match form {
+        Form::Symbol(name, at) => {
+            if !may_bind(name.as_bytes()) {
+                return Err(refused(ResolveErrorKind::BadForm, *at));
+            }
+            if count >= MAX_PARAMETERS {
+                return Err(refused(ResolveErrorKind::TooMany, *at));
+            }
+            Ok(name)
+        }
+        _ => Err(refused(ResolveErrorKind::BadForm, form.span())),
+    }
+}
+
+/// Binds the parameters.
+fn bind_parameters<'a>(scope: &mut Scope<'a>, forms: &'a [Form]) -> Result<(), Stop>
+    requires { scope.old.locals ≡ [] }
+    ensures names { GivesLocals result scope.new.locals (parameters [] (trees_of (trees forms.now))) }
+    ensures kept { OnOk result (scope.new ≡ with_locals scope.new.locals scope.old) }
+    ensures few { OnOk result (length scope.new.locals ≤ 20) }
+{
+    for form in forms {
+        let name = parameter(scope.len(), form)?;
+        scope.push(name.as_bytes())?;
+    }
+    Ok(())
+}
+
+/// A function is defined, of so many parameters and with this body.
+fn with_function<'a>(
+    script: Script<'a>,
+    name: &'a Name,
+    parameters: u8,
+    body: Node,
+    span: Span,
+) -> Result<Script<'a>, Stop>
+    requires script { IsScript script }
+    requires room { length script.functions.items < 1000 }
+    requires few { parameters ≤ 20 }
+    requires scoped { ScopedTree (known (functions_of script.functions.items)) parameters (tree_of body) }
+    requires levels { levels (known (functions_of script.functions.items)) (tree_of body) ≤ 1000 }
+    ensures state { Gives state_of result (Ok (with_function (state_of script.entry) name.now parameters (tree_of body) span)) }
+    ensures next { IfOk result IsScript }
+{
+    let mut script = script;
+    let number = script.functions.len() as u16;
+    let depth = levels(script.levels.as_slice(), &body) as u16;
+    script.levels.push(depth)?;
+    script.functions.push(Function {
+        parameters,
+        body,
+        span,
+    })?;
+    script
+        .scope
+        .define(name, Definition::Function(number, depth))?;
+    Ok(script)
+}
+
+/// What the script has defined behind a function as it is written.
+fn function_as<'a>(
+    alloc: Global,
+    script: Script<'a>,
+    span: Span,
+    written: Signature<'a>,
+) -> Result<Script<'a>, Stop>
+    requires { IsScript script }
+    ensures state { Gives state_of result (function (state_of script.entry) span (written_in (Some written.entry))) }
+    ensures next { IfOk result IsScript }
+{
+    let mut script = script;
+    if script.functions.len() >= MAX_FUNCTIONS {
+        return Err(refused(ResolveErrorKind::TooMany, span));
+    }
+    let name = new_name(&script.scope, written.name, written.at)?;
+    bind_parameters(&mut script.scope, written.parameters)?;
+    let parameters = script.scope.len() as u8;
+    script.scope.begin(name);
+    let spot = Spot {
+        room: MAX_LEVELS,
+        span,
+        wanted: true,
+    };
+    let body = body(alloc, &mut script.scope, spot, written.body)?;
+    script.scope.end();
+    with_function(script, name, parameters, body, span)
+}
+
+/// What the script has defined behind a `defn` with these parts.
+fn function<'a>(
+    alloc: Global,
+    script: Script<'a>,
+    span: Span,
+    parts: &'a [Form],
+) -> Result<Script<'a>, Stop>
+    requires { IsScript script }
+    ensures state { Gives state_of result (function (state_of script.entry) span (written (trees_of (trees parts.now)))) }
+    ensures next { IfOk result IsScript }
+{
+    match signature_of(parts) {
+        Some(written) => function_as(alloc, script, span, written),
+        None => Err(refused(ResolveErrorKind::BadForm, span)),
+    }
+}
+
+/// What the script has defined behind a `future` with this body.
+fn future<'a>(
+    alloc: Global,
+    script: Script<'a>,
+    span: Span,
+    forms: &'a [Form],
+) -> Result<Script<'a>, Stop>
+    requires { IsScript script }
+    ensures state { Gives state_of result (future (state_of script.entry) span (trees_of (trees forms.now))) }
+    ensures next { IfOk result IsScript }
+{
+    let mut script = script;
+    if script.threads.len() >= MAX_THREADS {
+        return Err(refused(ResolveErrorKind::TooMany, span));
+    }
+    let spot = Spot {
+        room: MAX_LEVELS,
+        span,
+        wanted: false,
+    };
+    let body = body(alloc, &mut script.scope, spot, forms)?;
+    script.threads.push(Thread { body, span })?;
+    Ok(script)
+}
+
+/// What the script has defined behind a list at the top level.
+fn list_step<'a>(
+    alloc: Global,
+    script: Script<'a>,
+    span: Span,
+    forms: &'a [Form],
+) -> Result<Script<'a>, Stop>
+    requires { IsScript script }
+    ensures state { Gives state_of result (step (state_of script.entry) (group Round (trees_of (trees forms.now)) span)) }
+    ensures next { IfOk result IsScript }
+{
+    let Some((head, parts)) = forms.split_first() else {
+        return Err(refused(ResolveErrorKind::BadForm, span));
+    };
+    match form_at(head) {
+        Some(FormName::Def) => define(alloc, script, span, parts),
+        Some(FormName::Defn) => function(alloc, script, span, parts),
+        Some(FormName::Future) => future(alloc, script, span, parts),
+        _ => Err(refused(ResolveErrorKind::BadForm, span)),
+    }
+}
+
+/// What the script has defined behind a top-level form.
+pub fn step<'a>(alloc: Global, script: Script<'a>, form: &'a Form) -> Result<Script<'a>, Stop>
+    requires { IsScript script }
+    ensures state { Gives state_of result (step (state_of script.entry) (tree form.now)) }
+    ensures next { IfOk result IsScript }
+{
+    match form {
+        Form::Group(Bracket::Round, forms, span) => list_step(alloc, script, *span, forms),
+        Form::Group(Bracket::Square, _, span) => Err(refused(ResolveErrorKind::BadForm, *span)),
+        Form::Nil(span) => Err(refused(ResolveErrorKind::BadForm, *span)),
+        Form::Truth(_, span) => Err(refused(ResolveErrorKind::BadForm, *span)),
+        Form::Number(_, span) => Err(refused(ResolveErrorKind::BadForm, *span)),
+        Form::Text(_, span) => Err(refused(ResolveErrorKind::BadForm, *span)),
+        Form::Keyword(_, span) => Err(refused(ResolveErrorKind::BadForm, *span)),
+        Form::Symbol(_, span) => Err(refused(ResolveErrorKind::BadForm, *span)),
+    }
+}
+
+/// Whether there is one part, which is a symbol.
+fn is_name(parts: &[Form]) -> bool
+    ensures { result ≡ names_space (Some Ns) (trees_of (trees parts.now)) }
+{
+    if parts.len() != 1 {
+        return false;
+    }
+    is_symbol(&parts[0])
+}
+
+/// Whether a list with this head and these parts is `(ns name)`.
+fn names_space(head: &Form, parts: &[Form]) -> bool
+    ensures { result ≡ names_space (form_at (tree head.now)) (trees_of (trees parts.now)) }
+{
+    match form_at(head) {
+        Some(FormName::Ns) => is_name(parts),
+        _ => false,
+    }
+}
+
+/// Whether the form is `(ns name)`.
+pub fn is_namespace(form: &Form) -> bool
+    ensures { result ≡ is_namespace (tree form.now) }
+{
+    let Form::Group(Bracket::Round, forms, _) = form else {
+        return false;
+    };
+    let Some((head, parts)) = forms.split_first() else {
+        return false;
+    };
+    names_space(head, parts)
+}

@@ -1,0 +1,338 @@
+-- What is sound of a function's body where the function is called.
+use Rattle.std.proofs.Common.{◌≡◌, ℕ, zero, suc, ◌+◌, ◌-◌, ◌*◌, ◌<◌, ◌≤◌, Bool, true, false, ◌||◌, ◌&&◌, List, [], ◌∷◌, ◌++◌, Option, Some, None, length, take, get_or, refl, sym, ap, ◌∙◌, subst, append_assoc, length-append, arith}
+use Rattle.std.proofs.Math.Seq.{take-append_seam}
+use Rattle.std.proofs.lemmas.Bool.{false≢true}
+use Rattle.std.proofs.lemmas.List.{append-nil}
+use Rattle.txs_value.specs.Places.{nth}
+use Rattle.txs_value.specs.declared.op.Callee.{Callee}
+use Rattle.txs_value.specs.declared.op.Callee.TheVariants.{Core as CoreOp, Function}
+use Rattle.txs_tree.specs.Known.{Known, is_inside, is_pure, inside_in, any_inside, pure_in, all_pure, known_of, known_from, known}
+use Rattle.txs_tree.specs.Setting.{Setting, deeper, callable}
+use Rattle.txs_tree.specs.Sound.{Zone, in_function, in_thread, in_dosync, SoundCall, PureCall, SoundCallee, SoundTree, SoundAll, SoundDo, SoundLet, SoundFunction, SoundFunctions, nodes, nodes_of_functions}
+use Rattle.txs_tree.specs.Tree.{Tree, Const, Local, If, Do, Let, Loop, Recur, Core, Call, VectorOf, Println, Dosync, Deref, Alter, Trees, none, more, count, PlainFunction}
+use Rattle.txs_tree.specs.View.{function_of, functions_of}
+use Rattle.txs_tree.specs.declared.node.Function as function
+
+-- ---- truth values
+
+neither : (a b : Bool) → (a || b) ≡ false → (a ≡ false) × (b ≡ false)
+neither true b h = absurd (false≢true (sym h))
+neither false b h = (refl, h)
+
+nor : (a b : Bool) → a ≡ false → b ≡ false → (a || b) ≡ false
+nor true b p q = p
+nor false b p q = q
+
+pub both : (a b : Bool) → (a && b) ≡ true → (a ≡ true) × (b ≡ true)
+both true b h = (refl, h)
+both false b h = absurd (false≢true h)
+
+-- ---- places of lists
+
+abbrev IsSome : {A : Type 0} → Option A → Type 0
+IsSome None = ⊥
+IsSome (Some a) = Unit {0}
+
+missing : {A : Type 0} (a : A) → None ≡ Some a → ⊥
+missing a h = subst IsSome (sym h) tt
+
+abbrev or_else : {A : Type 0} → A → Option A → A
+or_else a None = a
+or_else a (Some b) = b
+
+same_some : {A : Type 0} (a b : A) → Some a ≡ Some b → a ≡ b
+same_some a b h = ap (or_else a) h
+
+pub nth-length : {A : Type 0} (xs : List A) (i : ℕ) (x : A) → nth xs i ≡ Some x → i < length xs
+nth-length [] i x h = absurd (missing x h)
+nth-length (y ∷ ys) zero x h = omega arith
+nth-length (y ∷ ys) (suc i) x h = omega (arith, nth-length ys i x h)
+
+nth-seam : {A : Type 0} (xs : List A) (y : A) (ys : List A) → nth (xs ++ y ∷ ys) (length xs) ≡ Some y
+nth-seam [] y ys = refl
+nth-seam (x ∷ xs) y ys = nth-seam xs y ys
+
+-- what stands in the first items stands in the whole
+pub nth-take : {A : Type 0} (n : ℕ) (xs : List A) (i : ℕ) (x : A) → nth (take n xs) i ≡ Some x → (i < n) × (nth xs i ≡ Some x)
+nth-take zero [] i x h = absurd (missing x h)
+nth-take zero (y ∷ ys) i x h = absurd (missing x h)
+nth-take (suc n) [] i x h = absurd (missing x h)
+nth-take (suc n) (y ∷ ys) zero x h = (omega arith, h)
+nth-take (suc n) (y ∷ ys) (suc i) x h =
+    let there = nth-take n ys i x h in
+    (omega (arith, there.0), there.1)
+
+pub nth-before : {A : Type 0} (n : ℕ) (xs : List A) (i : ℕ) (x : A) → i < n → nth xs i ≡ Some x → nth (take n xs) i ≡ Some x
+nth-before zero xs i x lt h = absurd (omega (arith, lt))
+nth-before (suc n) [] i x lt h = absurd (missing x h)
+nth-before (suc n) (y ∷ ys) zero x lt h = h
+nth-before (suc n) (y ∷ ys) (suc i) x lt h = nth-before n ys i x (omega (arith, lt)) h
+
+-- ---- where more functions are defined
+
+module _ (ks ls : List Known) (grows : (f : ℕ) (k : Known) → nth ks f ≡ Some k → nth ls f ≡ Some k) where
+  call-widened : (zone : Zone) (f n : ℕ) → SoundCall ks zone f n → SoundCall ls zone f n
+  call-widened zone f n h = record { function = h.function; found = grows f h.function h.found; arity = h.arity; zoned = h.zoned }
+
+  callee-widened : (callee : Callee) (n : ℕ) → SoundCallee ks callee n → SoundCallee ls callee n
+  callee-widened (CoreOp op) n h = h
+  callee-widened (Function f) n h = record { function = h.function; found = grows f h.function h.found; arity = h.arity; pure = h.pure }
+
+  mutual
+    pub tree-widened : (e : Tree) (zone : Zone) (d : ℕ) (tail : Option ℕ) → SoundTree ks zone d tail e → SoundTree ls zone d tail e
+    tree-widened (Const v m) zone d tail h = h
+    tree-widened (Local i m) zone d tail h = h
+    tree-widened (If c a b m) zone d tail h = (tree-widened c zone d None h.0, tree-widened a zone d tail h.1, tree-widened b zone d tail h.2)
+    tree-widened (Do items m) zone d tail h = do-widened items zone d tail h
+    tree-widened (Let values body m) zone d tail h = (let-widened values zone d h.0, tree-widened body zone (d + count values) tail h.1)
+    tree-widened (Loop values body m) zone d tail h = (let-widened values zone d h.0, tree-widened body zone (d + count values) (Some (count values)) h.1)
+    tree-widened (Recur values m) zone d tail h = (h.0, all-widened values zone d h.1)
+    tree-widened (Core op args m) zone d tail h = (h.0, all-widened args zone d h.1)
+    tree-widened (Call f args m) zone d tail h = (call-widened zone f (count args) h.0, all-widened args zone d h.1)
+    tree-widened (VectorOf items m) zone d tail h = (h.0, all-widened items zone d h.1)
+    tree-widened (Println args m) zone d tail h = (h.0, h.1, all-widened args zone d h.2)
+    tree-widened (Dosync body m) zone d tail h = tree-widened body in_dosync d None h
+    tree-widened (Deref cell m) zone d tail h = tree-widened cell zone d None h
+    tree-widened (Alter cell callee args m) zone d tail h =
+        (h.0, tree-widened cell zone d None h.1, callee-widened callee (suc (count args)) h.2, all-widened args zone d h.3)
+
+    all-widened : (es : Trees) (zone : Zone) (d : ℕ) → SoundAll ks zone d es → SoundAll ls zone d es
+    all-widened none zone d h = h
+    all-widened (more e rest) zone d h = (tree-widened e zone d None h.0, all-widened rest zone d h.1)
+
+    let-widened : (es : Trees) (zone : Zone) (d : ℕ) → SoundLet ks zone d es → SoundLet ls zone d es
+    let-widened none zone d h = h
+    let-widened (more e rest) zone d h = (tree-widened e zone d None h.0, let-widened rest zone (d + 1) h.1)
+
+    do-widened : (es : Trees) (zone : Zone) (d : ℕ) (tail : Option ℕ) → SoundDo ks zone d tail es → SoundDo ls zone d tail es
+    do-widened none zone d tail h = h
+    do-widened (more e none) zone d tail h = tree-widened e zone d tail h
+    do-widened (more e (more f rest)) zone d tail h = (tree-widened e zone d None h.0, do-widened (more f rest) zone d tail h.1)
+
+-- ---- a body that isn't for transactions alone may run outside
+
+module _ (ks : List Known) where
+  mutual
+    tree-outside : (e : Tree) (d : ℕ) (tail : Option ℕ) → SoundTree ks in_function d tail e → inside_in ks e ≡ false → SoundTree ks in_thread d tail e
+    tree-outside (Const v m) d tail h out = h
+    tree-outside (Local i m) d tail h out = h
+    tree-outside (If c a b m) d tail h out =
+        let test = neither (inside_in ks c) (inside_in ks a || inside_in ks b) out in
+        let branches = neither (inside_in ks a) (inside_in ks b) test.1 in
+        (tree-outside c d None h.0 test.0, tree-outside a d tail h.1 branches.0, tree-outside b d tail h.2 branches.1)
+    tree-outside (Do items m) d tail h out = do-outside items d tail h out
+    tree-outside (Let values body m) d tail h out =
+        let parts = neither (any_inside ks values) (inside_in ks body) out in
+        (let-outside values d h.0 parts.0, tree-outside body (d + count values) tail h.1 parts.1)
+    tree-outside (Loop values body m) d tail h out =
+        let parts = neither (any_inside ks values) (inside_in ks body) out in
+        (let-outside values d h.0 parts.0, tree-outside body (d + count values) (Some (count values)) h.1 parts.1)
+    tree-outside (Recur values m) d tail h out = (h.0, all-outside values d h.1 out)
+    tree-outside (Core op args m) d tail h out = (h.0, all-outside args d h.1 out)
+    tree-outside (Call f args m) d tail h out =
+        let parts = neither (is_inside (nth ks f)) (any_inside ks args) out in
+        let call = h.0 in
+        (record { function = call.function; found = call.found; arity = call.arity; zoned = sym (ap is_inside call.found) ∙ parts.0 }, all-outside args d h.1 parts.1)
+    tree-outside (VectorOf items m) d tail h out = (h.0, all-outside items d h.1 out)
+    tree-outside (Println args m) d tail h out = (tt, h.1, all-outside args d h.2 out)
+    tree-outside (Dosync body m) d tail h out = h
+    tree-outside (Deref cell m) d tail h out = tree-outside cell d None h out
+    tree-outside (Alter cell callee args m) d tail h out = absurd (false≢true (sym out))
+
+    all-outside : (es : Trees) (d : ℕ) → SoundAll ks in_function d es → any_inside ks es ≡ false → SoundAll ks in_thread d es
+    all-outside none d h out = h
+    all-outside (more e rest) d h out =
+        let parts = neither (inside_in ks e) (any_inside ks rest) out in
+        (tree-outside e d None h.0 parts.0, all-outside rest d h.1 parts.1)
+
+    let-outside : (es : Trees) (d : ℕ) → SoundLet ks in_function d es → any_inside ks es ≡ false → SoundLet ks in_thread d es
+    let-outside none d h out = h
+    let-outside (more e rest) d h out =
+        let parts = neither (inside_in ks e) (any_inside ks rest) out in
+        (tree-outside e d None h.0 parts.0, let-outside rest (d + 1) h.1 parts.1)
+
+    do-outside : (es : Trees) (d : ℕ) (tail : Option ℕ) → SoundDo ks in_function d tail es → any_inside ks es ≡ false → SoundDo ks in_thread d tail es
+    do-outside none d tail h out = h
+    do-outside (more e none) d tail h out = tree-outside e d tail h (neither (inside_in ks e) false out).0
+    do-outside (more e (more f rest)) d tail h out =
+        let parts = neither (inside_in ks e) (any_inside ks (more f rest)) out in
+        (tree-outside e d None h.0 parts.0, do-outside (more f rest) d tail h.1 parts.1)
+
+-- ---- a pure body isn't for transactions alone
+
+abbrev Tame : Known → Type 0
+Tame k = k.pure ≡ true → k.inside ≡ false
+
+abbrev AllTame : List Known → Type 0
+AllTame [] = Unit {0}
+AllTame (k ∷ ks) = Tame k × AllTame ks
+
+AllTame-push : (ks : List Known) (k : Known) → AllTame ks → Tame k → AllTame (ks ++ k ∷ [])
+AllTame-push [] k all one = (one, tt)
+AllTame-push (l ∷ ks) k all one = (all.0, AllTame-push ks k all.1 one)
+
+module _ where
+  call-tame : (ks : List Known) (f : ℕ) → AllTame ks → is_pure (nth ks f) ≡ true → is_inside (nth ks f) ≡ false
+  call-tame [] f all pure = refl
+  call-tame (k ∷ ks) zero all pure = all.0 pure
+  call-tame (k ∷ ks) (suc f) all pure = call-tame ks f all.1 pure
+
+module _ (ks : List Known) (all : AllTame ks) where
+  mutual
+    tree-tame : (e : Tree) → pure_in ks e ≡ true → inside_in ks e ≡ false
+    tree-tame (Const v m) pure = refl
+    tree-tame (Local i m) pure = refl
+    tree-tame (If c a b m) pure =
+        let test = both (pure_in ks c) (pure_in ks a && pure_in ks b) pure in
+        let branches = both (pure_in ks a) (pure_in ks b) test.1 in
+        nor (inside_in ks c) (inside_in ks a || inside_in ks b) (tree-tame c test.0) (nor (inside_in ks a) (inside_in ks b) (tree-tame a branches.0) (tree-tame b branches.1))
+    tree-tame (Do items m) pure = all-tame items pure
+    tree-tame (Let values body m) pure =
+        let parts = both (all_pure ks values) (pure_in ks body) pure in
+        nor (any_inside ks values) (inside_in ks body) (all-tame values parts.0) (tree-tame body parts.1)
+    tree-tame (Loop values body m) pure =
+        let parts = both (all_pure ks values) (pure_in ks body) pure in
+        nor (any_inside ks values) (inside_in ks body) (all-tame values parts.0) (tree-tame body parts.1)
+    tree-tame (Recur values m) pure = all-tame values pure
+    tree-tame (Core op args m) pure = all-tame args pure
+    tree-tame (Call f args m) pure =
+        let parts = both (is_pure (nth ks f)) (all_pure ks args) pure in
+        nor (is_inside (nth ks f)) (any_inside ks args) (call-tame ks f all parts.0) (all-tame args parts.1)
+    tree-tame (VectorOf items m) pure = all-tame items pure
+    tree-tame (Println args m) pure = absurd (false≢true pure)
+    tree-tame (Dosync body m) pure = absurd (false≢true pure)
+    tree-tame (Deref cell m) pure = absurd (false≢true pure)
+    tree-tame (Alter cell callee args m) pure = absurd (false≢true pure)
+
+    all-tame : (es : Trees) → all_pure ks es ≡ true → any_inside ks es ≡ false
+    all-tame none pure = refl
+    all-tame (more e rest) pure =
+        let parts = both (pure_in ks e) (all_pure ks rest) pure in
+        nor (inside_in ks e) (any_inside ks rest) (tree-tame e parts.0) (all-tame rest parts.1)
+
+known-tame : (ks : List Known) (fs : List PlainFunction) → AllTame ks → AllTame (known_from ks fs)
+known-tame ks [] all = all
+known-tame ks (f ∷ fs) all = known-tame (ks ++ known_of ks f ∷ []) fs (AllTame-push ks (known_of ks f) all (tree-tame ks all f.body))
+
+-- ---- what is known of a function stands at its place
+
+abbrev later : List Known → List PlainFunction → List Known
+later ks [] = []
+later ks (f ∷ fs) = known_of ks f ∷ later (ks ++ known_of ks f ∷ []) fs
+
+known_from-is : (ks : List Known) (fs : List PlainFunction) → known_from ks fs ≡ ks ++ later ks fs
+known_from-is ks [] = sym (append-nil ks)
+known_from-is ks (f ∷ fs) = known_from-is (ks ++ known_of ks f ∷ []) fs ∙ append_assoc ks (known_of ks f ∷ []) (later (ks ++ known_of ks f ∷ []) fs)
+
+length-known_from : (ks : List Known) (fs : List PlainFunction) → length (known_from ks fs) ≡ length ks + length fs
+length-known_from ks [] = omega arith
+length-known_from ks (f ∷ fs) = omega (arith, length-known_from (ks ++ known_of ks f ∷ []) fs, length-append ks (known_of ks f ∷ []))
+
+pub length-known : (fs : List PlainFunction) → length (known fs) ≡ length fs
+length-known fs = omega (arith, length-known_from [] fs)
+
+-- the functions before it are all that a function's body rests on
+abbrev pub FunctionAt : List Known → ℕ → PlainFunction → List Known → Type 0
+FunctionAt all f fun before = (nth all f ≡ Some (known_of before fun)) × SoundFunction before fun
+
+function_from : (fs : List PlainFunction) (ks : List Known) (f i : ℕ) (fun : PlainFunction) → SoundFunctions ks fs → f ≡ length ks + i → nth fs i ≡ Some fun → FunctionAt (known_from ks fs) f fun (take f (known_from ks fs))
+function_from [] ks f i fun sound place found = absurd (missing fun found)
+function_from (g ∷ fs) ks f zero fun sound place found =
+    let rest = later (ks ++ known_of ks g ∷ []) fs in
+    let here : f ≡ length ks = omega (arith, place) in
+    let same : g ≡ fun = same_some g fun found in
+    let seam : nth (ks ++ known_of ks g ∷ rest) (length ks) ≡ Some (known_of ks g) = nth-seam ks (known_of ks g) rest in
+    let parts : FunctionAt (ks ++ known_of ks g ∷ rest) (length ks) fun ks = subst (λ x. FunctionAt (ks ++ known_of ks g ∷ rest) (length ks) x ks) same (seam, sound.0) in
+    let before : take (length ks) (ks ++ known_of ks g ∷ rest) ≡ ks = take-append_seam ks (known_of ks g ∷ rest) in
+    let there : FunctionAt (ks ++ known_of ks g ∷ rest) (length ks) fun (take (length ks) (ks ++ known_of ks g ∷ rest)) = subst (λ l. FunctionAt (ks ++ known_of ks g ∷ rest) (length ks) fun l) (sym before) parts in
+    let whole = subst (λ l. FunctionAt l (length ks) fun (take (length ks) l)) (sym (known_from-is ks (g ∷ fs))) there in
+    subst (λ k. FunctionAt (known_from ks (g ∷ fs)) k fun (take k (known_from ks (g ∷ fs)))) (sym here) whole
+function_from (g ∷ fs) ks f (suc i) fun sound place found =
+    function_from fs (ks ++ known_of ks g ∷ []) f i fun sound.1 (omega (arith, place, length-append ks (known_of ks g ∷ []))) found
+
+pub function_at : (fs : List PlainFunction) (f : ℕ) (fun : PlainFunction) → SoundFunctions [] fs → nth fs f ≡ Some fun → FunctionAt (known fs) f fun (take f (known fs))
+function_at fs f fun sound found = function_from fs [] f f fun sound (omega arith) found
+
+pub length-functions_of : (fs : List function.Function) → length (functions_of fs) ≡ length fs
+length-functions_of [] = refl
+length-functions_of (f ∷ fs) = ap suc (length-functions_of fs)
+
+pub functions_of-at : (fs : List function.Function) (i : ℕ) (f : function.Function) → i < length fs → f ≡ get_or fs i f → nth (functions_of fs) i ≡ Some (function_of f)
+functions_of-at [] i f lt is = absurd (omega (arith, lt))
+functions_of-at (g ∷ fs) zero f lt is = ap (λ x. Some (function_of x)) (sym is)
+functions_of-at (g ∷ fs) (suc i) f lt is = functions_of-at fs i f (omega (arith, lt)) is
+
+-- what is sound where all functions are defined is sound where as many may be called as there are
+pub sound_everywhere : (fs : List function.Function) (n : ℕ) (e : Tree) (zone : Zone) (d : ℕ) (tail : Option ℕ) → SoundTree (known (functions_of fs)) zone d tail e
+    → SoundTree (callable (record { functions = fs; depth = length fs; turns = n })) zone d tail e
+sound_everywhere fs n e zone d tail h =
+    let all = known (functions_of fs) in
+    let many : length all ≡ length fs = length-known (functions_of fs) ∙ length-functions_of fs in
+    tree-widened all (take (length fs) all) (λ f k found. nth-before (length fs) all f k (omega (arith, many, nth-length all f k found)) found) e zone d tail h
+
+-- a pure function may be called outside
+pub pure-callable : (fs : List function.Function) (n f m : ℕ) → PureCall (known (functions_of fs)) f m → SoundCall (callable (record { functions = fs; depth = length fs; turns = n })) in_thread f m
+pure-callable fs n f m h =
+    let all = known (functions_of fs) in
+    let many : length all ≡ length fs = length-known (functions_of fs) ∙ length-functions_of fs in
+    let tame = call-tame all f (known-tame [] (functions_of fs) tt) (ap is_pure h.found ∙ h.pure) in
+    record { function = h.function; found = nth-before (length fs) all f h.function (omega (arith, many, nth-length all f h.function h.found)) h.found; arity = h.arity; zoned = sym (ap is_inside h.found) ∙ tame }
+
+-- ---- a call
+
+module _ (setting : Setting) (f n : ℕ) (h : SoundCall (callable setting) in_thread f n) where
+  found_in : (f < setting.depth) × (nth (known (functions_of setting.functions)) f ≡ Some h.function)
+  found_in = nth-take setting.depth (known (functions_of setting.functions)) f h.function h.found
+
+  pub depth_left : 0 < setting.depth
+  depth_left = omega (arith, found_in.0)
+
+  pub is_function : f < length setting.functions
+  is_function =
+      omega (arith, nth-length (known (functions_of setting.functions)) f h.function found_in.1, length-known (functions_of setting.functions), length-functions_of setting.functions)
+
+  module _ (fun : PlainFunction) (sound : SoundFunctions [] (functions_of setting.functions)) (there : nth (functions_of setting.functions) f ≡ Some fun) where
+    abbrev all : List Known
+    all = known (functions_of setting.functions)
+
+    at_place : FunctionAt all f fun (take f all)
+    at_place = function_at (functions_of setting.functions) f fun sound there
+
+    is_known : h.function ≡ known_of (take f all) fun
+    is_known = same_some h.function (known_of (take f all) fun) (sym found_in.1 ∙ at_place.0)
+
+    pub as_many : fun.parameters ≡ n
+    as_many = sym (ap (λ k. k.parameters) is_known) ∙ h.arity
+
+    pub called_body : SoundTree (callable (deeper setting)) in_thread n (Some n) fun.body
+    called_body =
+        let outside : inside_in (take f all) fun.body ≡ false = sym (ap (λ k. k.inside) is_known) ∙ h.zoned in
+        let body = tree-outside (take f all) fun.body fun.parameters (Some fun.parameters) at_place.1.1 outside in
+        let grows : (g : ℕ) (k : Known) → nth (take f all) g ≡ Some k → nth (take (setting.depth - 1) all) g ≡ Some k = λ g k is.
+        let low = nth-take f all g k is in
+        nth-before (setting.depth - 1) all g k (omega (arith, low.0, found_in.0)) low.1 in
+        subst (λ m. SoundTree (take (setting.depth - 1) all) in_thread m (Some m) fun.body) as_many
+        (tree-widened (take f all) (take (setting.depth - 1) all) grows fun.body in_thread fun.parameters (Some fun.parameters) body)
+
+-- ---- what a call needs of the measure
+
+pub nodes-function : (fs : List PlainFunction) (f : ℕ) (fun : PlainFunction) → nth fs f ≡ Some fun → nodes fun.body ≤ nodes_of_functions fs
+nodes-function [] f fun h = absurd (missing fun h)
+nodes-function (g ∷ fs) zero fun h = omega (arith, ap (λ x. nodes x.body) (same_some g fun h))
+nodes-function (g ∷ fs) (suc f) fun h = omega (arith, nodes-function fs f fun h)
+
+-- all that calls below may take
+pub room : Setting → ℕ
+room s = s.depth * (3 * nodes_of_functions (functions_of s.functions) + 2)
+
+one_less : (d m : ℕ) → 0 < d → (d - 1) * m + m ≡ d * m
+one_less zero m lt = absurd (omega (arith, lt))
+one_less (suc d) m lt = Prim.grind arith
+
+pub room-deeper : (s : Setting) (f : ℕ) (fun : PlainFunction) → 0 < s.depth → nth (functions_of s.functions) f ≡ Some fun → room (deeper s) + (3 * nodes fun.body + 1) < room s
+unfolding room
+room-deeper s f fun lt h =
+    omega (arith, one_less s.depth (3 * nodes_of_functions (functions_of s.functions) + 2) lt, nodes-function (functions_of s.functions) f fun h)
+
+pub in_room : (s : Setting) (a b : ℕ) → a < b → room s + a < room s + b
+in_room s a b lt = omega (arith, lt)
