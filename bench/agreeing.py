@@ -1,0 +1,181 @@
+#!/usr/bin/env python3
+"""agreeing.py [--scripts N] [--seed S]
+Makes N scripts at random from the forms that docs/LANGUAGE.md tells, without its departures from Clojure, runs each in
+txs and in real Clojure, and compares: both end, or both fault, and what they printed is the same. Prints the scripts on
+which they don't agree, and then the counts. Needs Debian's package `clojure`, and the built program (./txs builds it)."""
+import argparse, collections, json, os, random, subprocess, sys, tempfile
+HERE = os.path.dirname(os.path.abspath(__file__))
+JARS = ["clojure.jar", "spec.alpha.jar", "core.specs.alpha.jar"]
+JAVA = ["java", "-Xmx2g", "-cp", ":".join(os.path.join(os.sep, "usr", "share", "java", j) for j in JARS), "clojure.main"]
+TXS = os.path.join(HERE, "..", "crates", "txs", "out", "txs")
+NAMES = ["a", "b", "c", "x", "y", "n", "count", "inc", "+", "first"]
+KINDS = ["int", "int", "int", "ints", "bool", "any"]
+TWO = ["+", "-", "*", "quot", "rem", "mod", "max", "min"]
+COMPARE = ["<", ">", "<=", ">=", "=", "not="]
+
+
+class Function:
+    def __init__(self, name, takes, gives, pure, outside):
+        self.name, self.takes, self.gives, self.pure, self.outside = name, takes, gives, pure, outside
+
+
+class Maker:
+    """Makes scripts. `names` is what is in scope, a kind for each; a value of another kind stands in here and there."""
+
+    def __init__(self, rng):
+        self.rng = rng
+
+    def literal(self, kind):
+        r = self.rng
+        if kind == "int":
+            return str(r.choice([9223372036854775807, 4611686018427387904, -4611686018427387904]) if r.random() < 0.04 else r.randint(-9, 9))
+        if kind == "ints":
+            return "[%s]" % " ".join(self.literal("int") for _ in range(r.randint(0, 3)))
+        if kind == "bool":
+            return r.choice(["true", "false"])
+        return r.choice([":k", ":a", '"x y"', '"q\\"r\\n"', "nil", "true", "[]", "[1 :b]", "[nil [false \"s\"]]", self.literal("int")])
+
+    def call(self, names, head, *args):
+        """A call, unless a local hides the name."""
+        return None if head in names else "(%s)" % " ".join((head,) + args)
+
+    def value(self, kind, names, depth):
+        """An expression of this kind."""
+        r = self.rng
+        known = [n for n, k in names.items() if k == kind]
+        if depth <= 0 or r.random() < 0.15:
+            return r.choice(known) if known and r.random() < 0.7 else self.literal(kind)
+        if r.random() < 0.006:
+            return r.choice([":wrong", "true"])
+        made = r.choice([self.branch, self.binding, self.loop, self.of_functions, self.of_refs, self.operation, self.operation, self.operation])
+        return made(kind, names, depth - 1) or self.literal(kind)
+
+    def branch(self, kind, names, depth):
+        r = self.rng
+        test, any_ = self.value("bool", names, depth), self.value("any", names, depth)
+        one, two = self.value(kind, names, depth), self.value(kind, names, depth)
+        return r.choice([
+            "(if %s %s %s)" % (test, one, two), "(if-not %s %s %s)" % (any_, one, two), "(cond %s %s :else %s)" % (test, one, two),
+            "(and :k %s)" % one, "(or nil false %s)" % two, "(do %s %s)" % (any_, one)] + ([
+                "(and %s %s)" % (test, any_), "(or %s %s)" % (any_, one), "(when %s %s)" % (test, any_),
+                "(when-not %s %s %s)" % (test, one, any_), "(cond %s %s %s %s)" % (test, one, any_, any_)] if kind == "any" else []))
+
+    def binding(self, kind, names, depth):
+        names, pairs = dict(names), []
+        for _ in range(self.rng.randint(0, 3)):
+            name, of = self.rng.choice(NAMES), self.rng.choice(KINDS)
+            pairs.append("%s %s" % (name, self.value(of, names, depth)))
+            names[name] = of
+        return "(let [%s] %s)" % (" ".join(pairs), self.value(kind, names, depth))
+
+    def loop(self, kind, names, depth):
+        if kind not in ("int", "ints") or "<" in names or "inc" in names:
+            return None
+        inner = dict(names, i="int", s=kind)
+        return "(loop [i 0 s %s] (if (< i %d) (recur (inc i) %s) %s))" % (
+            self.value(kind, names, depth), self.rng.randint(0, 4), self.value(kind, inner, depth), self.value(kind, inner, depth))
+
+    def of_functions(self, kind, names, depth):
+        fit = [f for f in self.functions if f.gives == kind and f.name not in names and (f.pure or not self.only_pure)
+               and not (f.outside and self.in_dosync)]
+        if not fit:
+            return None
+        f = self.rng.choice(fit)
+        self.outside = self.outside or f.outside
+        return "(%s)" % " ".join([f.name] + [self.value(k, names, depth) for k in f.takes])
+
+    def of_refs(self, kind, names, depth):
+        if self.only_pure or kind not in ("int", "ints") or self.rng.random() < 0.3:
+            return None
+        if self.in_dosync:
+            return self.alter(kind, names, depth)
+        self.in_dosync = True
+        body = " ".join(self.value(self.rng.choice(KINDS), names, depth) for _ in range(self.rng.randint(0, 2)))
+        made = "(dosync %s %s)" % (body, self.value(kind, names, depth))
+        self.in_dosync = False
+        return made
+
+    def alter(self, kind, names, depth):
+        ref = {"int": "total", "ints": "log"}[kind]
+        fit = [f for f in self.functions if f.pure and f.gives == kind and f.takes[:1] == [kind] and f.name not in names]
+        if self.rng.random() < 0.3:
+            return "@" + ref
+        if fit and self.rng.random() < 0.5:
+            f = self.rng.choice(fit)
+            return "(alter %s)" % " ".join([ref, f.name] + [self.value(k, names, depth) for k in f.takes[1:]])
+        op = self.rng.choice(["+", "-", "*", "max"]) if kind == "int" else "conj"
+        return None if op in names else "(alter %s %s %s)" % (ref, op, self.value("int", names, depth))
+
+    def operation(self, kind, names, depth):
+        r = self.rng
+        int_, ints = (lambda: self.value("int", names, depth)), (lambda: self.value("ints", names, depth))
+        any_, place = (lambda: self.value("any", names, depth)), (lambda: "(rem %s 5)" % self.value("int", names, depth))
+        if kind == "int":
+            return r.choice([
+                lambda: self.call(names, r.choice(TWO), int_(), int_()), lambda: self.call(names, r.choice(["+", "-", "*"]), int_(), int_(), int_()),
+                lambda: self.call(names, r.choice(["inc", "dec", "-"]), int_()), lambda: self.call(names, "count", ints()),
+                lambda: self.call(names, "nth", ints(), place()), lambda: self.call(names, "peek", ints())])()
+        if kind == "ints":
+            return r.choice([
+                lambda: self.call(names, "conj", ints(), int_()), lambda: self.call(names, "pop", ints()),
+                lambda: self.call(names, "assoc", ints(), place(), int_()), lambda: "[%s %s]" % (int_(), int_())])()
+        if kind == "bool":
+            return r.choice([
+                lambda: self.call(names, r.choice(COMPARE), int_(), int_()), lambda: self.call(names, r.choice(["=", "not="]), any_(), any_()),
+                lambda: self.call(names, r.choice(["not", "nil?"]), any_()), lambda: self.call(names, r.choice(["zero?", "pos?", "neg?"]), int_())])()
+        return r.choice([lambda: "[%s %s]" % (any_(), any_()), int_, ints, lambda: self.value("bool", names, depth)])()
+
+    def line(self, names, depth):
+        self.outside = True
+        return "(println %s)" % " ".join(self.value(self.rng.choice(KINDS), names, depth) for _ in range(self.rng.randint(0, 3)))
+
+    def script(self):
+        r = self.rng
+        self.functions, self.in_dosync = [], False
+        parts = ["(def total (ref %s))" % self.literal("int"), "(def log (ref %s))" % self.literal("ints"), "(def k %s)" % self.literal("int")]
+        for number in range(r.randint(0, 4)):
+            takes, gives = [r.choice(KINDS) for _ in range(r.randint(0, 3))], r.choice(KINDS)
+            parameters = r.sample(NAMES, len(takes))
+            names = dict({"k": "int"}, **dict(zip(parameters, takes)))
+            self.only_pure, self.outside = r.random() < 0.6, False
+            body = [] if self.only_pure or r.random() < 0.5 else [self.line(names, 2)]
+            body.append(self.value(gives, names, r.randint(1, 4)))
+            parts.append("(defn f%d [%s] %s)" % (number, " ".join(parameters), " ".join(body)))
+            self.functions.append(Function("f%d" % number, takes, gives, self.only_pure, self.outside))
+        self.only_pure = False
+        body = [self.line({"k": "int"}, r.randint(2, 5)) for _ in range(r.randint(1, 4))] + ["(println @total @log)"]
+        return " ".join(parts + ["(future %s)" % " ".join(body)])
+
+
+def ended(script):
+    done = subprocess.run([TXS, "run"], input=script, capture_output=True, text=True)
+    return {0: "ok", 1: "refused", 3: "fault"}.get(done.returncode, "stopped"), done.stdout, done.stderr.strip()
+
+
+def main():
+    parser = argparse.ArgumentParser(description=__doc__, formatter_class=argparse.RawDescriptionHelpFormatter)
+    parser.add_argument("--scripts", type=int, default=2000)
+    parser.add_argument("--seed", type=int, default=1)
+    a = parser.parse_args()
+    if not os.path.exists(TXS):
+        sys.exit("build it first: ./txs --help")
+    maker = Maker(random.Random(a.seed))
+    scripts = [maker.script() for _ in range(a.scripts)]
+    with tempfile.TemporaryDirectory() as folder:
+        path = os.path.join(folder, "scripts")
+        with open(path, "w", encoding="utf-8") as h:
+            h.write("".join(s + "\n" for s in scripts))
+        done = subprocess.run(JAVA + [os.path.join(HERE, "agree.clj"), path], capture_output=True, text=True, check=True)
+    theirs = [json.loads(line.replace('" "', '", "')) for line in done.stdout.splitlines()]
+    counts = collections.Counter()
+    for script, (end, printed) in zip(scripts, theirs):
+        ours = ended(script)
+        same = end.split()[0] == ours[0] and printed == ours[1]
+        counts[ours[0] if same else "differ"] += 1
+        if not same:
+            print("%s\n  txs: %s\n  clj: %s\n" % (script, ours, (end, printed)))
+    print("scripts %d: both end %d, both fault %d, differ %d" % (len(scripts), counts["ok"], counts["fault"], counts["differ"]))
+
+
+if __name__ == "__main__":
+    main()
