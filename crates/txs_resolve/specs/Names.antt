@@ -12,12 +12,13 @@ use Rattle.txs_tree.specs.Known.{levels, known}
 use Rattle.txs_tree.specs.Tree.{Tree, PlainFunction, PlainThread, PlainProgram}
 use Rattle.txs_resolve.specs.declared.error.ResolveError.{ResolveError}
 use Rattle.txs_resolve.specs.declared.error.ResolveErrorKind.TheVariants.{Redefined, BadForm, TooMany}
-use Rattle.txs_resolve.specs.declared.names.FormName.{FormName}
-use Rattle.txs_resolve.specs.declared.names.FormName.TheVariants as kind
-use Rattle.txs_resolve.specs.declared.scope.Definition.TheVariants.{Constant, Cell, Function}
+use Rattle.txs_names.specs.declared.names.FormName.{FormName}
+use Rattle.txs_names.specs.declared.names.FormName.TheVariants as kind
+use Rattle.txs_names.specs.declared.scope.Definition.TheVariants.{Constant, Cell, Function}
 use Rattle.txs_resolve.specs.Expressions.{Answer, spot_at, is_symbol, named_body}
 use Rattle.txs_resolve.specs.Literals.{is_literal, literal, literal_levels}
-use Rattle.txs_resolve.specs.Scope.{◌>>=◌, refuse, Scope, Entry, definition_of, with_name, form_name, form_names, operations, may_bind, is_none}
+use Rattle.txs_resolve.specs.Answers.{◌>>=◌, refuse}
+use Rattle.txs_names.specs.Scope.{Scope, Entry, definition_of, with_name, form_name, form_names, operations, may_bind, is_none}
 
 -- the levels that a tree may have
 abbrev pub max_levels : ℕ

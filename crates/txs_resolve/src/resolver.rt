@@ -9,7 +9,7 @@ ghost use Rattle.txs_reader.specs.Tree.{trees};
 ghost use Rattle.txs_tree.specs.View.{program_of};
 
 use crate::error::{ResolveError, ResolveErrorKind, Stop};
-use crate::scope::Scope;
+use txs_names::Scope;
 use crate::script::{Script, is_namespace, step};
 use std::alloc::Global;
 use txs_reader::Form;

@@ -1,8 +1,8 @@
 use Rattle.std.proofs.Common.{sym, ap, ◌∙◌, bytes_eq}
-use Rattle.txs_resolve.specs.Scope.{form_name, form_names}
-use Rattle.txs_resolve.specs.declared.names.FormName.TheVariants.{Ns}
-use Rattle.txs_resolve.proofs.Heads.{passed}
-use Rattle.txs_resolve.proofs.names.form_of.Goals as goal
+use Rattle.txs_names.specs.Scope.{form_name, form_names}
+use Rattle.txs_names.specs.declared.names.FormName.TheVariants.{Ns}
+use Rattle.txs_names.proofs.Heads.{passed}
+use Rattle.txs_names.proofs.names.form_of.Goals as goal
 
 pub loop-form-preserved : goal.loop-form-preserved
 loop-form-preserved c =

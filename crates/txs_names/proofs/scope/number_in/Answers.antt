@@ -1,9 +1,9 @@
 use Rattle.std.proofs.Common.{◌≡◌, ◌<◌, ◌-◌, ◌+◌, bytes_eq, ℕ, Bool, List, [], length, Option, Some, cond, map, take, reverse, get_or, sym, ap, ◌∙◌, arith}
 use Rattle.std.specs.Borrow.{Bor}
-use Rattle.txs_resolve.specs.Scope.{number_in}
-use Rattle.txs_resolve.proofs.Scopes.{local_more}
-use Rattle.txs_resolve.proofs.scope.number_in.Goals as goal
-use Rattle.txs_resolve.proofs.scope.number_in.Goals.{After-eq}
+use Rattle.txs_names.specs.Scope.{number_in}
+use Rattle.txs_names.proofs.Scopes.{local_more}
+use Rattle.txs_names.proofs.scope.number_in.Goals as goal
+use Rattle.txs_names.proofs.scope.number_in.Goals.{After-eq}
 
 -- the locals up to this one, by whether the name is its
 local_here : (c : After-eq) → number_in c.args.name.now (reverse (map (λ n. n.now) c.args.names.now)) ≡ cond c.eq.result (Some (c.loop-i.i - 1)) (number_in c.args.name.now (reverse (take (c.loop-i.i - 1) (map (λ n. n.now) c.args.names.now))))

@@ -1,9 +1,13 @@
 -- The names in scope as a list whose nearest is first.
-use Rattle.std.proofs.Common.{◌≡◌, ◌≤◌, ◌<◌, ◌+◌, ◌-◌, ℕ, suc, List, [], ◌∷◌, ◌++◌, Option, Some, length, take, drop, get_or, map, reverse, cond, bytes_eq, refl, sym, ap, ◌∙◌, arith, length-drop}
+use Rattle.std.proofs.Common.{◌≡◌, ◌≤◌, ◌<◌, ◌+◌, ◌-◌, ℕ, suc, List, [], ◌∷◌, ◌++◌, Option, None, Some, length, take, drop, get_or, map, reverse, cond, bytes_eq, refl, sym, ap, ◌∙◌, arith, length-drop}
 use Rattle.std.proofs.lemmas.List.{reverse-append, length-reverse, take-append-drop, take-map, map_more, length-map, length-take-le}
-use Rattle.txs_resolve.specs.Scope.{number_in, Entry}
-use Rattle.txs_resolve.specs.Viewed.{entries_of}
-use Rattle.txs_resolve.specs.declared.scope.Entry.{Entry as AnEntry}
+use Rattle.std.proofs.lemmas.Cmp.{nat_list_eq_equiv}
+use Rattle.std.specs.Borrow.{Bor}
+use Rattle.std.specs.Map.{lookup}
+use Rattle.std.specs.Option.{option_copied}
+use Rattle.txs_names.specs.Scope.{number_in, definition_of, Entry}
+use Rattle.txs_names.specs.Viewed.{entries_of, lent}
+use Rattle.txs_names.specs.declared.scope.Definition.{Definition}
 
 drop_front : {X : Type 0} (a b : List X) → drop (length a) (a ++ b) ≡ b
 drop_front [] b = refl
@@ -24,6 +28,18 @@ local_more f name xs i d lt =
     let count : length (reverse (take i (map f xs))) ≡ i = length-reverse (take i (map f xs)) ∙ ap length (take-map f i xs) ∙ length-map (take i xs) f ∙ length-take-le i xs (omega arith) in
     ap (number_in name) list ∙ ap (λ (k : ℕ). cond (bytes_eq name (f (get_or xs i d))) (Some k) (number_in name (reverse (take i (map f xs))))) count
 
-pub entries_more : (es : List AnEntry) (e : AnEntry) → entries_of (es ++ e ∷ []) ≡ entries_of es ++ record { name = e.name.now; what = e.what } ∷ []
-entries_more [] e = refl
-entries_more (d ∷ es) e = ap (λ l. record { name = d.name.now; what = d.what } ∷ l) (entries_more es e)
+-- a definition behind the others
+pub entries_more : (es : List (Bor (List ℕ) × Definition)) (k : Bor (List ℕ)) (d : Definition) → entries_of (es ++ (k, d) ∷ []) ≡ entries_of es ++ record { name = k.now; what = d } ∷ []
+entries_more [] k d = refl
+entries_more (e ∷ es) k d = ap (λ l. record { name = e.0.now; what = e.1 } ∷ l) (entries_more es k d)
+
+-- a look-up by the bytes of a name finds what it is defined as
+pub looked_up : (name : List ℕ) (es : List (Bor (List ℕ) × Definition)) → lookup (λ k. bytes_eq name k.now) es ≡ definition_of name (entries_of es)
+looked_up name [] = refl
+looked_up name (e ∷ es) =
+    ap (λ b. cond b (Some e.1) (lookup (λ k. bytes_eq name k.now) es)) (nat_list_eq_equiv.symm name e.0.now)
+    ∙ ap (λ o. cond (bytes_eq e.0.now name) (Some e.1) o) (looked_up name es)
+
+pub lent_copied : (o : Option (Bor Definition)) → lent o ≡ option_copied o
+lent_copied None = refl
+lent_copied (Some d) = refl

@@ -1,10 +1,11 @@
 //! The names in scope, and what a name stands for.
 
-ghost use Rattle.std.specs.Prelude.{◌≡◌, [], ◌∷◌, ◌<◌, ◌-◌, ◌+◌, ◌++◌, bytes_eq, drop, length, map, reverse, Some, None, OnOk, IfSome};
-ghost use Rattle.txs_resolve.specs.Scope.{Scope as AScope, Entry as AnEntry, with_local, with_locals, number_in, local_number, definition_of, is_current, meaning};
-ghost use Rattle.txs_resolve.specs.Viewed.{entries_of, lent, meant};
+ghost use Rattle.std.specs.Prelude.{◌≡◌, [], ◌∷◌, ◌<◌, ◌-◌, ◌+◌, ◌++◌, drop, length, map, reverse, Some, None, OnOk, IfSome};
+ghost use Rattle.txs_names.specs.Scope.{Scope as AScope, with_local, with_locals, number_in, local_number, definition_of, is_current, meaning};
+ghost use Rattle.txs_names.specs.Viewed.{entries_of, lent, meant};
 
 use crate::names::{FormName, form_of, has_dot, operation_of};
+use indexmap::IndexMap;
 use std::alloc::{AllocError, Global};
 use std::marker::Model;
 use txs_value::{Name, Op, Value};
@@ -18,13 +19,6 @@ pub enum Definition {
     Cell(u16),
     /// A function, by its number, and how many levels its body has, with those of the functions that it calls.
     Function(u16, u16),
-}
-
-/// A name and what it is defined as.
-#[derive(Debug, Drop)]
-pub struct Entry<'a> {
-    pub name: &'a Name,
-    pub what: Definition,
 }
 
 /// What a name may stand for.
@@ -52,22 +46,22 @@ pub enum Found<'s> {
 #[derive(Drop)]
 pub struct Scope<'a> {
     locals: Vec<&'a [u8]>,
-    defined: Vec<Entry<'a>>,
+    defined: IndexMap<&'a [u8], Definition>,
     current: Option<&'a Name>,
 }
 
 impl<'a> Model for Scope<'a> {
     ghost use Rattle.std.specs.Prelude.{◌≤◌, length, map, reverse};
     ghost use Rattle.std.specs.Coded.{codes};
-    ghost use Rattle.txs_resolve.specs.Scope.{Scope as AScope};
-    ghost use Rattle.txs_resolve.specs.Viewed.{entries_of, name_of};
+    ghost use Rattle.txs_names.specs.Scope.{Scope as AScope};
+    ghost use Rattle.txs_names.specs.Viewed.{entries_of, name_of};
     ghost use Rattle.txs_value.specs.contracts.value.Value as value;
 
     ghost Value = { AScope };
 
     ghost coded = { Prim.hlevel (codes, value.the_row.coded) };
 
-    ghost view = { λ s. record { locals = reverse (map (λ n. n.now) s.locals.items); defined = entries_of s.defined.items; current = name_of s.current } };
+    ghost view = { λ s. record { locals = reverse (map (λ n. n.now) s.locals.items); defined = entries_of s.defined.entries; current = name_of s.current } };
 
     ghost invariant = { λ s. length s.locals.items ≤ 200 };
 }
@@ -88,18 +82,6 @@ fn number_in(names: &[&[u8]], name: &Name) -> Option<usize>
     None
 }
 
-/// What the name is defined as among these.
-fn definition_in<'s>(entries: &'s [Entry<'_>], name: &Name) -> Option<&'s Definition>
-    ensures { lent result ≡ definition_of name.now (entries_of entries.now) }
-{
-    for entry in entries {
-        if entry.name.as_bytes() == name.as_bytes() {
-            return Some(&entry.what);
-        }
-    }
-    None
-}
-
 impl<'a> Scope<'a> {
     /// Nothing is in scope.
     pub fn new(alloc: Global) -> Scope<'a>
@@ -107,7 +89,7 @@ impl<'a> Scope<'a> {
     {
         Scope {
             locals: Vec::new(alloc),
-            defined: Vec::new(alloc),
+            defined: IndexMap::new(alloc),
             current: None,
         }
     }
@@ -150,11 +132,12 @@ impl<'a> Scope<'a> {
         self.current = None;
     }
 
-    /// Defines a name.
+    /// Defines a name that isn't defined yet.
     pub fn define(&mut self, name: &'a Name, what: Definition) -> Result<(), AllocError>
+        requires new { definition_of name.now self.old.defined ≡ None }
         ensures { OnOk result (self.new ≡ record { locals = self.old.locals; defined = self.old.defined ++ (record { name = name.now; what = what }) ∷ []; current = self.old.current }) }
     {
-        self.defined.push(Entry { name, what })?;
+        self.defined.insert(name.as_bytes(), what)?;
         Ok(())
     }
 
@@ -172,7 +155,7 @@ impl<'a> Scope<'a> {
     pub fn definition(&self, name: &Name) -> Option<&Definition>
         ensures { lent result ≡ definition_of name.now self.now.defined }
     {
-        definition_in(self.defined.as_slice(), name)
+        self.defined.get(name.as_bytes())
     }
 
     /// Whether the function that is being defined has this name.

@@ -1,6 +1,6 @@
 use Rattle.std.proofs.Common.{◌≡◌, ◌≤◌, length, map, reverse, take}
-use Rattle.txs_resolve.specs.Scope.{number_in}
-use Rattle.txs_resolve.proofs.scope.number_in.Given as goal
+use Rattle.txs_names.specs.Scope.{number_in}
+use Rattle.txs_names.proofs.scope.number_in.Given as goal
 
 abbrev pub invariant-loop-i : goal.invariant-loop-i
 invariant-loop-i l = record {

@@ -3,7 +3,7 @@
 ghost use Rattle.std.specs.Prelude.{◌≡◌};
 ghost use Rattle.std.specs.List.{list_any};
 ghost use Rattle.txs_value.specs.Operations.{op_name};
-ghost use Rattle.txs_resolve.specs.Scope.{form_name, form_names, operations, with_name, is_dot, may_bind};
+ghost use Rattle.txs_names.specs.Scope.{form_name, form_names, operations, with_name, is_dot, may_bind};
 
 use txs_value::Op;
 

@@ -1,26 +1,12 @@
 -- What a name stands for, by the names in scope.
-use Rattle.std.specs.Prelude.{ℕ, zero, suc, Bool, true, false, not, ◌&&◌, ◌==◌, bytes_eq, codes, List, [], ◌∷◌, length, map, Option, Some, None, Result, Ok, Err, if◌then◌else◌}
+use Rattle.std.specs.Prelude.{ℕ, zero, suc, Bool, true, false, not, ◌&&◌, ◌==◌, bytes_eq, codes, List, [], ◌∷◌, length, map, Option, Some, None, if◌then◌else◌}
 use Rattle.std.specs.List.{list_any}
-use Rattle.std.specs.Borrow.{Bor}
-use Rattle.txs_value.specs.declared.fault.Span.{Span}
 use Rattle.txs_value.specs.Operations.{op_name}
 use Rattle.txs_value.specs.declared.op.Op.{Op}
 use Rattle.txs_value.specs.declared.op.Op.TheVariants.{Add, Subtract, Multiply, Inc, Dec, Quot, Rem, Mod, Equal, NotEqual, Less, Greater, LessOrEqual, GreaterOrEqual, Max, Min, Not, IsNil, IsZero, IsPositive, IsNegative, Count, Nth, Conj, Assoc, Peek, Pop}
-use Rattle.txs_resolve.specs.declared.error.ResolveError.{ResolveError}
-use Rattle.txs_resolve.specs.declared.error.ResolveErrorKind.{ResolveErrorKind}
-use Rattle.txs_resolve.specs.declared.names.FormName.{FormName}
-use Rattle.txs_resolve.specs.declared.names.FormName.TheVariants as kind
-use Rattle.txs_resolve.specs.declared.scope.Definition.{Definition}
-
--- an answer, and what is made of it: the first refusal is the answer
-infixl 10 ◌>>=◌
-abbrev pub ◌>>=◌ : {A B : Type 0} → Result A ResolveError → (A → Result B ResolveError) → Result B ResolveError
-Ok x >>= f = f x
-Err e >>= f = Err e
-
--- a refusal for this reason at this place
-abbrev pub refuse : {A : Type 0} → ResolveErrorKind → Span → Result A ResolveError
-refuse kind at = Err (record { kind = kind; at = at })
+use Rattle.txs_names.specs.declared.names.FormName.{FormName}
+use Rattle.txs_names.specs.declared.names.FormName.TheVariants as kind
+use Rattle.txs_names.specs.declared.scope.Definition.{Definition}
 
 -- a name and what it is defined as
 pub record Entry : Type 0 where
