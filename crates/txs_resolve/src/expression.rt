@@ -11,8 +11,8 @@ use crate::nodes::{
     Head, Sequence, Spot, are_pairs, bindable, binding_node, callee, choice_node, constant,
     empty_logic, flag_at, head_of, is_chain, logic_node, may_hide, pair_of, sequence_node, symbol,
 };
-use txs_names::{FormName, Scope};
 use std::alloc::Global;
+use txs_names::{FormName, Scope};
 use txs_reader::{Bracket, Form};
 use txs_tree::{Node, NodeKind};
 use txs_value::{Callee, Op, Span, Value};

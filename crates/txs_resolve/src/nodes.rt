@@ -10,8 +10,8 @@ ghost use Rattle.txs_reader.specs.Tree.{tree, trees, trees_of};
 ghost use Rattle.txs_tree.specs.View.{tree_of, trees_of as nodes_tree, mark_of};
 
 use crate::error::{ResolveErrorKind, Stop, refused};
-use txs_names::{Definition, FormName, Found, Scope, may_bind};
 use std::alloc::{AllocError, Global};
+use txs_names::{Definition, FormName, Found, Scope, may_bind};
 use txs_reader::Form;
 use txs_tree::{Node, NodeKind};
 use txs_value::{Callee, CellId, CellKind, Name, Op, Span, Value, copy_value};
