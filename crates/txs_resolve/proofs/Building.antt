@@ -21,7 +21,8 @@ use Rattle.txs_resolve.specs.declared.nodes.Spot.{Spot}
 use Rattle.txs_resolve.specs.Expressions.{Answer, Bound, ByHead, below, bound_name, callee_of, choice_node, choices_of, dosync_of, flag, head_of, in_room, is_chain, logic_node, may_hide, named, named_all, named_alter, named_binding, named_bindings, named_body, named_chain, named_cond, named_deref, named_if, named_list, named_logic, named_pairs, named_when, of_head, operation_of, pair_node, sequence_of, some_room, spot_mark, are_pairs, is_symbol}
 use Rattle.txs_resolve.specs.Expressions as spec
 use Rattle.txs_resolve.specs.Given.{Gives, GivesBound, IsWithin, BindsName}
-use Rattle.txs_resolve.specs.Scope.{◌>>=◌, refuse, Scope, with_local, with_locals}
+use Rattle.txs_resolve.specs.Answers.{◌>>=◌, refuse}
+use Rattle.txs_names.specs.Scope.{Scope, with_local, with_locals}
 use Rattle.txs_resolve.specs.declared.nodes.Sequence.TheVariants as sequence
 
 -- these nodes, and then these trees

@@ -1,12 +1,10 @@
 pub mod Building
-pub mod Heads
 pub mod Laws
 pub mod LevelLists
 pub mod Literals
 pub mod NodeTrees
 pub mod Parts
 pub mod ScopedScripts
-pub mod Scopes
 pub mod Scoping
 pub mod Steps
 pub mod Tops

@@ -13,7 +13,7 @@ use Rattle.txs_reader.specs.Tree.{tree}
 use Rattle.txs_resolve.specs.declared.error.ResolveErrorKind.TheVariants.{TooMany}
 use Rattle.txs_resolve.specs.Expressions.{Answer}
 use Rattle.txs_resolve.specs.Literals.{literal, literals}
-use Rattle.txs_resolve.specs.Scope.{◌>>=◌, refuse}
+use Rattle.txs_resolve.specs.Answers.{◌>>=◌, refuse}
 use Rattle.txs_resolve.proofs.Building.{plain, plain_at, parts_plain}
 
 -- these values, and then those of the rest

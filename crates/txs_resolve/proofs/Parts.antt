@@ -3,7 +3,7 @@ use Rattle.std.proofs.Common.{◌≡◌, ◌≤◌, ℕ, suc, true, false, List,
 use Rattle.txs_value.specs.declared.fault.Span.{Span}
 use Rattle.txs_reader.specs.declared.form.Form.{Form}
 use Rattle.txs_reader.specs.Tree.{tree, leaf, symbol, first}
-use Rattle.txs_resolve.specs.declared.names.FormName.TheVariants.{Ns, Ref}
+use Rattle.txs_names.specs.declared.names.FormName.TheVariants.{Ns, Ref}
 use Rattle.txs_resolve.specs.Expressions.{Answer, is_symbol}
 use Rattle.txs_resolve.specs.Given.{Gives, GivesLocals}
 use Rattle.txs_resolve.specs.Names.{named_form, names_space, ref_of, only_literal}

@@ -15,14 +15,15 @@ use Rattle.txs_tree.specs.Scoped.{Scoped, ScopedCallee, ScopedTree, ScopedAll, S
 use Rattle.txs_tree.specs.Tree.{Tree, Trees, Const, Local, If, Do, Let, Loop, Recur, Core, Call, VectorOf, Println, Dosync, Deref, Alter, none, more, count, PlainFunction, PlainThread, PlainProgram}
 use Rattle.txs_tree.proofs.Callable.{length-known}
 use Rattle.txs_resolve.specs.declared.error.ResolveErrorKind.TheVariants.{Redefined, BadForm, TooMany}
-use Rattle.txs_resolve.specs.declared.names.FormName.{FormName}
-use Rattle.txs_resolve.specs.declared.names.FormName.TheVariants as kind
-use Rattle.txs_resolve.specs.declared.scope.Definition.{Definition}
-use Rattle.txs_resolve.specs.declared.scope.Definition.TheVariants.{Constant, Cell as ACell, Function as AFunction}
+use Rattle.txs_names.specs.declared.names.FormName.{FormName}
+use Rattle.txs_names.specs.declared.names.FormName.TheVariants as kind
+use Rattle.txs_names.specs.declared.scope.Definition.{Definition}
+use Rattle.txs_names.specs.declared.scope.Definition.TheVariants.{Constant, Cell as ACell, Function as AFunction}
 use Rattle.txs_resolve.specs.Expressions.{Answer, spot_at, named_body}
 use Rattle.txs_resolve.specs.Literals.{literal, literal_levels}
 use Rattle.txs_resolve.specs.Names.{max_levels, State, nothing, program, new_name, form_at, Defining, defining_of, new_ref, with_constant, with_ref, with_definition, defined_as_one, NamedForm, named_form, defined_at, define, parameter, parameters, Written, written, with_function, function, with_thread, future, top_level, step, steps, behind_namespace, named_script, Resolves}
-use Rattle.txs_resolve.specs.Scope.{◌>>=◌, refuse, Scope, Entry, may_bind}
+use Rattle.txs_resolve.specs.Answers.{◌>>=◌, refuse}
+use Rattle.txs_names.specs.Scope.{Scope, Entry, may_bind}
 use Rattle.txs_resolve.specs.Scripts.{IsKnown, AreKnown, ScopedState}
 use Rattle.txs_resolve.proofs.Scoping.{Every, then_every, one_every, two_every, if_every, is_less, Placed, body_named}
 

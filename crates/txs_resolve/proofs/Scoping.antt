@@ -20,17 +20,18 @@ use Rattle.txs_tree.specs.View.{mark_of}
 use Rattle.txs_tree.proofs.Callable.{both, nth-length}
 use Rattle.txs_resolve.specs.declared.error.ResolveError.{ResolveError}
 use Rattle.txs_resolve.specs.declared.error.ResolveErrorKind.TheVariants.{UnknownName, BadForm, NotCallable, LocalCalled, SelfCall, TooMany}
-use Rattle.txs_resolve.specs.declared.names.FormName.{FormName}
-use Rattle.txs_resolve.specs.declared.names.FormName.TheVariants as kind
+use Rattle.txs_names.specs.declared.names.FormName.{FormName}
+use Rattle.txs_names.specs.declared.names.FormName.TheVariants as kind
 use Rattle.txs_resolve.specs.declared.nodes.Head.{Head}
 use Rattle.txs_resolve.specs.declared.nodes.Head.TheVariants.{Form as AForm, Called}
 use Rattle.txs_resolve.specs.declared.nodes.Sequence.{Sequence}
 use Rattle.txs_resolve.specs.declared.nodes.Sequence.TheVariants as sequence
 use Rattle.txs_resolve.specs.declared.nodes.Spot.{Spot}
-use Rattle.txs_resolve.specs.declared.scope.Definition.{Definition}
-use Rattle.txs_resolve.specs.declared.scope.Definition.TheVariants.{Constant, Cell as ACell, Function as AFunction}
+use Rattle.txs_names.specs.declared.scope.Definition.{Definition}
+use Rattle.txs_names.specs.declared.scope.Definition.TheVariants.{Constant, Cell as ACell, Function as AFunction}
 use Rattle.txs_resolve.specs.Expressions.{Answer, Bound, ByHead, spot_at, spot_mark, below, some_room, in_room, room_for, ref_id, symbol_node, leaf_value, leaf_node, callee_at, callee_of, head_at, head_of, of_form, of_head, flag, sequence_node, sequence_of, choice_node, logic_node, empty_logic, binding_node, pair_node, is_chain, operation_of, bound_name, are_pairs, is_even, at_most_one, may_hide, choices_of, dosync_of, named, named_list, named_chain, named_pairs, named_if, named_when, named_cond, named_logic, named_deref, named_alter, named_binding, named_bindings, named_body, named_all}
-use Rattle.txs_resolve.specs.Scope.{◌>>=◌, refuse, Scope, Entry, with_local, number_in, local_number, definition_of, is_current, with_name, form_name, form_names, operations, is_dot, may_bind, Meaning, a_form, dotted, a_local, the_current, defined_as, operation, unknown, or_form, or_local, or_defined, or_unknown, meaning}
+use Rattle.txs_resolve.specs.Answers.{◌>>=◌, refuse}
+use Rattle.txs_names.specs.Scope.{Scope, Entry, with_local, number_in, local_number, definition_of, is_current, with_name, form_name, form_names, operations, is_dot, may_bind, Meaning, a_form, dotted, a_local, the_current, defined_as, operation, unknown, or_form, or_local, or_defined, or_unknown, meaning}
 use Rattle.txs_resolve.specs.Scripts.{IsKnown, AreKnown}
 
 -- ---- answers

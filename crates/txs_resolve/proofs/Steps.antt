@@ -16,7 +16,8 @@ use Rattle.txs_value.specs.declared.op.Op.{Op}
 use Rattle.txs_resolve.specs.declared.nodes.Sequence.{Sequence}
 use Rattle.txs_resolve.specs.declared.nodes.Sequence.TheVariants as sequence
 use Rattle.txs_resolve.specs.Expressions.{Answer, Bound, ByHead, below, callee_of, choice_node, choices_of, dosync_of, head_of, in_room, logic_node, may_hide, named, named_all, named_alter, named_binding, named_bindings, named_body, named_chain, named_cond, named_deref, named_if, named_list, named_logic, named_when, is_chain, is_zero, of_head, operation_of, room_for, spot_at, sequence_node, sequence_of, spot_mark, at_most_one, are_pairs, binding_node}
-use Rattle.txs_resolve.specs.Scope.{◌>>=◌, refuse, Scope, with_local}
+use Rattle.txs_resolve.specs.Answers.{◌>>=◌, refuse}
+use Rattle.txs_names.specs.Scope.{Scope, with_local}
 use Rattle.txs_resolve.proofs.Building.{plain, parts_plain, roomy, roomless}
 
 -- ---- what is made of two answers, and of three

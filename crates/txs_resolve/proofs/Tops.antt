@@ -12,13 +12,14 @@ use Rattle.txs_tree.specs.declared.node.Function.{Function}
 use Rattle.txs_tree.proofs.Callable.{length-functions_of}
 use Rattle.txs_tree.specs.Known.{Known, known, known_of, levels}
 use Rattle.txs_resolve.specs.Depths.{depths}
-use Rattle.txs_resolve.specs.declared.scope.Definition.TheVariants.{Function as AFunction}
+use Rattle.txs_names.specs.declared.scope.Definition.TheVariants.{Function as AFunction}
 use Rattle.txs_resolve.specs.declared.error.ResolveError.{ResolveError}
 use Rattle.txs_resolve.specs.declared.error.ResolveErrorKind.TheVariants.{TooMany}
 use Rattle.txs_resolve.specs.declared.script.Script.{Script}
 use Rattle.txs_resolve.specs.Expressions.{Answer, spot_at, named_body}
 use Rattle.txs_resolve.specs.Names.{State, with_thread, future, Written, new_name, parameters, with_function, function}
-use Rattle.txs_resolve.specs.Scope.{◌>>=◌, refuse, Scope, Entry}
+use Rattle.txs_resolve.specs.Answers.{◌>>=◌, refuse}
+use Rattle.txs_names.specs.Scope.{Scope, Entry}
 use Rattle.txs_resolve.specs.Scripts.{state_of, IsScript}
 use Rattle.txs_resolve.proofs.Building.{plain}
 use Rattle.txs_resolve.proofs.LevelLists.{depths_levels}

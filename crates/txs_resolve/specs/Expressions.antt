@@ -16,16 +16,17 @@ use Rattle.txs_tree.specs.Tree.{Tree, Trees, Mark, Const, Local, If, Do, Let, Lo
 use Rattle.txs_tree.specs.View.{mark_of}
 use Rattle.txs_resolve.specs.declared.error.ResolveError.{ResolveError}
 use Rattle.txs_resolve.specs.declared.error.ResolveErrorKind.TheVariants.{UnknownName, BadForm, NotCallable, LocalCalled, SelfCall, TooMany}
-use Rattle.txs_resolve.specs.declared.names.FormName.{FormName}
-use Rattle.txs_resolve.specs.declared.names.FormName.TheVariants as kind
+use Rattle.txs_names.specs.declared.names.FormName.{FormName}
+use Rattle.txs_names.specs.declared.names.FormName.TheVariants as kind
 use Rattle.txs_resolve.specs.declared.nodes.Head.{Head}
 use Rattle.txs_resolve.specs.declared.nodes.Head.TheVariants.{Form as AForm, Called}
 use Rattle.txs_resolve.specs.declared.nodes.Sequence.{Sequence}
 use Rattle.txs_resolve.specs.declared.nodes.Sequence.TheVariants as sequence
 use Rattle.txs_resolve.specs.declared.nodes.Spot.{Spot}
-use Rattle.txs_resolve.specs.declared.scope.Definition.{Definition}
-use Rattle.txs_resolve.specs.declared.scope.Definition.TheVariants.{Constant, Cell as ACell, Function as AFunction}
-use Rattle.txs_resolve.specs.Scope.{◌>>=◌, refuse, Scope, with_local, may_bind, meaning, Meaning, a_form, dotted, a_local, the_current, defined_as, operation, unknown}
+use Rattle.txs_names.specs.declared.scope.Definition.{Definition}
+use Rattle.txs_names.specs.declared.scope.Definition.TheVariants.{Constant, Cell as ACell, Function as AFunction}
+use Rattle.txs_resolve.specs.Answers.{◌>>=◌, refuse}
+use Rattle.txs_names.specs.Scope.{Scope, with_local, may_bind, meaning, Meaning, a_form, dotted, a_local, the_current, defined_as, operation, unknown}
 
 -- an answer: what a form is, or why it is nothing
 abbrev pub Answer : Type 0 → Type 0

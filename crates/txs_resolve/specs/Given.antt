@@ -6,7 +6,7 @@ use Rattle.std.specs.Borrow.{Bor}
 use Rattle.txs_tree.specs.declared.node.Node.{Node}
 use Rattle.txs_tree.specs.View.{trees_of}
 use Rattle.txs_reader.specs.Tree.{Tree as Form}
-use Rattle.txs_resolve.specs.Scope.{Scope, with_locals}
+use Rattle.txs_names.specs.Scope.{Scope, with_locals}
 use Rattle.txs_resolve.specs.Expressions.{Answer, Bound, bound_name}
 use Rattle.txs_resolve.specs.declared.error.Stop.{Stop}
 use Rattle.txs_resolve.specs.declared.error.Stop.TheVariants.{Refused, Memory}

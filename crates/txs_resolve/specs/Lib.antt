@@ -1,9 +1,8 @@
+pub mod Answers
 pub mod Depths
 pub mod Expressions
 pub mod Given
 pub mod Literals
 pub mod Names
 pub mod Reported
-pub mod Scope
 pub mod Scripts
-pub mod Viewed

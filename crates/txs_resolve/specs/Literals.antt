@@ -8,7 +8,7 @@ use Rattle.txs_reader.specs.Tree.{Tree as Form, Trees as Forms, leaf, group, fir
 use Rattle.txs_reader.specs.Tree.{none as no_forms}
 use Rattle.txs_resolve.specs.declared.error.ResolveErrorKind.TheVariants.{BadForm, TooMany}
 use Rattle.txs_resolve.specs.Expressions.{Answer, leaf_value, is_symbol}
-use Rattle.txs_resolve.specs.Scope.{◌>>=◌, refuse}
+use Rattle.txs_resolve.specs.Answers.{◌>>=◌, refuse}
 
 -- a literal has no symbol and no list in it
 abbrev mutual

@@ -11,13 +11,14 @@ use Rattle.txs_reader.specs.Tree.{none as no_forms}
 use Rattle.txs_tree.specs.Known.{levels, known}
 use Rattle.txs_tree.specs.Tree.{Tree, PlainFunction, PlainThread, PlainProgram}
 use Rattle.txs_resolve.specs.declared.error.ResolveError.{ResolveError}
-use Rattle.txs_resolve.specs.declared.error.ResolveErrorKind.TheVariants.{Redefined, BadForm, TooMany}
-use Rattle.txs_resolve.specs.declared.names.FormName.{FormName}
-use Rattle.txs_resolve.specs.declared.names.FormName.TheVariants as kind
-use Rattle.txs_resolve.specs.declared.scope.Definition.TheVariants.{Constant, Cell, Function}
+use Rattle.txs_resolve.specs.declared.error.ResolveErrorKind.TheVariants.{Redefined, BadForm, TooMany, Memory}
+use Rattle.txs_names.specs.declared.names.FormName.{FormName}
+use Rattle.txs_names.specs.declared.names.FormName.TheVariants as kind
+use Rattle.txs_names.specs.declared.scope.Definition.TheVariants.{Constant, Cell, Function}
 use Rattle.txs_resolve.specs.Expressions.{Answer, spot_at, is_symbol, named_body}
 use Rattle.txs_resolve.specs.Literals.{is_literal, literal, literal_levels}
-use Rattle.txs_resolve.specs.Scope.{◌>>=◌, refuse, Scope, Entry, definition_of, with_name, form_name, form_names, operations, may_bind, is_none}
+use Rattle.txs_resolve.specs.Answers.{◌>>=◌, refuse}
+use Rattle.txs_names.specs.Scope.{Scope, Entry, definition_of, with_name, form_name, form_names, operations, may_bind, is_none}
 
 -- the levels that a tree may have
 abbrev pub max_levels : ℕ
@@ -242,3 +243,7 @@ Resolves forms p = named_script forms ≡ Ok p
 -- the forms are no program, for this reason
 abbrev pub ResolveStops : List Form → ResolveError → Type 0
 ResolveStops forms e = named_script forms ≡ Err e
+
+-- there was no memory for the program: this has no place among the forms
+abbrev pub no_memory : ResolveError
+no_memory = record { kind = Memory; at = record { from = 0; to = 0 } }

@@ -8,12 +8,12 @@ use Rattle.txs_tree.specs.Scoped.{ScopedFunctions, ScopedThreads}
 use Rattle.txs_tree.specs.View.{functions_of, threads_of}
 use Rattle.txs_value.specs.Places.{nth}
 use Rattle.txs_value.specs.declared.fault.Span.{Span}
-use Rattle.txs_resolve.specs.declared.scope.Definition.{Definition}
-use Rattle.txs_resolve.specs.declared.scope.Definition.TheVariants.{Constant, Cell, Function}
+use Rattle.txs_names.specs.declared.scope.Definition.{Definition}
+use Rattle.txs_names.specs.declared.scope.Definition.TheVariants.{Constant, Cell, Function}
 use Rattle.txs_resolve.specs.declared.script.Script.{Script}
 use Rattle.txs_resolve.specs.declared.script.Signature.{Signature}
 use Rattle.txs_resolve.specs.Names.{State, Defining, Written, NamedForm}
-use Rattle.txs_resolve.specs.Scope.{Scope, Entry}
+use Rattle.txs_names.specs.Scope.{Scope, Entry}
 
 abbrev pub state_of : Script → State
 state_of s = record {

@@ -7,13 +7,12 @@ ghost use Rattle.txs_reader.specs.Tree.{tree, trees, trees_of};
 ghost use Rattle.txs_tree.specs.View.{tree_of, trees_of as nodes_tree};
 
 use crate::error::{ResolveErrorKind, Stop, refused};
-use crate::names::FormName;
 use crate::nodes::{
     Head, Sequence, Spot, are_pairs, bindable, binding_node, callee, choice_node, constant,
     empty_logic, flag_at, head_of, is_chain, logic_node, may_hide, pair_of, sequence_node, symbol,
 };
-use crate::scope::Scope;
 use std::alloc::Global;
+use txs_names::{FormName, Scope};
 use txs_reader::{Bracket, Form};
 use txs_tree::{Node, NodeKind};
 use txs_value::{Callee, Op, Span, Value};

@@ -1,5 +1,5 @@
 //! Resolution of names: the forms of a script to the program that they are, or the first refusal with its
-//! place. Each symbol stands for the nearest enclosing local, else for an earlier definition, else for a core
+//! place. What a name stands for `txs_names` says: each symbol stands for the nearest enclosing local, else for an earlier definition, else for a core
 //! operation. What a script's program is says one function over plain forms, which answers either a program
 //! or one refusal; `resolve` answers the same.
 #![tactic(auto)]
@@ -9,10 +9,8 @@ mod expression;
 pub mod law;
 mod levels;
 mod literal;
-pub mod names;
 mod nodes;
 pub mod resolver;
-pub mod scope;
 mod script;
 
 pub use error::{ResolveError, ResolveErrorKind};

@@ -3,16 +3,15 @@
 ghost use Rattle.std.specs.Prelude.{◌≡◌, ◌<◌, ◌≤◌, ◌+◌, ◌-◌, ◌&&◌, nat_lt, length, drop, Ok, IfOk};
 ghost use Rattle.txs_resolve.specs.Expressions.{below, spot_mark, symbol_node, in_room, callee_at, callee_of, head_at, head_of, is_symbol, flag, sequence_node, choice_node, logic_node, empty_logic, binding_node, pair_node, folds, is_chain, bound_name, are_pairs, may_hide};
 ghost use Rattle.txs_resolve.specs.Given.{Gives, BindsName};
-ghost use Rattle.txs_resolve.specs.Scope.{meaning};
-ghost use Rattle.txs_resolve.specs.Viewed.{meant};
+ghost use Rattle.txs_names.specs.Scope.{meaning};
+ghost use Rattle.txs_names.specs.Viewed.{meant};
 ghost use Rattle.txs_tree.specs.Tree.{Const};
 ghost use Rattle.txs_reader.specs.Tree.{tree, trees, trees_of};
 ghost use Rattle.txs_tree.specs.View.{tree_of, trees_of as nodes_tree, mark_of};
 
 use crate::error::{ResolveErrorKind, Stop, refused};
-use crate::names::{FormName, may_bind};
-use crate::scope::{Definition, Found, Scope};
 use std::alloc::{AllocError, Global};
+use txs_names::{Definition, FormName, Found, Scope, may_bind};
 use txs_reader::Form;
 use txs_tree::{Node, NodeKind};
 use txs_value::{Callee, CellId, CellKind, Name, Op, Span, Value, copy_value};

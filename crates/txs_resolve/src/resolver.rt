@@ -1,17 +1,17 @@
 //! A script's forms to the program that they are.
 
-ghost use Rattle.std.specs.Prelude.{◌≡◌, ◌≢◌, Ok, IfOk, IfErr};
+ghost use Rattle.std.specs.Prelude.{◌≡◌, ◌≢◌, ◌⊎◌, Ok, IfOk, IfErr};
 ghost use Rattle.txs_resolve.specs.Given.{Gives};
-ghost use Rattle.txs_resolve.specs.Names.{Resolves, ResolveStops, behind_namespace, nothing, steps};
+ghost use Rattle.txs_resolve.specs.Names.{Resolves, ResolveStops, no_memory, behind_namespace, nothing, steps};
 ghost use Rattle.txs_resolve.specs.Scripts.{state_of, IsScript};
 ghost use Rattle.txs_resolve.specs.declared.error.ResolveErrorKind.TheVariants.{Memory};
 ghost use Rattle.txs_reader.specs.Tree.{trees};
 ghost use Rattle.txs_tree.specs.View.{program_of};
 
 use crate::error::{ResolveError, ResolveErrorKind, Stop};
-use crate::scope::Scope;
 use crate::script::{Script, is_namespace, step};
 use std::alloc::Global;
+use txs_names::Scope;
 use txs_reader::Form;
 use txs_tree::Raw;
 use txs_value::Span;
@@ -59,6 +59,7 @@ fn script<'a>(alloc: Global, forms: &'a [Form]) -> Result<Script<'a>, Stop>
 pub fn resolve(alloc: Global, forms: &[Form]) -> Result<Raw, ResolveError>
     ensures ok { IfOk result (λ raw. Resolves (trees forms.now) (program_of raw)) }
     ensures err { IfErr result (λ e. e.kind ≢ Memory → ResolveStops (trees forms.now) e) }
+    ensures told { IfErr result (λ e. (e ≡ no_memory) ⊎ ResolveStops (trees forms.now) e) }
 {
     match script(alloc, behind_namespace(forms)) {
         Ok(script) => Ok(Raw::new(script.cells, script.functions, script.threads)),

@@ -1,11 +1,11 @@
 //! Top-level forms: definitions, functions and threads.
 
-ghost use Rattle.std.specs.Prelude.{◌≡◌, ◌<◌, ◌≤◌, [], length, Some, OnOk, Ok, IfOk};
+ghost use Rattle.std.specs.Prelude.{◌≡◌, ◌<◌, ◌≤◌, [], length, Some, None, OnOk, Ok, IfOk};
 ghost use Rattle.txs_resolve.specs.Given.{Gives, GivesLocals};
 ghost use Rattle.txs_resolve.specs.Names.{new_name, form_at, only_literal, ref_of, defining_of, named_form, define, untold, written, function, future, parameter, parameters, are_symbols, step, with_constant, with_ref, with_function, names_space, is_namespace};
 ghost use Rattle.txs_resolve.specs.Expressions.{is_symbol};
-ghost use Rattle.txs_resolve.specs.declared.names.FormName.TheVariants.{Ns, Ref};
-ghost use Rattle.txs_resolve.specs.Scope.{with_locals};
+ghost use Rattle.txs_names.specs.declared.names.FormName.TheVariants.{Ns, Ref};
+ghost use Rattle.txs_names.specs.Scope.{definition_of, with_locals};
 ghost use Rattle.txs_resolve.specs.Scripts.{state_of, IsScript, defining, written_in, name_and_form};
 ghost use Rattle.txs_reader.specs.declared.form.Bracket.TheVariants.{Round};
 ghost use Rattle.txs_reader.specs.Tree.{tree, trees, trees_of, group};
@@ -17,10 +17,9 @@ use crate::error::{ResolveErrorKind, Stop, refused};
 use crate::expression::body;
 use crate::levels::levels;
 use crate::literal::{is_literal, literal};
-use crate::names::{FormName, form_of, may_bind, operation_of};
 use crate::nodes::{Spot, is_symbol};
-use crate::scope::{Definition, Scope};
 use std::alloc::Global;
+use txs_names::{Definition, FormName, Scope, form_of, may_bind, operation_of};
 use txs_reader::{Bracket, Form};
 use txs_tree::{Function, Node, Thread};
 use txs_value::{CellDefinition, CellKind, Name, Span, Value};
@@ -74,9 +73,10 @@ fn form_at(form: &Form) -> Option<FormName>
     }
 }
 
-/// The name, where it can be defined.
+/// The name, where it can be defined: then it isn't defined yet.
 fn new_name<'a>(scope: &Scope<'_>, name: &'a Name, at: Span) -> Result<&'a Name, Stop>
-    ensures { Gives (λ n. n.now) result (new_name scope.now.defined name.now at) }
+    ensures name { Gives (λ n. n.now) result (new_name scope.now.defined name.now at) }
+    ensures new { IfOk result (λ n. definition_of n.now scope.now.defined ≡ None) }
 {
     if !may_bind(name.as_bytes()) {
         return Err(refused(ResolveErrorKind::BadForm, at));
@@ -135,6 +135,7 @@ fn defining_of(form: &Form) -> Option<(bool, &Form)>
 /// A constant is defined.
 fn with_constant<'a>(script: Script<'a>, name: &'a Name, value: Value) -> Result<Script<'a>, Stop>
     requires script { IsScript script }
+    requires new { definition_of name.now script.scope.defined ≡ None }
     requires room { script.defs < 1000 }
     ensures state { Gives state_of result (Ok (with_constant (state_of script.entry) name.now value)) }
     ensures next { IfOk result IsScript }
@@ -153,6 +154,7 @@ fn with_ref<'a>(
     value: Value,
 ) -> Result<Script<'a>, Stop>
     requires script { IsScript script }
+    requires new { definition_of name.now script.scope.defined ≡ None }
     requires room { script.defs < 1000 }
     ensures state { Gives state_of result (Ok (with_ref (state_of script.entry) name.now value)) }
     ensures next { IfOk result IsScript }
@@ -299,6 +301,7 @@ fn with_function<'a>(
     span: Span,
 ) -> Result<Script<'a>, Stop>
     requires script { IsScript script }
+    requires new { definition_of name.now script.scope.defined ≡ None }
     requires room { length script.functions.items < 1000 }
     requires few { parameters ≤ 20 }
     requires scoped { ScopedTree (known (functions_of script.functions.items)) parameters (tree_of body) }

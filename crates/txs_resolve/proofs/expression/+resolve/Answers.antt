@@ -7,14 +7,15 @@ use Rattle.txs_reader.specs.Tree.{tree}
 use Rattle.txs_tree.specs.Tree.{Tree, Trees, Do, If, Deref, Dosync, Alter}
 use Rattle.txs_tree.specs.declared.node.Node.{Node}
 use Rattle.txs_tree.specs.View.{tree_of, trees_of, mark_of}
-use Rattle.txs_resolve.specs.declared.names.FormName.TheVariants as kind
+use Rattle.txs_names.specs.declared.names.FormName.TheVariants as kind
 use Rattle.txs_resolve.specs.declared.nodes.Head.TheVariants.{Form as AForm, Called}
 use Rattle.txs_resolve.specs.declared.nodes.Sequence.TheVariants as sequence
 use Rattle.txs_resolve.specs.declared.nodes.Spot.{Spot}
 use Rattle.txs_value.specs.declared.op.Callee.TheVariants.{Core as CoreOp}
 use Rattle.txs_resolve.specs.Expressions.{Answer, Bound, below, choices_of, may_hide, bound_name, callee_of, choice_node, flag, head_of, logic_node, named, named_all, named_body, named_bindings, named_chain, named_cond, named_deref, named_if, named_logic, binding_node, named_pairs, pair_node, sequence_node, sequence_of, spot_mark}
 use Rattle.txs_resolve.specs.Given.{Gives, IsWithin}
-use Rattle.txs_resolve.specs.Scope.{◌>>=◌, Scope, with_local}
+use Rattle.txs_resolve.specs.Answers.{◌>>=◌}
+use Rattle.txs_names.specs.Scope.{Scope, with_local}
 use Rattle.txs_resolve.proofs.Building.{plain, all_after, bound_after, failed, failed_let, failed_bound, tail_most, roomy, roomless, all_step, all_stop, all_end, bindings_step, bindings_unvalued, bindings_unbound, bindings_odd, bindings_end, failed_name, chain_first, pairs_step, pairs_stop, within_push}
 use Rattle.txs_resolve.proofs.Steps.{if_many, if_roomless, if_no_first, if_no_second, if_no_third, if_made, cond_roomless, cond_no_first, cond_no_second, cond_no_third, cond_made, when_roomless, when_no_first, when_no_second, when_made, logic_alone, logic_roomless, logic_unvalued, logic_full, logic_no_second, logic_made, deref_parts, deref_other, deref_no, deref_made, alter_roomless, alter_no_first, alter_no_second, alter_no_third, alter_made, binding_odd, binding_roomless, binding_parts, body_one, body_several, do_of, do_no, do_made, deref_roomless, choices_odd, choices_even, operation_counted, choices_counted, group_round, group_square, list_head, list_headless, made_of, sequence_no, sequence_made, dosync_no, dosync_made, operation_plain, operation_low, operation_chain}
 use Rattle.txs_resolve.proofs.NodeTrees.{do_tree, if_tree, deref_tree, dosync_tree, alter_tree}

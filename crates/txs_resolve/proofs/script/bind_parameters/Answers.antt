@@ -2,7 +2,8 @@ use Rattle.std.proofs.Common.{◌≡◌, ◌<◌, ◌≤◌, ◌+◌, ℕ, List,
 use Rattle.txs_reader.specs.Tree.{tree}
 use Rattle.txs_resolve.specs.Expressions.{Answer}
 use Rattle.txs_resolve.specs.Names.{parameter, parameters}
-use Rattle.txs_resolve.specs.Scope.{◌>>=◌, Scope, with_local, with_locals}
+use Rattle.txs_resolve.specs.Answers.{◌>>=◌}
+use Rattle.txs_names.specs.Scope.{Scope, with_local, with_locals}
 use Rattle.std.specs.Borrow.{Bor}
 use Rattle.std.proofs.lemmas.Result.{err_from_is_err_and}
 use Rattle.txs_resolve.proofs.Parts.{failed_locals}

@@ -6,7 +6,7 @@ use Rattle.txs_tree.specs.View.{tree_of}
 use Rattle.txs_resolve.specs.Expressions.{named_body, spot_at}
 use Rattle.txs_resolve.specs.Given.{Gives}
 use Rattle.txs_resolve.specs.Names.{Written, new_name, parameters, function}
-use Rattle.txs_resolve.specs.Scope.{Scope}
+use Rattle.txs_names.specs.Scope.{Scope}
 use Rattle.txs_resolve.specs.Scripts.{state_of}
 use Rattle.txs_resolve.specs.declared.error.Stop.{Stop}
 use Rattle.txs_resolve.proofs.Building.{failed, plain}
@@ -27,7 +27,7 @@ returns-in_err-name-clause-state c =
     let f = c.args.written in
     let w : Written = record { name = f.name.now; at = f.at; parameters = plain f.parameters.now; body = plain f.body.now } in
     let p = err_from_is_err_and c.from_residual.result c.from_residual.ensures.1 in
-    rw (p.1, p.2) (failed (λ (n : Bor (List ℕ)). n.now) state_of c.in_err-name.field-0.0 (new_name s.scope.defined f.name.now f.at) (function (state_of s) c.args.span (Some w)) c.in_err-name.ensures
+    rw (p.1, p.2) (failed (λ (n : Bor (List ℕ)). n.now) state_of c.in_err-name.field-0.0 (new_name s.scope.defined f.name.now f.at) (function (state_of s) c.args.span (Some w)) c.in_err-name.ensures.name
     (λ e stops. function_named s w c.args.span (omega (arith, c.if-len-ge-MAX_FUNCTIONS.false, c.len.ensures)) (Err e) stops))
 
 pub returns-in_err-bind_parameters-clause-state : goal.returns-in_err-bind_parameters-clause-state
@@ -37,7 +37,7 @@ returns-in_err-bind_parameters-clause-state c =
     let w : Written = record { name = f.name.now; at = f.at; parameters = plain f.parameters.now; body = plain f.body.now } in
     let p = err_from_is_err_and c.from_residual-in_err-bind_parameters.result c.from_residual-in_err-bind_parameters.ensures.1 in
     rw (p.1, p.2) (failed_binding state_of c.in_err-bind_parameters.field-0.0 c.bind_parameters.new.scope.locals (parameters [] (plain f.parameters.now)) (function (state_of s) c.args.span (Some w)) c.in_err-bind_parameters.ensures.names
-    (λ e stops. function_bound s w c.args.span (omega (arith, c.if-len-ge-MAX_FUNCTIONS.false, c.len.ensures)) c.in_ok-name.name.now c.in_ok-name.ensures (Err e) stops))
+    (λ e stops. function_bound s w c.args.span (omega (arith, c.if-len-ge-MAX_FUNCTIONS.false, c.len.ensures)) c.in_ok-name.name.now c.in_ok-name.ensures.name (Err e) stops))
 
 pub returns-in_err-body-clause-state : goal.returns-in_err-body-clause-state
 returns-in_err-body-clause-state c =
@@ -50,7 +50,7 @@ returns-in_err-body-clause-state c =
     c.begin.ensures ∙ ap (λ (x : Scope). record { locals = locals; defined = x.defined; current = Some name }) c.in_ok-bind_parameters.ensures.kept in
     let p = err_from_is_err_and c.from_residual-in_err-body.result c.from_residual-in_err-body.ensures.1 in
     rw (p.1, p.2) (failed tree_of state_of c.in_err-body.field-0.0 (named_body c.begin.new.self (spot_at 1000 c.args.span true) (plain f.body.now)) (function (state_of s) c.args.span (Some w)) c.in_err-body.ensures.node
-    (λ e stops. function_bodied s w c.args.span (omega (arith, c.if-len-ge-MAX_FUNCTIONS.false, c.len.ensures)) name c.in_ok-name.ensures locals (Err e) c.in_ok-bind_parameters.ensures.names
+    (λ e stops. function_bodied s w c.args.span (omega (arith, c.if-len-ge-MAX_FUNCTIONS.false, c.len.ensures)) name c.in_ok-name.ensures.name locals (Err e) c.in_ok-bind_parameters.ensures.names
     (ap (λ (x : Scope). named_body x (spot_at 1000 c.args.span true) (plain f.body.now)) (sym inside) ∙ stops)))
 
 pub with_function-requires-clause-scoped : goal.with_function-requires-clause-scoped

@@ -1,0 +1,61 @@
+-- What is found by its name.
+use Rattle.std.proofs.Common.{◌≡◌, ◌≢◌, ◌<◌, ◌+◌, ℕ, suc, false, List, [], ◌∷◌, length, drop, get_or, Option, Some, None, bytes_eq, cond, refl, sym, ap, ◌∙◌, subst, drop-cons, add-one}
+use Rattle.std.specs.Prelude.{MatchOption}
+use Rattle.std.proofs.lemmas.Bool.{false_from_ne_true}
+use Rattle.std.proofs.lemmas.Slice.Eq.{bytes_eq-Decides}
+use Rattle.txs_value.specs.Operations.{op_name}
+use Rattle.txs_value.specs.declared.op.Op.{Op}
+use Rattle.txs_value.specs.declared.op.Op.TheVariants.{Add, Subtract, Multiply, Inc, Dec, Quot, Rem, Mod, Equal, NotEqual, Less, Greater, LessOrEqual, GreaterOrEqual, Max, Min, Not, IsNil, IsZero, IsPositive, IsNegative, Count, Nth, Conj, Assoc, Peek, Pop}
+use Rattle.txs_names.specs.Scope.{with_name, operations}
+
+found : (op : Op) → with_name op_name (op_name op) operations ≡ Some op
+found Add = refl
+found Subtract = refl
+found Multiply = refl
+found Inc = refl
+found Dec = refl
+found Quot = refl
+found Rem = refl
+found Mod = refl
+found Equal = refl
+found NotEqual = refl
+found Less = refl
+found Greater = refl
+found LessOrEqual = refl
+found GreaterOrEqual = refl
+found Max = refl
+found Min = refl
+found Not = refl
+found IsNil = refl
+found IsZero = refl
+found IsPositive = refl
+found IsNegative = refl
+found Count = refl
+found Nth = refl
+found Conj = refl
+found Assoc = refl
+found Peek = refl
+found Pop = refl
+
+-- the operation of this name
+operation_found : (op : Op) (name : List ℕ) → op_name op ≡ name → with_name op_name name operations ≡ Some op
+operation_found op name e = subst (λ n. with_name op_name n operations ≡ Some op) e (found op)
+
+-- nothing has this name
+none_found : {A : Type 0} (name_of : A → List ℕ) (name : List ℕ) (xs : List A) → ((x : A) → name_of x ≢ name) → with_name name_of name xs ≡ None
+none_found name_of name [] h = refl
+none_found name_of name (x ∷ xs) h =
+    ap (λ b. cond b (Some x) (with_name name_of name xs)) (false_from_ne_true (bytes_eq (name_of x) name) (λ e. h x ((bytes_eq-Decides (name_of x) name).0 e)))
+    ∙ none_found name_of name xs h
+
+-- what a search by the name found
+pub found_as : (o : Option Op) (name : List ℕ) → MatchOption o ((op : Op) → op_name op ≢ name) (λ op. op_name op ≡ name) → o ≡ with_name op_name name operations
+found_as None name h = sym (none_found op_name name operations h)
+found_as (Some op) name h = sym (operation_found op name h)
+
+-- an item of another name is passed
+pub passed : {A : Type 0} (name_of : A → List ℕ) (name : List ℕ) (xs : List A) (i : ℕ) (d : A) → i < length xs → bytes_eq (name_of (get_or xs i d)) name ≡ false → with_name name_of name (drop i xs) ≡ with_name name_of name (drop (i + 1) xs)
+passed name_of name xs i d lt e =
+    ap (with_name name_of name) (drop-cons xs i d lt)
+    ∙ ap (λ b. cond b (Some (get_or xs i d)) (with_name name_of name (drop (suc i) xs))) e
+    ∙ ap (λ (k : ℕ). with_name name_of name (drop k xs)) (sym (add-one i))

@@ -1,0 +1,11 @@
+use Rattle.std.proofs.Common.{sym, ap, ◌∙◌, bytes_eq}
+use Rattle.txs_names.specs.Scope.{form_name, form_names}
+use Rattle.txs_names.specs.declared.names.FormName.TheVariants.{Ns}
+use Rattle.txs_names.proofs.Heads.{passed}
+use Rattle.txs_names.proofs.names.form_of.Goals as goal
+
+pub loop-form-preserved : goal.loop-form-preserved
+loop-form-preserved c =
+    c.loop-form.invariant
+    ∙ passed form_name c.args.name.now form_names c.loop-form.form-index Ns c.loop-form-test.true
+    (ap (λ n. bytes_eq n c.args.name.now) (sym c.name.ensures) ∙ sym c.eq.ensures ∙ c.if-eq.false)
