@@ -1,5 +1,5 @@
 -- What an actor has done over a store, and what the source of its thread says of it.
-use Rattle.std.specs.Prelude.{◌≡◌, ℕ, ◌≤◌, List, [], Option, Some, None}
+use Rattle.std.specs.Prelude.{◌≡◌, ℕ, List, [], Option, Some, None}
 use Rattle.txs_value.specs.Ask.{Exchange}
 use Rattle.txs_value.specs.Cells.{World}
 use Rattle.txs_value.specs.declared.ask.Ask.{Ask}
@@ -10,7 +10,6 @@ use Rattle.txs_value.specs.declared.value.Value.{Value}
 use Rattle.txs_tree.specs.Meaning.{Completion}
 use Rattle.txs_tree.specs.Thread.{ThreadState, thread_meaning}
 use Rattle.txs_tree.specs.Tree.{ThreadSource}
-use Rattle.txs_code.specs.ActorState.{ActorState}
 use Rattle.txs_code.specs.PlainCode.{PlainCode}
 use Rattle.txs_follows.specs.Follows.{Follows}
 use Rattle.txs_follows.specs.RepliesFit.{Explained}

@@ -51,7 +51,7 @@ fn serve_ask(
     requires asks { unanswered actor.old ≡ Some ask.now }
     ensures runs { OnOk result (Runs code.now actor.new) }
     ensures answered { OnOk result (unanswered actor.new ≡ None) }
-    ensures cells { OnOk result (store.new.cells ≡ store.old.cells) }
+    ensures cells { store.new.cells ≡ store.old.cells }
     ensures over { OnOk result (RunOver code.now (opening store.old.cells) k store.old.book actor.old
         → RunOver code.now (opening store.old.cells) k store.new.book actor.new) }
 {
@@ -80,7 +80,7 @@ fn round(
     requires over { RunOver code.now (opening store.old.cells) k store.old.book actor.old }
     ensures runs { OnOk result (Runs code.now actor.new) }
     ensures after { IfOk result (λ o. IsAfter actor.new o) }
-    ensures cells { OnOk result (store.new.cells ≡ store.old.cells) }
+    ensures cells { store.new.cells ≡ store.old.cells }
     ensures over { OnOk result (RunOver code.now (opening store.old.cells) k store.new.book actor.new) }
 {
     actors_run();
@@ -107,7 +107,7 @@ fn run_to_end(
     requires answered { unanswered actor.old ≡ None }
     requires over { RunOver code.now (opening store.old.cells) k store.old.book actor.old }
     ensures ended { IfOk result (λ o. actor.new.outcome ≡ Some o) }
-    ensures cells { OnOk result (store.new.cells ≡ store.old.cells) }
+    ensures cells { store.new.cells ≡ store.old.cells }
     ensures over { OnOk result (RunOver code.now (opening store.old.cells) k store.new.book actor.new) }
 {
     for _ in 0..u64::MAX {
@@ -132,7 +132,7 @@ pub fn run_thread(
 ) -> Result<Ran, RunError>
     requires thread { k < length code.now.threads }
     requires unused { store.old.book ≡ [] }
-    ensures cells { OnOk result (store.new.cells ≡ store.old.cells) }
+    ensures cells { store.new.cells ≡ store.old.cells }
     ensures explained { IfOk result (λ ran. IsExplained code.now (opening store.old.cells) k store.new.book ran.outcome ran.printed.items) }
 {
     actors_run();
