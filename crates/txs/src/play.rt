@@ -74,7 +74,11 @@ fn stopped(alloc: Global, k: u16, why: &str) -> Result<Told, AllocError> {
 
 /// What is told of a thread that has run.
 fn of_thread(alloc: Global, k: u16, ran: Ran) -> Result<Told, AllocError> {
-    let Ran { printed, outcome } = ran;
+    let Ran {
+        printed,
+        outcome,
+        ..
+    } = ran;
     let mut told = match outcome {
         Outcome::Done => Told {
             output: Vec::new(alloc),
