@@ -1,26 +1,25 @@
 -- An actor's run over a store, step by step.
-use Rattle.std.proofs.Common.{◌≡◌, ℕ, zero, suc, ◌≤◌, List, [], ◌∷◌, ◌++◌, length, true, false, Bool, nat_lt, Option, Some, None, refl, sym, ap, subst, ◌∙◌, if◌then◌else◌}
-use Rattle.txs_value.specs.Ask.{Exchange, Writes}
+use Rattle.std.proofs.Common.{◌≡◌, ℕ, zero, suc, List, [], ◌∷◌, ◌++◌, length, true, false, Bool, nat_lt, Option, Some, None, refl, sym, ap, subst, ◌∙◌, if◌then◌else◌}
+use Rattle.txs_value.specs.Ask.{Writes}
 use Rattle.txs_value.specs.Cells.{World}
 use Rattle.txs_value.specs.declared.ask.Ask.{Ask}
 use Rattle.txs_value.specs.declared.ask.Ask.TheVariants as ask
 use Rattle.txs_value.specs.declared.ask.Reply.{Reply}
 use Rattle.txs_value.specs.declared.ask.Reply.TheVariants as reply
-use Rattle.txs_value.specs.declared.cell.CellDefinition.{CellDefinition}
 use Rattle.txs_value.specs.declared.event.Event.{Event}
 use Rattle.txs_value.specs.declared.event.EventKind.{EventKind}
 use Rattle.txs_value.specs.declared.event.Outcome.{Outcome}
 use Rattle.txs_value.specs.declared.event.Outcome.TheVariants as outcome
 use Rattle.txs_value.specs.declared.value.CellId.{CellId}
 use Rattle.txs_value.specs.declared.value.Value.{Value}
-use Rattle.txs_code.specs.Machine.{ThreadCode, Configuration, Turned, Ended, Failed, Asking, Unfinished, Stuck, turn}
+use Rattle.txs_code.specs.Machine.{ThreadCode, Configuration, Turned, Asking, turn}
 use Rattle.txs_code.specs.PlainCode.{PlainCode}
 use Rattle.txs_follows.specs.Follows.{Follows}
-use Rattle.txs_follows.specs.RepliesFit.{Out, RepliesFit, Explained}
+use Rattle.txs_follows.specs.RepliesFit.{Out, Explained}
 use Rattle.txs_follows.specs.RepliesFitTo.{FittingToFits}
 use Rattle.txs_tree.specs.Meaning.{Completion}
 use Rattle.txs_tree.specs.Thread.{ThreadState, thread_meaning}
-use Rattle.txs_machine.specs.PlainActor.{PlainActor, HasRun, MayAnswer, Stops, Awaits, answered, answered_if, answered_for, asked_for, run_again, unanswered, configuration_of, state_of, code_of, stands_at, standing}
+use Rattle.txs_machine.specs.PlainActor.{PlainActor, MayAnswer, Stops, answered, answered_if, asked_for, run_again, unanswered, configuration_of, state_of, code_of, stands_at, standing}
 use Rattle.txs_machine.specs.Laws.{ActorsRun, ActorsExplained, told}
 use Rattle.txs_machine.specs.Turns.{IsNew, OneStep, Answers, Moves, TurnsFrom, Turns, GoesOnAfter, TurnsOf}
 use Rattle.txs_machine.specs.declared.outcome.Turn.{Turn}

@@ -2,10 +2,10 @@
 use Rattle.std.specs.Prelude.{Bool, true, false, ◌&&◌, ◌||◌, ℕ, bytes_eq, codes, List, [], ◌∷◌, Option, Some, None, if◌then◌else◌}
 use Rattle.std.specs.List.{list_any}
 use Rattle.txs_value.specs.declared.fault.Span.{Span}
-use Rattle.txs_reader.specs.declared.form.Bracket.TheVariants.{Round, Square}
+use Rattle.txs_reader.specs.declared.form.Bracket.TheVariants.{Round}
 use Rattle.std.specs.Borrow.{Bor}
 use Rattle.txs_reader.specs.declared.form.Form.{Form as AForm}
-use Rattle.txs_reader.specs.Tree.{tree, Tree as Form, Trees as Forms, Leaf, leaf, group, none, first, symbol, place}
+use Rattle.txs_reader.specs.Tree.{tree, Tree as Form, Trees as Forms, leaf, group, none, first, symbol, place}
 
 abbrev pub is_some : {A : Type 0} → Option A → Bool
 is_some None = false

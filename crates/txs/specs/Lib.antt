@@ -1,3 +1,4 @@
+pub mod CellLines
 pub mod LeftOut
 pub mod RunOver
 pub mod Compiled

@@ -1,16 +1,16 @@
 -- What an actor has done over a store, and what the source of its thread says of it.
-use Rattle.std.specs.Prelude.{◌≡◌, ℕ, ◌≤◌, List, [], Option, Some, None}
+use Rattle.std.specs.Prelude.{◌≡◌, ◌≤◌, ℕ, List, [], Option, Some, None}
 use Rattle.txs_value.specs.Ask.{Exchange}
 use Rattle.txs_value.specs.Cells.{World}
 use Rattle.txs_value.specs.declared.ask.Ask.{Ask}
 use Rattle.txs_value.specs.declared.ask.Reply.{Reply}
 use Rattle.txs_value.specs.declared.event.Event.{Event}
 use Rattle.txs_value.specs.declared.event.Outcome.{Outcome}
+use Rattle.txs_value.specs.declared.event.Outcome.TheVariants.{StepsSpent}
 use Rattle.txs_value.specs.declared.value.Value.{Value}
 use Rattle.txs_tree.specs.Meaning.{Completion}
 use Rattle.txs_tree.specs.Thread.{ThreadState, thread_meaning}
 use Rattle.txs_tree.specs.Tree.{ThreadSource}
-use Rattle.txs_code.specs.ActorState.{ActorState}
 use Rattle.txs_code.specs.PlainCode.{PlainCode}
 use Rattle.txs_follows.specs.Follows.{Follows}
 use Rattle.txs_follows.specs.RepliesFit.{Explained}
@@ -44,3 +44,17 @@ ExplainsEnd o out r = Explained (standing (Some o) (stating out 0 []) (stating o
 -- each source that the thread's code follows means just what the actor did in the book, for some bound on its loops, with what it printed and how it ended
 abbrev pub IsExplained : PlainCode → World → ℕ → List Event → Outcome → List ℕ → Type 0
 IsExplained code w k book o out = (p : ThreadSource) → Follows (code_of code k) p → (m : ℕ) × ExplainsEnd o out (thread_meaning p m (seen_by w k book))
+
+-- an actor that may make so many steps, and has made them all where it was stopped for that
+pub record IsLimited (limit : ℕ) (a : PlainActor) : Type 0 where
+  pub limited : a.limit ≡ limit
+  pub spent : a.outcome ≡ Some StepsSpent → limit ≤ a.steps
+
+-- an actor of the k-th thread has made so many steps over the book, and printed these bytes and ended so
+pub record HasEnded (code : PlainCode) (w : World) (k limit : ℕ) (book : List Event) (o : Outcome) (out : List ℕ) (steps : ℕ) : Type 0 where
+  pub actor : PlainActor
+  pub over : RunOver code w k book actor
+  pub limited : IsLimited limit actor
+  pub ended : actor.outcome ≡ Some o
+  pub printed : actor.printed ≡ out
+  pub counted : actor.steps ≡ steps

@@ -2,6 +2,7 @@
 //! `txs check [FILE]`.
 #![tactic(auto)]
 
+mod cells;
 #[cfg(test)]
 mod code_tests;
 mod compile;

@@ -2,6 +2,7 @@
 
 ghost use Rattle.std.specs.Prelude.{◌≡◌, []};
 
+use crate::cells::write_cells;
 use crate::compile::compile;
 use crate::compile_error::CompileError;
 use crate::run::{Ran, RunError, run_thread};
@@ -10,7 +11,7 @@ use crate::words::{Words, parse_words};
 use std::alloc::{AllocError, Global};
 use std::io::{Read, Write};
 use txs_code::Verified;
-use txs_value::{Ask, CellDefinition, CellId, Outcome, Span, write_text};
+use txs_value::{Outcome, Span};
 use txs_world::Store;
 
 /// What the program tells: its standard output and error, and its status.
@@ -73,7 +74,11 @@ fn stopped(alloc: Global, k: u16, why: &str) -> Result<Told, AllocError> {
 
 /// What is told of a thread that has run.
 fn of_thread(alloc: Global, k: u16, ran: Ran) -> Result<Told, AllocError> {
-    let Ran { printed, outcome } = ran;
+    let Ran {
+        printed,
+        outcome,
+        ..
+    } = ran;
     let mut told = match outcome {
         Outcome::Done => Told {
             output: Vec::new(alloc),
@@ -110,7 +115,8 @@ fn run_code(
     steps: u64,
     store: &mut Store,
 ) -> Result<Told, AllocError>
-    requires { store.old.book ≡ [] }
+    requires unused { store.old.book ≡ [] }
+    ensures cells { store.new.cells ≡ store.old.cells }
 {
     if code.code().threads().is_empty() {
         return Ok(nothing(alloc));
@@ -122,39 +128,17 @@ fn run_code(
     }
 }
 
-/// Appends a line for each cell of the store: its name, and its newest value.
-fn tell_cells(
-    output: &mut Vec<u8>,
-    cells: &[CellDefinition],
-    store: &Store,
-) -> Result<(), AllocError> {
-    let mut number: u16 = 0;
-    for definition in cells {
-        let cell = CellId {
-            kind: definition.kind,
-            number,
-        };
-        if store.lawful(0, &Ask::Peek { cell }) {
-            output.extend_from_slice(definition.name.as_bytes())?;
-            output.push(b' ')?;
-            write_text(store.newest(cell), output)?;
-            output.push(b'\n')?;
-        }
-        number = number.saturating_add(1);
-    }
-    Ok(())
-}
-
 /// Runs the script in these bytes, and tells of its cells where they are wanted.
 fn run_script(alloc: Global, bytes: &[u8], steps: u64, cells: bool) -> Result<Told, AllocError> {
-    let (_program, code) = match compile(alloc, bytes) {
+    let (program, code) = match compile(alloc, bytes) {
         Ok(compiled) => compiled,
         Err(error) => return refused(alloc, &error),
     };
-    let mut store = Store::open(alloc, code.code().cells())?;
+    let mut store = Store::open(alloc, program.cells())?;
     let mut told = run_code(alloc, &code, steps, &mut store)?;
     if cells {
-        tell_cells(&mut told.output, code.code().cells(), &store)?;
+        program.is_sound();
+        write_cells(&mut told.output, program.cells(), &store)?;
     }
     Ok(told)
 }

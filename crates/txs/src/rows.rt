@@ -443,3 +443,20 @@ pub const ACCEPTED: [&str; 22] = [
     "(defn k [x] (let [k x] k))",
     "(defn f [p0 p1 p2 p3 p4 p5 p6 p7 p8 p9 p10 p11 p12 p13 p14 p15 p16 p17 p18 p19] 1)",
 ];
+
+// Scripts that nearly meet a refusal, and compile.
+pub const NEARLY: [&str; 13] = [
+    "(def r (ref 5)) (future (dosync (alter r inc)))",
+    "(def k 5) (defn g [x] x) (future (g k))",
+    "(defn f [g] g) (future (let [g 1] (f g)))",
+    "(future (let [x 1] (inc x)))",
+    "(defn f [x] x) (defn g [x] (f (f x)))",
+    "(def r (ref 0)) (future (dosync (loop [i 0] (if (< i 3) (recur (inc i)) (alter r + i)))))",
+    "(future (loop [i 0] (dosync i) (if (< i 3) (recur (inc i)) i)))",
+    "(def r (ref 0)) (defn f [x] (inc x)) (defn g [x] (f x)) (future (dosync (alter r g)))",
+    "(def r (ref 0)) (defn f [x] (loop [i x] (if (< i 9) (recur (inc i)) i))) (future (dosync (alter r f)))",
+    "(defn f [a b] (if a (recur b 1) 2))",
+    "(defn f [a b] a) (future (f 1 2))",
+    "(future (if 1 2) (cond 1 2) (let [a 1] a))",
+    "(def inc1 1) (future (let [if1 2] if1))",
+];

@@ -1,9 +1,9 @@
 //! A thread's run over a store.
 
-ghost use Rattle.std.specs.Prelude.{◌≡◌, ◌<◌, length, IfOk, OnOk, Some, None, []};
+ghost use Rattle.std.specs.Prelude.{◌≡◌, ◌<◌, ℕ, length, IfOk, OnOk, Some, None, []};
 ghost use Rattle.txs_machine.specs.PlainActor.{Runs, unanswered};
 ghost use Rattle.txs_world.specs.Book.{opening};
-ghost use Rattle.txs.specs.RunOver.{RunOver, IsAfter, IsExplained};
+ghost use Rattle.txs.specs.RunOver.{RunOver, IsAfter, IsExplained, IsLimited, HasEnded};
 
 use std::alloc::{AllocError, Global};
 use thiserror::Error;
@@ -14,11 +14,12 @@ use txs_machine::{Actor, Turn, actors_explained, actors_run};
 use txs_value::{Ask, Outcome};
 use txs_world::Store;
 
-/// What a thread has printed, and how it ended.
+/// What a thread has printed, how it ended, and how many steps it made.
 #[derive(Drop)]
 pub struct Ran {
     pub printed: Vec<u8>,
     pub outcome: Outcome,
+    pub steps: u64,
 }
 
 /// Why there is no account of a run.
@@ -51,7 +52,8 @@ fn serve_ask(
     requires asks { unanswered actor.old ≡ Some ask.now }
     ensures runs { OnOk result (Runs code.now actor.new) }
     ensures answered { OnOk result (unanswered actor.new ≡ None) }
-    ensures cells { OnOk result (store.new.cells ≡ store.old.cells) }
+    ensures limited { OnOk result ((limit : ℕ) → IsLimited limit actor.old → IsLimited limit actor.new) }
+    ensures cells { store.new.cells ≡ store.old.cells }
     ensures over { OnOk result (RunOver code.now (opening store.old.cells) k store.old.book actor.old
         → RunOver code.now (opening store.old.cells) k store.new.book actor.new) }
 {
@@ -80,7 +82,8 @@ fn round(
     requires over { RunOver code.now (opening store.old.cells) k store.old.book actor.old }
     ensures runs { OnOk result (Runs code.now actor.new) }
     ensures after { IfOk result (λ o. IsAfter actor.new o) }
-    ensures cells { OnOk result (store.new.cells ≡ store.old.cells) }
+    ensures limited { OnOk result ((limit : ℕ) → IsLimited limit actor.old → IsLimited limit actor.new) }
+    ensures cells { store.new.cells ≡ store.old.cells }
     ensures over { OnOk result (RunOver code.now (opening store.old.cells) k store.new.book actor.new) }
 {
     actors_run();
@@ -107,7 +110,8 @@ fn run_to_end(
     requires answered { unanswered actor.old ≡ None }
     requires over { RunOver code.now (opening store.old.cells) k store.old.book actor.old }
     ensures ended { IfOk result (λ o. actor.new.outcome ≡ Some o) }
-    ensures cells { OnOk result (store.new.cells ≡ store.old.cells) }
+    ensures limited { OnOk result ((limit : ℕ) → IsLimited limit actor.old → IsLimited limit actor.new) }
+    ensures cells { store.new.cells ≡ store.old.cells }
     ensures over { OnOk result (RunOver code.now (opening store.old.cells) k store.new.book actor.new) }
 {
     for _ in 0..u64::MAX {
@@ -132,7 +136,8 @@ pub fn run_thread(
 ) -> Result<Ran, RunError>
     requires thread { k < length code.now.threads }
     requires unused { store.old.book ≡ [] }
-    ensures cells { OnOk result (store.new.cells ≡ store.old.cells) }
+    ensures cells { store.new.cells ≡ store.old.cells }
+    ensures ended { IfOk result (λ ran. HasEnded code.now (opening store.old.cells) k max_steps store.new.book ran.outcome ran.printed.items ran.steps) }
     ensures explained { IfOk result (λ ran. IsExplained code.now (opening store.old.cells) k store.new.book ran.outcome ran.printed.items) }
 {
     actors_run();
@@ -141,5 +146,9 @@ pub fn run_thread(
     let mut actor = Actor::thread(alloc, code, k, max_steps)?;
     let outcome = run_to_end(&mut actor, code, store, k)?;
     let printed = Vec::from_slice(alloc, actor.printed())?;
-    Ok(Ran { printed, outcome })
+    Ok(Ran {
+        printed,
+        outcome,
+        steps: actor.steps(),
+    })
 }

@@ -1,7 +1,7 @@
 // What no clause says: the rows of the program, through its streams.
 use crate::compile::compile;
 use crate::play::play;
-use crate::rows::{ACCEPTED, BAD, CALLED, LEFT_OUT, PLACED, PRINTED, RECURS, UNKNOWN};
+use crate::rows::{ACCEPTED, BAD, CALLED, LEFT_OUT, NEARLY, PLACED, PRINTED, RECURS, UNKNOWN};
 use crate::run::run_thread;
 use std::alloc::Global;
 use std::io;
@@ -269,6 +269,14 @@ fn scripts_are_accepted(rt: HostRuntime) -> Result<(), Fail> {
     Ok(())
 }
 
+#[test]
+fn what_nearly_meets_a_refusal_is_accepted(rt: HostRuntime) -> Result<(), Fail> {
+    for script in NEARLY {
+        assert!(rt; checked(rt.alloc(), script, "ok\n", "", 0)?, "{script}");
+    }
+    Ok(())
+}
+
 // So many times a text, with its number and another text behind it.
 fn numbered(alloc: Global, count: usize, before: &str, behind: &str) -> Result<String, Fail> {
     let mut script = String::new(alloc);
@@ -379,16 +387,30 @@ fn levels_are_limited(rt: HostRuntime) -> Result<(), Fail> {
     Ok(())
 }
 
+// A function of this name whose body has so many numbers, and is one node more.
+fn body_of(script: &mut String, name: &str, count: usize) -> Result<(), Fail> {
+    script.push_str("(defn ")?;
+    script.push_str(name)?;
+    script.push_str(" []")?;
+    repeat(script, count, " 1")?;
+    script.push_str(")")?;
+    Ok(())
+}
+
+// Three functions of 50,000 nodes each.
+fn three_bodies(alloc: Global) -> Result<String, Fail> {
+    let mut script = String::new(alloc);
+    for name in ["a", "b", "c"] {
+        body_of(&mut script, name, 49_999)?;
+    }
+    Ok(script)
+}
+
 #[test]
 fn nodes_are_limited(rt: HostRuntime) -> Result<(), Fail> {
     let alloc = rt.alloc();
-    let mut script = String::new(alloc);
-    for name in ["a", "b", "c", "d"] {
-        let head = format!(in alloc; "(defn {name} []")?;
-        script.push_str(head.as_str())?;
-        repeat(&mut script, 49_999, " 1")?;
-        script.push_str(")")?;
-    }
+    let mut script = three_bodies(alloc)?;
+    body_of(&mut script, "d", 49_999)?;
     assert!(rt; checked(alloc, script.as_str(), "ok\n", "", 0)?);
     script.push_str("(future)")?;
     assert!(rt;
@@ -397,6 +419,37 @@ fn nodes_are_limited(rt: HostRuntime) -> Result<(), Fail> {
             script.as_str(),
             "",
             "refused 28 CodeTooLarge at 400036..400044\n",
+            1
+        )?
+    );
+    Ok(())
+}
+
+#[test]
+fn the_function_that_passes_the_limit_is_refused(rt: HostRuntime) -> Result<(), Fail> {
+    let alloc = rt.alloc();
+    let mut script = three_bodies(alloc)?;
+    body_of(&mut script, "d", 50_000)?;
+    assert!(rt;
+        checked(
+            alloc,
+            script.as_str(),
+            "",
+            "refused 28 CodeTooLarge at 300027..400038\n",
+            1
+        )?
+    );
+    let mut script = three_bodies(alloc)?;
+    body_of(&mut script, "d", 49_998)?;
+    script.push_str("(future)")?;
+    assert!(rt; checked(alloc, script.as_str(), "ok\n", "", 0)?);
+    script.push_str("(defn e [] 1)")?;
+    assert!(rt;
+        checked(
+            alloc,
+            script.as_str(),
+            "",
+            "refused 28 CodeTooLarge at 400042..400055\n",
             1
         )?
     );

@@ -1,5 +1,6 @@
 use Rattle.txs_machine.specs.declared.outcome.Turn.TheVariants.{Went, Asks, Ended}
 use Rattle.txs_world.specs.Book.{opening}
+use Rattle.txs.proofs.Limits.{turns_limited}
 use Rattle.txs.proofs.RunOver.{turns_over, turns_went, turns_say}
 use Rattle.txs.proofs.run.round.Goals as goal
 
@@ -30,3 +31,13 @@ returns-in_ok-serve_ask-in-Asks-clause-over c =
     c.in_ok-serve_ask-in-Asks.ensures.over
     (turns_over c.actors_run.ensures c.turns_are_staged.ensures c.args.code.now (opening c.args.store.now.cells) c.args.k c.args.store.now.book c.args.budget c.args.actor.now c.run.new.self (Asks c.in-Asks.ask)
     c.requires.answered c.in-Asks.ensures.turns c.requires.over)
+
+pub returns-in-Ended-clause-limited : goal.returns-in-Ended-clause-limited
+returns-in-Ended-clause-limited c limit h = turns_limited c.args.code.now limit c.args.budget c.args.actor.now c.run.new.self (Ended c.in-Ended.outcome) c.in-Ended.ensures.turns h
+
+pub returns-in-Went-clause-limited : goal.returns-in-Went-clause-limited
+returns-in-Went-clause-limited c limit h = turns_limited c.args.code.now limit c.args.budget c.args.actor.now c.run.new.self Went c.in-Went.ensures.turns h
+
+pub returns-in_ok-serve_ask-in-Asks-clause-limited : goal.returns-in_ok-serve_ask-in-Asks-clause-limited
+returns-in_ok-serve_ask-in-Asks-clause-limited c limit h =
+    c.in_ok-serve_ask-in-Asks.ensures.limited limit (turns_limited c.args.code.now limit c.args.budget c.args.actor.now c.run.new.self (Asks c.in-Asks.ask) c.in-Asks.ensures.turns h)

@@ -1,6 +1,7 @@
 use Rattle.std.proofs.Common.{◌≡◌, ℕ, List, rules, sym, subst}
 use Rattle.txs_world.specs.Book.{opening}
 use Rattle.txs.specs.RunOver.{IsExplained}
+use Rattle.txs.proofs.Limits.{new_limited}
 use Rattle.txs.proofs.RunOver.{new_over, ended_explained}
 use Rattle.txs.proofs.run.run_thread.Goals as goal
 
@@ -16,3 +17,15 @@ returns-clause-explained c =
     let same : c.in_ok-printed.printed.items ≡ a.printed = search rules in
     subst (λ (out : List ℕ). IsExplained c.args.code.now w c.args.k book c.in_ok-outcome.outcome out) (sym same)
     (ended_explained c.actors_explained.ensures c.replies_fit.ensures c.args.code.now w c.args.k book a c.in_ok-outcome.outcome c.in_ok-outcome.ensures.ended c.in_ok-outcome.ensures.over)
+
+pub returns-clause-ended : goal.returns-clause-ended
+returns-clause-ended c =
+    let new = c.in_ok-actor.ensures.new in
+    record {
+      actor = c.run_to_end.new.actor;
+      over = c.in_ok-outcome.ensures.over;
+      limited = c.in_ok-outcome.ensures.limited c.args.max_steps (new_limited c.args.max_steps c.in_ok-actor.actor new.limited new.unended);
+      ended = c.in_ok-outcome.ensures.ended;
+      printed = search rules;
+      counted = search rules;
+    }

@@ -1,7 +1,7 @@
-use Rattle.std.proofs.Common.{◌≡◌, None}
+use Rattle.std.proofs.Common.{◌≡◌, ℕ, None}
 use Rattle.txs_machine.specs.PlainActor.{Runs, unanswered}
 use Rattle.txs_world.specs.Book.{opening}
-use Rattle.txs.specs.RunOver.{RunOver}
+use Rattle.txs.specs.RunOver.{RunOver, IsLimited}
 use Rattle.txs.proofs.run.run_to_end.Given as goal
 
 -- between two rounds the actor asks nothing, and has done over the store what its code says
@@ -10,6 +10,7 @@ invariant-loop l =
     record {
       runs : Runs l.code l.actor;
       answered : unanswered l.actor ≡ None;
+      limited : (limit : ℕ) → IsLimited limit l.fn.actor → IsLimited limit l.actor;
       cells : l.store.cells ≡ l.fn.store.cells;
       over : RunOver l.code (opening l.fn.store.cells) l.k l.store.book l.actor;
     }

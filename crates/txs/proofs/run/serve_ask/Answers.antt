@@ -2,7 +2,8 @@ use Rattle.std.proofs.Common.{◌≡◌, ℕ, None, sym, subst}
 use Rattle.txs_machine.specs.PlainActor.{PlainActor, unanswered}
 use Rattle.txs_world.specs.Book.{opening}
 use Rattle.txs_world.specs.Store.{Answers, serve}
-use Rattle.txs.specs.RunOver.{RunOver}
+use Rattle.txs.specs.RunOver.{RunOver, IsLimited}
+use Rattle.txs.proofs.Limits.{answered_limited}
 use Rattle.txs.proofs.RunOver.{served_over, served_may}
 use Rattle.txs.proofs.run.serve_ask.Goals as goal
 
@@ -18,3 +19,7 @@ returns-clause-over c h =
     subst (λ (x : PlainActor). RunOver c.args.code.now (opening s.cells) c.args.k t.book x) (sym c.answer.ensures.answered)
     (served_over c.actors_run.ensures c.served_ask_fits.ensures c.args.code.now s t c.args.k a q r c.requires.going c.requires.asks free
     (served_may (opening s.cells) a.number q s.book s t r given) given h).1
+
+pub returns-clause-limited : goal.returns-clause-limited
+returns-clause-limited c limit h =
+    subst (λ (x : PlainActor). IsLimited limit x) (sym c.answer.ensures.answered) (answered_limited limit c.args.actor.now c.serve-reply.result c.requires.going h)
