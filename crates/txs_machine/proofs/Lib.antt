@@ -6,6 +6,7 @@ pub mod Effects
 pub mod Following
 pub mod Landing
 pub mod Later
+pub mod Nesting
 pub mod Lists
 pub mod Meaning
 pub mod Openings

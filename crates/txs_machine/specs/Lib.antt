@@ -1,5 +1,6 @@
 pub mod Flat
 pub mod Laws
+pub mod Nesting
 pub mod PlainActor
 pub mod PlainFrame
 pub mod Turns

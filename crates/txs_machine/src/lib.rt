@@ -6,15 +6,13 @@
 
 pub mod actor;
 pub mod answer;
-mod calls;
-pub mod frame;
 pub mod law;
 mod moves;
 mod operate;
 pub mod outcome;
+pub mod stack;
 pub mod state;
 mod step;
-mod stride;
 mod transact;
 mod writes;
 

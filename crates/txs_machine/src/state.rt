@@ -1,15 +1,13 @@
 //! What an actor keeps of its transaction and of its unanswered ask.
 
-use crate::frame::Frame;
-use txs_value::{CellId, Fault, Listed, Span};
+use crate::stack::Stack;
+use txs_value::{CellId, Fault, Span};
 
-/// Where a transaction began: its span, the frame that goes on at its first instruction with the values
-/// there, and its callers' frames.
+/// Where a transaction began: its span, and the stack there, whose body goes on at its first instruction.
 #[derive(Debug, Drop)]
 pub struct Origin {
     pub span: Span,
-    pub frame: Frame,
-    pub frames: Listed<Frame>,
+    pub stack: Stack,
 }
 
 /// The transaction of an actor.

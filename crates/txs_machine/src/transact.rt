@@ -1,20 +1,17 @@
 //! Instructions on the transaction of an actor.
 
-ghost use Rattle.std.specs.Prelude.{List, ◌≡◌, ◌<◌, ◌≤◌, ◌-◌, ◌+◌, ◌∷◌, ◌++◌, ◌^◌, [], length, take, drop, vec_capacity, IfOk, slice_index_or};
+ghost use Rattle.std.specs.Prelude.{List, ◌≡◌, ◌<◌, ◌≤◌, ◌^◌, length};
 ghost use Rattle.txs_value.specs.Cells.{any_cell, readable_cell, ref_cell};
-ghost use Rattle.txs_value.specs.declared.value.Value.TheVariants.{Nil};
-ghost use Rattle.txs_machine.specs.Flat.{Comes, CanMove, effect, reads, opens, begins, ends, closes, last_of};
-ghost use Rattle.txs_machine.specs.PlainActor.{but_last, put_under, under, is_running, depth_in, IsAscending};
-ghost use Rattle.txs_machine.specs.declared.state.Pending.TheVariants.{Begin};
+ghost use Rattle.txs_machine.specs.Flat.{Comes, CanMove, effect, reads, opens, begins, ends, closes};
+ghost use Rattle.txs_machine.specs.PlainActor.{under, is_running, depth_in, IsAscending};
 ghost use Rattle.txs_value.specs.Ask.{Writes};
 ghost use Rattle.txs_value.specs.declared.value.Value.{Value as AValue};
 
-use crate::frame::{Frame, copy_frames};
-use crate::moves::pop;
 use crate::outcome::Moved;
+use crate::stack::Stack;
 use crate::state::{Origin, Pending, Transaction};
-use crate::writes::{copy_in, own_value, put_write};
-use std::alloc::{AllocError, Global};
+use crate::writes::{own_value, put_write};
+use std::alloc::Global;
 use txs_code::Instr;
 use txs_value::{CellId, CellKind, FaultKind, Span, Value};
 
@@ -64,52 +61,26 @@ fn ref_cell(value: &Value) -> Result<CellId, FaultKind>
     }
 }
 
-/// A value in the place of the last.
-pub(crate) fn replace_last(values: &mut Vec<Value>, value: Value)
-    requires { (0 < length values.old.items) × (length values.old.items ≤ vec_capacity values.old) }
-    ensures items { values.new.items ≡ but_last values.old.items ++ value ∷ [] }
-    ensures capacity { vec_capacity values.new ≡ vec_capacity values.old }
-{
-    let _last = pop(values);
-    values.push_reserved(value);
-}
-
-/// A value below the n last, where there is room for it.
-pub(crate) fn insert_under(values: &mut Vec<Value>, n: usize, value: Value)
-    requires { (n ≤ length values.old.items) × (length values.old.items < vec_capacity values.old) }
-    ensures items { values.new.items ≡ put_under n value values.old.items }
-    ensures capacity { vec_capacity values.new ≡ vec_capacity values.old }
-{
-    let place = values.len() - n;
-    let _inserted = values.insert(place, value);
-}
-
 /// The value of the cell at the top.
-fn deref(
-    alloc: Global,
-    values: &mut Vec<Value>,
-    tx: &Transaction,
-    writes: &[(CellId, Value)],
-) -> Moved
+fn deref(alloc: Global, stack: &mut Stack, tx: &Transaction, writes: &[(CellId, Value)]) -> Moved
     requires ascending { IsAscending writes.now }
-    requires room { (0 < length values.old.items) × (length values.old.items ≤ vec_capacity values.old) }
-    ensures comes { Comes result values.new.items tx.now writes.now writes.now (reads (is_running tx.now) values.old.items tx.now writes.now) }
-    ensures capacity { vec_capacity values.new ≡ vec_capacity values.old }
+    requires room { (0 < length stack.old.values) × (length stack.old.values ≤ stack.old.room) }
+    ensures comes { Comes result stack.new.values tx.now writes.now writes.now (reads (is_running tx.now) stack.old.values tx.now writes.now) }
+    ensures rest { stack.new ≡ record stack.old { values = stack.new.values } }
 {
-    let last = values.len() - 1;
     if !is_running(tx) {
-        return match any_cell(&values[last]) {
+        return match any_cell(stack.last()) {
             Ok(cell) => Moved::Asks(Pending::Read(cell)),
             Err(kind) => Moved::Faults(kind),
         };
     }
-    match readable_cell(&values[last]) {
+    match readable_cell(stack.last()) {
         Err(kind) => Moved::Faults(kind),
         Ok(cell) => match own_value(alloc, writes, cell.number) {
             Err(_) => Moved::Memory,
             Ok(None) => Moved::Asks(Pending::Read(cell)),
             Ok(Some(value)) => {
-                replace_last(values, value);
+                stack.replace_last(value);
                 Moved::On
             }
         },
@@ -120,23 +91,22 @@ fn deref(
 fn open(
     alloc: Global,
     n: u16,
-    values: &mut Vec<Value>,
+    stack: &mut Stack,
     tx: &Transaction,
     writes: &[(CellId, Value)],
 ) -> Moved
     requires ascending { IsAscending writes.now }
-    requires room { (n < length values.old.items) × (length values.old.items < vec_capacity values.old) }
-    ensures comes { Comes result values.new.items tx.now writes.now writes.now (opens n values.old.items tx.now writes.now (ref_cell (under n values.old.items))) }
-    ensures capacity { vec_capacity values.new ≡ vec_capacity values.old }
+    requires room { (n < length stack.old.values) × (length stack.old.values < stack.old.room) }
+    ensures comes { Comes result stack.new.values tx.now writes.now writes.now (opens n stack.old.values tx.now writes.now (ref_cell (under n stack.old.values))) }
+    ensures rest { stack.new ≡ record stack.old { values = stack.new.values } }
 {
-    let place = values.len() - n as usize - 1;
-    match ref_cell(&values[place]) {
+    match ref_cell(stack.under(n as usize)) {
         Err(kind) => Moved::Faults(kind),
         Ok(cell) => match own_value(alloc, writes, cell.number) {
             Err(_) => Moved::Memory,
             Ok(None) => Moved::Asks(Pending::Open(cell, n)),
             Ok(Some(value)) => {
-                insert_under(values, n as usize, value);
+                stack.insert_under(n as usize, value);
                 Moved::On
             }
         },
@@ -146,74 +116,32 @@ fn open(
 /// The last value becomes that of the ref below it.
 fn close(
     alloc: Global,
-    values: &mut Vec<Value>,
+    stack: &mut Stack,
     tx: &Transaction,
     writes: &mut Vec<(CellId, Value)>,
 ) -> Moved
     requires ascending { IsAscending writes.old.items }
-    requires room { (1 < length values.old.items) × (length values.old.items ≤ vec_capacity values.old) }
-    ensures comes { Comes result values.new.items tx.now writes.new.items writes.old.items (closes values.old.items tx.now writes.old.items (ref_cell (under 1 values.old.items))) }
-    ensures capacity { vec_capacity values.new ≡ vec_capacity values.old }
+    requires room { (1 < length stack.old.values) × (length stack.old.values ≤ stack.old.room) }
+    ensures comes { Comes result stack.new.values tx.now writes.new.items writes.old.items (closes stack.old.values tx.now writes.old.items (ref_cell (under 1 stack.old.values))) }
+    ensures rest { stack.new ≡ record stack.old { values = stack.new.values } }
 {
-    let last = values.len() - 1;
-    match ref_cell(&values[last - 1]) {
+    match ref_cell(stack.under(1)) {
         Err(kind) => Moved::Faults(kind),
-        Ok(cell) => match put_write(alloc, writes, cell, &values[last]) {
+        Ok(cell) => match put_write(alloc, writes, cell, stack.last()) {
             Err(_) => Moved::Memory,
             Ok(()) => {
-                let value = pop(values);
-                let _ref = pop(values);
-                values.push_reserved(value);
+                stack.drop_under();
                 Moved::On
             }
         },
     }
 }
 
-/// Where an actor is: whose body it is in, how many locals that has, and the place of its instruction.
-#[derive(Clone, Copy)]
-pub(crate) struct Here {
-    pub body: usize,
-    pub locals: usize,
-    pub place: usize,
-}
-
-/// What a transaction asks for that begins here.
-fn beginning(
-    alloc: Global,
-    left: u16,
-    span: Span,
-    here: Here,
-    frames: &[Frame],
-    values: &Vec<Value>,
-) -> Result<Pending, AllocError>
-    requires { length values.now.items ≤ vec_capacity values.now }
-    ensures { IfOk result (λ p. p ≡ Begin left (record { span = span; frame = record { body = here.body; locals = here.locals; place = here.place; values = values.now.items; room = vec_capacity values.now }; frames = frames.now })) }
-{
-    let own = copy_in(alloc, values.as_slice(), values.capacity())?;
-    let frames = copy_frames(alloc, frames)?;
-    Ok(Pending::Begin {
-        left,
-        from: Origin {
-            span,
-            frame: Frame::new(here.body, here.locals, here.place, own),
-            frames,
-        },
-    })
-}
-
 /// A transaction begins, or joins the one that runs.
 #[tactic(auto, unfolding(txs_value::specs::Limits::reruns))]
-fn begin(
-    alloc: Global,
-    span: Span,
-    here: Here,
-    frames: &[Frame],
-    values: &Vec<Value>,
-    tx: &mut Transaction,
-) -> Moved
-    requires { (depth_in tx.old < 2 ^ 64) × (length values.now.items ≤ vec_capacity values.now) }
-    ensures { (ws : Writes) → Comes result values.now.items tx.new ws ws (begins (record { span = span; frame = record { body = here.body; locals = here.locals; place = here.place; values = values.now.items; room = vec_capacity values.now }; frames = frames.now }) values.now.items ws tx.old) }
+fn begin(alloc: Global, span: Span, stack: &Stack, tx: &mut Transaction) -> Moved
+    requires { depth_in tx.old < 2 ^ 64 }
+    ensures { (ws : Writes) → Comes result stack.now.values tx.new ws ws (begins (record { span = span; stack = stack.now }) stack.now.values ws tx.old) }
 {
     let left = match tx {
         Transaction::Running { inner, .. } => {
@@ -223,8 +151,11 @@ fn begin(
         Transaction::Outside => RERUNS,
         Transaction::Restarting { left } => *left,
     };
-    match beginning(alloc, left, span, here, frames, values) {
-        Ok(pending) => Moved::Asks(pending),
+    match stack.copy(alloc) {
+        Ok(stack) => Moved::Asks(Pending::Begin {
+            left,
+            from: Origin { span, stack },
+        }),
         Err(_) => Moved::Memory,
     }
 }
@@ -252,23 +183,21 @@ pub(crate) fn transact(
     alloc: Global,
     instr: Instr,
     span: Span,
-    here: Here,
-    frames: &[Frame],
-    values: &mut Vec<Value>,
+    stack: &mut Stack,
     tx: &mut Transaction,
     writes: &mut Vec<(CellId, Value)>,
 ) -> Moved
     requires ascending { IsAscending writes.old.items }
-    requires can { CanMove values.old.items (vec_capacity values.old) tx.old instr }
-    ensures comes { Comes result values.new.items tx.new writes.new.items writes.old.items (effect (record { span = span; frame = record { body = here.body; locals = here.locals; place = here.place; values = values.old.items; room = vec_capacity values.old }; frames = frames.now }) values.old.items tx.old writes.old.items instr) }
-    ensures capacity { vec_capacity values.new ≡ vec_capacity values.old }
+    requires can { CanMove stack.old.values stack.old.room tx.old instr }
+    ensures comes { Comes result stack.new.values tx.new writes.new.items writes.old.items (effect (record { span = span; stack = stack.old }) stack.old.values tx.old writes.old.items instr) }
+    ensures rest { stack.new ≡ record stack.old { values = stack.new.values } }
 {
     match instr {
-        Instr::Deref => deref(alloc, values, tx, writes.as_slice()),
-        Instr::TxBegin => begin(alloc, span, here, frames, values, tx),
+        Instr::Deref => deref(alloc, stack, tx, writes.as_slice()),
+        Instr::TxBegin => begin(alloc, span, stack, tx),
         Instr::TxEnd => end(tx),
-        Instr::AlterOpen(n) => open(alloc, n, values, tx, writes.as_slice()),
-        Instr::AlterClose => close(alloc, values, tx, writes),
+        Instr::AlterOpen(n) => open(alloc, n, stack, tx, writes.as_slice()),
+        Instr::AlterClose => close(alloc, stack, tx, writes),
         _ => Moved::On,
     }
 }
