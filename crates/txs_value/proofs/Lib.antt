@@ -1,8 +1,10 @@
 pub mod AskLemmas
+pub mod BodyLemmas
 pub mod CoreLemmas
 pub mod ItemsLemmas
+pub mod LeavesLemmas
 pub mod OperationsLemmas
+pub mod PlacesLemmas
 pub mod PrintedLemmas
 pub mod SameLemmas
-pub mod TakesLemmas
 pub mod TruthLemmas

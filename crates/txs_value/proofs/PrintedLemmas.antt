@@ -1,10 +1,12 @@
 -- What a list of items prints as, one more item at a time.
-use Rattle.std.proofs.Common.{◌≡◌, ℕ, zero, suc, ◌+◌, ◌<◌, List, [], ◌∷◌, ◌++◌, length, get_or, take, sym, ap, ◌∙◌, append_assoc, arith}
+use Rattle.std.proofs.Common.{◌≡◌, ℕ, zero, suc, ◌+◌, ◌<◌, List, [], ◌∷◌, ◌++◌, length, get_or, take, sym, ap, ◌∙◌, append_assoc, Some, arith}
 use Rattle.std.proofs.lemmas.List.{take_more, length-map, append-nil}
+use Rattle.std.specs.List.{slice_get}
 use Rattle.txs_value.specs.PlainValue.{PlainValue, plain_row}
 use Rattle.txs_value.specs.Printed.{printed, items_printed, later_printed, gap, Extends}
 use Rattle.txs_value.specs.View.{plain_of, plains_of}
 use Rattle.txs_value.proofs.ItemsLemmas.{plain_at}
+use Rattle.txs_value.proofs.PlacesLemmas.{take_next}
 use Rattle.txs_value.specs.declared.value.Value.{Value}
 
 later_printed-push : (ds : List PlainValue) (d : PlainValue) → later_printed (plain_row (ds ++ d ∷ [])) ≡ later_printed (plain_row ds) ++ 32 ∷ printed d
@@ -25,6 +27,9 @@ items_printed-more ds vs v i seen lt is =
     let d = plain_of v in
     let there : i < length (plains_of vs) = rw (length-map vs plain_of) lt in
     rw (sym seen, take_more (plains_of vs) i d there, sym (plain_at vs i v d lt is)) (items_printed-at (plains_of vs) i d there)
+
+pub items_printed-next : (ds : List PlainValue) (i : ℕ) (d : PlainValue) → i < length ds → slice_get ds i ≡ Some d → items_printed (plain_row (take (i + 1) ds)) ≡ items_printed (plain_row (take i ds)) ++ (gap i ++ printed d)
+items_printed-next ds i d lt is = ap (λ xs. items_printed (plain_row xs)) (take_next ds i d is) ∙ items_printed-at ds i d lt
 
 module _ (old a b p here mid new : List ℕ) (e : here ≡ old ++ a) (f : mid ≡ here ++ b) where
   pub appended : new ≡ mid ++ p → new ≡ old ++ (a ++ (b ++ p))

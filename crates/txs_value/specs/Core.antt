@@ -283,10 +283,3 @@ abbrev pub Answers : Result Value Stop → Answer → Type 0
 Answers (Ok v) a = a ≡ Ok v
 Answers (Err (Fault k)) a = a ≡ Err k
 Answers (Err Memory) a = ⊤
-
--- the table's answer stands on top of the values below, or there is only what is below
-abbrev pub AnswersOnTop : Result ⊤ Stop → List Value → List Value → Answer → Type 0
-AnswersOnTop (Ok u) below now (Ok v) = now ≡ below ++ v ∷ []
-AnswersOnTop (Ok u) below now (Err k) = ⊥
-AnswersOnTop (Err (Fault k)) below now a = (a ≡ Err k) × (now ≡ below)
-AnswersOnTop (Err Memory) below now a = now ≡ below

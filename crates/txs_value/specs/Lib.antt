@@ -2,6 +2,7 @@ pub mod Ask
 pub mod Cells
 pub mod Core
 pub mod Falls
+pub mod Leaves
 pub mod Limits
 pub mod Names
 pub mod Operations

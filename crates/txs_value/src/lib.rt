@@ -4,17 +4,20 @@
 #![tactic(auto)]
 
 pub mod ask;
+mod body;
 pub mod cell;
 mod comparisons;
 pub mod copy;
 pub mod equal;
 pub mod event;
 pub mod fault;
+mod items;
+mod leaf;
+mod leaves;
 pub mod listed;
 mod numbers;
 pub mod op;
 pub mod operate;
-mod owned;
 pub mod print;
 pub mod value;
 pub mod vectors;
@@ -28,7 +31,7 @@ pub use event::{Event, EventKind, Outcome};
 pub use fault::{Fault, FaultKind, Span, Stop};
 pub use listed::Listed;
 pub use op::{Callee, Op};
-pub use operate::{apply, apply_on_stack, apply_owned, takes};
+pub use operate::{apply, apply_owned, takes};
 pub use print::{write_line, write_text};
 pub use value::{CellId, CellKind, Items, Name, Text, Value};
 pub use vectors::{is_within, make_vector};

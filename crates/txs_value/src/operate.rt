@@ -1,7 +1,7 @@
 //! The core operations by their table.
 
-ghost use Rattle.std.specs.Prelude.{◌≡◌, ◌≤◌, ◌-◌, length, take, drop, vec_capacity, IsTrue};
-ghost use Rattle.txs_value.specs.Core.{core, takes, Answers, AnswersOnTop};
+ghost use Rattle.std.specs.Prelude.{◌≡◌, length, IsTrue};
+ghost use Rattle.txs_value.specs.Core.{core, takes, Answers};
 
 use crate::comparisons::{
     equal, greater, greater_or_equal, is_false, is_negative, is_nil, is_positive, is_zero, less,
@@ -10,9 +10,8 @@ use crate::comparisons::{
 use crate::fault::Stop;
 use crate::numbers::{dec, difference, inc, max, min, product, quot, rem, remainder_down, sum};
 use crate::op::Op;
-use crate::owned::{assoc_owned, conj_owned, pop_owned};
 use crate::value::Value;
-use crate::vectors::{assoc, conj, count, nth, peek, pop};
+use crate::vectors::{assoc, assoc_owned, conj, conj_owned, count, nth, peek, pop, pop_owned};
 use std::alloc::Global;
 use std::mem;
 
@@ -82,10 +81,10 @@ pub fn apply(alloc: Global, op: Op, args: &[Value]) -> Result<Value, Stop>
         Op::IsPositive => Ok(is_positive(&args[0])?),
         Op::IsNegative => Ok(is_negative(&args[0])?),
         Op::Count => Ok(count(&args[0])?),
-        Op::Nth => nth(alloc, &args[0], &args[1]),
+        Op::Nth => nth(&args[0], &args[1]),
         Op::Conj => conj(alloc, &args[0], &args[1]),
         Op::Assoc => assoc(alloc, &args[0], &args[1], &args[2]),
-        Op::Peek => peek(alloc, &args[0]),
+        Op::Peek => peek(&args[0]),
         Op::Pop => pop(alloc, &args[0]),
     }
 }
@@ -107,35 +106,14 @@ pub fn apply_owned(alloc: Global, op: Op, args: &mut [Value]) -> Result<Value, S
     match op {
         Op::Conj => {
             let item = take(&mut args[1]);
-            conj_owned(take(&mut args[0]), item)
+            conj_owned(alloc, take(&mut args[0]), item)
         }
         Op::Assoc => {
             let vector = take(&mut args[0]);
             let item = take(&mut args[2]);
-            assoc_owned(vector, &args[1], item)
+            assoc_owned(alloc, vector, &args[1], item)
         }
-        Op::Pop => pop_owned(take(&mut args[0])),
+        Op::Pop => pop_owned(alloc, take(&mut args[0])),
         _ => apply(alloc, op, args),
     }
-}
-
-/// The operation on the last so many values of a stack, taken from it, and its answer in their place.
-/// After an error they are gone, and what stood below them is left.
-pub fn apply_on_stack(
-    alloc: Global,
-    op: Op,
-    count: usize,
-    stack: &mut Vec<Value>,
-) -> Result<(), Stop>
-    requires takes { IsTrue (takes op count) }
-    requires enough { count ≤ length stack.old.items }
-    ensures answer { AnswersOnTop result (take (length stack.old.items - count) stack.old.items) stack.new.items
-        (core op (drop (length stack.old.items - count) stack.old.items)) }
-    ensures capacity { vec_capacity stack.new ≡ vec_capacity stack.old }
-{
-    let below = stack.len() - count;
-    let answer = apply_owned(alloc, op, &mut stack[below..]);
-    stack.truncate(below);
-    stack.push_reserved(answer?);
-    Ok(())
 }

@@ -4,7 +4,7 @@ ghost use Rattle.txs_value.specs.PlainValue.{plain_row};
 ghost use Rattle.txs_value.specs.Printed.{printed, items_printed, printed_line, kind_printed, gap, Extends};
 ghost use Rattle.txs_value.specs.View.{plain_of, plains_of};
 
-use crate::value::{CellKind, Value};
+use crate::value::{CellKind, Items, Value};
 use itoa::Buffer;
 use std::alloc::AllocError;
 
@@ -33,6 +33,19 @@ pub fn write_line(values: &[Value], out: &mut Vec<u8>) -> Result<(), AllocError>
         out.truncate(start);
     }
     done
+}
+
+/// The values with a space between each two.
+fn print_row(values: &[Value], out: &mut Vec<u8>) -> Result<(), AllocError>
+    ensures ok { OnOk result (out.new.items
+        ≡ out.old.items ++ items_printed (plain_row (plains_of values.now))) }
+    ensures kept { Extends out.old.items out.new.items }
+{
+    for (i, value) in values.iter().enumerate() {
+        separate(i, out)?;
+        print(value, out)?;
+    }
+    Ok(())
 }
 
 fn print_line(values: &[Value], out: &mut Vec<u8>) -> Result<(), AllocError>
@@ -81,7 +94,7 @@ fn print(value: &Value, out: &mut Vec<u8>) -> Result<(), AllocError>
         Value::Text(text) => out.extend_from_slice(text.as_str().as_bytes()),
         Value::Vector(items) => {
             out.push(b'[')?;
-            print_row(items.as_slice(), out)?;
+            print_items(items, out)?;
             Ok(out.push(b']')?)
         }
         Value::Cell(cell) => {
@@ -92,16 +105,15 @@ fn print(value: &Value, out: &mut Vec<u8>) -> Result<(), AllocError>
     }
 }
 
-/// The values with a space between each two.
+/// The items with a space between each two.
 #[cycle(print)]
-fn print_row(values: &[Value], out: &mut Vec<u8>) -> Result<(), AllocError>
-    ensures ok { OnOk result (out.new.items
-        ≡ out.old.items ++ items_printed (plain_row (plains_of values.now))) }
+fn print_items(items: &Items, out: &mut Vec<u8>) -> Result<(), AllocError>
+    ensures ok { OnOk result (out.new.items ≡ out.old.items ++ items_printed (plain_row items.now)) }
     ensures kept { Extends out.old.items out.new.items }
 {
-    for (i, value) in values.iter().enumerate() {
+    for i in 0..items.len() {
         separate(i, out)?;
-        print(value, out)?;
+        print(items.get(i), out)?;
     }
     Ok(())
 }
