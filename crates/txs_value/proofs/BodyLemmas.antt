@@ -1,11 +1,11 @@
--- Leaves and a short row behind them: what a write and a pop do.
+-- Rows and a short list behind them: what a write and a pop do.
 use Rattle.std.proofs.Common.{◌≡◌, ℕ, ◌+◌, ◌-◌, ◌<◌, ◌≤◌, ◌++◌, List, [], ◌∷◌, length, set, take, drop, sym, ap, ◌∙◌, append-nil, arith}
 use Rattle.std.proofs.lemmas.List.{length-append, take-map}
 use Rattle.txs_value.specs.PlainValue.{PlainValue}
 use Rattle.txs_value.specs.View.{plain_of, plains_of}
 use Rattle.txs_value.specs.declared.value.Value.{Value}
 use Rattle.txs_value.proofs.ItemsLemmas.{plains_of-set, length-plains_of}
-use Rattle.txs_value.proofs.LeavesLemmas.{put-behind, take-behind}
+use Rattle.txs_value.proofs.RowsLemmas.{put-behind, take-behind}
 
 length-body : (ds : List PlainValue) (vs : List Value) (whole : List PlainValue) → ds ++ plains_of vs ≡ whole → length whole ≡ length ds + length vs
 length-body ds vs whole seen = omega (arith, ap length seen, length-append ds (plains_of vs), length-plains_of vs)
@@ -22,10 +22,10 @@ body-pop ds vs whole seen m is some =
     let at_end : length whole - 1 ≡ length ds + (m - 1) = omega (arith, length-body ds vs whole seen) in
     ap (λ xs. ds ++ xs) (sym (take-map plain_of (m - 1) vs)) ∙ sym (take-behind ds (plains_of vs) (m - 1) (length whole - 1) at_end) ∙ ap (λ xs. take (length whole - 1) xs) seen
 
-pub body-pop-leaf : (ds : List PlainValue) (vs : List Value) (whole es leaf : List PlainValue) (ws : List Value) → ds ++ plains_of vs ≡ whole → length vs ≡ 0 → ds ≡ es ++ leaf → length leaf ≡ 64 → plains_of ws ≡ leaf
-    → es ++ plains_of (take 63 ws) ≡ take (length whole - 1) whole
+pub body-pop-leaf : (ds : List PlainValue) (vs : List Value) (whole es leaf : List PlainValue) (ws : List Value) → ds ++ plains_of vs ≡ whole → length vs ≡ 0 → ds ≡ es ++ leaf → length leaf ≡ 32 → plains_of ws ≡ leaf
+    → es ++ plains_of (take 31 ws) ≡ take (length whole - 1) whole
 body-pop-leaf ds [] whole es leaf ws seen none is full same =
     let joined : es ++ plains_of ws ≡ whole = ap (λ xs. es ++ xs) same ∙ sym is ∙ sym (append-nil ds) ∙ seen in
-    let count : 64 ≡ length ws = omega (arith, length-plains_of ws, ap length same, full) in
-    body-pop es ws whole joined 64 count (omega arith)
+    let count : 32 ≡ length ws = omega (arith, length-plains_of ws, ap length same, full) in
+    body-pop es ws whole joined 32 count (omega arith)
 body-pop-leaf ds (v ∷ vs) whole es leaf ws seen none is full same = absurd (omega (arith, none))

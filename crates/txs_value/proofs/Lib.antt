@@ -2,9 +2,9 @@ pub mod AskLemmas
 pub mod BodyLemmas
 pub mod CoreLemmas
 pub mod ItemsLemmas
-pub mod LeavesLemmas
 pub mod OperationsLemmas
 pub mod PlacesLemmas
 pub mod PrintedLemmas
+pub mod RowsLemmas
 pub mod SameLemmas
 pub mod TruthLemmas

@@ -1,13 +1,14 @@
 -- Each item of a vector has less inside than the vector, and so has each part by which it is stored.
-use Rattle.std.specs.Prelude.{◌≡◌, ◌+◌, ◌≤◌, List, [], ◌∷◌, ◌++◌, max}
+use Rattle.std.specs.Prelude.{◌≡◌, ◌+◌, ◌≤◌, List, [], ◌∷◌, ◌++◌, max, Option, Some, None}
 use Rattle.std.proofs.Common.{arith}
 use denote.Param.Weighed.{most}
-use Rattle.txs_value.specs.PlainValue.{PlainValue, plain_size, row_size, leaves_size, body_size, items_size}
-use Rattle.txs_value.specs.Leaves.{joined}
+use Rattle.txs_value.specs.PlainValue.{PlainValue, plain_size, row_size, branch_size, rows_size, root_size, body_size, items_size}
+use Rattle.txs_value.specs.Rows.{joined, stored}
 use Rattle.txs_value.specs.View.{plains_of, plain_of}
 use Rattle.txs_value.specs.declared.value.Value.{Value}
 use Rattle.txs_value.specs.declared.value.Value.TheVariants.{Nil, Truth, Int, Key, Text, Vector, Cell}
-use Rattle.txs_value.specs.declared.value.Body.TheDeep.{deep-Value}
+use Rattle.txs_value.specs.declared.value.Body.TheDeep.{deep-Value, deep-Body}
+use Rattle.txs_value.specs.declared.value.Body.TheInside.{Inside}
 
 deep_le : (v : Value) → deep-Value v ≤ plain_size (plain_of v)
 deep_le Nil = omega arith
@@ -29,15 +30,30 @@ row_size-append (d ∷ ds) es = omega (arith, row_size-append ds es)
 pub items_fall : (vs : List Value) → max (most deep-Value vs) 0 ≤ row_size (plains_of vs)
 items_fall vs = omega (arith, most_le vs)
 
-most_leaf_le : (cs : List (List PlainValue)) → most (λ c. row_size c + 1) cs ≤ leaves_size (joined cs)
+most_leaf_le : (cs : List (List PlainValue)) → most (λ c. row_size c + 1) cs ≤ row_size (joined cs) + 1
 most_leaf_le [] = omega arith
 most_leaf_le (c ∷ cs) = omega (arith, row_size-append c (joined cs), most_leaf_le cs)
 
-pub leaves_fall : (cs : List (List PlainValue)) → max (most (λ c. row_size c + 1) cs) 0 ≤ leaves_size (joined cs)
+most_branch_le : (bs : List (List PlainValue)) → most (λ b. branch_size b + 1) bs ≤ row_size (joined bs) + 2
+most_branch_le [] = omega arith
+most_branch_le (b ∷ bs) = omega (arith, row_size-append b (joined bs), most_branch_le bs)
+
+pub leaves_fall : (cs : List (List PlainValue)) → max (most (λ c. row_size c + 1) cs) 0 ≤ branch_size (joined cs)
 leaves_fall cs = omega (arith, most_leaf_le cs)
 
-pub body_falls : (ds : List PlainValue) (vs : List Value) → max (leaves_size ds + 1) (max (most deep-Value vs) 0) ≤ body_size (ds ++ plains_of vs)
-body_falls ds vs = omega (arith, row_size-append ds (plains_of vs), most_le vs)
+pub rows_fall : (bs cs : List (List PlainValue)) → max (most (λ b. branch_size b + 1) bs) (max (most (λ c. row_size c + 1) cs) 0) ≤ rows_size (joined bs ++ joined cs)
+rows_fall bs cs = omega (arith, row_size-append (joined bs) (joined cs), most_branch_le bs, most_leaf_le cs)
+
+pub root_falls : (ds : List PlainValue) → max (rows_size ds + 1) 0 ≤ root_size ds
+root_falls ds = omega arith
+
+-- with rows, and without
+body_falls_by : (a : Inside) (r : Option (List PlainValue)) → deep-Body (record { root = r; tail = a.tail }) ≤ body_size (stored r ++ plains_of a.tail.items)
+body_falls_by a None = omega (arith, most_le a.tail.items)
+body_falls_by a (Some ds) = omega (arith, row_size-append ds (plains_of a.tail.items), most_le a.tail.items)
+
+pub body_falls : (a : Inside) → deep-Body a ≤ body_size (stored a.root ++ plains_of a.tail.items)
+body_falls a = body_falls_by a a.root
 
 pub items_fall_whole : (ds : List PlainValue) → max (max (body_size ds + 1) 0) 0 ≤ items_size ds
 items_fall_whole ds = omega arith

@@ -2,13 +2,13 @@ pub mod Ask
 pub mod Cells
 pub mod Core
 pub mod Falls
-pub mod Leaves
 pub mod Limits
 pub mod Names
 pub mod Operations
 pub mod Places
 pub mod PlainValue
 pub mod Printed
+pub mod Rows
 pub mod Same
 pub mod Truth
 pub mod View

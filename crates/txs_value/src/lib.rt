@@ -5,6 +5,7 @@
 
 pub mod ask;
 mod body;
+mod branch;
 pub mod cell;
 mod comparisons;
 pub mod copy;
@@ -13,12 +14,13 @@ pub mod event;
 pub mod fault;
 mod items;
 mod leaf;
-mod leaves;
 pub mod listed;
 mod numbers;
 pub mod op;
 pub mod operate;
 pub mod print;
+mod root;
+mod rows;
 pub mod value;
 pub mod vectors;
 

@@ -1,0 +1,35 @@
+use Rattle.std.proofs.Common.{◌≡◌, ◌<◌, ◌≤◌, ◌++◌, ◌∷◌, [], length, rules}
+use Rattle.txs_value.specs.Rows.{joined}
+use Rattle.txs_value.proofs.RowsLemmas.{leaves-push, leaves_full, branches-push, branches_full, row_alone}
+use Rattle.txs_value.proofs.value.Rows.push.Goals as goal
+
+pub invariant_of-self-then-len-lt32 : goal.invariant_of-self-then-len-lt32
+invariant_of-self-then-len-lt32 c =
+    let cs = c.self.inside.leaves.items in
+    let room : length cs < 32 = search rules in
+    (c.self.invariant.0, leaves_full c.self.inside.branches.items cs c.args.self.now c.self.invariant.0 c.self.invariant.1 c.self.view_is c.push.new.self.items c.args.leaf c.in_ok-push.ensures.items c.requires.full room)
+
+pub returns-then-len-lt32 : goal.returns-then-len-lt32
+returns-then-len-lt32 c =
+    leaves-push c.self.inside.branches.items c.self.inside.leaves.items c.args.self.now c.self.invariant.0 c.self.invariant.1 c.self.view_is c.push.new.self.items c.args.leaf c.in_ok-push.ensures.items
+
+pub invariant_of-self-2 : goal.invariant_of-self-2
+invariant_of-self-2 c =
+    let bs = c.self.inside.branches.items in
+    let cs = c.self.inside.leaves.items in
+    let b = c.in_ok-branch.branch in
+    let is : c.push-3.new.self.items ≡ bs ++ b ∷ [] = search rules in
+    let is_b : b ≡ joined cs = search rules in
+    let many : 32 ≤ length cs = search rules in
+    let is_l : c.replace-full.new.dest.items ≡ c.args.leaf ∷ [] = search rules in
+    (branches_full bs cs c.args.self.now c.self.invariant.0 c.self.invariant.1 c.self.view_is c.push-3.new.self.items b is is_b many c.requires.room, row_alone c.replace-full.new.dest.items c.args.leaf is_l c.requires.full)
+
+pub returns : goal.returns
+returns c =
+    let bs = c.self.inside.branches.items in
+    let cs = c.self.inside.leaves.items in
+    let b = c.in_ok-branch.branch in
+    let is : c.push-3.new.self.items ≡ bs ++ b ∷ [] = search rules in
+    let is_b : b ≡ joined cs = search rules in
+    let is_l : c.replace-full.new.dest.items ≡ c.args.leaf ∷ [] = search rules in
+    branches-push bs cs c.args.self.now c.self.invariant.0 c.self.invariant.1 c.self.view_is c.push-3.new.self.items c.replace-full.new.dest.items b c.args.leaf is is_b is_l

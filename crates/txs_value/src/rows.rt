@@ -1,0 +1,118 @@
+//! What a long vector's owners share: full branches, and full leaves behind them.
+ghost use Rattle.std.specs.Prelude.{◌≡◌, ◌<◌, ◌≤◌, ◌+◌, ◌++◌, ◌∷◌, length, take, drop, IfOk, OnOk, OnErr, Some};
+ghost use Rattle.std.specs.List.{slice_get};
+ghost use Rattle.txs_value.specs.View.{plain_of};
+
+use crate::branch::{copy_leaves, put_in, value_in};
+use crate::value::{Branch, Leaf, Rows, Value};
+use std::alloc::{AllocError, Global};
+use std::mem;
+
+/// The same branches in a list of its own, with room for one more.
+fn copy_branches(alloc: Global, branches: &[Branch]) -> Result<Vec<Branch>, AllocError>
+    ensures { IfOk result (λ c. c.items ≡ branches.now) }
+{
+    let mut copies = Vec::with_capacity(alloc, branches.len() + 1)?;
+    for branch in branches {
+        copies.push(branch.share()?)?;
+    }
+    Ok(copies)
+}
+
+impl Rows {
+    /// One leaf.
+    pub(crate) fn one(alloc: Global, leaf: Leaf) -> Result<Rows, AllocError>
+        requires { length leaf ≡ 32 }
+        ensures { IfOk result (λ r. r ≡ leaf) }
+    {
+        let mut leaves = Vec::new(alloc);
+        leaves.push(leaf)?;
+        Ok(Rows {
+            branches: Vec::new(alloc),
+            leaves,
+        })
+    }
+
+    /// The same rows, in lists of their own.
+    pub(crate) fn copy(&self, alloc: Global) -> Result<Rows, AllocError>
+        ensures { IfOk result (λ r. r ≡ self.now) }
+    {
+        let branches = copy_branches(alloc, self.branches.as_slice())?;
+        let leaves = copy_leaves(alloc, self.leaves.as_slice())?;
+        Ok(Rows { branches, leaves })
+    }
+
+    /// How many values there are.
+    pub(crate) fn len(&self) -> usize
+        ensures value { result ≡ length self.now }
+        ensures small { result ≤ 66560 }
+    {
+        self.branches.len() * 1024 + self.leaves.len() * 32
+    }
+
+    /// The value at a place.
+    pub(crate) fn get(&self, place: usize) -> &Value
+        requires { place < length self.now }
+        ensures { slice_get self.now place ≡ Some (plain_of result.now) }
+    {
+        let before = self.branches.len() * 1024;
+        if place < before {
+            let branch = &self.branches[place / 1024];
+            return branch.get(place % 1024);
+        }
+        value_in(self.leaves.as_slice(), place - before)
+    }
+
+    /// Puts a value in the place of another.
+    pub(crate) fn set(&mut self, alloc: Global, place: usize, item: Value) -> Result<(), AllocError>
+        requires { place < length self.old }
+        ensures ok { OnOk result (self.new ≡ take place self.old ++ plain_of item ∷ drop (place + 1) self.old) }
+    {
+        let before = self.branches.len() * 1024;
+        if place < before {
+            let branch = &mut self.branches[place / 1024];
+            branch.set(alloc, place % 1024, item)?;
+            return Ok(());
+        }
+        put_in(alloc, &mut self.leaves, place - before, item)?;
+        Ok(())
+    }
+
+    /// One more leaf at the end. After an error leaves may be gone.
+    pub(crate) fn push(&mut self, alloc: Global, leaf: Leaf) -> Result<(), AllocError>
+        requires full { length leaf ≡ 32 }
+        requires room { length self.old < 65536 }
+        ensures { OnOk result (self.new ≡ self.old ++ leaf) }
+    {
+        if self.leaves.len() < 32 {
+            self.leaves.push(leaf)?;
+            return Ok(());
+        }
+        let mut next = Vec::new(alloc);
+        next.push(leaf)?;
+        let full = mem::replace(&mut self.leaves, next);
+        let branch = Branch::from_vec(alloc, full)?;
+        self.branches.push(branch)?;
+        Ok(())
+    }
+
+    /// Takes the last leaf. After an error leaves may be gone.
+    pub(crate) fn pop(&mut self, alloc: Global) -> Result<Leaf, AllocError>
+        requires { 0 < length self.old }
+        ensures rest { IfOk result (λ l. self.old ≡ self.new ++ l) }
+        ensures full { IfOk result (λ l. length l ≡ 32) }
+    {
+        if let Some(last) = self.leaves.pop() {
+            return Ok(last);
+        }
+        let Some(branch) = self.branches.pop() else {
+            unreachable!()
+        };
+        let mut leaves = branch.into_vec(alloc)?;
+        let Some(last) = leaves.pop() else {
+            unreachable!()
+        };
+        self.leaves = leaves;
+        Ok(last)
+    }
+}
