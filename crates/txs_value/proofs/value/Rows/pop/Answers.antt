@@ -17,24 +17,26 @@ returns-in-Some-clause-full c =
 pub invariant_of-self-in_err-leaves : goal.invariant_of-self-in_err-leaves
 invariant_of-self-in_err-leaves c =
     let none : c.self.inside.leaves.items ≡ [] = search rules in
-    let left : c.pop.new.self.items ≡ [] = search rules in
-    (branches_popped c.self.inside.branches.items c.self.inside.leaves.items c.args.self.now c.self.invariant.0 c.self.invariant.1 c.self.view_is none c.pop-2.new.self.items c.in-Some-pop.branch c.in-Some-pop.ensures.items,
-     rw (left) (tt, search rules))
+    let left : c.pop.new.self.items ≡ [] = search rules in (
+      branches_popped c.self.inside.branches.items c.self.inside.leaves.items c.args.self.now c.self.invariant.0 c.self.invariant.1 c.self.view_is none c.pop-2.new.self.items c.in-Some-pop.branch c.in-Some-pop.ensures.items,
+      rw (left) (tt, search rules),
+    )
 
 pub unreachable-requires-in_default-pop-2 : goal.unreachable-requires-in_default-pop-2
 unreachable-requires-in_default-pop-2 c =
     let none : c.self.inside.leaves.items ≡ [] = search rules in
     let some : 0 < length c.in_ok-leaves.leaves.items =
-            leaf_left c.self.inside.branches.items c.self.inside.leaves.items c.args.self.now c.self.invariant.0 c.self.invariant.1 c.self.view_is none c.pop-2.new.self.items c.in_ok-leaves.leaves.items c.in-Some-pop.branch
-            c.in-Some-pop.ensures.items c.in_ok-leaves.ensures.rows c.in_ok-leaves.ensures.value in
+    leaf_left c.self.inside.branches.items c.self.inside.leaves.items c.args.self.now c.self.invariant.0 c.self.invariant.1 c.self.view_is none c.pop-2.new.self.items c.in_ok-leaves.leaves.items c.in-Some-pop.branch
+    c.in-Some-pop.ensures.items c.in_ok-leaves.ensures.rows c.in_ok-leaves.ensures.value in
     search (rules, some)
 
 pub invariant_of-self-2 : goal.invariant_of-self-2
 invariant_of-self-2 c =
-    let none : c.self.inside.leaves.items ≡ [] = search rules in
-    (branches_popped c.self.inside.branches.items c.self.inside.leaves.items c.args.self.now c.self.invariant.0 c.self.invariant.1 c.self.view_is none c.pop-2.new.self.items c.in-Some-pop.branch c.in-Some-pop.ensures.items,
-     branch_leaves c.self.inside.branches.items c.self.inside.leaves.items c.args.self.now c.self.invariant.0 c.self.invariant.1 c.self.view_is none c.pop-2.new.self.items c.in_ok-leaves.leaves.items c.in-Some-pop.branch
-     c.in-Some-pop.ensures.items c.in_ok-leaves.ensures.rows c.in_ok-leaves.ensures.value c.pop-3.new.self.items c.in-Some-pop-2.last c.in-Some-pop-2.ensures.items)
+    let none : c.self.inside.leaves.items ≡ [] = search rules in (
+      branches_popped c.self.inside.branches.items c.self.inside.leaves.items c.args.self.now c.self.invariant.0 c.self.invariant.1 c.self.view_is none c.pop-2.new.self.items c.in-Some-pop.branch c.in-Some-pop.ensures.items,
+      branch_leaves c.self.inside.branches.items c.self.inside.leaves.items c.args.self.now c.self.invariant.0 c.self.invariant.1 c.self.view_is none c.pop-2.new.self.items c.in_ok-leaves.leaves.items c.in-Some-pop.branch
+          c.in-Some-pop.ensures.items c.in_ok-leaves.ensures.rows c.in_ok-leaves.ensures.value c.pop-3.new.self.items c.in-Some-pop-2.last c.in-Some-pop-2.ensures.items,
+    )
 
 pub returns-clause-rest : goal.returns-clause-rest
 returns-clause-rest c =
