@@ -62,7 +62,7 @@ fn ref_cell(value: &Value) -> Result<CellId, FaultKind>
 }
 
 /// The value of the cell at the top.
-fn deref(alloc: Global, stack: &mut Stack, tx: &Transaction, writes: &[(CellId, Value)]) -> Moved
+fn deref(stack: &mut Stack, tx: &Transaction, writes: &[(CellId, Value)]) -> Moved
     requires ascending { IsAscending writes.now }
     requires room { (0 < length stack.old.values) × (length stack.old.values ≤ stack.old.room) }
     ensures comes { Comes result stack.new.values tx.now writes.now writes.now (reads (is_running tx.now) stack.old.values tx.now writes.now) }
@@ -76,7 +76,7 @@ fn deref(alloc: Global, stack: &mut Stack, tx: &Transaction, writes: &[(CellId, 
     }
     match readable_cell(stack.last()) {
         Err(kind) => Moved::Faults(kind),
-        Ok(cell) => match own_value(alloc, writes, cell.number) {
+        Ok(cell) => match own_value(writes, cell.number) {
             Err(_) => Moved::Memory,
             Ok(None) => Moved::Asks(Pending::Read(cell)),
             Ok(Some(value)) => {
@@ -88,13 +88,7 @@ fn deref(alloc: Global, stack: &mut Stack, tx: &Transaction, writes: &[(CellId, 
 }
 
 /// The value of the ref below n arguments.
-fn open(
-    alloc: Global,
-    n: u16,
-    stack: &mut Stack,
-    tx: &Transaction,
-    writes: &[(CellId, Value)],
-) -> Moved
+fn open(n: u16, stack: &mut Stack, tx: &Transaction, writes: &[(CellId, Value)]) -> Moved
     requires ascending { IsAscending writes.now }
     requires room { (n < length stack.old.values) × (length stack.old.values < stack.old.room) }
     ensures comes { Comes result stack.new.values tx.now writes.now writes.now (opens n stack.old.values tx.now writes.now (ref_cell (under n stack.old.values))) }
@@ -102,7 +96,7 @@ fn open(
 {
     match ref_cell(stack.under(n as usize)) {
         Err(kind) => Moved::Faults(kind),
-        Ok(cell) => match own_value(alloc, writes, cell.number) {
+        Ok(cell) => match own_value(writes, cell.number) {
             Err(_) => Moved::Memory,
             Ok(None) => Moved::Asks(Pending::Open(cell, n)),
             Ok(Some(value)) => {
@@ -114,12 +108,7 @@ fn open(
 }
 
 /// The last value becomes that of the ref below it.
-fn close(
-    alloc: Global,
-    stack: &mut Stack,
-    tx: &Transaction,
-    writes: &mut Vec<(CellId, Value)>,
-) -> Moved
+fn close(stack: &mut Stack, tx: &Transaction, writes: &mut Vec<(CellId, Value)>) -> Moved
     requires ascending { IsAscending writes.old.items }
     requires room { (1 < length stack.old.values) × (length stack.old.values ≤ stack.old.room) }
     ensures comes { Comes result stack.new.values tx.now writes.new.items writes.old.items (closes stack.old.values tx.now writes.old.items (ref_cell (under 1 stack.old.values))) }
@@ -127,7 +116,7 @@ fn close(
 {
     match ref_cell(stack.under(1)) {
         Err(kind) => Moved::Faults(kind),
-        Ok(cell) => match put_write(alloc, writes, cell, stack.last()) {
+        Ok(cell) => match put_write(writes, cell, stack.last()) {
             Err(_) => Moved::Memory,
             Ok(()) => {
                 stack.drop_under();
@@ -193,11 +182,11 @@ pub(crate) fn transact(
     ensures rest { stack.new ≡ record stack.old { values = stack.new.values } }
 {
     match instr {
-        Instr::Deref => deref(alloc, stack, tx, writes.as_slice()),
+        Instr::Deref => deref(stack, tx, writes.as_slice()),
         Instr::TxBegin => begin(alloc, span, stack, tx),
         Instr::TxEnd => end(tx),
-        Instr::AlterOpen(n) => open(alloc, n, stack, tx, writes.as_slice()),
-        Instr::AlterClose => close(alloc, stack, tx, writes),
+        Instr::AlterOpen(n) => open(n, stack, tx, writes.as_slice()),
+        Instr::AlterClose => close(stack, tx, writes),
         _ => Moved::On,
     }
 }

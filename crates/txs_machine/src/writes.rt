@@ -16,9 +16,8 @@ fn place_for(writes: &[(CellId, Value)], number: u16) -> usize
     writes.partition_point(|w| w.0.number < number)
 }
 
-/// A copy of the own value of the ref with this number, if there is one.
+/// The own value of the ref with this number, if there is one: the write goes on sharing it.
 pub(crate) fn own_value(
-    alloc: Global,
     writes: &[(CellId, Value)],
     number: u16,
 ) -> Result<Option<Value>, AllocError>
@@ -27,14 +26,13 @@ pub(crate) fn own_value(
 {
     let i = place_for(writes, number);
     if i < writes.len() && writes[i].0.number == number {
-        return Ok(Some(copy_value(alloc, &writes[i].1)?));
+        return Ok(Some(copy_value(&writes[i].1)?));
     }
     Ok(None)
 }
 
-/// The ref gets a copy of the value as its own.
+/// The ref gets the value as its own.
 pub(crate) fn put_write(
-    alloc: Global,
     writes: &mut Vec<(CellId, Value)>,
     cell: CellId,
     value: &Value,
@@ -43,7 +41,7 @@ pub(crate) fn put_write(
     ensures items { OnOk result (writes.new.items ≡ with_write writes.old.items cell value.now) }
     ensures kept { OnErr result (writes.new.items ≡ writes.old.items) }
 {
-    let own = copy_value(alloc, value)?;
+    let own = copy_value(value)?;
     let i = place_for(writes.as_slice(), cell.number);
     if i < writes.len() && writes[i].0.number == cell.number {
         writes[i] = (cell, own);
@@ -53,7 +51,7 @@ pub(crate) fn put_write(
     Ok(())
 }
 
-/// The writes in memory of their own.
+/// The writes in a list of their own, with the same values.
 pub(crate) fn copy_own(
     alloc: Global,
     writes: &[(CellId, Value)],
@@ -62,12 +60,12 @@ pub(crate) fn copy_own(
 {
     let mut copies = Vec::with_capacity(alloc, writes.len())?;
     for write in writes {
-        copies.push((write.0, copy_value(alloc, &write.1)?))?;
+        copies.push((write.0, copy_value(&write.1)?))?;
     }
     Ok(Listed::from_vec(copies))
 }
 
-/// The values in memory of their own, with room for so many.
+/// The same values in a list of their own, with room for so many.
 pub(crate) fn copy_in(
     alloc: Global,
     values: &[Value],
@@ -79,7 +77,7 @@ pub(crate) fn copy_in(
 {
     let mut copies = Vec::with_capacity(alloc, room)?;
     for value in values {
-        copies.push_reserved(copy_value(alloc, value)?);
+        copies.push_reserved(copy_value(value)?);
     }
     Ok(copies)
 }

@@ -75,12 +75,13 @@ fn operate(
 }
 
 /// The vector of the items; a fault has the span.
-fn collect(items: Vec<Value>, span: Span, printed: &[u8]) -> Result<Step, ThreadStop>
+fn collect(alloc: Global, items: Vec<Value>, span: Span, printed: &[u8]) -> Result<Step, ThreadStop>
     ensures { Steps result printed.now (result_of (vector_of items.items) span (printing printed.now)) }
 {
-    match make_vector(items) {
+    match make_vector(alloc, items) {
         Ok(value) => Ok(Step::Value(value)),
-        Err(kind) => Err(ThreadStop::Fault(Fault { kind, span })),
+        Err(Stop::Fault(kind)) => Err(ThreadStop::Fault(Fault { kind, span })),
+        Err(Stop::Memory) => Err(ThreadStop::Memory),
     }
 }
 
@@ -140,10 +141,8 @@ fn evaluate_tail(
     ensures kept { OnOk result (locals.new.items ≡ locals.old.items) }
 {
     match &node.kind {
-        NodeKind::Const(value) => Ok(Step::Value(copy_value(alloc, value)?)),
-        NodeKind::Local(place) => {
-            Ok(Step::Value(copy_value(alloc, &locals[usize::from(*place)])?))
-        }
+        NodeKind::Const(value) => Ok(Step::Value(copy_value(value)?)),
+        NodeKind::Local(place) => Ok(Step::Value(copy_value(&locals[usize::from(*place)])?)),
         NodeKind::If(test, yes, no) => {
             let value = evaluate(alloc, context, test, locals, printed)?;
             if is_false(&value) {
@@ -171,7 +170,7 @@ fn evaluate_tail(
         }
         NodeKind::Vector(items) => {
             let values = evaluate_all(alloc, context, items, locals, printed)?;
-            collect(values, node.span, printed)
+            collect(alloc, values, node.span, printed)
         }
         NodeKind::Println(args) => {
             let values = evaluate_all(alloc, context, args, locals, printed)?;

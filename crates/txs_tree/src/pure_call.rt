@@ -113,13 +113,13 @@ fn call_function(
     }
 }
 
-/// The same values in memory of their own.
+/// The same values in a list of its own.
 fn copied(alloc: Global, values: &[Value]) -> Result<Vec<Value>, AllocError>
     ensures { IfOk result (λ copies. copies.items ≡ values.now) }
 {
     let mut copies = Vec::with_capacity(alloc, values.len())?;
     for value in values {
-        copies.push(copy_value(alloc, value)?)?;
+        copies.push(copy_value(value)?)?;
     }
     Ok(copies)
 }

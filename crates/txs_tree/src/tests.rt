@@ -95,8 +95,8 @@ fn evaluates_a_pure_function(rt: HostRuntime) -> Result<(), Fail> {
     let Ok(Value::Vector(swapped)) = answer else {
         panic!(rt; "a vector");
     };
-    assert!(rt; swapped.as_slice().len() == 2);
-    assert!(rt; same(&swapped.as_slice()[0], &Value::Int(2)));
+    assert!(rt; swapped.len() == 2);
+    assert!(rt; same(swapped.get(0), &Value::Int(2)));
     let endless = eval_pure(rt.alloc(), &program, Callee::Function(1), &[], 1_000);
     assert!(rt; matches!(endless, Err(EvalStop::Turns)));
     Ok(())

@@ -18,7 +18,7 @@ const MOST_EVENTS: usize = 1_000_000;
 impl Store {
     /// Answers an ask of an actor, as a whole. The reply is `Full` exactly where the book has as many
     /// events as it may have and the answer would add one, and `Memory` where there was no memory for
-    /// the answer. After both the store is as before.
+    /// the event, or a value can have no more owners. After both the store is as before.
     pub fn serve(&mut self, actor: u16, ask: &Ask) -> Reply
         requires { is_lawful self.old.cells self.old.book actor ask.now ≡ true }
         ensures { Answers self.old (serve (opening self.old.cells) actor ask.now self.old.book) result self.new }
@@ -83,7 +83,7 @@ impl Store {
         Ok(())
     }
 
-    /// Adds a commit, and writes what it wrote.
+    /// Adds a commit, and writes what it wrote: the book and the newest values share the values of the ask.
     fn write(
         &mut self,
         actor: u16,
@@ -118,18 +118,18 @@ impl Store {
         if self.is_written(cell, at) {
             return self.retry(actor, cell, at);
         }
-        match self.copy_newest(cell) {
+        match self.share_newest(cell) {
             Ok(value) => Reply::Is(value),
             Err(_) => Reply::Memory,
         }
     }
 
-    /// A copy of the newest value.
-    fn copy_newest(&self, cell: CellId) -> Result<Value, AllocError>
+    /// The newest value, which the store goes on sharing.
+    fn share_newest(&self, cell: CellId) -> Result<Value, AllocError>
         requires { has_cell self.now.cells cell ≡ true }
         ensures { IfOk result (λ v. v ≡ after (opening self.now.cells) self.now.book (length self.now.book) cell.number) }
     {
-        copy_value(self.alloc, self.newest(cell))
+        copy_value(self.newest(cell))
     }
 
     /// The transaction has to run again, since the ref was written after its read point.
@@ -202,7 +202,7 @@ impl Store {
         }
     }
 
-    /// Adds a read, and copies the value.
+    /// Adds a read, and shares the newest value.
     fn read(&mut self, actor: u16, cell: CellId) -> Result<Value, AllocError>
         requires room { length self.old.book < most_events }
         requires cell { has_cell self.old.cells cell ≡ true }
@@ -210,7 +210,7 @@ impl Store {
         ensures added { OnOk result (self.new ≡ store_with self.old.cells (self.old.book ++ event_of actor (event.Read cell) ∷ [])) }
         ensures same { OnErr result (self.new ≡ self.old) }
     {
-        let value = self.copy_newest(cell)?;
+        let value = self.share_newest(cell)?;
         self.push(actor, EventKind::Read { cell })?;
         Ok(value)
     }

@@ -27,7 +27,7 @@ pub(crate) fn open_cells(
     for definition in definitions {
         cells.push(StoreCell {
             kind: definition.kind,
-            opening: copy_value(alloc, &definition.opening)?,
+            opening: copy_value(&definition.opening)?,
         })?;
     }
     Ok(cells)
@@ -40,7 +40,7 @@ pub(crate) fn open_slots(alloc: Global, cells: &[StoreCell]) -> Result<Vec<Slot>
     let mut slots = Vec::with_capacity(alloc, cells.len())?;
     for cell in cells {
         slots.push(Slot {
-            value: copy_value(alloc, &cell.opening)?,
+            value: copy_value(&cell.opening)?,
             written: 0,
         })?;
     }

@@ -37,7 +37,7 @@ impl Model for Store {
 }
 
 impl Store {
-    /// A store of these cells, with an empty book. The opening values are copied.
+    /// A store of these cells, with an empty book. It shares the opening values with their definitions.
     pub fn open(alloc: Global, cells: &[CellDefinition]) -> Result<Store, AllocError>
         ensures { IfOk result (λ s. s ≡ store_with (cells_of cells.now) []) }
     {
