@@ -1,0 +1,3 @@
+mod Parts
+mod Growing
+mod Steps

@@ -1,0 +1,3 @@
+pub mod Place
+pub mod Pointed
+pub mod Extends

@@ -1,0 +1,17 @@
+//! Places in a text: the line and the column of a byte, the line around it, and what points to a span.
+#![tactic(auto)]
+
+mod bytes;
+mod find;
+mod law;
+mod lines;
+pub mod place;
+mod pointed;
+
+pub use find::position;
+pub use law::places_follow;
+pub use lines::line_at;
+pub use pointed::write_pointed;
+
+#[cfg(test)]
+mod tests;

@@ -1,0 +1,8 @@
+//! What a place in a text is told by.
+
+/// A place in a text, as editors tell it: line and column are counted from 1, and a column is a character.
+#[derive(Clone, Copy, Debug, PartialEq, Eq)]
+pub struct Position {
+    pub line: usize,
+    pub column: usize,
+}
