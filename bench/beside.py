@@ -1,0 +1,53 @@
+"""What the programs that time scripts share: a script in txs and in real Clojure, turn and turn about in one run, with
+what both printed. They need Debian's package `clojure`, and the built program (./txs builds it)."""
+import os, subprocess, sys, tempfile, time
+HERE = os.path.dirname(os.path.abspath(__file__))
+JARS = ["clojure.jar", "spec.alpha.jar", "core.specs.alpha.jar"]
+JAVA = ["java", "-Xmx2g", "-cp", ":".join(os.path.join(os.sep, "usr", "share", "java", j) for j in JARS), "clojure.main"]
+TXS = os.environ.get("TXS", os.path.join(HERE, "..", "crates", "txs", "out", "txs"))
+STEPS = "1000000000000"
+
+
+def timed(command):
+    """Seconds, peak memory in KB and what was printed."""
+    start = time.perf_counter()
+    with tempfile.TemporaryFile() as out, tempfile.TemporaryFile() as err:
+        child = subprocess.Popen(command, stdout=out, stderr=err)
+        _, status, usage = os.wait4(child.pid, 0)
+        child.returncode = os.waitstatus_to_exitcode(status)
+        seconds = time.perf_counter() - start
+        out.seek(0)
+        err.seek(0)
+        return seconds, usage.ru_maxrss, out.read().decode(), err.read().decode().strip()
+
+
+def filled(folder, name, size):
+    """The script with its size, as a file."""
+    with open(os.path.join(HERE, "scripts", name + ".clj"), encoding="utf-8") as h:
+        text = h.read().replace("@N@", str(size))
+    path = os.path.join(folder, name + ".clj")
+    with open(path, "w", encoding="utf-8") as h:
+        h.write(text)
+    return path
+
+
+def whole_clojure(path):
+    """A fresh JVM, from its start to its end."""
+    return timed(JAVA + [os.path.join(HERE, "whole.clj"), path])
+
+
+def warm_clojure(path, warm, runs):
+    """Seconds of the best run inside one JVM, after so many runs of the same compiled code."""
+    done = subprocess.run(JAVA + [os.path.join(HERE, "warm.clj"), path, str(warm), str(runs)],
+                          capture_output=True, text=True, check=True)
+    return int(done.stdout) / 1e9
+
+
+def txs(path):
+    """The whole command."""
+    return timed([TXS, "run", "--steps", STEPS, path])
+
+
+def need_the_program():
+    if not os.path.exists(TXS):
+        sys.exit("build it first: ./txs --help")
