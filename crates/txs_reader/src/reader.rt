@@ -118,7 +118,8 @@ fn text(alloc: Global, state: &mut OpenForms, script: &str, at: usize) -> Result
             at: span,
         });
     }
-    state.add(alloc, Form::Text(Text::from_string(text), span))?;
+    let text = Text::from_string(alloc, text)?;
+    state.add(alloc, Form::Text(text, span))?;
     Ok(end + 1)
 }
 

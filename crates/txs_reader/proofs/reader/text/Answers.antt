@@ -23,4 +23,4 @@ returns-clause-ok c =
     let old = c.args.state.now in
     let ok = c.in_ok-text.ensures.ok in
     c.in_ok-add.ensures c.args.script.now (drop (c.in_ok-text.field-0.end + 1) c.args.script.now)
-    (rw (tree-Text, c.from_string.ensures, c.span_of-span.ensures) (step_text c.args.script.now (opens old) (inner old) c.args.at _ (string_bytes c.in_ok-text.field-0.text) c.requires.reached c.requires.inside ok.0 ok.2 ok.1 (omega (arith, c.len.ensures)) c.requires.room))
+    (rw (tree-Text, c.in_ok-text-2.ensures, c.span_of-span.ensures) (step_text c.args.script.now (opens old) (inner old) c.args.at _ (string_bytes c.in_ok-text.field-0.text) c.requires.reached c.requires.inside ok.0 ok.2 ok.1 (omega (arith, c.len.ensures)) c.requires.room))
