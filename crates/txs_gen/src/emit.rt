@@ -6,7 +6,7 @@ ghost use Rattle.txs_tree.specs.Tree.{count};
 ghost use Rattle.txs_tree.specs.View.{tree_of, trees_of};
 ghost use Rattle.txs_gen.specs.Emission.{emission, emits, emits_all, emits_do, emits_let, emits_if, emits_loop, emits_dosync, emits_alter, emits_recur, IsWithin, IsPlaced, IsPlacedAll, IsPlacedDo, IsPlacedLet, with_call, with_constant, with_instr, with_locals, with_pop, with_room, with_set, with_stores};
 
-use std::alloc::{AllocError, Global};
+use std::alloc::AllocError;
 use txs_code::Instr;
 use txs_tree::{Node, NodeKind};
 use txs_value::{Callee, Span, Value, copy_value};
@@ -43,12 +43,12 @@ impl Emitter {
     }
 
     /// A push of a constant, with an entry of its own.
-    fn constant(&mut self, alloc: Global, value: &Value, span: Span) -> Result<(), AllocError>
+    fn constant(&mut self, value: &Value, span: Span) -> Result<(), AllocError>
         requires { length self.old.constants.items < 200000 }
         ensures { OnOk result (emission self.new ≡ with_instr (Instr.Const (length self.old.constants.items)) span (with_constant value.now (emission self.old))) }
     {
         let number = self.constants.len() as u32;
-        self.constants.push(copy_value(alloc, value)?)?;
+        self.constants.push(copy_value(value)?)?;
         self.put(Instr::Const(number), span)
     }
 
@@ -121,7 +121,7 @@ impl Emitter {
 
 /// The code of a node.
 #[cycle(emit)]
-pub fn emit(alloc: Global, to: &mut Emitter, node: &Node, at: Around) -> Result<(), AllocError>
+pub fn emit(to: &mut Emitter, node: &Node, at: Around) -> Result<(), AllocError>
     requires part { IsPlaced at.depth at.base (tree_of node.now) }
     requires few_constants { length to.old.constants.items + nodes (tree_of node.now) ≤ 200000 }
     requires few_instrs { length to.old.instrs.items + 3 * nodes (tree_of node.now) ≤ 600000 }
@@ -131,55 +131,53 @@ pub fn emit(alloc: Global, to: &mut Emitter, node: &Node, at: Around) -> Result<
     match &node.kind {
         NodeKind::Const(value) => {
             to.rise(at.height + 1);
-            to.constant(alloc, value, node.span)
+            to.constant(value, node.span)
         }
         NodeKind::Local(local) => {
             to.rise(at.height + 1);
             to.put(Instr::Local(*local), node.span)
         }
-        NodeKind::If(test, first, second) => {
-            emit_if(alloc, to, test, first, second, node.span, at)
-        }
-        NodeKind::Do(items) => emit_do(alloc, to, items, node.span, at),
+        NodeKind::If(test, first, second) => { emit_if(to, test, first, second, node.span, at) }
+        NodeKind::Do(items) => emit_do(to, items, node.span, at),
         NodeKind::Let(values, body) => {
-            let depth = emit_let(alloc, to, values, node.span, at)?;
-            emit(alloc, to, body, Around { depth, ..at })
+            let depth = emit_let(to, values, node.span, at)?;
+            emit(to, body, Around { depth, ..at })
         }
-        NodeKind::Loop(values, body) => emit_loop(alloc, to, values, body, node.span, at),
-        NodeKind::Recur(values) => emit_recur(alloc, to, values, node.span, at),
+        NodeKind::Loop(values, body) => emit_loop(to, values, body, node.span, at),
+        NodeKind::Recur(values) => emit_recur(to, values, node.span, at),
         NodeKind::Core(op, args) => {
-            emit_all(alloc, to, args, at)?;
+            emit_all(to, args, at)?;
             to.put(Instr::Core(*op, args.len() as u16), node.span)
         }
         NodeKind::Call(function, args) => {
-            emit_all(alloc, to, args, at)?;
+            emit_all(to, args, at)?;
             to.rise(at.height + 1);
             to.put(Instr::Call(*function), node.span)
         }
         NodeKind::Vector(items) => {
-            emit_all(alloc, to, items, at)?;
+            emit_all(to, items, at)?;
             to.rise(at.height + 1);
             to.put(Instr::Vector(items.len() as u16), node.span)
         }
         NodeKind::Println(args) => {
-            emit_all(alloc, to, args, at)?;
+            emit_all(to, args, at)?;
             to.rise(at.height + 1);
             to.put(Instr::Print(args.len() as u16), node.span)
         }
-        NodeKind::Dosync(body) => emit_dosync(alloc, to, body, node.span, at),
+        NodeKind::Dosync(body) => emit_dosync(to, body, node.span, at),
         NodeKind::Deref(cell) => {
-            emit(alloc, to, cell, at)?;
+            emit(to, cell, at)?;
             to.put(Instr::Deref, node.span)
         }
         NodeKind::Alter(cell, callee, args) => {
-            emit_alter(alloc, to, cell, *callee, args, node.span, at)
+            emit_alter(to, cell, *callee, args, node.span, at)
         }
     }
 }
 
 /// The code of arguments, each of which leaves its value on the stack.
 #[cycle(emit)]
-fn emit_all(alloc: Global, to: &mut Emitter, args: &[Node], at: Around) -> Result<(), AllocError>
+fn emit_all(to: &mut Emitter, args: &[Node], at: Around) -> Result<(), AllocError>
     requires part { IsPlacedAll at.depth (trees_of args.now) }
     requires few_constants { length to.old.constants.items + nodes_in (trees_of args.now) ≤ 200000 }
     requires few_instrs { length to.old.instrs.items + 3 * nodes_in (trees_of args.now) ≤ 600000 }
@@ -188,7 +186,7 @@ fn emit_all(alloc: Global, to: &mut Emitter, args: &[Node], at: Around) -> Resul
 {
     let mut height = at.height;
     for arg in args {
-        emit(alloc, to, arg, Around { height, ..at })?;
+        emit(to, arg, Around { height, ..at })?;
         height += 1;
     }
     Ok(())
@@ -196,13 +194,7 @@ fn emit_all(alloc: Global, to: &mut Emitter, args: &[Node], at: Around) -> Resul
 
 /// The code of the items of a `do`, of which the last leaves its value.
 #[cycle(emit)]
-fn emit_do(
-    alloc: Global,
-    to: &mut Emitter,
-    items: &[Node],
-    span: Span,
-    at: Around,
-) -> Result<(), AllocError>
+fn emit_do(to: &mut Emitter, items: &[Node], span: Span, at: Around) -> Result<(), AllocError>
     requires part { IsPlacedDo at.depth at.base (trees_of items.now) }
     requires few_constants { length to.old.constants.items + nodes_in (trees_of items.now) ≤ 200000 }
     requires few_instrs { length to.old.instrs.items + 3 * nodes_in (trees_of items.now) ≤ 600000 }
@@ -211,7 +203,7 @@ fn emit_do(
 {
     let mut left = items.len();
     for item in items {
-        emit(alloc, to, item, at)?;
+        emit(to, item, at)?;
         left -= 1;
         to.pop_unless(left == 0, span)?;
     }
@@ -220,13 +212,7 @@ fn emit_do(
 
 /// The code of the values of a `let`, each of which becomes a local, and how many locals there are then.
 #[cycle(emit)]
-fn emit_let(
-    alloc: Global,
-    to: &mut Emitter,
-    values: &[Node],
-    span: Span,
-    at: Around,
-) -> Result<u8, AllocError>
+fn emit_let(to: &mut Emitter, values: &[Node], span: Span, at: Around) -> Result<u8, AllocError>
     requires part { IsPlacedLet at.depth (trees_of values.now) }
     requires few_constants { length to.old.constants.items + nodes_in (trees_of values.now) ≤ 200000 }
     requires few_instrs { length to.old.instrs.items + 3 * nodes_in (trees_of values.now) ≤ 600000 }
@@ -236,7 +222,7 @@ fn emit_let(
 {
     let mut depth = at.depth;
     for value in values {
-        emit(alloc, to, value, Around { depth, ..at })?;
+        emit(to, value, Around { depth, ..at })?;
         to.store(depth, span)?;
         depth += 1;
     }
@@ -246,7 +232,6 @@ fn emit_let(
 /// The code of a choice: the test, and the branches, of which the machine jumps over one.
 #[cycle(emit)]
 fn emit_if(
-    alloc: Global,
     to: &mut Emitter,
     test: &Node,
     first: &Node,
@@ -262,14 +247,14 @@ fn emit_if(
     requires low { at.height + (nodes (tree_of test.now) + (nodes (tree_of first.now) + nodes (tree_of second.now))) < 200000 }
     ensures { OnOk result (emission to.new ≡ emits_if (tree_of test.now) (tree_of first.now) (tree_of second.now) span at (emission to.old)) }
 {
-    emit(alloc, to, test, at)?;
+    emit(to, test, at)?;
     let to_second = to.place();
     to.put(Instr::JumpFalse(0), span)?;
-    emit(alloc, to, first, at)?;
+    emit(to, first, at)?;
     let to_end = to.place();
     to.put(Instr::Jump(0), span)?;
     to.set(to_second, Instr::JumpFalse(to.place()));
-    emit(alloc, to, second, at)?;
+    emit(to, second, at)?;
     to.set(to_end, Instr::Jump(to.place()));
     Ok(())
 }
@@ -277,7 +262,6 @@ fn emit_if(
 /// The code of a loop: its values become locals, and what follows them is where a recur goes on.
 #[cycle(emit)]
 fn emit_loop(
-    alloc: Global,
     to: &mut Emitter,
     values: &[Node],
     body: &Node,
@@ -291,25 +275,19 @@ fn emit_loop(
     requires low { at.height + (nodes_in (trees_of values.now) + nodes (tree_of body.now)) < 200000 }
     ensures { OnOk result (emission to.new ≡ emits_loop (trees_of values.now) (tree_of body.now) span at (emission to.old)) }
 {
-    let depth = emit_let(alloc, to, values, span, at)?;
+    let depth = emit_let(to, values, span, at)?;
     let inner = Around {
         depth,
         height: at.height,
         base: at.depth,
         start: to.place(),
     };
-    emit(alloc, to, body, inner)
+    emit(to, body, inner)
 }
 
 /// The code of a recur: its values become the loop's locals, and the loop goes on.
 #[cycle(emit)]
-fn emit_recur(
-    alloc: Global,
-    to: &mut Emitter,
-    values: &[Node],
-    span: Span,
-    at: Around,
-) -> Result<(), AllocError>
+fn emit_recur(to: &mut Emitter, values: &[Node], span: Span, at: Around) -> Result<(), AllocError>
     requires part { IsPlacedAll at.depth (trees_of values.now) }
     requires within { IsWithin at.base (Some (count (trees_of values.now))) at.depth }
     requires few_constants { length to.old.constants.items + nodes_in (trees_of values.now) < 200000 }
@@ -317,7 +295,7 @@ fn emit_recur(
     requires low { at.height + nodes_in (trees_of values.now) < 200000 }
     ensures { OnOk result (emission to.new ≡ emits_recur (trees_of values.now) span at (emission to.old)) }
 {
-    emit_all(alloc, to, values, at)?;
+    emit_all(to, values, at)?;
     to.rise(at.height + 1);
     to.store_all(at.base, values.len() as u8, span)?;
     to.put(Instr::Jump(at.start), span)
@@ -325,13 +303,7 @@ fn emit_recur(
 
 /// The code of a transaction: its body between where it begins and where it ends.
 #[cycle(emit)]
-fn emit_dosync(
-    alloc: Global,
-    to: &mut Emitter,
-    body: &Node,
-    span: Span,
-    at: Around,
-) -> Result<(), AllocError>
+fn emit_dosync(to: &mut Emitter, body: &Node, span: Span, at: Around) -> Result<(), AllocError>
     requires part { IsPlaced at.depth at.base (tree_of body.now) }
     requires few_constants { length to.old.constants.items + nodes (tree_of body.now) < 200000 }
     requires few_instrs { length to.old.instrs.items + 3 * nodes (tree_of body.now) < 599998 }
@@ -339,7 +311,7 @@ fn emit_dosync(
     ensures { OnOk result (emission to.new ≡ emits_dosync (tree_of body.now) span at (emission to.old)) }
 {
     to.put(Instr::TxBegin, span)?;
-    emit(alloc, to, body, at)?;
+    emit(to, body, at)?;
     to.put(Instr::TxEnd, span)
 }
 
@@ -347,7 +319,6 @@ fn emit_dosync(
 /// the store of what it gives.
 #[cycle(emit)]
 fn emit_alter(
-    alloc: Global,
     to: &mut Emitter,
     cell: &Node,
     callee: Callee,
@@ -364,9 +335,9 @@ fn emit_alter(
     ensures { OnOk result (emission to.new ≡ emits_alter (tree_of cell.now) callee (trees_of args.now) span at (emission to.old)) }
 {
     let count = args.len() as u16;
-    emit(alloc, to, cell, at)?;
+    emit(to, cell, at)?;
     let height = at.height + 1;
-    emit_all(alloc, to, args, Around { height, ..at })?;
+    emit_all(to, args, Around { height, ..at })?;
     to.rise(at.height + u32::from(count) + 2);
     to.put(Instr::AlterOpen(count), span)?;
     to.call(callee, count + 1, span)?;

@@ -124,7 +124,7 @@ fn body_code(
         base: 0,
         start: 0,
     };
-    emit(alloc, &mut made, body, outermost)?;
+    emit(&mut made, body, outermost)?;
     made.put(last, span)?;
     Ok(made)
 }
@@ -135,18 +135,18 @@ fn copy_cells(alloc: Global, cells: &[CellDefinition]) -> Result<Vec<CellDefinit
 {
     let mut copies = Vec::with_capacity(alloc, cells.len())?;
     for cell in cells {
-        copies.push(copy_cell(alloc, cell)?)?;
+        copies.push(copy_cell(cell)?)?;
     }
     Ok(copies)
 }
 
 /// The same cell again.
-fn copy_cell(alloc: Global, cell: &CellDefinition) -> Result<CellDefinition, AllocError>
+fn copy_cell(cell: &CellDefinition) -> Result<CellDefinition, AllocError>
     ensures { IfOk result (λ copy. copy ≡ cell.now) }
 {
     Ok(CellDefinition {
         kind: cell.kind,
-        name: cell.name.copy(alloc)?,
-        opening: copy_value(alloc, &cell.opening)?,
+        name: cell.name.share()?,
+        opening: copy_value(&cell.opening)?,
     })
 }

@@ -47,9 +47,9 @@ pub fn expression<'a>(
         Form::Nil(_) => constant(Value::Nil, spot),
         Form::Truth(b, _) => constant(Value::Truth(*b), spot),
         Form::Number(n, _) => constant(Value::Int(*n), spot),
-        Form::Text(text, _) => constant(Value::Text(text.copy(alloc)?), spot),
-        Form::Keyword(name, _) => constant(Value::Key(name.copy(alloc)?), spot),
-        Form::Symbol(name, _) => symbol(alloc, scope, name, spot),
+        Form::Text(text, _) => constant(Value::Text(text.share()?), spot),
+        Form::Keyword(name, _) => constant(Value::Key(name.share()?), spot),
+        Form::Symbol(name, _) => symbol(scope, name, spot),
         Form::Group(Bracket::Round, forms, _) => {
             let room = room_for(room, forms.len());
             list(alloc, scope, Spot { room, span, wanted }, forms)

@@ -52,14 +52,14 @@ pub fn literal(alloc: Global, room: usize, form: &Form) -> Result<Value, Stop>
         Form::Nil(_) => Ok(Value::Nil),
         Form::Truth(b, _) => Ok(Value::Truth(*b)),
         Form::Number(n, _) => Ok(Value::Int(*n)),
-        Form::Text(text, _) => Ok(Value::Text(text.copy(alloc)?)),
-        Form::Keyword(name, _) => Ok(Value::Key(name.copy(alloc)?)),
+        Form::Text(text, _) => Ok(Value::Text(text.share()?)),
+        Form::Keyword(name, _) => Ok(Value::Key(name.share()?)),
         Form::Group(Bracket::Square, forms, span) => {
             if room == 0 || forms.len() > MAX_PARTS {
                 return Err(refused(ResolveErrorKind::TooMany, *span));
             }
             let items = literals(alloc, room - 1, forms)?;
-            Ok(Value::Vector(Items::from_vec(items)))
+            Ok(Value::Vector(Items::from_vec(alloc, items)?))
         }
         _ => Err(refused(ResolveErrorKind::BadForm, form.span())),
     }

@@ -70,12 +70,12 @@ pub enum Sequence {
 }
 
 /// The node of a symbol: a local, a constant or a cell.
-pub fn symbol(alloc: Global, scope: &Scope<'_>, name: &Name, spot: Spot) -> Result<Node, Stop>
+pub fn symbol(scope: &Scope<'_>, name: &Name, spot: Spot) -> Result<Node, Stop>
     ensures { Gives tree_of result (symbol_node (meaning name.now scope.now) spot) }
 {
     let kind = match scope.lookup(name) {
         Found::Local(number) => NodeKind::Local(number),
-        Found::Defined(Definition::Constant(value)) => NodeKind::Const(copy_value(alloc, value)?),
+        Found::Defined(Definition::Constant(value)) => NodeKind::Const(copy_value(value)?),
         Found::Defined(Definition::Cell(number)) => NodeKind::Const(Value::Cell(CellId {
             kind: CellKind::Ref,
             number: *number,

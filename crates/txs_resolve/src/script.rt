@@ -147,12 +147,7 @@ fn with_constant<'a>(script: Script<'a>, name: &'a Name, value: Value) -> Result
 }
 
 /// A ref is defined, which opens with this value.
-fn with_ref<'a>(
-    alloc: Global,
-    script: Script<'a>,
-    name: &'a Name,
-    value: Value,
-) -> Result<Script<'a>, Stop>
+fn with_ref<'a>(script: Script<'a>, name: &'a Name, value: Value) -> Result<Script<'a>, Stop>
     requires script { IsScript script }
     requires new { definition_of name.now script.scope.defined ≡ None }
     requires room { script.defs < 1000 }
@@ -163,7 +158,7 @@ fn with_ref<'a>(
     let number = script.cells.len() as u16;
     let cell = CellDefinition {
         kind: CellKind::Ref,
-        name: name.copy(alloc)?,
+        name: name.share()?,
         opening: value,
     };
     script.cells.push(cell)?;
@@ -209,7 +204,7 @@ fn define<'a>(
     let value = literal(alloc, MAX_DEPTH, what)?;
     let name = new_name(&script.scope, name, at)?;
     if is_ref {
-        return with_ref(alloc, script, name, value);
+        return with_ref(script, name, value);
     }
     with_constant(script, name, value)
 }

@@ -36,15 +36,15 @@ literal-returns-in_err-items-in-Group-Square-default-default-clause-value t c =
     square_fits c.args.room c.args.form.now forms at whole c.if-room-eq0.false (omega (arith, c.len.ensures, forms.ok, c.if-len-gt-MAX_PARTS.false))
     ∙ then_err (literals (c.args.room - 1) (plain forms.items)) (λ vs. Ok (Vector (plains_of vs))) e (ap (λ l. literals (c.args.room - 1) (plain l)) (sym c.deref.ensures.value) ∙ no)))
 
-pub literal-returns-in_ok-items-in-Group-Square-default-default-clause-value :
-    goal.literal-returns-in_ok-items-in-Group-Square-default-default-clause-value
-literal-returns-in_ok-items-in-Group-Square-default-default-clause-value t c =
+pub literal-returns-in_ok-from_vec-in-Group-Square-default-default-clause-value :
+    goal.literal-returns-in_ok-from_vec-in-Group-Square-default-default-clause-value
+literal-returns-in_ok-from_vec-in-Group-Square-default-default-clause-value t c =
     let forms = c.in-Group-Square-default-default.forms in
     let at = c.in-Group-Square-default-default.span in
     let whole : c.args.form.now ≡ Group Square forms at = search (rules, the_lemmas) in
     square_fits c.args.room c.args.form.now forms at whole c.if-room-eq0.false (omega (arith, c.len.ensures, forms.ok, c.if-len-gt-MAX_PARTS.false))
     ∙ then_ok (literals (c.args.room - 1) (plain forms.items)) (λ vs. Ok (Vector (plains_of vs))) c.in_ok-items-in-Group-Square-default-default.items.items (ap (λ l. literals (c.args.room - 1) (plain l)) (sym c.deref.ensures.value) ∙ c.in_ok-items-in-Group-Square-default-default.ensures.values)
-    ∙ ap (λ (ds : List PlainValue). Ok (Vector ds)) (sym c.from_vec.ensures)
+    ∙ ap (λ (ds : List PlainValue). Ok (Vector ds)) (sym c.in_ok-from_vec-in-Group-Square-default-default.ensures)
 
 pub literals-loop-form-preserved : goal.literals-loop-form-preserved
 literals-loop-form-preserved t c =
