@@ -14,7 +14,7 @@ pub(crate) fn copy_leaves(alloc: Global, leaves: &[Leaf]) -> Result<Vec<Leaf>, A
 {
     let mut copies = Vec::with_capacity(alloc, leaves.len() + 1)?;
     for leaf in leaves {
-        copies.push(leaf.share()?)?;
+        copies.push_reserved(leaf.share()?);
     }
     Ok(copies)
 }

@@ -14,7 +14,7 @@ fn copy_branches(alloc: Global, branches: &[Branch]) -> Result<Vec<Branch>, Allo
 {
     let mut copies = Vec::with_capacity(alloc, branches.len() + 1)?;
     for branch in branches {
-        copies.push(branch.share()?)?;
+        copies.push_reserved(branch.share()?);
     }
     Ok(copies)
 }
