@@ -7,6 +7,7 @@ use Rattle.std.specs.Borrow.{Bor}
 use Rattle.txs_reader.specs.declared.form.Form.{Form as AForm}
 use Rattle.txs_reader.specs.Tree.{tree, Tree as Form, Trees as Forms, leaf, group, none, first, symbol, place}
 
+-- whether it is there
 abbrev pub is_some : {A : Type 0} → Option A → Bool
 is_some None = false
 is_some (Some x) = true
@@ -16,11 +17,12 @@ abbrev pub or_else : {A : Type 0} → Option A → Option A → Option A
 or_else (Some x) o = Some x
 or_else None o = o
 
--- a name and a form that are lent
+-- a name that is lent, if one is
 abbrev pub name_in : Option (Bor (List ℕ)) → Option (List ℕ)
 name_in None = None
 name_in (Some name) = Some name.now
 
+-- a form that is lent, if one is, as a tree
 abbrev pub form_in : Option (Bor AForm) → Option Form
 form_in None = None
 form_in (Some form) = Some (tree form.now)
@@ -30,6 +32,7 @@ abbrev pub head_of : Form → Option (List ℕ)
 head_of (group Round (first (leaf (symbol name) at) rest) span) = Some name
 head_of _ = None
 
+-- whether the name is one of these
 abbrev pub is_name : List (List ℕ) → Option (List ℕ) → Bool
 is_name names None = false
 is_name names (Some name) = list_any (bytes_eq name) names
@@ -42,9 +45,11 @@ later_forms = codes "ref-set" ∷ codes "commute" ∷ codes "ensure" ∷ codes "
 unfoldable pub later_cells : List (List ℕ)
 later_cells = codes "atom" ∷ codes "agent" ∷ []
 
+-- the form that defines a constant or a cell
 unfoldable pub definitions : List (List ℕ)
 definitions = codes "def" ∷ []
 
+-- the form that makes a thread
 unfoldable pub futures : List (List ℕ)
 futures = codes "future" ∷ []
 
@@ -55,6 +60,7 @@ abbrev mutual
   left_out_in (group b forms span) =
       if is_name later_forms (head_of (group b forms span)) then Some span else left_out_among forms
 
+  -- the first such form among these, from left to right
   pub left_out_among : Forms → Option Span
   left_out_among none = None
   left_out_among (first e rest) = or_else (left_out_in e) (left_out_among rest)
@@ -68,6 +74,7 @@ abbrev pub third : Form → Option Form
 third (group Round (first a (first b (first c rest))) span) = Some c
 third _ = None
 
+-- whether a form makes a cell that isn't a ref
 abbrev pub has_later_cell : Option Form → Bool
 has_later_cell None = false
 has_later_cell (Some form) = is_name later_cells (head_of form)
@@ -87,5 +94,6 @@ left_out_from second (form ∷ forms) =
     if is_left_out second form then Some (place form)
     else or_else (left_out_in form) (left_out_from (second || is_future form) forms)
 
+-- the first form of a script that is left out until many threads run
 abbrev pub left_out : List Form → Option Span
 left_out forms = left_out_from false forms

@@ -14,21 +14,24 @@ abbrev pub Ascend : List Body → Type 0
 Ascend [] = Unit {0}
 Ascend (b ∷ bs) = BeginFrom b.span.from bs × Ascend bs
 
+-- with this body before the others, if it is a function's
 abbrev pub with_function : Zone → Body → List Body → List Body
 with_function InFunction b bs = b ∷ bs
 with_function InFuture b bs = bs
 with_function InDosync b bs = bs
 
+-- with this body before the others, if it is a future's
 abbrev pub with_future : Zone → Body → List Body → List Body
 with_future InFunction b bs = bs
 with_future InFuture b bs = b ∷ bs
 with_future InDosync b bs = bs
 
--- the bodies of functions among these, and those of futures
+-- the bodies of functions among these
 abbrev pub functions_in : List Body → List Body
 functions_in [] = []
 functions_in (b ∷ bs) = with_function b.zone b (functions_in bs)
 
+-- the bodies of futures among these
 abbrev pub futures_in : List Body → List Body
 futures_in [] = []
 futures_in (b ∷ bs) = with_future b.zone b (futures_in bs)

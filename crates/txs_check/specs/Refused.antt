@@ -21,9 +21,11 @@ use Rattle.txs_check.specs.declared.place.Zone.TheVariants.{InFunction, InFuture
 abbrev pub Checked : Type 0
 Checked = Result (Unit {0}) CheckError
 
+-- nothing is refused
 abbrev pub fine : Checked
 fine = Ok tt
 
+-- a refusal for this reason at this place
 abbrev pub refused : CheckErrorKind → Span → Checked
 refused kind at = Err (record { kind = kind; at = at })
 
@@ -119,6 +121,7 @@ here ks zone target (Alter cell callee args m) = alter_here ks zone callee (suc 
 -- ---- the walk: a node before its parts, the parts from left to right
 
 abbrev mutual
+  -- a node, and then its parts: what is refused first
   pub checked : List Known → Zone → Target → Tree → Checked
   checked ks zone target (Const v m) = here ks zone target (Const v m)
   checked ks zone target (Local i m) = here ks zone target (Local i m)
@@ -136,6 +139,7 @@ abbrev mutual
   checked ks zone target (Deref cell m) = here ks zone target (Deref cell m) >> checked ks zone (inner target) cell
   checked ks zone target (Alter cell callee args m) = here ks zone target (Alter cell callee args m) >> (checked ks zone (inner target) cell >> checked_all ks zone (inner target) args)
 
+  -- these parts from left to right, none of them in tail position
   pub checked_all : List Known → Zone → Target → Trees → Checked
   checked_all ks zone target none = fine
   checked_all ks zone target (more e rest) = checked ks zone target e >> checked_all ks zone target rest
@@ -159,6 +163,7 @@ pub record Body : Type 0 where
 abbrev pub function_body : PlainFunction → Body
 function_body f = record { zone = InFunction; target = Nearest f.parameters true; tree = f.body; span = f.span }
 
+-- a future is no target of recur, and stands outside every transaction
 abbrev pub thread_body : PlainThread → Body
 thread_body t = record { zone = InFuture; target = Nowhere; tree = t.body; span = t.span }
 
@@ -172,9 +177,11 @@ abbrev pub in_order : List PlainFunction → List PlainThread → List Body
 in_order [] ts = map thread_body ts
 in_order (f ∷ fs) ts = map thread_body (take (before f.span.from ts) ts) ++ function_body f ∷ in_order fs (drop (before f.span.from ts) ts)
 
+-- the first refusal in a body
 abbrev pub checked_body : List Known → Body → Checked
 checked_body ks b = checked ks b.zone b.target b.tree
 
+-- the first refusal in these bodies, one after another
 abbrev pub checked_bodies : List Known → List Body → Checked
 checked_bodies ks [] = fine
 checked_bodies ks (b ∷ bs) = checked_body ks b >> checked_bodies ks bs
@@ -183,15 +190,18 @@ checked_bodies ks (b ∷ bs) = checked_body ks b >> checked_bodies ks bs
 abbrev pub taken : ℕ → Tree → Span → Result ℕ CheckError
 taken left e at = if nat_le (nodes e) left then Ok (left - nodes e) else Err (record { kind = CodeTooLarge; at = at })
 
+-- goes on with what is left, unless a body was too much
 infixl 10 ◌>>=◌
 abbrev pub ◌>>=◌ : Result ℕ CheckError → (ℕ → Result ℕ CheckError) → Result ℕ CheckError
 Ok left >>= next = next left
 Err e >>= next = Err e
 
+-- how many of so many nodes are left after those of these bodies
 abbrev pub room : ℕ → List Body → Result ℕ CheckError
 room left [] = Ok left
 room left (b ∷ bs) = taken left b.tree b.span >>= λ rest. room rest bs
 
+-- what is left doesn't matter, but that it sufficed
 abbrev pub few : Result ℕ CheckError → Checked
 few (Ok left) = fine
 few (Err e) = Err e

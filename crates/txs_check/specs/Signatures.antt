@@ -13,6 +13,7 @@ joined a b = record { inside = a.inside || b.inside; outside = a.outside || b.ou
 abbrev pub class_in : List Known → Tree → Class
 class_in ks e = record { inside = inside_in ks e; outside = outside_in ks e; pure = pure_in ks e }
 
+-- what parts in a row are together
 abbrev pub class_in_all : List Known → Trees → Class
 class_in_all ks es = record { inside = any_inside ks es; outside = any_outside ks es; pure = all_pure ks es }
 
@@ -24,10 +25,12 @@ class_known k = record { inside = is_inside k; outside = is_outside k; pure = is
 abbrev pub known_row : Signature → Known
 known_row s = record { parameters = s.parameters; inside = s.class.inside; outside = s.class.outside; pure = s.class.pure; levels = 0 }
 
+-- what the row says, if there is one
 abbrev pub known_if : Option Signature → Option Known
 known_if None = None
 known_if (Some s) = Some (known_row s)
 
+-- what the whole table says
 abbrev pub known_as : List Signature → List Known
 known_as ss = map known_row ss
 
@@ -35,5 +38,6 @@ known_as ss = map known_row ss
 abbrev pub bare_one : Known → Known
 bare_one k = record { parameters = k.parameters; inside = k.inside; outside = k.outside; pure = k.pure; levels = 0 }
 
+-- what is known of functions, without levels
 abbrev pub bare : List Known → List Known
 bare ks = map bare_one ks

@@ -29,10 +29,12 @@ pub data Reception : Type 0 where
   Replied : (r : Reply) (s : ActorState) → Reception
   Unreplied : (s : ActorState) → Reception
 
+-- the ask takes the first exchange to come, if that is of the same ask; else the actor waits with it
 abbrev pub receives : Ask → ActorState → List Exchange → Reception
 receives a s [] = Unreplied (record s { wants = Some a })
 receives a s (x ∷ xs) = if same_ask a x.ask then Replied x.reply (record s { todo = xs }) else Unreplied (record s { wants = Some a })
 
+-- an ask of the shared state
 unfoldable pub asks : Ask → ActorState → Reception
 asks a s = receives a s s.todo
 
@@ -54,6 +56,7 @@ pub data Passage : Type 0 where
   Pending : (s : ActorState) → Passage
   Unlawful : Passage
 
+-- a beginning is answered by the read point; the transaction has no values of its own yet
 abbrev pub begun : Reception → Passage
 begun (Replied (At p) s) = Passed (record s { at = p; writes = [] })
 begun (Replied _ s) = Unlawful
@@ -63,6 +66,7 @@ begun (Unreplied s) = Pending s
 unfoldable pub begin : ActorState → Passage
 begin s = begun (asks Begin s)
 
+-- a fault's end of the transaction is answered by Done alone
 abbrev pub failed : Reception → Passage
 failed (Replied Done s) = Passed s
 failed (Replied _ s) = Unlawful
@@ -72,6 +76,7 @@ failed (Unreplied s) = Pending s
 unfoldable pub fail : ActorState → Passage
 fail s = failed (asks (Fail s.at) s)
 
+-- a commit is done, or the transaction has to run again
 abbrev pub committed : Reception → Passage
 committed (Replied Done s) = Passed s
 committed (Replied (Retry c) s) = Again s
@@ -82,16 +87,19 @@ committed (Unreplied s) = Pending s
 unfoldable pub commit : ActorState → Passage
 commit s = committed (asks (Commit s.at s.writes) s)
 
+-- a read in a transaction is answered by the value, or the transaction has to run again
 abbrev pub looked : Reception → StepResult
 looked (Replied (Is v) s) = Continue v s
 looked (Replied (Retry c) s) = Redo s
 looked (Replied _ s) = Malformed
 looked (Unreplied s) = Await s
 
+-- the transaction's own value, if it has one, else what the store answers
 abbrev pub buffered_or : Option Value → ActorState → StepResult → StepResult
 buffered_or (Some v) s r = Continue v s
 buffered_or None s r = r
 
+-- a fault of this kind at this place
 abbrev pub break_at : FaultKind → Span → ActorState → StepResult
 break_at k span s = Break (fault_at k span) s
 
@@ -100,6 +108,7 @@ unfoldable pub look : Span → Result CellId FaultKind → ActorState → StepRe
 look span (Ok c) s = buffered_or (buffered s.writes c.number) s (looked (asks (Look c s.at) s))
 look span (Err k) s = break_at k span s
 
+-- a read outside a transaction is answered by the value
 abbrev pub peeked : Reception → StepResult
 peeked (Replied (Is v) s) = Continue v s
 peeked (Replied _ s) = Malformed

@@ -18,6 +18,7 @@ pub record ActorInvariant (code : ThreadCode) (w : World) (a : ℕ) (es : List E
   pub told : ToldBy w a es x.exchanges stage
   pub staged : IsStaged stage x.at
 
+-- what holds between plays: the book is legal and its commits undisturbed, and each actor's invariant holds
 pub record RunInvariant (cells : List StoreCell) (codes : ℕ → ThreadCode) (st : State) : Type 0 where
   pub legal : Legal cells st.book
   pub undisturbed : Undisturbed st.book

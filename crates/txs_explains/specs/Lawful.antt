@@ -22,6 +22,7 @@ abbrev mutual
   HasCells cells (vector ds) = RowHasCells cells ds
   HasCells cells (cell c) = has_cell cells c ≡ true
 
+  -- all cells inside these plain values are the store's
   pub RowHasCells : List StoreCell → PlainValues → Type 0
   RowHasCells cells end = Unit {0}
   RowHasCells cells (more d ds) = HasCells cells d × RowHasCells cells ds

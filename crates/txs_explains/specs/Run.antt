@@ -35,9 +35,11 @@ pub record Moved : Type 0 where
   pub actor : Actor
   pub book : List Event
 
+-- an actor with the book after its turn
 abbrev pub moved : Actor → List Event → Moved
 moved x book = record { actor = x; book = book }
 
+-- an ask with its reply
 abbrev pub exchange : Ask → Reply → Exchange
 exchange q r = record { ask = q; reply = r }
 
@@ -67,6 +69,7 @@ replied code c q (reply.Retry d) x = hears code c q (reply.Retry d) x
 replied code c q reply.Full x = stop JournalFull x
 replied code c q reply.Memory x = stop Memory x
 
+-- the actor takes the reply, and the book is the one after it
 abbrev pub answered : ThreadCode → Configuration → Ask → Served → Actor → Moved
 answered code c q r x = moved (replied code c q r.reply x) r.book
 
@@ -75,6 +78,7 @@ abbrev pub asked : Bool → List StoreCell → ThreadCode → ℕ → Configurat
 asked true cells code a c q x es = answered code c q (serve (world.opening cells) a q es) x
 asked false cells code a c q x es = moved (stop Unlawful x) es
 
+-- an instruction that waits: its ask is served if it is lawful; one that names no ask waits on
 abbrev pub asks_for : List StoreCell → ThreadCode → ℕ → Configuration → ActorState → Option Ask → Actor → List Event → Moved
 asks_for cells code a c s None x es = moved (comes_to (Asking s) x) es
 asks_for cells code a c s (Some q) x es = asked (is_lawful cells es a q) cells code a c q x es
@@ -115,17 +119,21 @@ pub record State : Type 0 where
   pub book : List Event
   pub actors : ℕ → Actor
 
+-- the actor of this number and the book, put in the place of what was there
 abbrev pub placed : ℕ → Moved → State → State
 placed a m st = record { book = m.book; actors = λ b. if a == b then m.actor else st.actors b }
 
+-- what a play makes of its actor and of the book
 abbrev pub moves : List StoreCell → (ℕ → ThreadCode) → Play → State → Moved
 moves cells codes (TakesTurn a) st = turns_from cells (codes a) a (st.actors a).at (st.actors a).stopped (st.actors a) st.book
 moves cells codes (IsStopped a why) st = moved (stops_from why (st.actors a).at (st.actors a).stopped (st.actors a)) st.book
 
+-- whose play it is
 abbrev pub actor_of : Play → ℕ
 actor_of (TakesTurn a) = a
 actor_of (IsStopped a why) = a
 
+-- the state after one play
 abbrev pub play : List StoreCell → (ℕ → ThreadCode) → Play → State → State
 play cells codes y st = placed (actor_of y) (moves cells codes y st) st
 
@@ -137,6 +145,7 @@ new_actor code = record { at = Unfinished (opening code []); exchanges = []; tur
 abbrev pub opens : (ℕ → ThreadCode) → State
 opens codes = record { book = []; actors = λ a. new_actor (codes a) }
 
+-- the state after these plays, one after another
 abbrev pub plays_from : List StoreCell → (ℕ → ThreadCode) → List Play → State → State
 plays_from cells codes [] st = st
 plays_from cells codes (y ∷ ys) st = plays_from cells codes ys (play cells codes y st)

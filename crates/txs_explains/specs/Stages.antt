@@ -32,6 +32,7 @@ pub data Stage : Type 0 where
   Idle : Stage
   Open : (at : ℕ) → Stage
 
+-- the stage by the transaction and the read point
 abbrev pub stage_at : Transaction → ℕ → Stage
 stage_at Outside p = Idle
 stage_at (Restarting left) p = Idle

@@ -44,6 +44,7 @@ HasEnded (Waits s) = Unit {0}
 HasEnded (OutOfTurns s) = ⊥
 HasEnded Invalid = ⊥
 
+-- where the machine has to come to, by how the tree ends
 abbrev pub outcome_of : Completion ActorState Value → Outcome
 outcome_of (Completes v s) = Ended s
 outcome_of (Recurs vs s) = Stuck

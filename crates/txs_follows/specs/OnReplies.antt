@@ -9,6 +9,7 @@ use Rattle.txs_value.specs.declared.value.Value.{Value}
 use Rattle.txs_tree.specs.Meaning.{Completion, Completes, Recurs, Faults, Retries, Waits, OutOfTurns, Invalid, bind, Effects}
 use Rattle.txs_code.specs.ActorState.{ActorState, StepResult, Continue, Break, Redo, Await, Malformed, Passage, Passed, Again, Pending, Unlawful, begin, fail, put_write, commit, print, read, opens}
 
+-- a step of a form as the end of a part of a tree
 abbrev pub res : StepResult → Completion ActorState Value
 res (Continue v s) = Completes v s
 res (Break f s) = Faults f s
@@ -16,6 +17,7 @@ res (Redo s) = Retries s
 res (Await s) = Waits s
 res Malformed = Invalid
 
+-- goes on after an ask that gives no value, or anew where the transaction has to run again
 abbrev pub met : Passage → (ActorState → Completion ActorState Value) → (ActorState → Completion ActorState Value) → Completion ActorState Value
 met (Passed s) go anew = go s
 met (Again s) go anew = anew s
@@ -36,6 +38,7 @@ settled Invalid = Invalid
 abbrev pub attempt : (ActorState → Completion ActorState Value) → ActorState → Completion ActorState Value
 attempt body s = met (begin s) (λ s1. settled (body s1)) (λ s1. Invalid)
 
+-- a try that has to run again is followed by another; all else stays
 abbrev pub retrying : Completion ActorState Value → (ActorState → Completion ActorState Value) → Completion ActorState Value
 retrying (Completes v s) go = Completes v s
 retrying (Recurs vs s) go = Invalid
@@ -50,6 +53,7 @@ abbrev pub tries : ℕ → Span → (ActorState → Completion ActorState Value)
 tries zero span body s = Faults (fault_at RetryLimit span) s
 tries (suc k) span body s = retrying (attempt body s) (tries k span body)
 
+-- a dosync inside a running transaction joins it, and another one is tried until it ends
 abbrev pub joined : Bool → Span → (ActorState → Completion ActorState Value) → ActorState → Completion ActorState Value
 joined true span body s = body s
 joined false span body s = tries (suc reruns) span body s

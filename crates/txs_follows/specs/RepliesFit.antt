@@ -47,6 +47,7 @@ pub data Halt (S : Type 0) : Type 0 where
   Going : Halt S
   Stopped Short Rerun : (s : S) → Halt S
 
+-- whether a part of a tree lacks something, by how it ended
 abbrev pub halted : {S A : Type 0} → Completion S A → Halt S
 halted (Completes a s) = Going
 halted (Recurs vs s) = Going
@@ -63,6 +64,8 @@ HasEaten out (Stopped t) = (t.todo ≡ []) × (t.printed ≡ out)
 HasEaten out (Short t) = (t.todo ≡ []) × (t.printed ≡ out)
 HasEaten out (Rerun t) = ⊥
 
+-- the tree's end on replies and the thread's on events: the same value or fault, with the same bytes printed, and what is left fits;
+-- where the tree waits or needs turns and all replies are consumed, the thread has eaten all
 abbrev pub Agrees : Completion ActorState Value → Completion ThreadState Value → Type 0
 Agrees (Completes v s) r = (t : ThreadState) × (r ≡ Completes v t) × (t.printed ≡ s.printed) × RepliesFit Out s.todo t.todo
 Agrees (Recurs vs s) r = Unit {0}
@@ -94,6 +97,7 @@ Explained (Asking s) r = HasEaten s.printed (halted r)
 Explained (Unfinished s) r = (rest : List ℕ) × HasEatenAll (s.printed ++ rest) r
 Explained Stuck r = ⊥
 
+-- the machine has consumed all exchanges
 abbrev pub Consumed : Outcome → Type 0
 Consumed (Ended s) = s.todo ≡ []
 Consumed (Failed f s) = s.todo ≡ []

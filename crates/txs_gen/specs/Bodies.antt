@@ -33,20 +33,22 @@ made_at d t last span k = record {
   spans = spans_of t ++ span ∷ [];
 }
 
--- the bodies of functions, and the room that each needs
+-- the bodies of functions, where so many constants are there already
 abbrev pub functions_from : List PlainFunction → ℕ → List CodeBody
 functions_from [] k = []
 functions_from (f ∷ fs) k = made_at f.parameters f.body Return f.span k ∷ functions_from fs (k + length (constants_of f.body))
 
+-- how many values the stack of each function needs at most
 abbrev pub function_rooms : List PlainFunction → List ℕ
 function_rooms [] = []
 function_rooms (f ∷ fs) = max 0 (top f.body 0) ∷ function_rooms fs
 
--- the bodies of threads, and the room that each needs
+-- the bodies of threads, where so many constants are there already
 abbrev pub threads_from : List PlainThread → ℕ → List CodeBody
 threads_from [] k = []
 threads_from (t ∷ ts) k = made_at 0 t.body Halt t.span k ∷ threads_from ts (k + length (constants_of t.body))
 
+-- how many values the stack of each thread needs at most
 abbrev pub thread_rooms : List PlainThread → List ℕ
 thread_rooms [] = []
 thread_rooms (t ∷ ts) = max 0 (top t.body 0) ∷ thread_rooms ts

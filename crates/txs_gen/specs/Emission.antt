@@ -22,6 +22,7 @@ pub record Emission : Type 0 where
   pub locals : ℕ
   pub room : ℕ
 
+-- what an emitter has made, as plain data
 abbrev pub emission : Emitter → Emission
 emission e = record { instrs = e.instrs.items; spans = e.spans.items; constants = e.constants.items; locals = e.locals; room = e.room }
 
@@ -40,6 +41,7 @@ pub record Place : Type 0 where
   pub lawful : AreLawful known
   pub zone : Zone
 
+-- the same place inside a transaction
 abbrev pub in_transaction : Place → Place
 in_transaction p = record p { zone = in_dosync }
 
@@ -47,12 +49,15 @@ in_transaction p = record p { zone = in_dosync }
 abbrev pub IsPlaced : ℕ → ℕ → Tree → Type 0
 IsPlaced d base t = (p : Place) × (tail : Option ℕ) × IsWithin base tail d × SoundTree p.known p.zone d tail t
 
+-- sound items of a do, where the nearest loop's locals begin at base
 abbrev pub IsPlacedDo : ℕ → ℕ → Trees → Type 0
 IsPlacedDo d base ts = (p : Place) × (tail : Option ℕ) × IsWithin base tail d × SoundDo p.known p.zone d tail ts
 
+-- sound trees, none of them in tail position
 abbrev pub IsPlacedAll : ℕ → Trees → Type 0
 IsPlacedAll d ts = (p : Place) × SoundAll p.known p.zone d ts
 
+-- sound values of a let, of which each sees those before it
 abbrev pub IsPlacedLet : ℕ → Trees → Type 0
 IsPlacedLet d ts = (p : Place) × SoundLet p.known p.zone d ts
 
@@ -104,6 +109,7 @@ abbrev mutual
       then_instrs pc (instrs_of cell d base start pc k) (λ p.
       instrs_of_all args d base start p (k + length (constants_of cell)) ++ (instr.AlterOpen (count args) ∷ (callee_instrs callee (suc (count args)) ++ instr.AlterClose ∷ [])))
 
+  -- the instructions of these, one tree's after another's
   pub instrs_of_all : Trees → ℕ → ℕ → ℕ → ℕ → ℕ → List Instr
   instrs_of_all none d base start pc k = []
   instrs_of_all (more e rest) d base start pc k =
@@ -142,10 +148,12 @@ abbrev mutual
   stored (Deref cell m) d = stored cell d
   stored (Alter cell callee args m) d = max (stored cell d) (stored_in args d)
 
+  -- one past the last local that is stored in these
   pub stored_in : Trees → ℕ → ℕ
   stored_in none d = 0
   stored_in (more e rest) d = max (stored e d) (stored_in rest d)
 
+  -- the same where each value becomes a local itself
   pub stored_let : Trees → ℕ → ℕ
   stored_let none d = 0
   stored_let (more e rest) d = max (stored e d) (max (d + 1) (stored_let rest (d + 1)))
@@ -189,6 +197,7 @@ emits t at e = record {
   room = max e.room (top t at.height);
 }
 
+-- what there is with the code of these, whose values stand one above another
 unfoldable pub emits_all : Trees → Around → Emission → Emission
 emits_all ts at e = record {
   instrs = e.instrs ++ instrs_of_all ts at.depth at.base at.start (length e.instrs) (length e.constants);
@@ -198,6 +207,7 @@ emits_all ts at e = record {
   room = max e.room (top_args ts at.height);
 }
 
+-- what there is with the code of these, each of which is stored as a local
 unfoldable pub emits_let : Trees → Span → Around → Emission → Emission
 emits_let ts span at e = record {
   instrs = e.instrs ++ instrs_of_let ts at.depth at.base at.start (length e.instrs) (length e.constants);
@@ -207,6 +217,7 @@ emits_let ts span at e = record {
   room = max e.room (top_in ts at.height);
 }
 
+-- what there is with the code of these, of which each but the last is popped
 unfoldable pub emits_do : Trees → Span → Around → Emission → Emission
 emits_do ts span at e = record {
   instrs = e.instrs ++ instrs_of_do ts at.depth at.base at.start (length e.instrs) (length e.constants);
@@ -216,19 +227,23 @@ emits_do ts span at e = record {
   room = max e.room (top_in ts at.height);
 }
 
--- a choice, a loop, a transaction, an alter and a recur; whether their results are wanted changes nothing
+-- what there is with the code of a choice; here and in the four after it, whether the result is wanted changes nothing
 unfoldable pub emits_if : Tree → Tree → Tree → Span → Around → Emission → Emission
 emits_if c a b span at e = emits (If c a b (record { span = span; wanted = true })) at e
 
+-- what there is with the code of a loop
 unfoldable pub emits_loop : Trees → Tree → Span → Around → Emission → Emission
 emits_loop values body span at e = emits (Loop values body (record { span = span; wanted = true })) at e
 
+-- what there is with the code of a dosync
 unfoldable pub emits_dosync : Tree → Span → Around → Emission → Emission
 emits_dosync body span at e = emits (Dosync body (record { span = span; wanted = true })) at e
 
+-- what there is with the code of an alter
 unfoldable pub emits_alter : Tree → Callee → Trees → Span → Around → Emission → Emission
 emits_alter cell callee args span at e = emits (Alter cell callee args (record { span = span; wanted = true })) at e
 
+-- what there is with the code of a recur
 unfoldable pub emits_recur : Trees → Span → Around → Emission → Emission
 emits_recur values span at e = emits (Recur values (record { span = span; wanted = true })) at e
 

@@ -25,6 +25,7 @@ abbrev pub do_code : Bool → ℕ → List PlainInstr → (ℕ → List PlainIns
 do_code true pc a rest = a
 do_code false pc a rest = then_code pc a (λ p. Pop ∷ rest (p + 1))
 
+-- what an alter calls, on so many values
 abbrev pub callee_code : Callee → ℕ → Span → PlainInstr
 callee_code (CoreOp op) args span = CoreOf op args span
 callee_code (Function f) args span = CallOf f args
@@ -53,15 +54,18 @@ abbrev mutual
       then_code pc (gen cell depth base start pc) (λ p.
       gen_all args depth base start p ++ (AlterOpen (count args) m.span ∷ callee_code callee (suc (count args)) m.span ∷ AlterClose ∷ []))
 
+  -- the code of these, one after another
   pub gen_all : Trees → ℕ → ℕ → ℕ → ℕ → List PlainInstr
   gen_all none depth base start pc = []
   gen_all (more e rest) depth base start pc = then_code pc (gen e depth base start pc) (gen_all rest depth base start)
 
+  -- the code of these, each of which is stored as a local
   pub gen_let : Trees → ℕ → ℕ → ℕ → ℕ → List PlainInstr
   gen_let none depth base start pc = []
   gen_let (more e rest) depth base start pc =
       then_code pc (gen e depth base start pc) (λ p. Store depth ∷ gen_let rest (depth + 1) base start (p + 1))
 
+  -- the code of these, of which each but the last is popped
   pub gen_do : Trees → ℕ → ℕ → ℕ → ℕ → List PlainInstr
   gen_do none depth base start pc = []
   gen_do (more e rest) depth base start pc = do_code (is_none rest) pc (gen e depth base start pc) (gen_do rest depth base start)
@@ -84,10 +88,12 @@ abbrev mutual
   locals_in (Deref cell m) d = locals_in cell d
   locals_in (Alter cell callee args m) d = max (locals_in cell d) (locals_in_all args d)
 
+  -- how many locals are live at once in these, which stand beside one another
   pub locals_in_all : Trees → ℕ → ℕ
   locals_in_all none d = d
   locals_in_all (more e rest) d = max (locals_in e d) (locals_in_all rest d)
 
+  -- the same where each value becomes a local for those behind it
   pub locals_in_let : Trees → ℕ → ℕ
   locals_in_let none d = d
   locals_in_let (more e rest) d = max (locals_in e d) (locals_in_let rest (d + 1))
@@ -96,6 +102,7 @@ abbrev mutual
 abbrev pub function_code : PlainFunction → PlainBody
 function_code f = record { locals = locals_in f.body f.parameters; instrs = gen f.body f.parameters 0 0 0 ++ Return ∷ [] }
 
+-- the code of functions, in order
 abbrev pub functions_code : List PlainFunction → List PlainBody
 functions_code [] = []
 functions_code (f ∷ fs) = function_code f ∷ functions_code fs

@@ -33,6 +33,7 @@ abbrev mutual
   spans_of (Deref cell m) = spans_of cell ++ m.span ∷ []
   spans_of (Alter cell callee args m) = spans_of cell ++ (spans_of_all args ++ copies 3 m.span)
 
+  -- the spans of these, one tree's after another's
   pub spans_of_all : Trees → List Span
   spans_of_all none = []
   spans_of_all (more e rest) = spans_of e ++ spans_of_all rest
@@ -66,6 +67,7 @@ abbrev mutual
   constants_of (Deref cell m) = constants_of cell
   constants_of (Alter cell callee args m) = constants_of cell ++ constants_in args
 
+  -- the constants of these, one tree's after another's
   pub constants_in : Trees → List Value
   constants_in none = []
   constants_in (more e rest) = constants_of e ++ constants_in rest
@@ -101,6 +103,7 @@ numbers_in (instr.AlterOpen n ∷ is) = numbers_in is
 numbers_in (instr.AlterClose ∷ is) = numbers_in is
 numbers_in (instr.Halt ∷ is) = numbers_in is
 
+-- the numbers of the constants that bodies push, one body's after another's
 abbrev pub numbers_in_all : List CodeBody → List ℕ
 numbers_in_all [] = []
 numbers_in_all (b ∷ bs) = numbers_in b.instrs ++ numbers_in_all bs

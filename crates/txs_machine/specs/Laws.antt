@@ -22,6 +22,7 @@ told a (Some o) q = standing (Some o) (state_of a) (state_of a)
 told a None None = standing None (state_of a) (state_of a)
 told a None (Some q) = Asking (record (state_of a) { wants = Some q })
 
+-- what the machine's meaning is told of an actor as it is
 abbrev pub outcome_of_actor : PlainActor → machine.Outcome
 outcome_of_actor a = told a a.outcome (unanswered a)
 

@@ -96,9 +96,11 @@ abbrev pub with_name : {A : Type 0} → (A → List ℕ) → List ℕ → List A
 with_name name_of name [] = None
 with_name name_of name (x ∷ xs) = if bytes_eq (name_of x) name then Some x else with_name name_of name xs
 
+-- a dot is the byte 46
 abbrev pub is_dot : ℕ → Bool
 is_dot b = b == 46
 
+-- whether there is none
 abbrev pub is_none : {A : Type 0} → Option A → Bool
 is_none None = true
 is_none (Some x) = false
@@ -117,18 +119,22 @@ pub data Meaning : Type 0 where
   operation : Op → Meaning
   unknown : Meaning
 
+-- a form's name stands for the form, whatever else has it
 abbrev pub or_form : Option FormName → Meaning → Meaning
 or_form (Some f) other = a_form f
 or_form None other = other
 
+-- a local hides what is defined
 abbrev pub or_local : Option ℕ → Meaning → Meaning
 or_local (Some i) other = a_local i
 or_local None other = other
 
+-- a definition, else what a name stands for without one
 abbrev pub or_defined : Option Definition → Meaning → Meaning
 or_defined (Some d) other = defined_as d
 or_defined None other = other
 
+-- a core operation, else nothing
 abbrev pub or_unknown : Option Op → Meaning
 or_unknown (Some op) = operation op
 or_unknown None = unknown

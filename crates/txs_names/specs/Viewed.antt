@@ -11,14 +11,17 @@ abbrev pub entries_of : List (Bor (List ℕ) × Definition) → List Entry
 entries_of [] = []
 entries_of (e ∷ es) = record { name = e.0.now; what = e.1 } ∷ entries_of es
 
+-- the name that is lent, if one is
 abbrev pub name_of : Option (Bor (List ℕ)) → Option (List ℕ)
 name_of None = None
 name_of (Some n) = Some n.now
 
+-- the definition that is lent, if one is
 abbrev pub lent : Option (Bor Definition) → Option Definition
 lent None = None
 lent (Some d) = Some d.now
 
+-- what was found, as what the name stands for
 abbrev pub meant : Found → Meaning
 meant (Form f) = a_form f
 meant Dotted = dotted

@@ -8,10 +8,11 @@ use Rattle.txs_reader.specs.declared.error.ReadErrorKind.{ReadErrorKind}
 use Rattle.txs_reader.specs.declared.error.ReadErrorKind.TheVariants.{NumberTooLarge, BadToken, LeftOut, TooLarge}
 use Rattle.txs_reader.specs.Tree.{Leaf, nil, truth, number, keyword, symbol}
 
--- tab to return, 28 to the space, the comma
+-- tab to return, 28 to the space, the comma: what Clojure's reader takes for white space in ASCII
 unfoldable pub is_white : ℕ → Bool
 is_white b = (nat_le 9 b && nat_le b 13) || (nat_le 28 b && nat_le b 32) || b == 44
 
+-- a line feed or a carriage return ends a comment, as in Clojure's reader
 abbrev pub is_line_end : ℕ → Bool
 is_line_end b = b == 10 || b == 13
 
@@ -39,6 +40,7 @@ is_plain b = not (b == 34 || b == 92)
 unfoldable pub is_foreign_byte : ℕ → Bool
 is_foreign_byte b = b == 39 || b == 35 || b == 47 || b == 38 || b == 37 || b == 36 || b == 124 || b == 58
 
+-- `+` or `-`
 unfoldable pub is_sign : ℕ → Bool
 is_sign b = b == 43 || b == 45
 
@@ -59,10 +61,12 @@ abbrev pub is_i64 : ℤ → Bool
 is_i64 (pos n) = nat_lt n (2 ^ 63)
 is_i64 (negsuc n) = nat_lt n (2 ^ 63)
 
+-- symbol bytes, of which the first is none of a digit, `'` and `.`, nor a sign with a digit behind it
 unfoldable pub is_symbol : List ℕ → Bool
 is_symbol w =
     list_all is_symbol_byte w && nat_lt 0 (length w) && not (is_numeric w) && not (slice_index w 0 == 39) && not (slice_index w 0 == 46)
 
+-- a word that Clojure may read and this profile does not: with a foreign byte, or begun like a number, or by a dot
 unfoldable pub is_left_out : List ℕ → Bool
 is_left_out w = list_any is_foreign_byte w || is_numeric w || slice_index w 0 == 46
 

@@ -39,5 +39,6 @@ abbrev pub TextStopsAs : List ℕ → ℕ → ReadErrorKind → Span → Type 0
 TextStopsAs bytes at Memory span = span ≡ between 0 0
 TextStopsAs bytes at kind span = TextStops bytes at kind span
 
+-- the error tells why the text at this offset is refused
 abbrev pub IsTextRefusal : List ℕ → ℕ → ReadError → Type 0
 IsTextRefusal bytes at e = TextStopsAs bytes at e.kind e.at

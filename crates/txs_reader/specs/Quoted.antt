@@ -3,6 +3,7 @@ use Rattle.std.specs.Prelude.{ℕ, ◌≡◌, ◌≢◌, ◌==◌, if◌then◌e
 use Rattle.std.specs.Char.{IsScalar}
 use Rattle.std.specs.Str.Parse.{AllDigits, digits_value}
 
+-- A part of a text's inside: a plain byte, or one of those escapes of Clojure's reader that this profile has.
 pub data Part : Type 0 where
   Plain : ℕ → Part
   -- a backslash and one letter
@@ -28,6 +29,7 @@ IsPart (Plain b) = (b ≢ 34) × (b ≢ 92)
 IsPart (Short c) = short_value c ≢ None
 IsPart (Code ds) = (length ds ≡ 4) × AllDigits 16 ds × IsScalar (digits_value 16 ds)
 
+-- the byte that is there, if one is
 abbrev pub or_none : Option ℕ → List ℕ
 or_none None = []
 or_none (Some b) = b ∷ []

@@ -16,6 +16,7 @@ abbrev pub RefusedAs : List ℕ → Span → ReadErrorKind → Span → Type 0
 RefusedAs w span Memory at = at ≡ between 0 0
 RefusedAs w span kind at = (meaning w ≡ Err kind) × (at ≡ span)
 
+-- the error tells why this word is refused
 abbrev pub IsWordRefusal : List ℕ → Span → ReadError → Type 0
 IsWordRefusal w span e = RefusedAs w span e.kind e.at
 
@@ -24,6 +25,7 @@ abbrev pub NameRefusedAs : List ℕ → Span → ReadErrorKind → Span → Type
 NameRefusedAs name span Memory at = at ≡ between 0 0
 NameRefusedAs name span kind at = (255 < length name) × (kind ≡ TooLarge) × (at ≡ span)
 
+-- the error tells why this name is refused
 abbrev pub IsNameRefusal : List ℕ → Span → ReadError → Type 0
 IsNameRefusal name span e = NameRefusedAs name span e.kind e.at
 
@@ -32,5 +34,6 @@ abbrev pub StopsAs : List ℕ → ReadErrorKind → Span → Type 0
 StopsAs bytes Memory at = at ≡ between 0 0
 StopsAs bytes kind at = StopsWithin bytes kind at
 
+-- the error tells where the reading of these bytes stops
 abbrev pub IsRefusal : List ℕ → ReadError → Type 0
 IsRefusal bytes e = StopsAs bytes e.kind e.at

@@ -25,11 +25,13 @@ pub data Piece : Type 0 where
   Quoted : List Part → Piece
   Word : List ℕ → Leaf → Piece
 
+-- `@`, `(` and `[`
 abbrev pub opening_byte : Option Bracket → ℕ
 opening_byte None = 64
 opening_byte (Some Round) = 40
 opening_byte (Some Square) = 91
 
+-- `)` and `]`
 abbrev pub closing_byte : Bracket → ℕ
 closing_byte Round = 41
 closing_byte Square = 93
@@ -47,6 +49,7 @@ written (Word w x) = w
 abbrev pub IsWord : List ℕ → Type 0
 IsWord w = (0 < length w) × (list_all is_word_byte w ≡ true)
 
+-- The piece is what its name says: white space, a comment in one line, a text within its limit, a word that means something.
 abbrev pub IsPiece : Piece → Type 0
 IsPiece (White b) = is_white b ≡ true
 IsPiece (Comment c) = list_all (λ b. not (is_line_end b)) c ≡ true
@@ -71,11 +74,13 @@ Splits bytes (p ∷ ps) rest = (more : List ℕ) × (bytes ≡ written p ++ more
 
 -- ---- the tokens
 
+-- what a token is: an opening, a closing, or a form without parts
 pub data Sign : Type 0 where
   opens : Option Bracket → Sign
   closes : Bracket → Sign
   stands_for : Leaf → Sign
 
+-- a token, and the bytes where it stands
 pub record Token : Type 0 where
   pub sign : Sign
   pub span : Span
@@ -93,6 +98,7 @@ token at (Closing b) = record { sign = closes b; span = between at (at + 1) } �
 token at (Quoted ps) = record { sign = stands_for (text (flat_map part_value ps)); span = between at (at + length (written (Quoted ps))) } ∷ []
 token at (Word w x) = record { sign = stands_for x; span = between at (at + length w) } ∷ []
 
+-- the tokens of pieces, of which the first stands at this offset
 abbrev pub tokens : ℕ → List Piece → List Token
 tokens at [] = []
 tokens at (p ∷ ps) = token at p ++ tokens (at + length (written p)) ps
@@ -115,6 +121,7 @@ abbrev mutual
       if is_sugar b ts span then record { sign = opens None; span = between span.from (span.from + 1) } ∷ drop 1 (spelled_within ts)
       else record { sign = opens (Some b); span = between span.from (span.from + 1) } ∷ (spelled_within ts ++ record { sign = closes b; span = between (span.to - 1) span.to } ∷ [])
 
+  -- the tokens of forms in a row
   pub spelled_within : Trees → List Token
   spelled_within none = []
   spelled_within (first t ts) = spelled t ++ spelled_within ts
@@ -144,6 +151,7 @@ abbrev pub whole : List Open → List Tree → ℕ
 whole [] forms = length forms
 whole (o ∷ os) forms = length o.before
 
+-- an opening behind these forms counts as one more
 abbrev pub begun_behind : List Open → ℕ
 begun_behind [] = 0
 begun_behind (o ∷ os) = 1

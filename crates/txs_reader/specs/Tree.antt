@@ -15,14 +15,17 @@ pub data Leaf : Type 0 where
   symbol : List ℕ → Leaf
 
 mutual
+  -- A form as plain data: one without parts, or a list or vector, each with its span.
   pub data Tree : Type 0 where
     leaf : Leaf → Span → Tree
     group : Bracket → Trees → Span → Tree
 
+  -- forms in a row
   pub data Trees : Type 0 where
     none : Trees
     first : Tree → Trees → Trees
 
+-- the forms of a list in a row
 abbrev pub trees_of : List Tree → Trees
 trees_of [] = none
 trees_of (t ∷ ts) = first t (trees_of ts)
@@ -41,6 +44,7 @@ tree_step (Form-F.Group b v span) = group b (trees_of v.items) span
 abbrev pub tree : Form → Tree
 tree = fold-Form Tree tree_step
 
+-- the trees of forms
 abbrev pub trees : List Form → List Tree
 trees = map tree
 
@@ -55,10 +59,12 @@ abbrev mutual
   height (leaf x span) = 0
   height (group b ts span) = suc (height_within ts)
 
+  -- the most brackets in one another, in these forms
   pub height_within : Trees → ℕ
   height_within none = 0
   height_within (first t ts) = max (height t) (height_within ts)
 
+-- the same of a list of forms
 abbrev pub height_of_all : List Tree → ℕ
 height_of_all [] = 0
 height_of_all (t ∷ ts) = max (height t) (height_of_all ts)
@@ -74,6 +80,7 @@ abbrev mutual
   IsNarrow (leaf x span) = Unit {0}
   IsNarrow (group b ts span) = (parts ts ≤ 65535) × AreNarrow ts
 
+  -- each of these is narrow
   pub AreNarrow : Trees → Type 0
   AreNarrow none = Unit {0}
   AreNarrow (first t ts) = IsNarrow t × AreNarrow ts

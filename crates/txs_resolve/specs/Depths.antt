@@ -10,11 +10,13 @@ at_place [] n = 0
 at_place (x ∷ xs) zero = x
 at_place (x ∷ xs) (suc n) = at_place xs n
 
+-- how many levels a callee has below it: an operation none, a function those of its body
 abbrev pub callee_depth : List ℕ → Callee → ℕ
 callee_depth ls (CoreOp op) = 0
 callee_depth ls (Function f) = at_place ls f
 
 abbrev mutual
+  -- how many nodes stand in one another, a call or callee counted with the function's levels
   pub depths : List ℕ → Tree → ℕ
   depths ls (Const v m) = 1
   depths ls (Local i m) = 1
@@ -31,6 +33,7 @@ abbrev mutual
   depths ls (Deref cell m) = suc (depths ls cell)
   depths ls (Alter cell callee args m) = suc (max (callee_depth ls callee) (max (depths ls cell) (depths_in ls args)))
 
+  -- the most of these, which stand beside one another
   pub depths_in : List ℕ → Trees → ℕ
   depths_in ls none = 0
   depths_in ls (more e rest) = max (depths ls e) (depths_in ls rest)

@@ -36,6 +36,7 @@ Answer A = Result A ResolveError
 abbrev pub spot_at : ℕ → Span → Bool → Spot
 spot_at room span wanted = record { room = room; span = span; wanted = wanted }
 
+-- the mark of a node at this spot
 abbrev pub spot_mark : Spot → Mark
 spot_mark s = mark_of s.span s.wanted
 
@@ -48,6 +49,7 @@ abbrev pub some_room : {A : Type 0} → ℕ → Answer A → Answer A → Answer
 some_room zero refusal next = refusal
 some_room (suc n) refusal next = next
 
+-- a node that finds no room here is too much, at its own place
 abbrev pub in_room : {A : Type 0} → Spot → Answer A → Answer A
 in_room s next = some_room s.room (refuse TooMany s.span) next
 
@@ -78,6 +80,7 @@ leaf_value (text bytes) = Text bytes
 leaf_value (keyword name) = Key name
 leaf_value (symbol name) = Nil
 
+-- a form without parts: a symbol by what its name stands for, and all else as its value
 abbrev pub leaf_node : Scope → Leaf → Spot → Answer Tree
 leaf_node scope (symbol name) s = symbol_node (meaning name scope) s
 leaf_node scope x s = in_room s (Ok (Const (leaf_value x) (spot_mark s)))
@@ -105,6 +108,7 @@ abbrev pub head_at : Meaning → Spot → Span → Answer Head
 head_at (a_form f) s at = Ok (AForm f)
 head_at m s at = in_room s (callee_at m s at >>= λ c. Ok (Called c))
 
+-- a list's head: a symbol by what its name stands for, and nothing else
 abbrev pub head_of : Scope → Spot → Form → Answer Head
 head_of scope s (leaf (symbol name) at) = head_at (meaning name scope) s at
 head_of scope s form = in_room s (refuse NotCallable (place form))
@@ -126,6 +130,7 @@ pub record ByHead : Type 0 where
   pub change : Answer Tree
   pub misplaced : Answer Tree
 
+-- what is made of a list at whose head this form's name stands
 abbrev pub of_form : FormName → ByHead → Answer Tree
 of_form kind.If made = made.branches false
 of_form kind.IfNot made = made.branches true
@@ -145,6 +150,7 @@ of_form kind.Alter made = made.change
 -- a top-level form, and what trees have no node for
 of_form _ made = made.misplaced
 
+-- what is made of a list with this head
 abbrev pub of_head : Head → ByHead → Answer Tree
 of_head (AForm f) made = of_form f made
 of_head (Called (CoreOp op)) made = made.applied op
@@ -165,6 +171,7 @@ sequence_node sequence.Vector nodes m = VectorOf nodes m
 sequence_node (sequence.Core op) nodes m = Core op nodes m
 sequence_node (sequence.Call n) nodes m = Call n nodes m
 
+-- the node of these items, once they are resolved, if there is room for it
 abbrev pub sequence_of : Sequence → Spot → Answer Trees → Answer Tree
 sequence_of k s items = in_room s (items >>= λ nodes. Ok (sequence_node k nodes (spot_mark s)))
 
@@ -188,6 +195,7 @@ pub record Bound : Type 0 where
   pub values : Trees
   pub scope : Scope
 
+-- a `let`, or a `loop`
 abbrev pub binding_node : Bool → Trees → Tree → Mark → Tree
 binding_node false values body m = Let values body m
 binding_node true values body m = Loop values body m
@@ -218,6 +226,7 @@ bound_name scope (leaf (symbol name) at) =
     if may_bind name then (if nat_lt (length scope.locals) 200 then Ok name else refuse TooMany at) else refuse BadForm at
 bound_name scope form = refuse BadForm (place form)
 
+-- whether a form is a symbol
 abbrev pub is_symbol : Form → Bool
 is_symbol (leaf (symbol name) at) = true
 is_symbol _ = false
@@ -228,10 +237,12 @@ are_pairs no_forms = true
 are_pairs (first binder no_forms) = false
 are_pairs (first binder (first e rest)) = is_symbol binder && are_pairs rest
 
+-- whether it is nought
 abbrev pub is_zero : ℕ → Bool
 is_zero zero = true
 is_zero (suc n) = false
 
+-- whether it is twice a number
 abbrev pub is_even : ℕ → Bool
 is_even n = is_zero (n % 2)
 
@@ -249,6 +260,7 @@ may_hide scope s = nat_lt (length scope.locals) 200 && nat_lt 2 s.room
 abbrev pub choices_of : Spot → ℕ → Answer Tree → Answer Tree
 choices_of s n made = if is_even n then made else refuse BadForm s.span
 
+-- the transaction of a body, if there is room for it
 abbrev pub dosync_of : Spot → Answer Tree → Answer Tree
 dosync_of s made = in_room s (made >>= λ body. Ok (Dosync body (spot_mark s)))
 
@@ -287,13 +299,14 @@ abbrev mutual
       named scope (s.room - suc (parts rest)) true a >>= λ total. named_pairs op scope s total (first b rest)
   named_chain op scope s _ = refuse BadForm s.span
 
+  -- the total so far, and each further argument as the second of a pair with it
   pub named_pairs : Op → Scope → Spot → Tree → Forms → Answer Tree
   named_pairs op scope s total no_forms = Ok total
   named_pairs op scope s total (first e rest) =
       named scope (s.room - suc (parts rest)) true e >>= λ term.
       named_pairs op scope s (pair_node op total term (mark_of s.span (flag true s.wanted rest))) rest
 
-  -- a test, a branch, and another or none, which is nil; of an `if-not` the branches are turned
+  -- a test, a branch, and another or none, which is nil: Clojure's special form `if`; of its macro `if-not` the branches are turned
   pub named_if : Bool → Scope → Spot → Forms → Answer Tree
   named_if turned scope s (first c (first a rest)) =
       if at_most_one rest then in_room s (
@@ -304,7 +317,7 @@ abbrev mutual
       else refuse BadForm s.span
   named_if turned scope s _ = refuse BadForm s.span
 
-  -- a test and a body; the other branch is nil
+  -- a test and a body; the other branch is nil: Clojure's macros `when` and `when-not`
   pub named_when : Bool → Scope → Spot → Forms → Answer Tree
   named_when turned scope s no_forms = refuse BadForm s.span
   named_when turned scope s (first c rest) =
@@ -313,7 +326,7 @@ abbrev mutual
       named_body scope (below 1 s) rest >>= λ body.
       Ok (choice_node turned test body (Const Nil (spot_mark s)) (spot_mark s)))
 
-  -- tests and branches in turn; without any it is nil
+  -- tests and branches in turn; without any it is nil: Clojure's macro `cond`
   pub named_cond : Scope → Spot → Forms → Answer Tree
   named_cond scope s no_forms = in_room s (Ok (Const Nil (spot_mark s)))
   named_cond scope s (first c no_forms) = refuse BadForm s.span
@@ -324,7 +337,7 @@ abbrev mutual
       named_cond scope (below 1 s) rest >>= λ other.
       Ok (If test one other (spot_mark s)))
 
-  -- `and`, and `or`: each value but the last is bound to a hidden local, which no symbol stands for
+  -- Clojure's macros `and` and `or`: each value but the last is bound to a hidden local, which no symbol stands for
   pub named_logic : Bool → Scope → Spot → Forms → Answer Tree
   named_logic is_or scope s no_forms = in_room s (Ok (Const (empty_logic is_or) (spot_mark s)))
   named_logic is_or scope s (first e no_forms) = named scope s.room s.wanted e
@@ -351,7 +364,7 @@ abbrev mutual
       Ok (Alter cell callee nodes (spot_mark s)))
   named_alter scope s _ = refuse BadForm s.span
 
-  -- the bindings, and a body that sees them
+  -- the bindings, and a body that sees them: Clojure's special forms `let` and `loop`
   pub named_binding : Bool → Scope → Spot → Forms → Answer Tree
   named_binding is_loop scope s (first (group Square bindings at) body) =
       if are_pairs bindings then in_room s (

@@ -18,6 +18,7 @@ abbrev mutual
   is_literal (group Round forms at) = false
   is_literal (group Square forms at) = are_literals forms
 
+  -- each of these is a literal
   pub are_literals : Forms → Bool
   are_literals no_forms = true
   are_literals (first e rest) = is_literal e && are_literals rest
@@ -31,6 +32,7 @@ abbrev mutual
   literal room (group Square forms at) =
       if room == 0 || nat_lt 65535 (parts forms) then refuse TooMany at else (literals (room - 1) forms >>= λ vs. Ok (Vector (plains_of vs)))
 
+  -- the values of these, in order
   pub literals : ℕ → Forms → Answer (List Value)
   literals room no_forms = Ok []
   literals room (first e rest) = literal room e >>= λ v. literals room rest >>= λ vs. Ok (v ∷ vs)

@@ -32,6 +32,7 @@ pub record State : Type 0 where
   pub threads : List PlainThread
   pub defs : ℕ
 
+-- before the first form nothing is defined
 abbrev pub nothing : State
 nothing = record { defined = []; cells = []; functions = []; threads = []; defs = 0 }
 
@@ -60,6 +61,7 @@ pub record Defining : Type 0 where
   pub is_ref : Bool
   pub value : Form
 
+-- a definition of a literal, and of nothing else
 abbrev pub only_literal : Bool → Form → Option Defining
 only_literal is_ref form = if is_literal form then Some (record { is_ref = is_ref; value = form }) else None
 
@@ -73,9 +75,11 @@ abbrev pub defining_of : Form → Option Defining
 defining_of (group Round (first head args) at) = ref_of (form_at head) args
 defining_of form = only_literal false form
 
+-- a ref that opens with this value
 abbrev pub new_ref : List ℕ → Value → CellDefinition
 new_ref name v = record { kind = Ref; name = name; opening = v }
 
+-- one more constant
 abbrev pub with_constant : State → List ℕ → Value → State
 with_constant s name v = record {
   defined = s.defined ++ record { name = name; what = Constant v } ∷ [];
@@ -85,6 +89,7 @@ with_constant s name v = record {
   defs = suc s.defs;
 }
 
+-- one more ref, whose number is that of the cells before it
 abbrev pub with_ref : State → List ℕ → Value → State
 with_ref s name v = record {
   defined = s.defined ++ record { name = name; what = Cell (length s.cells) } ∷ [];
@@ -94,6 +99,7 @@ with_ref s name v = record {
   defs = suc s.defs;
 }
 
+-- one more constant or ref
 abbrev pub with_definition : Bool → State → List ℕ → Value → State
 with_definition false s name v = with_constant s name v
 with_definition true s name v = with_ref s name v
@@ -114,14 +120,17 @@ pub record NamedForm : Type 0 where
   pub at : Span
   pub form : Form
 
+-- `name form`, and nothing else
 abbrev pub named_form : Forms → Option NamedForm
 named_form (first (leaf (symbol name) at) (first form no_forms)) = Some (record { name = name; at = at; form = form })
 named_form _ = None
 
+-- a `def` of other parts has another shape, and is refused as a whole
 abbrev pub defined_at : State → Span → Option NamedForm → Answer State
 defined_at s span None = refuse BadForm span
 defined_at s span (Some f) = defined_as_one s f.name f.at span (defining_of f.form)
 
+-- a `def` with these parts
 abbrev pub define : State → Span → Forms → Answer State
 define s span parts = defined_at s span (named_form parts)
 
@@ -137,6 +146,7 @@ abbrev pub parameters : List (List ℕ) → Forms → Answer (List (List ℕ))
 parameters names no_forms = Ok names
 parameters names (first p rest) = parameter (length names) p >>= λ n. parameters (n ∷ names) rest
 
+-- each of these is a symbol
 abbrev pub are_symbols : Forms → Bool
 are_symbols no_forms = true
 are_symbols (first p rest) = is_symbol p && are_symbols rest
@@ -148,19 +158,23 @@ pub record Written : Type 0 where
   pub parameters : Forms
   pub body : Forms
 
+-- the parameters and the body behind a function's name
 abbrev pub written_behind : List ℕ → Span → Forms → Option Written
 written_behind name at (first (group Square params there) body) =
     if are_symbols params then Some (record { name = name; at = at; parameters = params; body = body }) else None
 written_behind name at _ = None
 
+-- without the text that tells of a function, if it has one
 abbrev pub untold : Forms → Forms
 untold (first (leaf (text bytes) at) rest) = rest
 untold forms = forms
 
+-- the parts of a `defn`, if they are those of a function
 abbrev pub written : Forms → Option Written
 written (first (leaf (symbol name) at) rest) = written_behind name at (untold rest)
 written _ = None
 
+-- one more function, whose number is that of the functions before it
 abbrev pub with_function : State → List ℕ → ℕ → Tree → Span → State
 with_function s name n body span = record {
   defined = s.defined ++ record { name = name; what = Function (length s.functions) (levels (known s.functions) body) } ∷ [];
@@ -183,6 +197,7 @@ function s span (Some w) =
 
 -- ---- threads
 
+-- one more thread
 abbrev pub with_thread : State → Tree → Span → State
 with_thread s body span = record {
   defined = s.defined;
@@ -202,6 +217,7 @@ future s span body =
 
 -- ---- scripts
 
+-- a list by the form at its head: a definition, a function or a thread; nothing else stands there
 abbrev pub top_level : Option FormName → State → Span → Forms → Answer State
 top_level (Some kind.Def) s span parts = define s span parts
 top_level (Some kind.Defn) s span parts = function s span (written parts)
@@ -223,6 +239,7 @@ abbrev pub names_space : Option FormName → Forms → Bool
 names_space (Some kind.Ns) (first name no_forms) = is_symbol name
 names_space _ _ = false
 
+-- whether a form is `(ns name)`
 abbrev pub is_namespace : Form → Bool
 is_namespace (group Round (first head parts) at) = names_space (form_at head) parts
 is_namespace form = false

@@ -15,6 +15,7 @@ use Rattle.txs_resolve.specs.declared.script.Signature.{Signature}
 use Rattle.txs_resolve.specs.Names.{State, Defining, Written, NamedForm}
 use Rattle.txs_names.specs.Scope.{Scope, Entry}
 
+-- what a script has defined so far, as the resolver keeps it
 abbrev pub state_of : Script → State
 state_of s = record {
   defined = s.scope.defined;
@@ -30,6 +31,7 @@ IsKnown ks (Constant v) = Unit {0}
 IsKnown ks (Cell n) = Unit {0}
 IsKnown ks (Function n levels) = (k : Known) × (nth ks n ≡ Some k) × (k.levels ≡ levels)
 
+-- what is known of functions agrees with each of these definitions
 abbrev pub AreKnown : List Known → List Entry → Type 0
 AreKnown ks [] = Unit {0}
 AreKnown ks (e ∷ es) = IsKnown ks e.what × AreKnown ks es
@@ -56,10 +58,12 @@ abbrev pub defining : Option (Bool × Bor AForm) → Option Defining
 defining None = None
 defining (Some d) = Some (record { is_ref = d.0; value = tree d.1.now })
 
+-- the parts of a function that were found, if they were
 abbrev pub written_in : Option Signature → Option Written
 written_in None = None
 written_in (Some s) = Some (record { name = s.name.now; at = s.at; parameters = trees_of (trees s.parameters.now); body = trees_of (trees s.body.now) })
 
+-- a name and a form that were found, if they were
 abbrev pub name_and_form : Option (Bor (List ℕ) × Span × Bor AForm) → Option NamedForm
 name_and_form None = None
 name_and_form (Some f) = Some (record { name = f.0.now; at = f.1; form = tree f.2.now })

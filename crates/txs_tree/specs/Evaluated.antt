@@ -17,6 +17,7 @@ use Rattle.txs_tree.specs.declared.meaning.Needs.{Needs}
 use Rattle.txs_tree.specs.declared.meaning.Needs.TheVariants.{Nothing, Event, Turns, Wrong}
 use Rattle.txs_tree.specs.declared.meaning.ThreadMeaning.{ThreadMeaning}
 
+-- the source of a thread of the program, if there is one
 abbrev pub source_in : PlainProgram → Option PlainThread → Option ThreadSource
 source_in p None = None
 source_in p (Some t) = Some (record { functions = p.functions; main = t.body })

@@ -5,6 +5,7 @@ use Rattle.txs_value.specs.declared.op.Callee.{Callee}
 use Rattle.txs_value.specs.declared.op.Callee.TheVariants.{Core as CoreOp, Function}
 use Rattle.txs_tree.specs.Tree.{Tree, Const, Local, If, Do, Let, Loop, Recur, Core, Call, VectorOf, Println, Dosync, Deref, Alter, Trees, none, more, PlainFunction}
 
+-- what a call of a function rests on: how many values it takes, where it may be called, and how deep its body is
 pub record Known : Type 0 where
   pub parameters : ℕ
   -- it is for transactions alone
@@ -15,18 +16,22 @@ pub record Known : Type 0 where
   -- how many nodes stand in one another, those of the functions that it calls among them
   pub levels : ℕ
 
+-- whether it is for transactions alone; no function, no
 abbrev pub is_inside : Option Known → Bool
 is_inside None = false
 is_inside (Some k) = k.inside
 
+-- whether it is for outside alone; no function, no
 abbrev pub is_outside : Option Known → Bool
 is_outside None = false
 is_outside (Some k) = k.outside
 
+-- whether it is pure; no function is not
 abbrev pub is_pure : Option Known → Bool
 is_pure None = false
 is_pure (Some k) = k.pure
 
+-- how many levels it has, none where there is no function
 abbrev pub levels_of : Option Known → ℕ
 levels_of None = 0
 levels_of (Some k) = k.levels
@@ -54,6 +59,7 @@ abbrev mutual
   inside_in ks (Deref cell m) = inside_in ks cell
   inside_in ks (Alter cell callee args m) = true
 
+  -- some of these is inside
   pub any_inside : List Known → Trees → Bool
   any_inside ks none = false
   any_inside ks (more e rest) = inside_in ks e || any_inside ks rest
@@ -76,6 +82,7 @@ abbrev mutual
   outside_in ks (Deref cell m) = outside_in ks cell
   outside_in ks (Alter cell callee args m) = outside_in ks cell || any_outside ks args
 
+  -- some of these is outside
   pub any_outside : List Known → Trees → Bool
   any_outside ks none = false
   any_outside ks (more e rest) = outside_in ks e || any_outside ks rest
@@ -98,6 +105,7 @@ abbrev mutual
   pure_in ks (Deref cell m) = false
   pure_in ks (Alter cell callee args m) = false
 
+  -- each of these is pure
   pub all_pure : List Known → Trees → Bool
   all_pure ks none = true
   all_pure ks (more e rest) = pure_in ks e && all_pure ks rest
@@ -120,6 +128,7 @@ abbrev mutual
   levels ks (Deref cell m) = suc (levels ks cell)
   levels ks (Alter cell callee args m) = suc (max (callee_levels ks callee) (max (levels ks cell) (levels_in ks args)))
 
+  -- the most levels of these, which stand beside one another
   pub levels_in : List Known → Trees → ℕ
   levels_in ks none = 0
   levels_in ks (more e rest) = max (levels ks e) (levels_in ks rest)

@@ -50,10 +50,12 @@ again Invalid go = Invalid
 abbrev pub closed : {S A : Type 0} → Completion S A → Completion S A
 closed r = again r (λ vs s. Invalid)
 
+-- the value that is there; a sound program never names one that isn't
 abbrev pub give : {S A : Type 0} → Option A → S → Completion S A
 give None s = Invalid
 give (Some v) s = Completes v s
 
+-- an operation's value, or its fault at the form that names it
 abbrev pub result_of : {S : Type 0} → Result Value FaultKind → Span → S → Completion S Value
 result_of (Ok v) span s = Completes v s
 result_of (Err k) span s = Faults (fault_at k span) s
@@ -72,15 +74,19 @@ abbrev pub turns : {S : Type 0} → ℕ → ℕ → (List Value → S → Comple
 turns zero d body vs s = OutOfTurns s
 turns (suc n) d body vs s = if nat_eq (length vs) d then again (body vs s) (turns n d body) else Invalid
 
+-- the last item's completion stands for all; that of another is let go, and what comes after it goes on
 abbrev pub last_or : {S : Type 0} → Bool → Completion S Value → (S → Completion S Value) → Completion S Value
 last_or true r go = r
 last_or false r go = bind r (λ v s. go s)
 
+-- a callee on its arguments: the table's answer for an operation, the meaning of a function
 abbrev pub apply : {S : Type 0} → (ℕ → List Value → S → Completion S Value) → Span → Callee → List Value → S → Completion S Value
 apply call span (CoreOp op) vs s = result_of (core op vs) span s
 apply call span (Function f) vs s = call f vs s
 
 abbrev mutual
+  -- What a tree does from a state on, by Clojure's reference on special forms, form by form: with these effects, these meanings of
+  -- functions, at most n turns of each loop, inside a transaction or not, and these locals.
   pub eval : {S : Type 0} → Effects S → (Bool → ℕ → List Value → S → Completion S Value) → ℕ → Bool → Tree → List Value → S → Completion S Value
   -- a constant is its value
   eval fx call n inside (Const v m) env s = Completes v s

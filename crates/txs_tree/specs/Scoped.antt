@@ -5,6 +5,7 @@ use Rattle.txs_value.specs.declared.op.Callee.TheVariants.{Core as CoreOp, Funct
 use Rattle.txs_tree.specs.Known.{Known, known_of, known, levels}
 use Rattle.txs_tree.specs.Tree.{Tree, Const, Local, If, Do, Let, Loop, Recur, Core, Call, VectorOf, Println, Dosync, Deref, Alter, Trees, none, more, count, PlainFunction, PlainThread, PlainProgram}
 
+-- an operation is always there, a function where it is defined before
 abbrev pub ScopedCallee : List Known → Callee → Type 0
 ScopedCallee ks (CoreOp op) = Unit {0}
 ScopedCallee ks (Function f) = f < length ks
@@ -29,6 +30,7 @@ abbrev mutual
   ScopedTree ks d (Alter cell callee args m) =
       ScopedTree ks d cell × ScopedCallee ks callee × (count args < 65535) × ScopedAll ks d args
 
+  -- each of these with the same locals
   pub ScopedAll : List Known → ℕ → Trees → Type 0
   ScopedAll ks d none = Unit {0}
   ScopedAll ks d (more e rest) = ScopedTree ks d e × ScopedAll ks d rest
@@ -42,13 +44,16 @@ abbrev mutual
 abbrev pub ScopedFunction : List Known → PlainFunction → Type 0
 ScopedFunction ks f = (f.parameters ≤ 20) × ScopedTree ks f.parameters f.body × (levels ks f.body ≤ 1000)
 
+-- functions in order, each of which sees those before it alone
 abbrev pub ScopedFunctions : List Known → List PlainFunction → Type 0
 ScopedFunctions ks [] = Unit {0}
 ScopedFunctions ks (f ∷ fs) = ScopedFunction ks f × ScopedFunctions (ks ++ known_of ks f ∷ []) fs
 
+-- a thread's body has no locals yet, and sees all functions
 abbrev pub ScopedThread : List Known → PlainThread → Type 0
 ScopedThread ks t = ScopedTree ks 0 t.body × (levels ks t.body ≤ 1000)
 
+-- each of these threads
 abbrev pub ScopedThreads : List Known → List PlainThread → Type 0
 ScopedThreads ks [] = Unit {0}
 ScopedThreads ks (t ∷ ts) = ScopedThread ks t × ScopedThreads ks ts

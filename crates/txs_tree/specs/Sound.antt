@@ -79,6 +79,7 @@ abbrev mutual
   SoundTree ks zone d tail (Alter cell callee args m) =
       MayEnter zone × SoundTree ks zone d None cell × SoundCallee ks callee (suc (count args)) × SoundAll ks zone d args
 
+  -- each of these, none of them in tail position
   pub SoundAll : List Known → Zone → ℕ → Trees → Type 0
   SoundAll ks zone d none = Unit {0}
   SoundAll ks zone d (more e rest) = SoundTree ks zone d None e × SoundAll ks zone d rest
@@ -117,6 +118,7 @@ abbrev mutual
   nodes (Deref cell m) = suc (nodes cell)
   nodes (Alter cell callee args m) = suc (nodes cell + nodes_in args)
 
+  -- how many nodes these have together
   pub nodes_in : Trees → ℕ
   nodes_in none = 0
   nodes_in (more e rest) = nodes e + nodes_in rest
@@ -134,14 +136,17 @@ SoundFunctions ks (f ∷ fs) = SoundFunction ks f × SoundFunctions (ks ++ known
 abbrev pub SoundThread : List Known → PlainThread → Type 0
 SoundThread ks t = SoundTree ks in_thread 0 None t.body × (levels ks t.body ≤ 1000)
 
+-- each of these threads
 abbrev pub SoundThreads : List Known → List PlainThread → Type 0
 SoundThreads ks [] = Unit {0}
 SoundThreads ks (t ∷ ts) = SoundThread ks t × SoundThreads ks ts
 
+-- how many nodes the bodies of functions have together
 abbrev pub nodes_of_functions : List PlainFunction → ℕ
 nodes_of_functions [] = 0
 nodes_of_functions (f ∷ fs) = nodes f.body + nodes_of_functions fs
 
+-- how many nodes the bodies of threads have together
 abbrev pub nodes_of_all : List PlainThread → ℕ
 nodes_of_all [] = 0
 nodes_of_all (t ∷ ts) = nodes t.body + nodes_of_all ts

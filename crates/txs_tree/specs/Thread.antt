@@ -27,6 +27,7 @@ pub record ThreadState : Type 0 where
   pub todo : List SeenEvent
   pub printed : List ℕ
 
+-- a read takes the next event, which is a read of the same cell, and gives the cell's value at that event's place
 abbrev pub eats_read : CellId → List SeenEvent → ThreadState → Completion ThreadState Value
 eats_read c [] t = Waits t
 eats_read c (Read d C ∷ es) t = if same_cell c d then Completes (C c.number) (record t { todo = es }) else Invalid
@@ -34,11 +35,12 @@ eats_read c (Committed R w ∷ es) t = Invalid
 eats_read c (Retried ∷ es) t = Invalid
 eats_read c (Aborted R ∷ es) t = Invalid
 
--- a read outside a transaction
+-- a read outside a transaction, which gives the newest value (Clojure's docstring of `deref`)
 abbrev pub reads : Span → Result CellId FaultKind → ThreadState → Completion ThreadState Value
 reads span (Ok c) t = eats_read c t.todo t
 reads span (Err k) t = Faults (fault_at k span) t
 
+-- a transaction that ended with a value, against its event: it set just what the event says
 abbrev pub commits : Completion TxState Value → Writes → ThreadState → Completion ThreadState Value
 commits (Completes v x) w t = if same_writes x.writes w then Completes v t else Invalid
 commits (Recurs vs x) w t = Invalid
@@ -48,6 +50,7 @@ commits (Waits x) w t = Invalid
 commits (OutOfTurns x) w t = OutOfTurns t
 commits Invalid w t = Invalid
 
+-- a transaction that ended with a fault, against its event: the fault goes on outside
 abbrev pub aborts : Completion TxState Value → ThreadState → Completion ThreadState Value
 aborts (Completes v x) t = Invalid
 aborts (Recurs vs x) t = Invalid
@@ -57,7 +60,7 @@ aborts (Waits x) t = Invalid
 aborts (OutOfTurns x) t = OutOfTurns t
 aborts Invalid t = Invalid
 
--- a dosync eats retries, and then the event of its end: at most k events
+-- a dosync runs again until it commits or faults (Clojure's docstring of `dosync`): it eats retries, and then the event of its end, at most k events
 abbrev pub eats_tx : ℕ → Span → (World → Completion TxState Value) → List SeenEvent → List ℕ → Completion ThreadState Value
 eats_tx zero span body es out = Faults (fault_at RetryLimit span) (record { todo = es; printed = out })
 eats_tx (suc k) span body [] out = Waits (record { todo = []; printed = out })

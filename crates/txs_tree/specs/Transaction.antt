@@ -15,11 +15,12 @@ pub record TxState : Type 0 where
   pub writes : Writes
   pub reads : List ℕ
 
+-- a value that the transaction gave the ref, else the world's, which counts as read
 abbrev pub own_or_world : Option Value → World → ℕ → TxState → Completion TxState Value
 own_or_world (Some v) R k t = Completes v t
 own_or_world None R k t = Completes (R k) (record t { reads = t.reads ++ k ∷ [] })
 
--- a ref's value: the transaction's own, else the world's
+-- a ref's value: the transaction's own, else the world's, which is that of its start (Clojure's reference on refs and transactions)
 abbrev pub taken : World → Span → Result CellId FaultKind → TxState → Completion TxState Value
 taken R span (Ok c) t = own_or_world (buffered t.writes c.number) R c.number t
 taken R span (Err k) t = Faults (fault_at k span) t
@@ -38,7 +39,7 @@ in_transaction R = record {
   dosync = λ inside span node env body t. body t;
 }
 
--- the transaction meaning: the body of a dosync, with its locals, on one world
+-- the transaction meaning: the body of a dosync, with its locals, on one world, as if it ran alone (Clojure's reference on refs and transactions)
 abbrev pub tx_meaning : ℕ → List PlainFunction → ℕ → Tree → List Value → World → Completion TxState Value
 tx_meaning n functions d node env R =
     closed (eval (in_transaction R) (call_at (λ e. in_transaction R) n functions d) n true node env (record { writes = []; reads = [] }))

@@ -12,6 +12,8 @@ pub record Mark : Type 0 where
   pub wanted : Bool
 
 mutual
+  -- A part of a program: one constructor for each form that isn't made of others. The others are written out as these when names
+  -- are resolved.
   pub data Tree : Type 0 where
     Const : (value : Value) (mark : Mark) → Tree
     -- locals are numbered by nesting, parameters first
@@ -29,14 +31,17 @@ mutual
     Deref : (cell : Tree) (mark : Mark) → Tree
     Alter : (cell : Tree) (callee : Callee) (args : Trees) (mark : Mark) → Tree
 
+  -- parts in a row
   pub data Trees : Type 0 where
     none : Trees
     more : (item : Tree) (rest : Trees) → Trees
 
+-- how many there are
 abbrev pub count : Trees → ℕ
 count none = 0
 count (more e rest) = suc (count rest)
 
+-- whether there is none
 abbrev pub is_none : Trees → Bool
 is_none none = true
 is_none (more e rest) = false

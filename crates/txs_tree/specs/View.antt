@@ -9,6 +9,7 @@ use Rattle.txs_tree.specs.declared.node.NodeKind.{NodeKind, Const, Local, If', D
 use Rattle.txs_tree.specs.declared.node.Function.{Function}
 use Rattle.txs_tree.specs.declared.node.Thread.{Thread}
 
+-- the mark of a node with this span, whose result is wanted or not
 abbrev pub mark_of : Span → Bool → Mark
 mark_of span wanted = record { span = span; wanted = wanted }
 
@@ -31,6 +32,7 @@ abbrev mutual
   kind_tree (Deref' q cell span wanted) m = tree.Deref (kind_tree cell (mark_of span wanted)) m
   kind_tree (Alter' q cell span wanted callee shape args) m = tree.Alter (kind_tree cell (mark_of span wanted)) callee (row_trees args) m
 
+  -- the trees of nodes in a row
   pub row_trees : {n : _} → Row_of-Node n → Trees
   row_trees end_of-Node = none
   row_trees (more_of-Node k span wanted rest) = more (kind_tree k (mark_of span wanted)) (row_trees rest)
@@ -39,20 +41,25 @@ abbrev mutual
 abbrev pub tree_of : Node → Tree
 tree_of n = kind_tree n.kind (mark_of n.span n.wanted)
 
+-- the trees of a list of nodes
 abbrev pub trees_of : List Node → Trees
 trees_of [] = none
 trees_of (n ∷ ns) = more (tree_of n) (trees_of ns)
 
+-- a function, with its body as a tree
 abbrev pub function_of : Function → PlainFunction
 function_of f = record { parameters = f.parameters; body = tree_of f.body; span = f.span }
 
+-- functions, with their bodies as trees
 abbrev pub functions_of : List Function → List PlainFunction
 functions_of [] = []
 functions_of (f ∷ fs) = function_of f ∷ functions_of fs
 
+-- a thread, with its body as a tree
 abbrev pub thread_of : Thread → PlainThread
 thread_of t = record { body = tree_of t.body; span = t.span }
 
+-- threads, with their bodies as trees
 abbrev pub threads_of : List Thread → List PlainThread
 threads_of [] = []
 threads_of (t ∷ ts) = thread_of t ∷ threads_of ts
