@@ -10,11 +10,15 @@ pub mod compile_error;
 mod left_out;
 mod play;
 #[cfg(test)]
+mod rerun_tests;
+#[cfg(test)]
 mod rows;
 mod run;
 mod streams;
 #[cfg(test)]
 mod tests;
+#[cfg(test)]
+mod vector_rows;
 mod words;
 
 use play::play;

@@ -3,6 +3,7 @@ use crate::compile::compile;
 use crate::play::play;
 use crate::rows::{ACCEPTED, BAD, CALLED, LEFT_OUT, NEARLY, PLACED, PRINTED, RECURS, UNKNOWN};
 use crate::run::run_thread;
+use crate::vector_rows::{HELD, PAST};
 use std::alloc::Global;
 use std::io;
 use std::io::{ErrorKind, Read, Write};
@@ -203,6 +204,22 @@ fn rows(rt: HostRuntime) -> Result<(), Fail> {
     }
     for (script, out, err, status) in PRINTED {
         assert!(rt; row(rt.alloc(), script, out, err, status)?, "{script}");
+    }
+    Ok(())
+}
+
+#[test]
+fn vectors_stay_with_their_holders(rt: HostRuntime) -> Result<(), Fail> {
+    for (script, out) in HELD {
+        assert!(rt; row(rt.alloc(), script, out, "", 0)?, "{script}");
+    }
+    Ok(())
+}
+
+#[test]
+fn vectors_are_limited(rt: HostRuntime) -> Result<(), Fail> {
+    for (script, out, err) in PAST {
+        assert!(rt; row(rt.alloc(), script, out, err, 3)?, "{script}");
     }
     Ok(())
 }
