@@ -1,17 +1,23 @@
 #!/usr/bin/env python3
 """agreeing.py [--scripts N] [--seed S]
 Makes N scripts at random from the forms that docs/LANGUAGE.md tells, without its departures from Clojure, runs each in
-txs and in real Clojure, and compares: both end, or both fault, and what they printed is the same. Prints the scripts on
+txs and in real Clojure, and compares: both end, or both fault, and what they printed is the same. One script in four
+also makes long vectors of one another, in loops, while locals and a ref hold the older ones. Prints the scripts on
 which they don't agree, and then the counts. Needs Debian's package `clojure`, and the built program (./txs builds it)."""
-import argparse, collections, json, os, random, subprocess, sys, tempfile
-HERE = os.path.dirname(os.path.abspath(__file__))
-JARS = ["clojure.jar", "spec.alpha.jar", "core.specs.alpha.jar"]
-JAVA = ["java", "-Xmx2g", "-cp", ":".join(os.path.join(os.sep, "usr", "share", "java", j) for j in JARS), "clojure.main"]
-TXS = os.path.join(HERE, "..", "crates", "txs", "out", "txs")
+import argparse, collections, json, os, random, subprocess, tempfile
+import beside
 NAMES = ["a", "b", "c", "x", "y", "n", "count", "inc", "+", "first"]
 KINDS = ["int", "int", "int", "ints", "bool", "any"]
 TWO = ["+", "-", "*", "quot", "rem", "mod", "max", "min"]
 COMPARE = ["<", ">", "<=", ">=", "=", "not="]
+LENGTHS = [0, 1, 31, 32, 33, 63, 64, 65, 1023, 1024, 1025, 1056, 1057, 2047, 2048, 2080]
+OF_VECTORS = [
+    "(def table (ref []))",
+    "(defn put [old new] new)",
+    "(defn grow [v n] (if (< (count v) n) (recur (conj v (count v)) n) v))",
+    "(defn less [v n] (if (< n (count v)) (recur (pop v) n) v))",
+    "(defn change [v i step] (if (< i (count v)) (recur (assoc v i (- (nth v i))) (+ i step) step) v))",
+    "(defn sum [v] (loop [i 0 s 0] (if (< i (count v)) (recur (inc i) (+ s (* i (nth v i)))) s)))"]
 
 
 class Function:
@@ -125,6 +131,32 @@ class Maker:
                 lambda: self.call(names, r.choice(["not", "nil?"]), any_()), lambda: self.call(names, r.choice(["zero?", "pos?", "neg?"]), int_())])()
         return r.choice([lambda: "[%s %s]" % (any_(), any_()), int_, ints, lambda: self.value("bool", names, depth)])()
 
+    def long_vectors(self):
+        """Long vectors, each made of one before it, and what each of them is at the end."""
+        r, lengths = self.rng, [self.rng.choice(LENGTHS)]
+        pairs = ["v0 (grow [] %d)" % lengths[0]]
+        for i in range(1, r.randint(3, 9)):
+            k = r.randrange(i)
+            n, v = lengths[k], "v%d" % k
+            place = r.randint(0, n)
+            made, length = r.choice([
+                ("(conj %s %d)" % (v, i), n + 1), ("(pop %s)" % v, n - 1), ("(assoc %s %d %d)" % (v, place, -i), max(n, place + 1)),
+                ("(grow %s %d)" % (v, n + r.choice([1, 31, 32, 33, 1025])), None), ("(less %s %d)" % (v, n // 2), n // 2),
+                ("(change %s %d %d)" % (v, r.randint(0, 40), r.randint(1, 90)), n), ("(dosync (alter table put %s) @table)" % v, n),
+                ("(dosync (alter table put %s) (alter table conj %d) (alter table assoc %d 5))" % (v, i, place), n + 1),
+                ("(do (dosync (alter table put %s)) (dosync (alter table pop)) %s)" % (v, v), n)])
+            if length is None:
+                length = int(made.split()[-1][:-1])
+            if length < 0 or (n == 0 and "pop" in made):
+                made, length = v, n
+            pairs.append("v%d %s" % (i, made))
+            lengths.append(length)
+        shown = []
+        for i, n in enumerate(lengths):
+            shown += ["(count v%d)" % i, "(peek v%d)" % i, "(sum v%d)" % i, "(= v%d v%d)" % (i, r.randrange(len(lengths)))]
+            shown += ["(nth v%d %d)" % (i, r.randrange(n))] if n else []
+        return "(let [%s] (println %s) (println (count @table) (sum @table)))" % (" ".join(pairs), " ".join(shown))
+
     def line(self, names, depth):
         self.outside = True
         return "(println %s)" % " ".join(self.value(self.rng.choice(KINDS), names, depth) for _ in range(self.rng.randint(0, 3)))
@@ -132,7 +164,8 @@ class Maker:
     def script(self):
         r = self.rng
         self.functions, self.in_dosync = [], False
-        parts = ["(def total (ref %s))" % self.literal("int"), "(def log (ref %s))" % self.literal("ints"), "(def k %s)" % self.literal("int")]
+        long = r.random() < 0.25
+        parts = (OF_VECTORS if long else []) + ["(def total (ref %s))" % self.literal("int"), "(def log (ref %s))" % self.literal("ints"), "(def k %s)" % self.literal("int")]
         for number in range(r.randint(0, 4)):
             takes, gives = [r.choice(KINDS) for _ in range(r.randint(0, 3))], r.choice(KINDS)
             parameters = r.sample(NAMES, len(takes))
@@ -144,11 +177,12 @@ class Maker:
             self.functions.append(Function("f%d" % number, takes, gives, self.only_pure, self.outside))
         self.only_pure = False
         body = [self.line({"k": "int"}, r.randint(2, 5)) for _ in range(r.randint(1, 4))] + ["(println @total @log)"]
+        body = [self.long_vectors()] + body if long else body
         return " ".join(parts + ["(future %s)" % " ".join(body)])
 
 
 def ended(script):
-    done = subprocess.run([TXS, "run"], input=script, capture_output=True, text=True)
+    done = subprocess.run([beside.TXS, "run"], input=script, capture_output=True, text=True)
     return {0: "ok", 1: "refused", 3: "fault"}.get(done.returncode, "stopped"), done.stdout, done.stderr.strip()
 
 
@@ -157,15 +191,14 @@ def main():
     parser.add_argument("--scripts", type=int, default=2000)
     parser.add_argument("--seed", type=int, default=1)
     a = parser.parse_args()
-    if not os.path.exists(TXS):
-        sys.exit("build it first: ./txs --help")
+    beside.need_the_program()
     maker = Maker(random.Random(a.seed))
     scripts = [maker.script() for _ in range(a.scripts)]
     with tempfile.TemporaryDirectory() as folder:
         path = os.path.join(folder, "scripts")
         with open(path, "w", encoding="utf-8") as h:
             h.write("".join(s + "\n" for s in scripts))
-        done = subprocess.run(JAVA + [os.path.join(HERE, "agree.clj"), path], capture_output=True, text=True, check=True)
+        done = subprocess.run(beside.JAVA + [os.path.join(beside.HERE, "agree.clj"), path], capture_output=True, text=True, check=True)
     theirs = [json.loads(line.replace('" "', '", "')) for line in done.stdout.splitlines()]
     counts = collections.Counter()
     for script, (end, printed) in zip(scripts, theirs):
