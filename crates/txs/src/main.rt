@@ -10,8 +10,6 @@ pub mod compile_error;
 mod left_out;
 mod play;
 #[cfg(test)]
-mod rerun_tests;
-#[cfg(test)]
 mod rows;
 mod run;
 mod streams;
