@@ -1,10 +1,10 @@
 -- How many steps an actor makes.
 use Rattle.std.proofs.Common.{◌≡◌, ℕ, zero, suc, ◌≤◌, Bool, true, false, nat_lt, Option, Some, None, refl, sym, subst, ◌∙◌}
 use Rattle.std.proofs.lemmas.Bool.{ltb-false}
-use Rattle.txs_value.specs.declared.ask.Reply.{Reply}
-use Rattle.txs_value.specs.declared.ask.Reply.TheVariants as reply
-use Rattle.txs_value.specs.declared.event.Outcome.{Outcome}
-use Rattle.txs_value.specs.declared.event.Outcome.TheVariants as outcome
+use Rattle.txs_asks.specs.declared.ask.Reply.{Reply}
+use Rattle.txs_asks.specs.declared.ask.Reply.TheVariants as reply
+use Rattle.txs_asks.specs.declared.event.Outcome.{Outcome}
+use Rattle.txs_asks.specs.declared.event.Outcome.TheVariants as outcome
 use Rattle.txs_code.specs.PlainCode.{PlainCode}
 use Rattle.txs_machine.specs.PlainActor.{PlainActor, answered_if, run_again}
 use Rattle.txs_machine.specs.Turns.{Answers, Moves, TurnsFrom, Turns, GoesOnAfter, TurnsOf}

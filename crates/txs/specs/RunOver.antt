@@ -1,12 +1,12 @@
 -- What an actor has done over a store, and what the source of its thread says of it.
 use Rattle.std.specs.Prelude.{◌≡◌, ◌≤◌, ℕ, List, [], Option, Some, None}
-use Rattle.txs_value.specs.Ask.{Exchange}
+use Rattle.txs_asks.specs.Ask.{Exchange}
 use Rattle.txs_value.specs.Cells.{World}
-use Rattle.txs_value.specs.declared.ask.Ask.{Ask}
-use Rattle.txs_value.specs.declared.ask.Reply.{Reply}
-use Rattle.txs_value.specs.declared.event.Event.{Event}
-use Rattle.txs_value.specs.declared.event.Outcome.{Outcome}
-use Rattle.txs_value.specs.declared.event.Outcome.TheVariants.{StepsSpent}
+use Rattle.txs_asks.specs.declared.ask.Ask.{Ask}
+use Rattle.txs_asks.specs.declared.ask.Reply.{Reply}
+use Rattle.txs_asks.specs.declared.event.Event.{Event}
+use Rattle.txs_asks.specs.declared.event.Outcome.{Outcome}
+use Rattle.txs_asks.specs.declared.event.Outcome.TheVariants.{StepsSpent}
 use Rattle.txs_value.specs.declared.value.Value.{Value}
 use Rattle.txs_tree.specs.Meaning.{Completion}
 use Rattle.txs_tree.specs.Thread.{ThreadState, thread_meaning}

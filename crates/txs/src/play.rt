@@ -11,7 +11,8 @@ use crate::words::{Words, parse_words};
 use std::alloc::{AllocError, Global};
 use std::io::{Read, Write};
 use txs_code::Verified;
-use txs_value::{Outcome, Span};
+use txs_asks::Outcome;
+use txs_value::Span;
 use txs_world::Store;
 
 /// What the program tells: its standard output and error, and its status.

@@ -11,7 +11,7 @@ use txs_code::Verified;
 use txs_explains::{served_ask_fits, turns_are_staged};
 use txs_follows::replies_fit;
 use txs_machine::{Actor, Turn, actors_explained, actors_run};
-use txs_value::{Ask, Outcome};
+use txs_asks::{Ask, Outcome};
 use txs_world::Store;
 
 /// What a thread has printed, how it ended, and how many steps it made.

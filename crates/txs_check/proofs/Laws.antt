@@ -1,6 +1,6 @@
 -- A program is sound exactly where nothing of it is refused, and it is refused for one reason.
 use Rattle.std.proofs.Common.{◌≡◌, ◌≢◌, ℕ, suc, ◌≤◌, ◌⊎◌, inl, inr, Bool, true, false, not, eqb, leb, if◌then◌else◌, ◌-◌, Option, List, [], ◌∷◌, ◌++◌, map, Some, None, Ok, Err, refl, sym, ap, ◌∙◌, subst}
-use Rattle.txs_value.specs.Core.{takes}
+use Rattle.txs_operations.specs.Core.{takes}
 use Rattle.txs_value.specs.Places.{nth}
 use Rattle.txs_value.specs.declared.fault.Span.{Span}
 use Rattle.txs_value.specs.declared.op.Callee.{Callee}

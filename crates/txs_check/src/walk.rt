@@ -10,7 +10,8 @@ use crate::class::{Signature, signature_of};
 use crate::error::{CheckError, CheckErrorKind};
 use crate::place::{Target, Zone, only};
 use txs_tree::{Node, NodeKind};
-use txs_value::{Callee, Op, Span, takes};
+use txs_operations::takes;
+use txs_value::{Callee, Op, Span};
 
 /// Whether the operation takes so many arguments.
 fn check_operation(op: Op, count: usize, at: Span) -> Result<(), CheckError>

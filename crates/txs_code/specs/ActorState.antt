@@ -1,12 +1,12 @@
 -- What an actor and the shared state say to each other, and what each such exchange leaves of the actor's state.
 use Rattle.std.specs.Prelude.{ℕ, Bool, true, false, List, [], ◌∷◌, ◌++◌, Option, Some, None, Result, Ok, Err, if◌then◌else◌}
-use Rattle.txs_value.specs.Ask.{Writes, buffered, with_write, Exchange, same_ask}
+use Rattle.txs_asks.specs.Ask.{Writes, buffered, with_write, Exchange, same_ask}
 use Rattle.txs_value.specs.Places.{fault_at}
 use Rattle.txs_value.specs.Printed.{printed_line}
-use Rattle.txs_value.specs.declared.ask.Ask.{Ask}
-use Rattle.txs_value.specs.declared.ask.Ask.TheVariants.{Begin, Look, Commit, Fail, Peek}
-use Rattle.txs_value.specs.declared.ask.Reply.{Reply}
-use Rattle.txs_value.specs.declared.ask.Reply.TheVariants.{At, Is, Done, Retry}
+use Rattle.txs_asks.specs.declared.ask.Ask.{Ask}
+use Rattle.txs_asks.specs.declared.ask.Ask.TheVariants.{Begin, Look, Commit, Fail, Peek}
+use Rattle.txs_asks.specs.declared.ask.Reply.{Reply}
+use Rattle.txs_asks.specs.declared.ask.Reply.TheVariants.{At, Is, Done, Retry}
 use Rattle.txs_value.specs.declared.fault.Fault.{Fault}
 use Rattle.txs_value.specs.declared.fault.FaultKind.{FaultKind}
 use Rattle.txs_value.specs.declared.fault.Span.{Span}

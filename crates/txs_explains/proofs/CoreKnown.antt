@@ -1,7 +1,7 @@
 -- What operations make of values that name the store's cells alone does so too.
 use Rattle.std.proofs.Common.{ℕ, zero, suc, ℤ, pos, negsuc, ◌-◌, ◌+◌, nat_le, nat_lt, ◌==◌, Bool, true, false, List, [], ◌∷◌, ◌++◌, length, take, drop, Option, Some, None, Result, Ok, Err, if◌then◌else◌}
 use Rattle.std.specs.Prelude.{slice_get, slice_index_or}
-use Rattle.txs_value.specs.Core.{Answer, ◌>>=◌, number_of, items_of, of_number, of_numbers, from_left, plus, minus, times, negated, difference_of, quotient, remainder, modulo, compared, tested, greatest, least, count_of, found, item_at, nth_of, conj_of, place_in, assoc_of, peek_of, pop_of, vector_of, arg, core}
+use Rattle.txs_operations.specs.Core.{Answer, ◌>>=◌, number_of, items_of, of_number, of_numbers, from_left, plus, minus, times, negated, difference_of, quotient, remainder, modulo, compared, tested, greatest, least, count_of, found, item_at, nth_of, conj_of, place_in, assoc_of, peek_of, pop_of, vector_of, arg, core}
 use Rattle.txs_value.specs.PlainValue.{PlainValue, nil, truth, int, key, text, vector, cell, PlainValues, end, more, plain_row, plain_list, depth, row_depth}
 use Rattle.txs_value.specs.View.{plain_of, plains_of, value_of}
 use Rattle.txs_value.specs.declared.fault.FaultKind.{FaultKind}

@@ -1,8 +1,8 @@
 -- A run of two actors that both add one to a ref, where the first has to run again: computed.
 use Rattle.std.proofs.Common.{◌≡◌, pos, List, [], ◌∷◌, refl}
-use Rattle.txs_value.specs.Core.{core}
+use Rattle.txs_operations.specs.Core.{core}
 use Rattle.txs_value.specs.Limits.{reruns}
-use Rattle.txs_value.specs.declared.event.EventKind.TheVariants.{Read, Commit, Retry}
+use Rattle.txs_asks.specs.declared.event.EventKind.TheVariants.{Read, Commit, Retry}
 use Rattle.txs_value.specs.declared.fault.Span.{Span}
 use Rattle.txs_value.specs.declared.op.Op.TheVariants.{Add}
 use Rattle.txs_value.specs.declared.value.CellId.{CellId}

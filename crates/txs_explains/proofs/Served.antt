@@ -2,15 +2,15 @@
 use Rattle.std.proofs.Common.{◌≡◌, ◌≤◌, ℕ, zero, suc, Bool, true, false, not, ◌&&◌, ◌==◌, nat_le, nat_lt, List, [], ◌∷◌, ◌++◌, length, map, Option, Some, None, refl, sym, ap, ◌∙◌, subst, arith, if◌then◌else◌, ◌⊎◌, inl, inr}
 use Rattle.std.proofs.lemmas.Bool.Decides.{nat_tests}
 use Rattle.std.proofs.lemmas.List.{append-nil}
-use Rattle.txs_value.specs.Ask.{Writes, Exchange}
+use Rattle.txs_asks.specs.Ask.{Writes, Exchange}
 use Rattle.txs_value.specs.Cells.{World}
-use Rattle.txs_value.specs.declared.ask.Ask.{Ask}
-use Rattle.txs_value.specs.declared.ask.Ask.TheVariants.{Begin, Look, Commit, Fail, Peek}
-use Rattle.txs_value.specs.declared.ask.Reply.{Reply}
-use Rattle.txs_value.specs.declared.ask.Reply.TheVariants as reply
-use Rattle.txs_value.specs.declared.event.Event.{Event}
-use Rattle.txs_value.specs.declared.event.EventKind.{EventKind}
-use Rattle.txs_value.specs.declared.event.EventKind.TheVariants as event
+use Rattle.txs_asks.specs.declared.ask.Ask.{Ask}
+use Rattle.txs_asks.specs.declared.ask.Ask.TheVariants.{Begin, Look, Commit, Fail, Peek}
+use Rattle.txs_asks.specs.declared.ask.Reply.{Reply}
+use Rattle.txs_asks.specs.declared.ask.Reply.TheVariants as reply
+use Rattle.txs_asks.specs.declared.event.Event.{Event}
+use Rattle.txs_asks.specs.declared.event.EventKind.{EventKind}
+use Rattle.txs_asks.specs.declared.event.EventKind.TheVariants as event
 use Rattle.txs_value.specs.declared.value.CellId.{CellId}
 use Rattle.txs_value.proofs.SameLemmas.{and_both, numbers, number-itself}
 use Rattle.txs_follows.specs.RepliesFit.{Out, In}

@@ -1,21 +1,21 @@
 -- An instruction makes at most one ask, which comes in its stage.
 use Rattle.std.proofs.Common.{◌≡◌, ℕ, zero, suc, true, false, List, [], ◌∷◌, Option, Some, None, Result, Ok, Err, ◌+◌, refl, sym, ap, subst, if◌then◌else◌}
-use Rattle.txs_value.specs.Ask.{Writes, buffered}
+use Rattle.txs_asks.specs.Ask.{Writes, buffered}
 use Rattle.txs_value.specs.Cells.{any_cell, readable_cell, ref_cell}
-use Rattle.txs_value.specs.Core.{core, vector_of}
+use Rattle.txs_operations.specs.Core.{core, vector_of}
 use Rattle.txs_value.specs.Places.{nth}
-use Rattle.txs_value.specs.Truth.{choose}
-use Rattle.txs_value.specs.declared.ask.Ask.{Ask}
-use Rattle.txs_value.specs.declared.ask.Ask.TheVariants.{Begin, Look, Commit, Fail, Peek}
-use Rattle.txs_value.specs.declared.ask.Reply.{Reply}
-use Rattle.txs_value.specs.declared.ask.Reply.TheVariants.{At, Is, Done, Retry, Full, Memory}
+use Rattle.txs_operations.specs.Truth.{choose}
+use Rattle.txs_asks.specs.declared.ask.Ask.{Ask}
+use Rattle.txs_asks.specs.declared.ask.Ask.TheVariants.{Begin, Look, Commit, Fail, Peek}
+use Rattle.txs_asks.specs.declared.ask.Reply.{Reply}
+use Rattle.txs_asks.specs.declared.ask.Reply.TheVariants.{At, Is, Done, Retry, Full, Memory}
 use Rattle.txs_value.specs.declared.fault.Fault.{Fault}
 use Rattle.txs_value.specs.declared.fault.FaultKind.{FaultKind}
 use Rattle.txs_value.specs.declared.fault.Span.{Span}
 use Rattle.txs_value.specs.declared.value.CellId.{CellId}
 use Rattle.txs_value.specs.declared.value.Value.{Value}
 use Rattle.txs_value.specs.declared.value.Value.TheVariants.{Nil, Truth, Int, Key, Text, Vector, Cell}
-use Rattle.txs_value.proofs.AskLemmas.{same_ask-itself}
+use Rattle.txs_asks.proofs.AskLemmas.{same_ask-itself}
 use Rattle.txs_code.specs.ActorState.{ActorState, Replied, Unreplied, asks, StepResult, Continue, Break, Redo, Await, Malformed, Passage, begun, failed, committed, looked, buffered_or, peeked, begin, fail, commit, look, peek, print, put_write, read, opens}
 use Rattle.txs_code.specs.Machine.{PlainInstr, Push, Load, Store, Pop, Jump, JumpFalse, CoreOf, CallOf, Return, MakeVector, PrintOf, DerefOf, TxBegin, TxEnd, AlterOpen, AlterClose, Halt, ThreadCode, fetch, Frame, frame, Savepoint, savepoint, Transaction, Outside, Restarting, Running, Configuration, configuration, Turned, Ended, Failed, Asking, Unfinished, Stuck, NextTo, after_fail, raise, rerun, retried, on, on_reach, on_top, on_args, begins, ends, returns_to, act, turn, found, step_of, is_inside}
 use Rattle.txs_explains.specs.Run.{exchange}

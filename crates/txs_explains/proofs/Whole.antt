@@ -2,7 +2,7 @@
 use Rattle.std.proofs.Common.{◌≡◌, ℕ, zero, suc, List, [], ◌∷◌, length, Option, Some, None, refl, sym, subst, ◌∙◌, ap, arith}
 use Rattle.txs_value.specs.Cells.{World}
 use Rattle.txs_value.specs.Places.{nth}
-use Rattle.txs_value.specs.declared.event.Event.{Event}
+use Rattle.txs_asks.specs.declared.event.Event.{Event}
 use Rattle.txs_tree.specs.Thread.{thread_meaning}
 use Rattle.txs_tree.specs.Tree.{PlainThread}
 use Rattle.txs_code.specs.Machine.{ThreadCode, Configuration, Turned, Ended, Failed, Asking, Unfinished, Stuck, Outcome}

@@ -2,7 +2,7 @@
 use Rattle.std.specs.Prelude.{◌≡◌, ℕ, List, [], ◌∷◌, Option, Some, None}
 use Rattle.txs_value.specs.Cells.{World}
 use Rattle.txs_value.specs.Places.{nth}
-use Rattle.txs_value.specs.declared.event.Event.{Event}
+use Rattle.txs_asks.specs.declared.event.Event.{Event}
 use Rattle.txs_tree.specs.Thread.{thread_meaning}
 use Rattle.txs_tree.specs.Tree.{PlainThread, PlainProgram, ThreadSource}
 use Rattle.txs_code.specs.Machine.{Halt, ThreadCode, Configuration, Turned, Ended, Failed, Asking, Unfinished, Stuck, Outcome, state, run}

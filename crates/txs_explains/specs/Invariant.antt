@@ -1,7 +1,7 @@
 -- What holds of the actors and the book between the plays of a run.
 use Rattle.std.specs.Prelude.{◌≡◌, ℕ, List}
 use Rattle.txs_value.specs.Cells.{World}
-use Rattle.txs_value.specs.declared.event.Event.{Event}
+use Rattle.txs_asks.specs.declared.event.Event.{Event}
 use Rattle.txs_code.specs.Machine.{ThreadCode, run}
 use Rattle.txs_follows.specs.Behaves.{opening}
 use Rattle.txs_world.specs.Book as world

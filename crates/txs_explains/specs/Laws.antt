@@ -1,11 +1,11 @@
 -- What holds of an actor beside the store, whatever the other actors do.
 use Rattle.std.specs.Prelude.{◌≡◌, ℕ, List, [], ◌∷◌, ◌++◌}
-use Rattle.txs_value.specs.Ask.{Exchange}
+use Rattle.txs_asks.specs.Ask.{Exchange}
 use Rattle.txs_value.specs.Cells.{World}
-use Rattle.txs_value.specs.declared.ask.Ask.{Ask}
-use Rattle.txs_value.specs.declared.ask.Reply.{Reply}
-use Rattle.txs_value.specs.declared.ask.Reply.TheVariants as reply
-use Rattle.txs_value.specs.declared.event.Event.{Event}
+use Rattle.txs_asks.specs.declared.ask.Ask.{Ask}
+use Rattle.txs_asks.specs.declared.ask.Reply.{Reply}
+use Rattle.txs_asks.specs.declared.ask.Reply.TheVariants as reply
+use Rattle.txs_asks.specs.declared.event.Event.{Event}
 use Rattle.txs_code.specs.Machine.{ThreadCode, Configuration, state, turn}
 use Rattle.txs_world.specs.Store.{serve}
 use Rattle.txs_explains.specs.Run.{exchange}

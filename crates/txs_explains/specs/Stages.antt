@@ -1,12 +1,12 @@
 -- In which order an actor asks, and what the book tells it.
 use Rattle.std.specs.Prelude.{◌≡◌, ℕ, true, List, [], ◌∷◌, map, Some}
-use Rattle.txs_value.specs.Ask.{Exchange}
+use Rattle.txs_asks.specs.Ask.{Exchange}
 use Rattle.txs_value.specs.Cells.{World}
-use Rattle.txs_value.specs.declared.ask.Ask.{Ask}
-use Rattle.txs_value.specs.declared.ask.Ask.TheVariants as ask
-use Rattle.txs_value.specs.declared.ask.Reply.{Reply}
-use Rattle.txs_value.specs.declared.ask.Reply.TheVariants as reply
-use Rattle.txs_value.specs.declared.event.Event.{Event}
+use Rattle.txs_asks.specs.declared.ask.Ask.{Ask}
+use Rattle.txs_asks.specs.declared.ask.Ask.TheVariants as ask
+use Rattle.txs_asks.specs.declared.ask.Reply.{Reply}
+use Rattle.txs_asks.specs.declared.ask.Reply.TheVariants as reply
+use Rattle.txs_asks.specs.declared.event.Event.{Event}
 use Rattle.txs_tree.specs.Thread.{SeenEvent, Read, Committed, Retried, Aborted}
 use Rattle.txs_code.specs.Machine.{ThreadCode, Transaction, Outside, Restarting, Running, Configuration, configuration, Turned, Ended, Failed, Asking, Unfinished, Stuck, state, turn}
 use Rattle.txs_follows.specs.RepliesFit.{Phase, Out, In}

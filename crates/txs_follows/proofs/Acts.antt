@@ -3,7 +3,7 @@ use Rattle.std.proofs.Common.{ℕ, zero, suc, true, false, List, [], Option, Som
 use Rattle.txs_code.specs.ActorState.{ActorState, StepResult, Continue, Break, Redo, Await, Malformed, Passage, Passed, Again, Pending, Unlawful, begin, commit}
 use Rattle.txs_code.specs.Machine.{PlainInstr, Push, Load, Store, Pop, Jump, JumpFalse, CoreOf, CallOf, Return, MakeVector, PrintOf, DerefOf, TxBegin, TxEnd, AlterOpen, AlterClose, Halt, ThreadCode, fetch, Frame, frame, Savepoint, savepoint, Transaction, Outside, Restarting, Running, Configuration, configuration, Outcome, Next, rerun, retried, on, on_reach, on_top, on_args, begins, ends, returns_to, act, exec}
 use Rattle.txs_follows.specs.Behaves.{IsOver}
-use Rattle.txs_value.specs.Truth.{choose}
+use Rattle.txs_operations.specs.Truth.{choose}
 use Rattle.txs_value.specs.declared.fault.Span.{Span}
 use Rattle.txs_value.specs.declared.value.Value.TheVariants.{Nil, Truth, Int, Key, Text, Vector, Cell}
 use Rattle.txs_value.specs.declared.value.Value.{Value}

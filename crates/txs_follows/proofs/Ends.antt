@@ -20,7 +20,7 @@ use Rattle.txs_follows.specs.RepliesFitTo.{RepliesFitTo}
 use Rattle.txs_tree.specs.Meaning.{Completion, Completes, Recurs, Faults, Retries, Waits, OutOfTurns, Invalid}
 use Rattle.txs_tree.specs.Thread.{SeenEvent, thread_meaning}
 use Rattle.txs_tree.specs.Tree.{ThreadSource}
-use Rattle.txs_value.specs.Ask.{Exchange}
+use Rattle.txs_asks.specs.Ask.{Exchange}
 use Rattle.txs_value.specs.declared.value.Value.{Value}
 
 consumed_grown : (s : ActorState) (o : Outcome) → GrowsTo s o → s.todo ≡ [] → Consumed o

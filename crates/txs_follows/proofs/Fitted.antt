@@ -4,10 +4,10 @@ use Rattle.std.proofs.lemmas.List.{append-nil}
 use Rattle.txs_follows.specs.RepliesFit.{Phase, Out, In, ReplyFits, RepliesFit}
 use Rattle.txs_follows.specs.RepliesFitTo.{RepliesFitTo, FittingToFits, OneMoreFits}
 use Rattle.txs_tree.specs.Thread.{SeenEvent, Read, Committed, Retried, Aborted}
-use Rattle.txs_value.specs.declared.ask.Ask.TheVariants.{Begin, Look, Commit, Fail, Peek}
-use Rattle.txs_value.specs.declared.ask.Ask.{Ask}
-use Rattle.txs_value.specs.declared.ask.Reply.TheVariants.{At, Is, Done, Retry}
-use Rattle.txs_value.specs.declared.ask.Reply.{Reply}
+use Rattle.txs_asks.specs.declared.ask.Ask.TheVariants.{Begin, Look, Commit, Fail, Peek}
+use Rattle.txs_asks.specs.declared.ask.Ask.{Ask}
+use Rattle.txs_asks.specs.declared.ask.Reply.TheVariants.{At, Is, Done, Retry}
+use Rattle.txs_asks.specs.declared.ask.Reply.{Reply}
 
 fits_on : (ph : Phase) (q : Ask) (r : Reply) (next next1 : Phase → List SeenEvent → Type 0) (es fs : List SeenEvent) → ((ph1 : Phase) (es1 : List SeenEvent) → next ph1 es1 → next1 ph1 (es1 ++ fs)) → ReplyFits ph q r next es → ReplyFits ph q r next1 (es ++ fs)
 fits_on Out Begin (At p) next next1 es fs k h = (h.0, k (In h.0) es h.1)

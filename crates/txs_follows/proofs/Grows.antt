@@ -4,15 +4,15 @@ use Rattle.std.proofs.lemmas.List.{append-nil}
 use Rattle.txs_code.specs.ActorState.{ActorState, Reception, Replied, Unreplied, receives, asks, StepResult, Continue, Break, Redo, Await, Malformed, Passage, Passed, Again, Pending, Unlawful, begun, begin, failed, fail, committed, commit, looked, buffered_or, look, peeked, peek, put_write, print, read, opens}
 use Rattle.txs_code.specs.Machine.{PlainInstr, Push, Load, Store, Pop, Jump, JumpFalse, CoreOf, CallOf, Return, MakeVector, PrintOf, DerefOf, TxBegin, TxEnd, AlterOpen, AlterClose, Halt, ThreadCode, fetch, Frame, frame, Savepoint, savepoint, Transaction, Outside, Restarting, Running, is_inside, Configuration, configuration, Ended, Failed, Asking, Unfinished, Stuck, Outcome, Next, after_fail, raise, rerun, retried, on, on_reach, found, step_of, on_top, on_args, begins, ends, returns_to, act, state, exec}
 use Rattle.txs_follows.proofs.Acts.{act_alike}
-use Rattle.txs_value.specs.Ask.{buffered, Exchange, same_ask}
+use Rattle.txs_asks.specs.Ask.{buffered, Exchange, same_ask}
 use Rattle.txs_value.specs.Cells.{any_cell, readable_cell, ref_cell}
-use Rattle.txs_value.specs.Core.{core, vector_of}
+use Rattle.txs_operations.specs.Core.{core, vector_of}
 use Rattle.txs_value.specs.Places.{nth}
 use Rattle.txs_value.specs.Printed.{printed_line}
-use Rattle.txs_value.specs.Truth.{choose}
-use Rattle.txs_value.specs.declared.ask.Ask.TheVariants.{Begin, Look, Commit, Fail, Peek}
-use Rattle.txs_value.specs.declared.ask.Ask.{Ask}
-use Rattle.txs_value.specs.declared.ask.Reply.TheVariants.{At, Is, Done, Retry, Full, Memory}
+use Rattle.txs_operations.specs.Truth.{choose}
+use Rattle.txs_asks.specs.declared.ask.Ask.TheVariants.{Begin, Look, Commit, Fail, Peek}
+use Rattle.txs_asks.specs.declared.ask.Ask.{Ask}
+use Rattle.txs_asks.specs.declared.ask.Reply.TheVariants.{At, Is, Done, Retry, Full, Memory}
 use Rattle.txs_value.specs.declared.fault.Fault.{Fault}
 use Rattle.txs_value.specs.declared.fault.FaultKind.{FaultKind}
 use Rattle.txs_value.specs.declared.fault.Span.{Span}

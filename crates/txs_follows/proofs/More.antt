@@ -7,7 +7,7 @@ use Rattle.txs_follows.specs.OnReplies.{res, met, settled, attempt, retrying, tr
 use Rattle.txs_follows.specs.RepliesFit.{Halt, Stopped, Rerun}
 use Rattle.txs_tree.specs.Meaning.{Completion, Completes, Recurs, Faults, Retries, Waits, OutOfTurns, Invalid, bind, closed, eval, call_at}
 use Rattle.txs_tree.specs.Tree.{PlainFunction, ThreadSource}
-use Rattle.txs_value.specs.Ask.{Exchange}
+use Rattle.txs_asks.specs.Ask.{Exchange}
 use Rattle.txs_value.specs.Cells.{ref_cell}
 use Rattle.txs_value.specs.Limits.{reruns}
 use Rattle.txs_value.specs.declared.fault.Span.{Span}

@@ -8,7 +8,7 @@ use Rattle.txs_tree.specs.Meaning.{Completion, Completes, Recurs, Faults, Retrie
 use Rattle.txs_tree.specs.Thread.{SeenEvent, Read, Committed, Retried, Aborted, ThreadState, reads, commits, aborts, eats_tx, on_events, thread_meaning}
 use Rattle.txs_tree.specs.Transaction.{TxState, taken, set_to, in_transaction, tx_meaning}
 use Rattle.txs_tree.specs.Tree.{Tree, PlainFunction, ThreadSource}
-use Rattle.txs_value.specs.Ask.{Writes}
+use Rattle.txs_asks.specs.Ask.{Writes}
 use Rattle.txs_value.specs.Cells.{World, any_cell, readable_cell, ref_cell}
 use Rattle.txs_value.specs.Limits.{reruns}
 use Rattle.txs_value.specs.Printed.{printed_line}

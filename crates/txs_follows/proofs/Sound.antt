@@ -13,15 +13,15 @@ use Rattle.txs_tree.specs.Known.{Known, known, known_of}
 use Rattle.txs_tree.specs.Sound.{Zone, in_function, in_thread, in_dosync, MayLeave, MayEnter, MayCall, SoundTree, SoundAll, SoundLet, SoundDo, SoundFunctions, SoundSource, SoundCallee}
 use Rattle.txs_tree.specs.Thread.{SeenEvent, Read, Committed, Retried, Aborted}
 use Rattle.txs_tree.specs.Tree.{Tree, Const, Local, If, Do, Let, Loop, Recur, Core, Call, VectorOf, Println, Dosync, Deref, Alter, Trees, none, more, count, PlainFunction, ThreadSource}
-use Rattle.txs_value.specs.Ask.{buffered, Exchange}
+use Rattle.txs_asks.specs.Ask.{buffered, Exchange}
 use Rattle.txs_value.specs.Cells.{World, any_cell, readable_cell, ref_cell}
-use Rattle.txs_value.specs.Core.{core, vector_of}
+use Rattle.txs_operations.specs.Core.{core, vector_of}
 use Rattle.txs_value.specs.Limits.{reruns}
 use Rattle.txs_value.specs.Places.{nth}
-use Rattle.txs_value.specs.Truth.{choose}
-use Rattle.txs_value.specs.declared.ask.Ask.TheVariants.{Begin, Look, Commit, Fail, Peek}
-use Rattle.txs_value.specs.declared.ask.Reply.TheVariants.{At, Is, Done, Retry, Full, Memory}
-use Rattle.txs_value.specs.declared.ask.Reply.{Reply}
+use Rattle.txs_operations.specs.Truth.{choose}
+use Rattle.txs_asks.specs.declared.ask.Ask.TheVariants.{Begin, Look, Commit, Fail, Peek}
+use Rattle.txs_asks.specs.declared.ask.Reply.TheVariants.{At, Is, Done, Retry, Full, Memory}
+use Rattle.txs_asks.specs.declared.ask.Reply.{Reply}
 use Rattle.txs_value.specs.declared.fault.Fault.{Fault}
 use Rattle.txs_value.specs.declared.fault.FaultKind.{FaultKind}
 use Rattle.txs_value.specs.declared.fault.Span.{Span}

@@ -11,15 +11,15 @@ use Rattle.txs_tree.specs.Meaning.{Completion, Completes, Recurs, Faults, Retrie
 use Rattle.txs_tree.specs.Thread.{SeenEvent, Read, Committed, Retried, Aborted, ThreadState, eats_read, reads, commits, aborts, eats_tx, on_events, thread_meaning}
 use Rattle.txs_tree.specs.Transaction.{TxState, tx_meaning}
 use Rattle.txs_tree.specs.Tree.{Tree, PlainFunction}
-use Rattle.txs_value.proofs.AskLemmas.{same_writes-itself}
+use Rattle.txs_asks.proofs.AskLemmas.{same_writes-itself}
 use Rattle.txs_value.proofs.SameLemmas.{same_cell-itself}
-use Rattle.txs_value.specs.Ask.{Exchange, same_cell, same_writes}
+use Rattle.txs_asks.specs.Ask.{Exchange, same_cell, same_writes}
 use Rattle.txs_value.specs.Cells.{World, any_cell}
 use Rattle.txs_value.specs.Limits.{reruns}
 use Rattle.txs_value.specs.Printed.{printed_line}
-use Rattle.txs_value.specs.declared.ask.Ask.TheVariants.{Begin, Commit, Fail, Peek}
-use Rattle.txs_value.specs.declared.ask.Reply.TheVariants.{At, Is, Done, Retry, Full, Memory}
-use Rattle.txs_value.specs.declared.ask.Reply.{Reply}
+use Rattle.txs_asks.specs.declared.ask.Ask.TheVariants.{Begin, Commit, Fail, Peek}
+use Rattle.txs_asks.specs.declared.ask.Reply.TheVariants.{At, Is, Done, Retry, Full, Memory}
+use Rattle.txs_asks.specs.declared.ask.Reply.{Reply}
 use Rattle.txs_value.specs.declared.fault.Fault.{Fault}
 use Rattle.txs_value.specs.declared.fault.FaultKind.{FaultKind}
 use Rattle.txs_value.specs.declared.fault.Span.{Span}

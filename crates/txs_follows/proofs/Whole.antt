@@ -11,7 +11,7 @@ use Rattle.txs_follows.specs.RepliesFit.{Out, RepliesFit, halted, HasEaten, Agre
 use Rattle.txs_tree.specs.Meaning.{Completion, Completes, Recurs, Faults, Retries, Waits, OutOfTurns, Invalid}
 use Rattle.txs_tree.specs.Thread.{SeenEvent, ThreadState, thread_meaning}
 use Rattle.txs_tree.specs.Tree.{ThreadSource}
-use Rattle.txs_value.specs.Ask.{Exchange}
+use Rattle.txs_asks.specs.Ask.{Exchange}
 use Rattle.txs_value.specs.declared.value.Value.{Value}
 
 -- a list that is nothing put before another leaves nothing

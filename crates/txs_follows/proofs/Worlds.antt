@@ -9,13 +9,13 @@ use Rattle.txs_tree.specs.Meaning.{Completion, Completes, bind, closed, eval, ca
 use Rattle.txs_tree.specs.Thread.{SeenEvent, Read, Committed, Retried, Aborted}
 use Rattle.txs_tree.specs.Transaction.{TxState, own_or_world, taken, set_to, in_transaction, tx_meaning}
 use Rattle.txs_tree.specs.Tree.{Tree, PlainFunction}
-use Rattle.txs_value.proofs.AskLemmas.{same_ask-sound}
-use Rattle.txs_value.specs.Ask.{buffered, with_write, Exchange, same_ask}
+use Rattle.txs_asks.proofs.AskLemmas.{same_ask-sound}
+use Rattle.txs_asks.specs.Ask.{buffered, with_write, Exchange, same_ask}
 use Rattle.txs_value.specs.Cells.{World, readable_cell, ref_cell}
-use Rattle.txs_value.specs.declared.ask.Ask.TheVariants.{Look}
-use Rattle.txs_value.specs.declared.ask.Ask.{Ask}
-use Rattle.txs_value.specs.declared.ask.Reply.TheVariants.{At, Is, Done, Retry, Full, Memory}
-use Rattle.txs_value.specs.declared.ask.Reply.{Reply}
+use Rattle.txs_asks.specs.declared.ask.Ask.TheVariants.{Look}
+use Rattle.txs_asks.specs.declared.ask.Ask.{Ask}
+use Rattle.txs_asks.specs.declared.ask.Reply.TheVariants.{At, Is, Done, Retry, Full, Memory}
+use Rattle.txs_asks.specs.declared.ask.Reply.{Reply}
 use Rattle.txs_value.specs.declared.fault.FaultKind.{FaultKind}
 use Rattle.txs_value.specs.declared.fault.Span.{Span}
 use Rattle.txs_value.specs.declared.value.CellId.{CellId}

@@ -1,6 +1,6 @@
 -- Where the thread's meaning ends on the events, the code ends so.
 use Rattle.std.specs.Prelude.{ℕ, List, [], ◌∷◌, ◌++◌}
-use Rattle.txs_value.specs.Ask.{Exchange}
+use Rattle.txs_asks.specs.Ask.{Exchange}
 use Rattle.txs_value.specs.declared.value.Value.{Value}
 use Rattle.txs_tree.specs.Meaning.{Completion, Completes, Recurs, Faults, Retries, Waits, OutOfTurns, Invalid}
 use Rattle.txs_tree.specs.Thread.{SeenEvent, Aborted, ThreadState, thread_meaning}

@@ -1,11 +1,11 @@
 -- Which replies fit which events, and what it is that code follows a program.
 use Rattle.std.specs.Prelude.{◌≡◌, ℕ, List, [], ◌∷◌, ◌++◌}
-use Rattle.txs_value.specs.Ask.{Exchange}
+use Rattle.txs_asks.specs.Ask.{Exchange}
 use Rattle.txs_value.specs.Cells.{World}
-use Rattle.txs_value.specs.declared.ask.Ask.{Ask}
-use Rattle.txs_value.specs.declared.ask.Ask.TheVariants.{Begin, Look, Commit, Fail, Peek}
-use Rattle.txs_value.specs.declared.ask.Reply.{Reply}
-use Rattle.txs_value.specs.declared.ask.Reply.TheVariants.{At, Is, Done, Retry}
+use Rattle.txs_asks.specs.declared.ask.Ask.{Ask}
+use Rattle.txs_asks.specs.declared.ask.Ask.TheVariants.{Begin, Look, Commit, Fail, Peek}
+use Rattle.txs_asks.specs.declared.ask.Reply.{Reply}
+use Rattle.txs_asks.specs.declared.ask.Reply.TheVariants.{At, Is, Done, Retry}
 use Rattle.txs_value.specs.declared.value.Value.{Value}
 use Rattle.txs_tree.specs.Meaning.{Completion, Completes, Recurs, Faults, Retries, Waits, OutOfTurns, Invalid}
 use Rattle.txs_tree.specs.Thread.{SeenEvent, Read, Committed, Retried, Aborted, ThreadState, thread_meaning}

@@ -1,6 +1,6 @@
 -- Exchanges that fit events, with the phase that they end in, and one more exchange.
 use Rattle.std.specs.Prelude.{◌≡◌, List, [], ◌∷◌, ◌++◌}
-use Rattle.txs_value.specs.Ask.{Exchange}
+use Rattle.txs_asks.specs.Ask.{Exchange}
 use Rattle.txs_tree.specs.Thread.{SeenEvent}
 use Rattle.txs_follows.specs.RepliesFit.{Phase, ReplyFits, RepliesFit}
 

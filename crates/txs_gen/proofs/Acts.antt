@@ -1,6 +1,6 @@
 -- One instruction, before two ways of going on that are alike.
 use Rattle.std.proofs.Common.{ℕ, zero, suc, true, false, List, [], ◌∷◌, Option, Some, None}
-use Rattle.txs_value.specs.Truth.{choose}
+use Rattle.txs_operations.specs.Truth.{choose}
 use Rattle.txs_value.specs.declared.fault.Span.{Span}
 use Rattle.txs_value.specs.declared.value.Value.{Value}
 use Rattle.txs_value.specs.declared.value.Value.TheVariants.{Nil, Truth, Int, Key, Text, Vector, Cell}

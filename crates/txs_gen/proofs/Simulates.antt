@@ -2,10 +2,10 @@
 use Rattle.std.proofs.Common.{◌≡◌, ℕ, zero, suc, ◌+◌, ◌≤◌, Bool, true, false, not, List, [], ◌∷◌, ◌++◌, length, Option, Some, None, Result, Ok, Err, refl, sym, ap, ◌∙◌, subst, arith, append_assoc, length-append, nat_eq, if◌then◌else◌}
 use Rattle.std.proofs.lemmas.Bool.{eqb-true}
 use Rattle.txs_value.specs.Cells.{ref_cell}
-use Rattle.txs_value.specs.Core.{core, vector_of}
+use Rattle.txs_operations.specs.Core.{core, vector_of}
 use Rattle.txs_value.specs.Limits.{reruns}
 use Rattle.txs_value.specs.Places.{nth}
-use Rattle.txs_value.specs.Truth.{choose}
+use Rattle.txs_operations.specs.Truth.{choose}
 use Rattle.txs_value.specs.declared.fault.Fault.{Fault}
 use Rattle.txs_value.specs.declared.fault.FaultKind.{FaultKind}
 use Rattle.txs_value.specs.declared.fault.Span.{Span}

@@ -1,13 +1,13 @@
 -- Exchanges put at the end change nothing before they are asked for.
 use Rattle.std.proofs.Common.{◌≡◌, ℕ, zero, suc, Bool, true, false, List, [], ◌∷◌, ◌++◌, Option, Some, None, Result, Ok, Err, refl, sym, ap, subst, if◌then◌else◌}
-use Rattle.txs_value.specs.Ask.{buffered, Exchange, same_ask}
+use Rattle.txs_asks.specs.Ask.{buffered, Exchange, same_ask}
 use Rattle.txs_value.specs.Cells.{any_cell, readable_cell, ref_cell}
-use Rattle.txs_value.specs.Core.{core, vector_of}
+use Rattle.txs_operations.specs.Core.{core, vector_of}
 use Rattle.txs_value.specs.Places.{nth}
-use Rattle.txs_value.specs.Truth.{choose}
-use Rattle.txs_value.specs.declared.ask.Ask.{Ask}
-use Rattle.txs_value.specs.declared.ask.Ask.TheVariants.{Begin, Look, Commit, Fail, Peek}
-use Rattle.txs_value.specs.declared.ask.Reply.TheVariants.{At, Is, Done, Retry, Full, Memory}
+use Rattle.txs_operations.specs.Truth.{choose}
+use Rattle.txs_asks.specs.declared.ask.Ask.{Ask}
+use Rattle.txs_asks.specs.declared.ask.Ask.TheVariants.{Begin, Look, Commit, Fail, Peek}
+use Rattle.txs_asks.specs.declared.ask.Reply.TheVariants.{At, Is, Done, Retry, Full, Memory}
 use Rattle.txs_value.specs.declared.fault.Fault.{Fault}
 use Rattle.txs_value.specs.declared.fault.FaultKind.{FaultKind}
 use Rattle.txs_value.specs.declared.fault.Span.{Span}

@@ -3,7 +3,7 @@ use Rattle.std.proofs.Common.{◌≡◌, ◌≢◌, ℕ, zero, suc, ◌<◌, ◌
 use Rattle.std.specs.Prelude.{nat_lt, insert}
 use Rattle.std.proofs.lemmas.Bool.{lt-ltb, le-ltb, ltb-true, ltb-false, eq-eqb, eqb-true, ne_eqb}
 use Rattle.std.specs.List.Sorted.{IsPartitionPoint}
-use Rattle.txs_value.specs.Ask.{Writes, buffered, with_write}
+use Rattle.txs_asks.specs.Ask.{Writes, buffered, with_write}
 use Rattle.txs_value.specs.declared.value.CellId.{CellId}
 use Rattle.txs_value.specs.declared.value.Value.{Value}
 use Rattle.txs_machine.specs.PlainActor.{IsAscending}

@@ -1,8 +1,8 @@
 -- What an actor has done is what the code means.
 use Rattle.std.specs.Prelude.{◌≡◌, ℕ, ◌≤◌, List, [], ◌∷◌, ◌++◌, Option, Some, None}
-use Rattle.txs_value.specs.Ask.{Exchange}
-use Rattle.txs_value.specs.declared.ask.Ask.{Ask}
-use Rattle.txs_value.specs.declared.ask.Reply.{Reply}
+use Rattle.txs_asks.specs.Ask.{Exchange}
+use Rattle.txs_asks.specs.declared.ask.Ask.{Ask}
+use Rattle.txs_asks.specs.declared.ask.Reply.{Reply}
 use Rattle.txs_tree.specs.Thread.{SeenEvent, thread_meaning}
 use Rattle.txs_tree.specs.Tree.{ThreadSource}
 use Rattle.txs_code.specs.Machine.{Turned, Asking}
@@ -14,7 +14,7 @@ use Rattle.txs_follows.specs.RepliesFit.{Out, RepliesFit, Explained}
 use Rattle.txs_machine.specs.PlainActor.{PlainActor, HasRun, MayAnswer, Stops, answered, unanswered, code_of, state_of, standing}
 use Rattle.txs_machine.specs.Turns.{IsNew, Turns}
 use Rattle.txs_machine.specs.declared.outcome.Turn.{Turn}
-use Rattle.txs_value.specs.declared.event.Outcome.{Outcome}
+use Rattle.txs_asks.specs.declared.event.Outcome.{Outcome}
 
 -- what the machine's meaning is told of an actor
 abbrev pub told : PlainActor → Option Outcome → Option Ask → machine.Outcome

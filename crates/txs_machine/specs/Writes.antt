@@ -1,6 +1,6 @@
 -- Places among the writes of a transaction.
 use Rattle.std.specs.Prelude.{ℕ, ◌<◌, ◌≤◌, length, slice_index_or}
-use Rattle.txs_value.specs.Ask.{Writes}
+use Rattle.txs_asks.specs.Ask.{Writes}
 use Rattle.txs_value.specs.declared.value.CellId.{CellId}
 use Rattle.txs_value.specs.declared.value.Value.{Value}
 

@@ -3,7 +3,7 @@
 ghost use Rattle.std.specs.Prelude.{◌↔◌, IsTrue};
 ghost use Rattle.txs_machine.specs.PlainActor.{MayAnswer};
 
-use txs_value::{Ask, Reply};
+use txs_asks::{Ask, Reply};
 
 /// Whether the reply is one that the ask may have. Each ask but that of a beginning may find no memory,
 /// and each that adds an event may find the book full.

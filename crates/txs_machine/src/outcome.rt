@@ -1,7 +1,8 @@
 //! What turns and instructions come to.
 
 use crate::state::Pending;
-use txs_value::{Ask, FaultKind, Outcome};
+use txs_asks::{Ask, Outcome};
+use txs_value::FaultKind;
 
 /// What a turn came to.
 #[derive(Debug, Drop)]

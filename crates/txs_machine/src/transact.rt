@@ -4,7 +4,7 @@ ghost use Rattle.std.specs.Prelude.{List, ◌≡◌, ◌<◌, ◌≤◌, ◌^◌
 ghost use Rattle.txs_value.specs.Cells.{any_cell, readable_cell, ref_cell};
 ghost use Rattle.txs_machine.specs.Flat.{Comes, CanMove, effect, reads, opens, begins, ends, closes};
 ghost use Rattle.txs_machine.specs.PlainActor.{under, is_running, depth_in, IsAscending};
-ghost use Rattle.txs_value.specs.Ask.{Writes};
+ghost use Rattle.txs_asks.specs.Ask.{Writes};
 ghost use Rattle.txs_value.specs.declared.value.Value.{Value as AValue};
 
 use crate::outcome::Moved;

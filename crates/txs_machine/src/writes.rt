@@ -1,7 +1,7 @@
 //! A transaction's own writes, by ascending number of their refs.
 
 ghost use Rattle.std.specs.Prelude.{⊤, ◌≡◌, ◌≤◌, ◌∷◌, ◌++◌, [], length, vec_capacity, IfOk, OnOk, OnErr};
-ghost use Rattle.txs_value.specs.Ask.{buffered, with_write};
+ghost use Rattle.txs_asks.specs.Ask.{buffered, with_write};
 ghost use Rattle.txs_machine.specs.PlainActor.{IsAscending};
 ghost use Rattle.txs_machine.specs.Writes.{IsPlaceFor};
 

@@ -12,7 +12,7 @@ use Rattle.txs_tree.specs.Thread.{ThreadState, thread_meaning}
 use Rattle.txs_tree.specs.View.{Parts, tree_of, thread_of, threads_of, functions_of, program_of}
 use Rattle.txs_tree.specs.declared.evaluate.ThreadStop.{ThreadStop}
 use Rattle.txs_tree.specs.declared.evaluate.ThreadStop.TheVariants.{Fault, Event as NoEvent, Turns as NoTurns}
-use Rattle.txs_value.specs.declared.event.Outcome.TheVariants.{Done, Failed}
+use Rattle.txs_asks.specs.declared.event.Outcome.TheVariants.{Done, Failed}
 use Rattle.txs_tree.specs.declared.meaning.Needs.TheVariants.{Nothing, Event, Turns}
 use Rattle.txs_tree.specs.declared.meaning.ThreadMeaning.{ThreadMeaning}
 use Rattle.txs_tree.specs.declared.node.Function.{Function}

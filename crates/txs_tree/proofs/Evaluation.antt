@@ -4,10 +4,10 @@ use Rattle.std.proofs.Math.Seq.{drop-append_seam, take-append_seam}
 use Rattle.std.proofs.lemmas.Bool.{eq-eqb}
 use Rattle.std.proofs.lemmas.List.{drop_more, append-nil, length-take, take-append-le, take-append-drop}
 use Rattle.txs_value.specs.Cells.{any_cell}
-use Rattle.txs_value.specs.Core.{core, vector_of, is_false}
+use Rattle.txs_operations.specs.Core.{core, vector_of, is_false}
 use Rattle.txs_value.specs.Places.{nth}
 use Rattle.txs_value.specs.Printed.{printed_line}
-use Rattle.txs_value.specs.Truth.{choose}
+use Rattle.txs_operations.specs.Truth.{choose}
 use Rattle.txs_value.specs.declared.op.Op.{Op}
 use Rattle.txs_value.specs.declared.value.Value.{Value}
 use Rattle.txs_value.specs.declared.value.Value.TheVariants.{Nil, Truth, Int, Key, Text, Vector, Cell}

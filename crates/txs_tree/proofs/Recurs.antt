@@ -1,11 +1,11 @@
 -- A recur of a sound node has as many values as the loop in whose tail position the node stands.
 use Rattle.std.proofs.Common.{ℕ, zero, suc, Bool, true, false, List, [], ◌∷◌, ◌++◌, Option, Some, None, Result, Ok, Err, sym, ap, ◌∙◌, subst, refl, length, nat_eq, if◌then◌else◌, ◌≡◌, ◌+◌}
-use Rattle.txs_value.specs.Ask.{Writes, same_writes, same_cell}
+use Rattle.txs_asks.specs.Ask.{Writes, same_writes, same_cell}
 use Rattle.txs_value.specs.Cells.{World, any_cell}
-use Rattle.txs_value.specs.Core.{core, vector_of}
+use Rattle.txs_operations.specs.Core.{core, vector_of}
 use Rattle.txs_value.specs.Limits.{reruns}
 use Rattle.txs_value.specs.Places.{nth}
-use Rattle.txs_value.specs.Truth.{choose}
+use Rattle.txs_operations.specs.Truth.{choose}
 use Rattle.txs_value.specs.declared.fault.FaultKind.{FaultKind}
 use Rattle.txs_value.specs.declared.fault.Span.{Span}
 use Rattle.txs_value.specs.declared.value.CellId.{CellId}

@@ -1,8 +1,8 @@
 -- What the plain evaluator answers.
 use Rattle.std.specs.Prelude.{◌≡◌, ℕ, Bool, false, List, [], ◌++◌, Option, Some, None, Result, Ok, Err, ⊤}
 use Rattle.txs_value.specs.Places.{nth}
-use Rattle.txs_value.specs.declared.event.Outcome.{Outcome}
-use Rattle.txs_value.specs.declared.event.Outcome.TheVariants.{Done, Failed}
+use Rattle.txs_asks.specs.declared.event.Outcome.{Outcome}
+use Rattle.txs_asks.specs.declared.event.Outcome.TheVariants.{Done, Failed}
 use Rattle.txs_value.specs.declared.value.Value.{Value}
 use Rattle.txs_tree.specs.Meaning.{Completion, Completes, Recurs, Faults, Retries, Waits, OutOfTurns, Invalid, bind, turns, Effects, eval, eval_all, eval_let, eval_do, call_at}
 use Rattle.txs_tree.specs.Setting.{Setting}

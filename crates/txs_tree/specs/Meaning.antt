@@ -1,8 +1,8 @@
 -- What a tree does, where each loop makes at most n turns. What the forms on cells do is handed in.
 use Rattle.std.specs.Prelude.{ℕ, zero, suc, Bool, true, false, List, [], ◌∷◌, ◌++◌, Option, Some, None, Result, Ok, Err, length, nat_eq, if◌then◌else◌}
-use Rattle.txs_value.specs.Core.{core, vector_of}
+use Rattle.txs_operations.specs.Core.{core, vector_of}
 use Rattle.txs_value.specs.Places.{nth, fault_at}
-use Rattle.txs_value.specs.Truth.{choose}
+use Rattle.txs_operations.specs.Truth.{choose}
 use Rattle.txs_value.specs.declared.fault.Fault.{Fault}
 use Rattle.txs_value.specs.declared.fault.FaultKind.{FaultKind}
 use Rattle.txs_value.specs.declared.fault.Span.{Span}

@@ -1,6 +1,6 @@
 -- What a thread means on a list of events, each with its world.
 use Rattle.std.specs.Prelude.{ℕ, zero, suc, false, List, [], ◌∷◌, ◌++◌, length, if◌then◌else◌, Result, Ok, Err}
-use Rattle.txs_value.specs.Ask.{Writes, same_writes, same_cell}
+use Rattle.txs_asks.specs.Ask.{Writes, same_writes, same_cell}
 use Rattle.txs_value.specs.Printed.{printed_line}
 use Rattle.txs_value.specs.Limits.{reruns}
 use Rattle.txs_value.specs.Places.{fault_at}

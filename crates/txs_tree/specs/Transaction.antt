@@ -1,6 +1,6 @@
 -- What a transaction's body means on one world of refs.
 use Rattle.std.specs.Prelude.{ℕ, true, List, [], ◌∷◌, ◌++◌, Option, Some, None, Result, Ok, Err}
-use Rattle.txs_value.specs.Ask.{Writes, buffered, with_write}
+use Rattle.txs_asks.specs.Ask.{Writes, buffered, with_write}
 use Rattle.txs_value.specs.Places.{fault_at}
 use Rattle.txs_value.specs.declared.fault.FaultKind.{FaultKind}
 use Rattle.txs_value.specs.declared.fault.Span.{Span}

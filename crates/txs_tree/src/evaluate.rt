@@ -2,7 +2,7 @@
 
 ghost use Rattle.std.specs.Prelude.{◌≡◌, ◌≤◌, ◌-◌, ◌+◌, ◌++◌, length, take, drop, None, Some, IsTrue, IfOk, OnOk};
 ghost use Rattle.txs_value.specs.Cells.{any_cell};
-ghost use Rattle.txs_value.specs.Core.{core, takes, vector_of};
+ghost use Rattle.txs_operations.specs.Core.{core, takes, vector_of};
 ghost use Rattle.txs_tree.specs.Evaluated.{Stops, Gives, GivesAll, Steps, means, all_mean, do_means, let_means, locals_mean, loop_means, turns_mean, call_means, printing};
 ghost use Rattle.txs_tree.specs.Meaning.{result_of};
 ghost use Rattle.txs_tree.specs.Setting.{callable};
@@ -15,9 +15,8 @@ ghost use Rattle.txs_tree.specs.declared.evaluate.ThreadStop.TheVariants.{Memory
 use crate::context::Context;
 use crate::node::{Node, NodeKind};
 use std::alloc::{AllocError, AllocFailed, Global};
-use txs_value::{
-    Fault, FaultKind, Op, Span, Stop, Value, apply, copy_value, is_false, make_vector, write_line,
-};
+use txs_operations::{apply, is_false, make_vector};
+use txs_value::{Fault, FaultKind, Op, Span, Stop, Value, copy_value, write_line};
 
 /// Why an evaluation outside every transaction gives no value.
 #[derive(Debug, Drop)]

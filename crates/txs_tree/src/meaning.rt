@@ -10,7 +10,8 @@ use crate::context::Context;
 use crate::evaluate::{ThreadStop, evaluate};
 use crate::program::Program;
 use std::alloc::{AllocError, Global};
-use txs_value::{Listed, Outcome};
+use txs_asks::Outcome;
+use txs_value::Listed;
 
 /// What a thread lacks that hasn't ended.
 #[derive(Clone, Copy, Debug, PartialEq, Eq)]

@@ -9,7 +9,7 @@ ghost use Rattle.txs_tree.specs.Tree.{PlainFunction};
 ghost use Rattle.txs_tree.specs.View.{functions_of};
 ghost use Rattle.txs_value.specs.declared.op.Callee.{Callee as AnyCallee};
 ghost use Rattle.txs_value.specs.declared.value.Value.{Value as AnyValue};
-ghost use Rattle.txs_value.specs.Core.{core, takes};
+ghost use Rattle.txs_operations.specs.Core.{core, takes};
 ghost use Rattle.txs_value.specs.declared.op.Callee.TheVariants.{Function};
 ghost use Rattle.txs_tree.specs.declared.pure_call.EvalStop.TheVariants.{Memory};
 
@@ -17,7 +17,8 @@ use crate::context::Context;
 use crate::evaluate::{ThreadStop, call};
 use crate::program::Program;
 use std::alloc::{AllocError, AllocFailed, Global};
-use txs_value::{Callee, Fault, Op, Span, Stop, Value, apply, copy_value};
+use txs_operations::apply;
+use txs_value::{Callee, Fault, Op, Span, Stop, Value, copy_value};
 
 /// Why an evaluation gives no value.
 #[derive(Debug, Drop)]

@@ -9,7 +9,9 @@ use crate::{
 };
 use std::alloc::{AllocError, Global};
 use std::test::Fail;
-use txs_value::{Callee, Fault, FaultKind, Op, Outcome, Span, Value, same, takes};
+use txs_asks::Outcome;
+use txs_operations::takes;
+use txs_value::{Callee, Fault, FaultKind, Op, Span, Value, same};
 
 /// Where all stands in these programs.
 const HERE: Span = Span { from: 3, to: 8 };

@@ -1,10 +1,7 @@
-pub mod AskLemmas
 pub mod BodyLemmas
-pub mod CoreLemmas
 pub mod ItemsLemmas
 pub mod OperationsLemmas
 pub mod PlacesLemmas
 pub mod PrintedLemmas
 pub mod RowsLemmas
 pub mod SameLemmas
-pub mod TruthLemmas

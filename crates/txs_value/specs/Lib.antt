@@ -1,6 +1,4 @@
-pub mod Ask
 pub mod Cells
-pub mod Core
 pub mod Falls
 pub mod Limits
 pub mod Names
@@ -10,5 +8,4 @@ pub mod PlainValue
 pub mod Printed
 pub mod Rows
 pub mod Same
-pub mod Truth
 pub mod View

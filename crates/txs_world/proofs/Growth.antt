@@ -1,7 +1,7 @@
 -- What a longer book leaves as it was.
 use Rattle.std.proofs.Common.{◌≡◌, ◌≤◌, ℕ, zero, suc, Bool, true, false, not, ◌&&◌, ◌||◌, ◌==◌, List, [], ◌∷◌, ◌++◌, length, refl, sym, ap, ◌∙◌, subst, arith, append_assoc}
 use Rattle.txs_value.specs.Cells.{World}
-use Rattle.txs_value.specs.declared.event.Event.{Event}
+use Rattle.txs_asks.specs.declared.event.Event.{Event}
 use Rattle.txs_world.specs.Book.{changed, after, writes_to, written, all_before, Each}
 use Rattle.txs_world.specs.History.{PastEvent, past_of, before, history_from}
 

@@ -3,13 +3,13 @@ use Rattle.std.proofs.Common.{◌≡◌, ◌≢◌, ◌≤◌, ◌<◌, ℕ, zer
 use Rattle.std.proofs.lemmas.Bool.{ltb-true, false≢true}
 use Rattle.std.proofs.lemmas.Bool.Decides.{nat_tests}
 use Rattle.std.proofs.lemmas.List.{get_or-set_same, get_or-set_other, length-set}
-use Rattle.txs_value.specs.Ask.{Writes, buffered}
+use Rattle.txs_asks.specs.Ask.{Writes, buffered}
 use Rattle.txs_value.specs.Cells.{World}
 use Rattle.txs_value.specs.Places.{nth}
-use Rattle.txs_value.specs.declared.ask.Reply.TheVariants as reply
-use Rattle.txs_value.specs.declared.event.Event.{Event}
-use Rattle.txs_value.specs.declared.event.EventKind.{EventKind}
-use Rattle.txs_value.specs.declared.event.EventKind.TheVariants.{Read, Commit, Retry, Fail}
+use Rattle.txs_asks.specs.declared.ask.Reply.TheVariants as reply
+use Rattle.txs_asks.specs.declared.event.Event.{Event}
+use Rattle.txs_asks.specs.declared.event.EventKind.{EventKind}
+use Rattle.txs_asks.specs.declared.event.EventKind.TheVariants.{Read, Commit, Retry, Fail}
 use Rattle.txs_value.specs.declared.value.CellId.{CellId}
 use Rattle.txs_value.specs.declared.value.CellKind.TheVariants.{Ref}
 use Rattle.txs_value.specs.declared.value.Value.{Value}

@@ -2,11 +2,11 @@
 use Rattle.std.proofs.Common.{◌≡◌, ◌≤◌, ℕ, zero, suc, Bool, true, false, ◌&&◌, ◌||◌, ◌==◌, nat_le, List, [], ◌∷◌, ◌++◌, length, Option, Some, None, refl, sym, ap, ◌∙◌, arith, append_assoc, length-append}
 use Rattle.std.proofs.lemmas.Bool.{false≢true}
 use Rattle.std.proofs.lemmas.Bool.Decides.{nat_tests}
-use Rattle.txs_value.specs.Ask.{buffered}
+use Rattle.txs_asks.specs.Ask.{buffered}
 use Rattle.txs_value.specs.Cells.{World}
-use Rattle.txs_value.specs.declared.event.Event.{Event}
-use Rattle.txs_value.specs.declared.event.EventKind.{EventKind}
-use Rattle.txs_value.specs.declared.event.EventKind.TheVariants.{Read, Commit, Retry, Fail}
+use Rattle.txs_asks.specs.declared.event.Event.{Event}
+use Rattle.txs_asks.specs.declared.event.EventKind.{EventKind}
+use Rattle.txs_asks.specs.declared.event.EventKind.TheVariants.{Read, Commit, Retry, Fail}
 use Rattle.txs_value.specs.declared.value.Value.{Value}
 use Rattle.txs_world.specs.Book.{value_or, changed, after, is_there, writes_to, written, all_before, may_name, LegalKind, Each}
 use Rattle.txs_world.specs.History.{WasRead, Committed, Aborted, past_of, before, history_from, past_at, replayed_from}

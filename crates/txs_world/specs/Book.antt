@@ -1,11 +1,11 @@
 -- The book of what actors did to the store, and the refs after its first events.
 use Rattle.std.specs.Prelude.{◌≡◌, ◌≤◌, ℕ, zero, suc, Bool, true, false, not, ◌&&◌, ◌||◌, ◌==◌, nat_le, List, [], ◌∷◌, ◌++◌, length, Option, Some, None}
-use Rattle.txs_value.specs.Ask.{Writes, buffered}
+use Rattle.txs_asks.specs.Ask.{Writes, buffered}
 use Rattle.txs_value.specs.Cells.{World}
 use Rattle.txs_value.specs.Places.{nth}
-use Rattle.txs_value.specs.declared.event.Event.{Event}
-use Rattle.txs_value.specs.declared.event.EventKind.{EventKind}
-use Rattle.txs_value.specs.declared.event.EventKind.TheVariants.{Read, Commit, Retry, Fail}
+use Rattle.txs_asks.specs.declared.event.Event.{Event}
+use Rattle.txs_asks.specs.declared.event.EventKind.{EventKind}
+use Rattle.txs_asks.specs.declared.event.EventKind.TheVariants.{Read, Commit, Retry, Fail}
 use Rattle.txs_value.specs.declared.value.CellId.{CellId}
 use Rattle.txs_value.specs.declared.value.CellKind.{CellKind}
 use Rattle.txs_value.specs.declared.value.CellKind.TheVariants.{Ref, Atom, Agent}

@@ -1,8 +1,8 @@
 -- What holds of books and of what the store answers.
 use Rattle.std.specs.Prelude.{◌≡◌, ◌≤◌, ℕ, true, false, ◌==◌, List, [], ◌∷◌, ◌++◌, length}
 use Rattle.txs_value.specs.Cells.{World}
-use Rattle.txs_value.specs.declared.ask.Ask.{Ask}
-use Rattle.txs_value.specs.declared.event.Event.{Event}
+use Rattle.txs_asks.specs.declared.ask.Ask.{Ask}
+use Rattle.txs_asks.specs.declared.event.Event.{Event}
 use Rattle.txs_world.specs.Book.{opening, after, written, Legal, Undisturbed}
 use Rattle.txs_world.specs.History.{before, past_of, history_of, replayed_from}
 use Rattle.txs_world.specs.Store.{serve, is_lawful}

@@ -6,7 +6,8 @@ ghost use Rattle.txs_world.specs.Kept.{StandsAt};
 ghost use Rattle.txs_world.specs.Store.{is_lawful};
 
 use crate::store::Store;
-use txs_value::{Ask, CellId, CellKind, Value};
+use txs_asks::Ask;
+use txs_value::{CellId, CellKind, Value};
 
 /// Whether the refs' numbers ascend.
 fn ascend(writes: &[(CellId, Value)]) -> bool

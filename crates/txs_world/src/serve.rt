@@ -4,13 +4,14 @@ ghost use Rattle.std.specs.Prelude.{◌≡◌, ◌≤◌, ◌<◌, ◌++◌, ◌
 ghost use Rattle.txs_world.specs.Book.{has_cell, has_ref, has_refs, ascend_from, may_name, opening, after, written, most_events, LegalKind, Guarded};
 ghost use Rattle.txs_world.specs.Kept.{WritesNothing};
 ghost use Rattle.txs_world.specs.Store.{store_with, is_lawful, event_of, adds, disturbed, looks, commits, serve, Answers};
-ghost use Rattle.txs_value.specs.declared.ask.Reply.TheVariants as reply;
-ghost use Rattle.txs_value.specs.declared.event.EventKind.TheVariants as event;
+ghost use Rattle.txs_asks.specs.declared.ask.Reply.TheVariants as reply;
+ghost use Rattle.txs_asks.specs.declared.event.EventKind.TheVariants as event;
 
 use crate::slot::{make_room, put_all};
 use crate::store::Store;
 use std::alloc::AllocError;
-use txs_value::{Ask, CellId, Event, EventKind, Listed, Reply, Value, copy_value, copy_writes};
+use txs_asks::{Ask, Event, EventKind, Reply, copy_writes};
+use txs_value::{CellId, Listed, Value, copy_value};
 
 /// A book has at most so many events.
 const MOST_EVENTS: usize = 1_000_000;

@@ -8,7 +8,8 @@ use crate::cell::StoreCell;
 use crate::slot::{Slot, open_cells, open_slots};
 use std::alloc::{AllocError, Global};
 use std::marker::Model;
-use txs_value::{CellDefinition, CellId, Event, Value, same};
+use txs_asks::Event;
+use txs_value::{CellDefinition, CellId, Value, same};
 
 /// The refs that threads share, with the book of what actors did to them.
 #[derive(Drop)]

@@ -3,9 +3,8 @@ use crate::Store;
 use std::alloc::Global;
 use std::test::Fail;
 use txs_value::value::is_name;
-use txs_value::{
-    Ask, CellDefinition, CellId, CellKind, Event, EventKind, Listed, Name, Reply, Value, same,
-};
+use txs_asks::{Ask, Event, EventKind, Reply};
+use txs_value::{CellDefinition, CellId, CellKind, Listed, Name, Value, same};
 
 // A definition of this name and number.
 fn defined(alloc: Global, name: &[u8], n: i64) -> Result<CellDefinition, Fail> {

@@ -1,6 +1,6 @@
 use Rattle.std.proofs.Common.{◌≡◌, ap, ◌∙◌, subst, arith}
 use Rattle.std.specs.Prelude.{insert}
-use Rattle.txs_value.specs.Ask.{Writes, with_write}
+use Rattle.txs_asks.specs.Ask.{Writes, with_write}
 use Rattle.txs_value.specs.declared.value.Value.{Value}
 use Rattle.txs_machine.specs.Writes.{IsPlaceFor}
 use Rattle.txs_machine.proofs.OwnWrites.{set_there, new_there, new_past}

@@ -1,6 +1,6 @@
 use Rattle.std.proofs.Common.{rules, suc, ◌≡◌, ◌+◌, ◌-◌, ◌*◌, ◌<◌, ◌≤◌, false, [], ◌∷◌, ◌++◌, length, take, drop, Ok, Err, None, Some, OnOk, IsTrue, true, Vec, Global, zero-add, sym, ap, ◌∙◌, subst, subst₂, refl, arith}
 use Rattle.std.proofs.lemmas.List.{drop_all, length_push, length-drop}
-use Rattle.txs_value.specs.Core.{takes}
+use Rattle.txs_operations.specs.Core.{takes}
 use Rattle.txs_value.specs.Places.{nth}
 use Rattle.txs_value.specs.declared.value.Value.{Value}
 use Rattle.txs_tree.specs.Evaluated.{no_events, calls_in, Stops, Gives, GivesAll, Steps, means, all_mean, do_means, let_means, locals_mean, loop_means, turns_mean, printing}

@@ -1,0 +1,3 @@
+pub mod CoreLemmas
+pub mod TruthLemmas
+pub mod VectorLemmas
