@@ -1,31 +1,13 @@
-//! The compiler of scripts to code, and the program that runs them: `txs run [FILE]` and
-//! `txs check [FILE]`.
+//! The program that runs scripts: `txs run [FILE]` and `txs check [FILE]`.
 #![tactic(auto)]
 
-mod cells;
-#[cfg(test)]
-mod code_tests;
-mod compile;
-pub mod compile_error;
-mod left_out;
-mod play;
-#[cfg(test)]
-mod rows;
-mod run;
-mod streams;
-#[cfg(test)]
-mod tests;
-#[cfg(test)]
-mod vector_rows;
-mod words;
-
-use play::play;
 use std::alloc::AllocError;
 use std::fs::File;
 use std::io::{ErrorKind, Read};
 use std::process::ExitCode;
 use std::{env, io};
-use words::{Words, parse_words};
+use txs_play::play;
+use txs_words::{Words, parse_words};
 
 /// The reader of a file that can't be opened.
 #[derive(Drop)]

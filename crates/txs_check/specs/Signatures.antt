@@ -1,5 +1,6 @@
 -- What the table of functions says of them: all that is known but how deep they are.
-use Rattle.std.specs.Prelude.{◌&&◌, ◌||◌, List, map, Option, Some, None}
+use Rattle.std.specs.Prelude.{ℕ, Bool, false, ◌==◌, ◌&&◌, ◌||◌, List, map, Option, Some, None}
+use Rattle.txs_value.specs.Places.{nth}
 use Rattle.txs_tree.specs.Known.{Known, is_inside, is_outside, is_pure, inside_in, any_inside, outside_in, any_outside, pure_in, all_pure}
 use Rattle.txs_tree.specs.Tree.{Tree, Trees}
 use Rattle.txs_check.specs.declared.class.Class.{Class}
@@ -41,3 +42,12 @@ bare_one k = record { parameters = k.parameters; inside = k.inside; outside = k.
 -- what is known of functions, without levels
 abbrev pub bare : List Known → List Known
 bare ks = map bare_one ks
+
+-- whether a function is pure and takes so many values; no function is
+abbrev pub is_pure_taking : Option Known → ℕ → Bool
+is_pure_taking None n = false
+is_pure_taking (Some k) n = k.parameters == n && k.pure
+
+-- whether the function of this number is pure and takes so many values
+abbrev pub is_pure_call : List Known → ℕ → ℕ → Bool
+is_pure_call ks f n = is_pure_taking (nth ks f) n

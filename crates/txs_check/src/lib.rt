@@ -4,6 +4,7 @@
 #![tactic(auto)]
 
 mod bodies;
+pub mod callee;
 mod class;
 pub mod error;
 pub mod law;
@@ -12,8 +13,6 @@ pub mod program;
 mod size;
 mod walk;
 
+pub use callee::is_pure_callee;
 pub use error::{CheckError, CheckErrorKind};
 pub use program::check;
-
-#[cfg(test)]
-mod tests;

@@ -11,7 +11,8 @@ use Rattle.txs_follows.proofs.MoreEvents.{settled_same, needs_before}
 use Rattle.txs_follows.proofs.More.{more_turns}
 use Rattle.txs_follows.proofs.Threads.{tree_follows}
 use Rattle.txs_follows.proofs.Whole.{explained, nothing_after, grown, ends, over_explained}
-use Rattle.txs_follows.specs.Behaves.{source, opening, target, IsMeant, HasEnded, outcome_of, IsOver, Behaves}
+use Rattle.txs_code.specs.Opening.{opening, target}
+use Rattle.txs_follows.specs.Behaves.{source, IsMeant, HasEnded, outcome_of, IsOver, Behaves}
 use Rattle.txs_follows.specs.EndsSo.{NeedsTurns, HasSettled, in_hand, EndsSo}
 use Rattle.txs_follows.specs.Follows.{Follows, IsEverMeant}
 use Rattle.txs_follows.specs.OnReplies.{settled}

@@ -4,7 +4,8 @@ use Rattle.std.proofs.lemmas.Bool.{false≢true}
 use Rattle.txs_code.specs.ActorState.{ActorState, Replied, asks, begun, begin, failed, fail, committed, commit, peeked, peek, print}
 use Rattle.txs_follows.proofs.Related.{Link, CompletesAs, FaultsAs, Related, closed_related, Alike, eval_related, calls_related}
 use Rattle.txs_follows.proofs.Worlds.{Fitting, Splits, IsShort, answered, tx_link, tx_related}
-use Rattle.txs_follows.specs.Behaves.{fresh, source}
+use Rattle.txs_code.specs.Opening.{fresh}
+use Rattle.txs_follows.specs.Behaves.{source}
 use Rattle.txs_follows.specs.EndsSo.{NeedsTurns, in_hand}
 use Rattle.txs_follows.specs.OnReplies.{res, met, settled, retrying, tries, on_replies}
 use Rattle.txs_follows.specs.RepliesFit.{Phase, Out, In, ReplyFits, halted}

@@ -2,7 +2,8 @@
 use Rattle.std.proofs.Common.{ℕ, zero, suc, Bool, true, false, List, [], refl, sym, ap, subst, length, inr, ◌≡◌, ◌≤◌, ◌∙◌}
 use Rattle.txs_code.specs.ActorState.{ActorState, Passage, Passed, Again, Pending, Unlawful, begin, put_write, opens}
 use Rattle.txs_follows.proofs.Related.{Link, Related, bind_related, closed_related, Alike, eval_related, calls_related}
-use Rattle.txs_follows.specs.Behaves.{fresh, source, HasEnded}
+use Rattle.txs_code.specs.Opening.{fresh}
+use Rattle.txs_follows.specs.Behaves.{source, HasEnded}
 use Rattle.txs_follows.specs.OnReplies.{res, met, settled, attempt, retrying, tries, joined, allowed, on_replies}
 use Rattle.txs_follows.specs.RepliesFit.{Halt, Stopped, Rerun}
 use Rattle.txs_tree.specs.Meaning.{Completion, Completes, Recurs, Faults, Retries, Waits, OutOfTurns, Invalid, bind, closed, eval, call_at}

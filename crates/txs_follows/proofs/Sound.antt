@@ -4,7 +4,8 @@ use Rattle.std.proofs.lemmas.Bool.{false≢true, eq-eqb}
 use Rattle.txs_code.specs.ActorState.{ActorState, Replied, asks, begun, begin, failed, fail, committed, commit, looked, buffered_or, look, peeked, peek, put_write, print, read}
 use Rattle.txs_follows.proofs.Functions.{AreFree, known_free, defined, there, nth_below, thread_sound, dosync_sound}
 use Rattle.txs_follows.proofs.Worlds.{answered, fit_splits}
-use Rattle.txs_follows.specs.Behaves.{fresh, source, IsMeant}
+use Rattle.txs_code.specs.Opening.{fresh}
+use Rattle.txs_follows.specs.Behaves.{source, IsMeant}
 use Rattle.txs_follows.specs.Follows.{IsEverMeant}
 use Rattle.txs_follows.specs.OnReplies.{res, met, settled, attempt, retrying, tries, joined, on_replies}
 use Rattle.txs_follows.specs.RepliesFit.{Out, In, ReplyFits, RepliesFit}

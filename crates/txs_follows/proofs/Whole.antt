@@ -6,7 +6,8 @@ use Rattle.txs_code.specs.Machine.{ThreadCode, Ended, Failed, Asking, Unfinished
 use Rattle.txs_follows.proofs.Acts.{longer}
 use Rattle.txs_follows.proofs.Grows.{GrowsTo, Later, later}
 use Rattle.txs_follows.proofs.Threads.{tree_follows}
-use Rattle.txs_follows.specs.Behaves.{source, opening, target, IsMeant, HasEnded, outcome_of, IsOver, Behaves}
+use Rattle.txs_code.specs.Opening.{opening, target}
+use Rattle.txs_follows.specs.Behaves.{source, IsMeant, HasEnded, outcome_of, IsOver, Behaves}
 use Rattle.txs_follows.specs.RepliesFit.{Out, RepliesFit, halted, HasEaten, Agrees, HasEatenAll, Explained, Consumed}
 use Rattle.txs_tree.specs.Meaning.{Completion, Completes, Recurs, Faults, Retries, Waits, OutOfTurns, Invalid}
 use Rattle.txs_tree.specs.Thread.{SeenEvent, ThreadState, thread_meaning}

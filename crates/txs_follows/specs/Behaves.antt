@@ -5,24 +5,13 @@ use Rattle.txs_value.specs.declared.value.Value.{Value}
 use Rattle.txs_tree.specs.Meaning.{Completion, Completes, Recurs, Faults, Retries, Waits, OutOfTurns, Invalid, eval, closed, call_at}
 use Rattle.txs_tree.specs.Tree.{ThreadSource}
 use Rattle.txs_code.specs.ActorState.{ActorState}
-use Rattle.txs_code.specs.Machine.{ThreadCode, locals_of, Outside, Configuration, configuration, Outcome, Ended, Failed, Asking, Unfinished, Stuck, exec}
+use Rattle.txs_code.specs.Machine.{ThreadCode, Outcome, Ended, Failed, Asking, Unfinished, Stuck}
+use Rattle.txs_code.specs.Opening.{fresh, target}
 use Rattle.txs_follows.specs.OnReplies.{on_replies}
-
--- an actor's state before its first turn, with the exchanges to come
-abbrev pub fresh : List Exchange → ActorState
-fresh todo = record { todo = todo; printed = []; at = 0; writes = []; wants = None }
 
 -- the thread on these exchanges, where each loop makes at most n turns
 abbrev pub source : ThreadSource → ℕ → List Exchange → Completion ActorState Value
 source p n todo = closed (eval on_replies (call_at (λ d. on_replies) n p.functions (length p.functions)) n false p.main [] (fresh todo))
-
--- where a thread begins
-abbrev pub opening : ThreadCode → List Exchange → Configuration
-opening code todo = configuration 0 0 [] (locals_of (Some code.main) []) [] Outside (fresh todo)
-
--- the machine on these exchanges, after at most m instructions
-abbrev pub target : ThreadCode → ℕ → List Exchange → Outcome
-target code m todo = exec code m (opening code todo)
 
 -- an answer of a program that was checked, on lawful replies
 abbrev pub IsMeant : Completion ActorState Value → Type 0

@@ -6,7 +6,8 @@ use Rattle.txs_tree.specs.Meaning.{Completion, Completes, Recurs, Faults, Retrie
 use Rattle.txs_tree.specs.Thread.{SeenEvent, Aborted, ThreadState, thread_meaning}
 use Rattle.txs_tree.specs.Tree.{ThreadSource}
 use Rattle.txs_code.specs.Machine.{ThreadCode}
-use Rattle.txs_follows.specs.Behaves.{target, IsOver}
+use Rattle.txs_code.specs.Opening.{target}
+use Rattle.txs_follows.specs.Behaves.{IsOver}
 use Rattle.txs_follows.specs.RepliesFit.{Phase, Out, In, Explained, Consumed}
 use Rattle.txs_follows.specs.RepliesFitTo.{RepliesFitTo}
 

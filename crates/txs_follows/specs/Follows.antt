@@ -5,7 +5,8 @@ use Rattle.txs_tree.specs.Sound.{SoundSource}
 use Rattle.txs_tree.specs.Thread.{SeenEvent, thread_meaning}
 use Rattle.txs_tree.specs.Tree.{ThreadSource}
 use Rattle.txs_code.specs.Machine.{ThreadCode}
-use Rattle.txs_follows.specs.Behaves.{source, target, Behaves, IsMeant, HasEnded, outcome_of}
+use Rattle.txs_code.specs.Opening.{target}
+use Rattle.txs_follows.specs.Behaves.{source, Behaves, IsMeant, HasEnded, outcome_of}
 use Rattle.txs_follows.specs.EndsSo.{EndsSo}
 use Rattle.txs_follows.specs.RepliesFit.{Out, RepliesFit, Agrees, Explained, Consumed}
 

@@ -8,7 +8,8 @@ use Rattle.txs_tree.specs.Meaning.{Completion, Completes, Recurs, Faults, Retrie
 use Rattle.txs_tree.specs.Tree.{PlainFunction, ThreadSource}
 use Rattle.txs_code.specs.ActorState.{ActorState}
 use Rattle.txs_code.specs.Machine.{PlainInstr, Return, Halt, PlainBody, ThreadCode, locals_of, body_of, instr_at, fetch, frame, Outside, is_inside, Configuration, configuration, Outcome, Ended, Failed, Asking, Unfinished, exec}
-use Rattle.txs_follows.specs.Behaves.{fresh, source, opening, target, IsMeant, HasEnded, outcome_of, IsOver, Behaves}
+use Rattle.txs_code.specs.Opening.{fresh, opening, target}
+use Rattle.txs_follows.specs.Behaves.{source, IsMeant, HasEnded, outcome_of, IsOver, Behaves}
 use Rattle.txs_follows.specs.OnReplies.{on_replies}
 use Rattle.txs_gen.specs.Gen.{gen, function_code, functions_code, body_code, generated}
 use Rattle.txs_gen.proofs.Acts.{act_alike}

@@ -1,45 +1,35 @@
--- What an actor has done is what the code means.
-use Rattle.std.specs.Prelude.{◌≡◌, ℕ, ◌≤◌, List, [], ◌∷◌, ◌++◌, Option, Some, None}
+-- What holds of an actor beside the store, whatever the other actors do.
+use Rattle.std.specs.Prelude.{◌≡◌, ℕ, List, [], ◌∷◌, ◌++◌}
 use Rattle.txs_asks.specs.Ask.{Exchange}
+use Rattle.txs_value.specs.Cells.{World}
 use Rattle.txs_asks.specs.declared.ask.Ask.{Ask}
 use Rattle.txs_asks.specs.declared.ask.Reply.{Reply}
-use Rattle.txs_tree.specs.Thread.{SeenEvent, thread_meaning}
-use Rattle.txs_tree.specs.Tree.{ThreadSource}
-use Rattle.txs_code.specs.Machine.{Turned, Asking}
-use Rattle.txs_code.specs.Machine as machine
-use Rattle.txs_code.specs.PlainCode.{PlainCode}
-use Rattle.txs_follows.specs.Behaves.{target}
-use Rattle.txs_follows.specs.Follows.{Follows}
-use Rattle.txs_follows.specs.RepliesFit.{Out, RepliesFit, Explained}
-use Rattle.txs_machine.specs.PlainActor.{PlainActor, HasRun, MayAnswer, Stops, answered, unanswered, code_of, state_of, standing}
-use Rattle.txs_machine.specs.Turns.{IsNew, Turns}
-use Rattle.txs_machine.specs.declared.outcome.Turn.{Turn}
-use Rattle.txs_asks.specs.declared.event.Outcome.{Outcome}
+use Rattle.txs_asks.specs.declared.ask.Reply.TheVariants as reply
+use Rattle.txs_asks.specs.declared.event.Event.{Event}
+use Rattle.txs_code.specs.Machine.{ThreadCode, Configuration, state, turn}
+use Rattle.txs_world.specs.Store.{serve}
+use Rattle.txs_machine.specs.Run.{exchange}
+use Rattle.txs_machine.specs.Stages.{Stage, AsksIn, stage_after, ToldBy, TurnIsStaged}
 
--- what the machine's meaning is told of an actor
-abbrev pub told : PlainActor → Option Outcome → Option Ask → machine.Outcome
-told a (Some o) q = standing (Some o) (state_of a) (state_of a)
-told a None None = standing None (state_of a) (state_of a)
-told a None (Some q) = Asking (record (state_of a) { wants = Some q })
+-- a reply that goes into the exchanges
+abbrev pub IsExchanged : Reply → Type 0
+IsExchanged (reply.At p) = Unit {0}
+IsExchanged (reply.Is v) = Unit {0}
+IsExchanged reply.Done = Unit {0}
+IsExchanged (reply.Retry c) = Unit {0}
+IsExchanged reply.Full = ⊥
+IsExchanged reply.Memory = ⊥
 
--- what the machine's meaning is told of an actor as it is
-abbrev pub outcome_of_actor : PlainActor → machine.Outcome
-outcome_of_actor a = told a a.outcome (unanswered a)
+-- an ask in its stage, answered by the store: the exchanges with this one more are told by the book after it
+abbrev pub ServedAskFits : Type 0
+ServedAskFits =
+    (w : World) (a : ℕ) (book : List Event) (xs : List Exchange) (st : Stage) (q : Ask) → AsksIn st q → ToldBy w a book xs st → IsExchanged (serve w a q book).reply
+    → ToldBy w a (serve w a q book).book (xs ++ exchange q (serve w a q book).reply ∷ []) (stage_after st q (serve w a q book).reply)
 
--- a new actor has done what the machine does on no exchanges; a turn adds none; and an answer adds its exchange, but one that stops the actor
-pub record ActorsRun : Type 0 where
-  pub begins : (code : PlainCode) (k limit : ℕ) (a : PlainActor) → IsNew code k limit a → HasRun code [] a
-  pub turns : (code : PlainCode) (xs : List Exchange) (a b : PlainActor) (r : Turn) → unanswered a ≡ None → HasRun code xs a → Turns code a r b → HasRun code xs b
-  pub answers : (code : PlainCode) (xs : List Exchange) (a : PlainActor) (q : Ask) (r : Reply) → a.outcome ≡ None → unanswered a ≡ Some q → MayAnswer q r → (Stops r → ⊥) → HasRun code xs a
-      → HasRun code (xs ++ record { ask = q; reply = r } ∷ []) (answered a r)
-  pub stops : (code : PlainCode) (xs : List Exchange) (a : PlainActor) (q : Ask) (r : Reply) → a.outcome ≡ None → unanswered a ≡ Some q → Stops r → HasRun code xs a → HasRun code xs (answered a r)
+-- an event of another actor leaves what an actor was told
+abbrev pub OthersLeaveTold : Type 0
+OthersLeaveTold = (w : World) (a : ℕ) (book : List Event) (e : Event) (xs : List Exchange) (st : Stage) → (e.actor ≡ a → ⊥) → ToldBy w a book xs st → ToldBy w a (book ++ e ∷ []) xs st
 
--- what an actor has come to is what the machine comes to on its exchanges, after some number of instructions that is at most its steps
-abbrev pub ActorsFollow : Type 0
-ActorsFollow = (code : PlainCode) (xs : List Exchange) (a : PlainActor) → HasRun code xs a → (m : ℕ) × (m ≤ a.steps) × (target (code_of code a.number) m xs ≡ outcome_of_actor a)
-
--- where the code of its thread follows a source, and the exchanges are those of the events, the source explains what the actor has come to, if its loops make at most as many turns
-abbrev pub ActorsExplained : Type 0
-ActorsExplained =
-    (code : PlainCode) (xs : List Exchange) (es : List SeenEvent) (a : PlainActor) (p : ThreadSource) → HasRun code xs a → Follows (code_of code a.number) p → RepliesFit Out xs es
-    → (m : ℕ) × (m ≤ a.steps) × Explained (outcome_of_actor a) (thread_meaning p m es)
+-- an instruction makes at most one ask, which comes in its stage
+abbrev pub TurnsAreStaged : Type 0
+TurnsAreStaged = (code : ThreadCode) (c : Configuration) → (state c).todo ≡ [] → TurnIsStaged code c (turn code c)

@@ -1,7 +1,9 @@
-pub mod Flat
+pub mod Explains
+pub mod Followed
+pub mod Invariant
+pub mod Lawful
 pub mod Laws
-pub mod Nesting
-pub mod PlainActor
-pub mod PlainFrame
-pub mod Turns
-pub mod Writes
+pub mod Printed
+pub mod Run
+pub mod RunOver
+pub mod Stages

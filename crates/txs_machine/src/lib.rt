@@ -1,22 +1,17 @@
-//! Actors: what runs the code of a thread and of the functions that it calls, one instruction a turn. A
-//! turn is the machine's meaning of one instruction, an ask of the shared state is the machine's, and its
-//! answer leads where the machine goes on: what an actor has printed, what it asks and how it ended is what
-//! the meaning comes to from the thread's opening on the replies that it was given.
+//! Runs of actors over one store, and what the sources of their threads say of them. `run_thread` runs a
+//! thread, whose source means just what its actor did in the book, with what it printed and how it ended.
+//! For every list of turns of several actors the book is legal, no ref that a commit set was written
+//! between its read point and its place, and each thread means what its actor did. Each law stands on a
+//! function of its own, which does nothing when it runs.
 #![tactic(auto)]
 
-pub mod actor;
-pub mod answer;
 pub mod law;
-mod moves;
-mod operate;
-pub mod outcome;
-pub mod stack;
-pub mod state;
-mod step;
-mod transact;
-mod writes;
+pub mod run;
 
-pub use actor::Actor;
-pub use answer::may_answer;
-pub use law::{actors_explained, actors_follow, actors_run};
-pub use outcome::Turn;
+pub use law::{
+    actors_explained, actors_follow, every_actor_has_printed, every_ask_is_lawful,
+    every_program_explains_its_runs, every_run_is_explained, invariant_explains, opening_holds,
+    others_leave_told, play_holds, served_ask_fits, turns_are_staged,
+};
+pub use run::{Ran, RunError, run_thread};
+pub use txs_actor::{Actor, Turn, actors_run, may_answer};

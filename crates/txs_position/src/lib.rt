@@ -12,6 +12,3 @@ pub use find::position;
 pub use law::places_follow;
 pub use lines::line_at;
 pub use pointed::write_pointed;
-
-#[cfg(test)]
-mod tests;

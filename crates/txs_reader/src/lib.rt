@@ -30,6 +30,3 @@ pub fn one_answer()
     ensures one_stop { (bytes : List ℕ) (k l : ReadErrorKind) (s t : Span) → ReadStops bytes k s → ReadStops bytes l t → (k ≡ l) × (s ≡ t) }
     ensures not_both { (bytes : List ℕ) (f : List Tree) (k : ReadErrorKind) (s : Span) → Reads bytes f → ReadStops bytes k s → ⊥ }
 {}
-
-#[cfg(test)]
-mod tests;

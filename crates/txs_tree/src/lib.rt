@@ -17,6 +17,3 @@ pub use node::{Function, Node, NodeKind, Thread};
 pub use program::Program;
 pub use pure_call::{EvalStop, eval_pure, more_turns_change_no_answer};
 pub use raw::Raw;
-
-#[cfg(test)]
-mod tests;

@@ -10,6 +10,3 @@ pub mod store;
 
 pub use cell::StoreCell;
 pub use store::Store;
-
-#[cfg(test)]
-mod tests;

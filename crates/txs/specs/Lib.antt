@@ -1,4 +1,0 @@
-pub mod CellLines
-pub mod LeftOut
-pub mod RunOver
-pub mod Compiled

@@ -1,0 +1,17 @@
+pub mod Acts
+pub mod Answering
+pub mod Calling
+pub mod Departing
+pub mod Effects
+pub mod Following
+pub mod Landing
+pub mod Later
+pub mod Lists
+pub mod Meaning
+pub mod Nesting
+pub mod Openings
+pub mod OwnWrites
+pub mod Ready
+pub mod Running
+pub mod Striding
+pub mod Turning

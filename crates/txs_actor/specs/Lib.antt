@@ -1,0 +1,7 @@
+pub mod Flat
+pub mod Laws
+pub mod Nesting
+pub mod PlainActor
+pub mod PlainFrame
+pub mod Turns
+pub mod Writes

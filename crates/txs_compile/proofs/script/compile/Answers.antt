@@ -1,0 +1,6 @@
+use Rattle.txs_tree.specs.View.{program_of}
+use Rattle.txs_compile.proofs.script.compile.Goals as goal
+
+pub returns-clause-code : goal.returns-clause-code
+returns-clause-code c =
+    c.code_of_program_follows.ensures c.in_ok-verified.verified (program_of c.in_ok-program.program) c.in_ok-program.ensures.ok.sound c.in_ok-verified.ensures

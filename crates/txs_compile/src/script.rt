@@ -1,0 +1,96 @@
+//! From the bytes of a script to its program and code.
+
+ghost use Rattle.std.specs.Prelude.{◌≡◌, Some, None, IfOk, IfErr};
+ghost use Rattle.txs_check.specs.Refused.{CheckStops};
+ghost use Rattle.txs_follows.specs.FollowsAll.{FollowsAll};
+ghost use Rattle.txs_reader.specs.Script.{Reads};
+ghost use Rattle.txs_reader.specs.Tree.{trees};
+ghost use Rattle.txs_resolve.specs.Names.{Resolves, ResolveStops};
+ghost use Rattle.txs_tree.specs.Sound.{Sound};
+ghost use Rattle.txs_tree.specs.View.{program_of};
+ghost use Rattle.txs_compile.specs.Compiled.{IsProgramOf, IsRefusal, codes_of};
+ghost use Rattle.txs_compile.specs.LeftOut.{left_out};
+
+use crate::compile_error::CompileError;
+use crate::left_out::left_out;
+use std::alloc::Global;
+use txs_check::{CheckErrorKind, check};
+use txs_code::Verified;
+use txs_gen::follows::code_of_program_follows;
+use txs_gen::generate;
+use txs_reader::{Form, ReadError, ReadErrorKind, read_script};
+use txs_resolve::{ResolveErrorKind, resolve};
+use txs_tree::{Program, Raw};
+
+/// The forms of a script, none of which is left out.
+fn forms_of(alloc: Global, bytes: &[u8]) -> Result<Vec<Form>, CompileError>
+    ensures ok { IfOk result (λ forms. Reads bytes.now (trees forms.items)) }
+    ensures whole { IfOk result (λ forms. left_out (trees forms.items) ≡ None) }
+    ensures err { IfErr result (λ e. IsRefusal bytes.now e) }
+{
+    match read_script(alloc, bytes) {
+        Ok(forms) => match left_out(forms.as_slice()) {
+            None => Ok(forms),
+            Some(at) => Err(CompileError::Read(ReadError {
+                kind: ReadErrorKind::LeftOut,
+                at,
+            })),
+        },
+        Err(e) => match e.kind {
+            ReadErrorKind::Memory => Err(CompileError::Memory),
+            _ => Err(CompileError::Read(e)),
+        },
+    }
+}
+
+/// The program whose names these forms resolve to.
+fn raw_of(alloc: Global, bytes: &[u8], forms: &[Form]) -> Result<Raw, CompileError>
+    requires reads { Reads bytes.now (trees forms.now) }
+    requires whole { left_out (trees forms.now) ≡ None }
+    ensures ok { IfOk result (λ raw. Resolves (trees forms.now) (program_of raw)) }
+    ensures err { IfErr result (λ e. IsRefusal bytes.now e) }
+{
+    match resolve(alloc, forms) {
+        Ok(raw) => Ok(raw),
+        Err(e) => match e.kind {
+            ResolveErrorKind::Memory => Err(CompileError::Memory),
+            _ => Err(CompileError::Resolve(e)),
+        },
+    }
+}
+
+/// The program that these forms are.
+fn program_of_forms(alloc: Global, bytes: &[u8], forms: &[Form]) -> Result<Program, CompileError>
+    requires reads { Reads bytes.now (trees forms.now) }
+    requires whole { left_out (trees forms.now) ≡ None }
+    ensures ok { IfOk result (λ p. IsProgramOf bytes.now (program_of p)) }
+    ensures err { IfErr result (λ e. IsRefusal bytes.now e) }
+{
+    let raw = raw_of(alloc, bytes, forms)?;
+    match check(alloc, raw) {
+        Ok(program) => Ok(program),
+        Err((_raw, e)) => match e.kind {
+            CheckErrorKind::Memory => Err(CompileError::Memory),
+            _ => Err(CompileError::Check(e)),
+        },
+    }
+}
+
+/// Compiles a script: its program, and code that follows the program.
+///
+/// # Errors
+/// `Read` where the script isn't read, with the first refusal from left to right, or where one of its forms
+/// is left out until many threads run, with the first such form; `Resolve` where its names don't resolve,
+/// and `Check` where its program isn't sound, each with the first reason in source order; `Memory` where
+/// there was no memory for one of them.
+pub fn compile(alloc: Global, bytes: &[u8]) -> Result<(Program, Verified), CompileError>
+    ensures program { IfOk result (λ c. IsProgramOf bytes.now (program_of c.0)) }
+    ensures code { IfOk result (λ c. FollowsAll (codes_of c.1) (program_of c.0)) }
+    ensures refused { IfErr result (λ e. IsRefusal bytes.now e) }
+{
+    let forms = forms_of(alloc, bytes)?;
+    let program = program_of_forms(alloc, bytes, forms.as_slice())?;
+    let verified = generate(alloc, &program)?;
+    code_of_program_follows();
+    Ok((program, verified))
+}

@@ -1,0 +1,121 @@
+-- How many steps an actor makes.
+use Rattle.std.proofs.Common.{◌≡◌, ℕ, zero, suc, ◌≤◌, Bool, true, false, nat_lt, Option, Some, None, refl, sym, subst, ◌∙◌}
+use Rattle.std.proofs.lemmas.Bool.{ltb-false}
+use Rattle.txs_asks.specs.declared.ask.Reply.{Reply}
+use Rattle.txs_asks.specs.declared.ask.Reply.TheVariants as reply
+use Rattle.txs_asks.specs.declared.event.Outcome.{Outcome}
+use Rattle.txs_asks.specs.declared.event.Outcome.TheVariants as outcome
+use Rattle.txs_code.specs.PlainCode.{PlainCode}
+use Rattle.txs_actor.specs.PlainActor.{PlainActor, answered_if, run_again}
+use Rattle.txs_actor.specs.Turns.{Answers, Moves, TurnsFrom, Turns, GoesOnAfter, TurnsOf}
+use Rattle.txs_actor.specs.declared.outcome.Turn.{Turn}
+use Rattle.txs_actor.specs.declared.outcome.Turn.TheVariants as turned
+use Rattle.txs_actor.specs.declared.state.Pending.{Pending}
+use Rattle.txs_actor.specs.declared.state.Pending.TheVariants.{Begin, Read, Open, Commit, Fail}
+use Rattle.txs_actor.specs.declared.state.Transaction.{Transaction}
+use Rattle.txs_actor.specs.declared.state.Transaction.TheVariants.{Outside, Restarting, Running}
+use Rattle.txs_machine.specs.RunOver.{IsLimited}
+
+-- an outcome that isn't want of steps
+abbrev Differs : Option Outcome → Type 0
+Differs None = Unit {0}
+Differs (Some outcome.Done) = Unit {0}
+Differs (Some (outcome.Failed f)) = Unit {0}
+Differs (Some outcome.StepsSpent) = ⊥
+Differs (Some outcome.JournalFull) = Unit {0}
+Differs (Some outcome.Memory) = Unit {0}
+
+limited_as : (limit : ℕ) (a b : PlainActor) → b.limit ≡ a.limit → Differs b.outcome → IsLimited limit a → IsLimited limit b
+limited_as limit a b e d h = record { limited = e ∙ h.limited; spent = λ s. absurd (subst Differs s d) }
+
+-- ---- turns
+
+step_limited : (code : PlainCode) (limit : ℕ) (a b : PlainActor) (r : Turn) → Answers code a r b → IsLimited limit a → IsLimited limit b
+step_limited code limit a b turned.Went t h = limited_as limit a b t.1.limited (subst Differs (sym t.1.outcome) tt) h
+step_limited code limit a b (turned.Asks q) t h = limited_as limit a b t.1.limited (subst Differs (sym t.1.outcome) tt) h
+step_limited code limit a b (turned.Ended outcome.Done) t h = limited_as limit a b t.1.limited (subst Differs (sym t.1.outcome) tt) h
+step_limited code limit a b (turned.Ended (outcome.Failed f)) t h = limited_as limit a b t.1.limited (subst Differs (sym t.1.outcome) tt) h
+step_limited code limit a b (turned.Ended outcome.StepsSpent) t h = absurd t
+step_limited code limit a b (turned.Ended outcome.JournalFull) t h = absurd t
+step_limited code limit a b (turned.Ended outcome.Memory) t h = limited_as limit a b t.1.limited (subst Differs (sym t.1.outcome) tt) h
+
+spent_at : (limit steps most : ℕ) → nat_lt steps most ≡ false → most ≡ limit → limit ≤ steps
+spent_at limit steps most e f = subst (λ n. n ≤ steps) f (ltb-false steps most e)
+
+move_limited : (code : PlainCode) (limit : ℕ) (a b : PlainActor) (r : Turn) (may : Bool) → nat_lt a.steps a.limit ≡ may → Moves code a may r b → IsLimited limit a → IsLimited limit b
+move_limited code limit a b r true e t h = step_limited code limit a b r t h
+move_limited code limit a b r false e t h =
+    subst (IsLimited limit) (sym t.1) (record { limited = h.limited; spent = λ s. spent_at limit a.steps a.limit e h.limited })
+
+turn_limited : (code : PlainCode) (limit : ℕ) (a b : PlainActor) (r : Turn) (o : Option Outcome) → TurnsFrom code a o r b → IsLimited limit a → IsLimited limit b
+turn_limited code limit a b r None t h = move_limited code limit a b r (nat_lt a.steps a.limit) refl t h
+turn_limited code limit a b r (Some o) t h = subst (IsLimited limit) (sym t.1) h
+
+-- so many turns keep to the limit
+pub turns_limited : (code : PlainCode) (limit n : ℕ) (a b : PlainActor) (r : Turn) → TurnsOf code n a r b → IsLimited limit a → IsLimited limit b
+turns_limited code limit zero a b r t h = subst (IsLimited limit) (sym t.1) h
+turns_limited code limit (suc n) a b r t h = after_turn (λ g x. turns_limited code limit n t.1 b r g x) t.0 t.2 t.3
+  where
+    after_turn : (TurnsOf code n t.1 r b → IsLimited limit t.1 → IsLimited limit b)
+        → (s : Turn) → Turns code a s t.1 → GoesOnAfter s (TurnsOf code n t.1 r b) ((r ≡ s) × (b ≡ t.1)) → IsLimited limit b
+    after_turn go turned.Went u g = go g (turn_limited code limit a t.1 turned.Went a.outcome u h)
+    after_turn go (turned.Asks q) u g = subst (IsLimited limit) (sym g.1) (turn_limited code limit a t.1 (turned.Asks q) a.outcome u h)
+    after_turn go (turned.Ended o) u g = subst (IsLimited limit) (sym g.1) (turn_limited code limit a t.1 (turned.Ended o) a.outcome u h)
+
+-- ---- answers
+
+-- the limit stays, and what ends now doesn't end for want of steps
+abbrev Stays : PlainActor → PlainActor → Type 0
+Stays a b = (b.limit ≡ a.limit) × (a.outcome ≡ None → Differs b.outcome)
+
+as_was : (a : PlainActor) → a.outcome ≡ None → Differs a.outcome
+as_was a e = subst Differs (sym e) tt
+
+again_stays : (a : PlainActor) (tx : Transaction) → Stays a (run_again a tx)
+again_stays a Outside = (refl, as_was a)
+again_stays a (Restarting left) = (refl, as_was a)
+again_stays a (Running zero inner from) = (refl, λ e. tt)
+again_stays a (Running (suc left) inner from) = (refl, as_was a)
+
+answer_stays : (a : PlainActor) (p : Option Pending) (r : Reply) → Stays a (answered_if a p r)
+answer_stays a None r = (refl, as_was a)
+answer_stays a (Some (Begin left from)) (reply.At p) = (refl, as_was a)
+answer_stays a (Some (Begin left from)) (reply.Is v) = (refl, as_was a)
+answer_stays a (Some (Begin left from)) reply.Done = (refl, as_was a)
+answer_stays a (Some (Begin left from)) (reply.Retry d) = (refl, as_was a)
+answer_stays a (Some (Begin left from)) reply.Full = (refl, λ e. tt)
+answer_stays a (Some (Begin left from)) reply.Memory = (refl, λ e. tt)
+answer_stays a (Some (Read c)) (reply.At p) = (refl, as_was a)
+answer_stays a (Some (Read c)) (reply.Is v) = (refl, as_was a)
+answer_stays a (Some (Read c)) reply.Done = (refl, as_was a)
+answer_stays a (Some (Read c)) (reply.Retry d) = again_stays a a.tx
+answer_stays a (Some (Read c)) reply.Full = (refl, λ e. tt)
+answer_stays a (Some (Read c)) reply.Memory = (refl, λ e. tt)
+answer_stays a (Some (Open c n)) (reply.At p) = (refl, as_was a)
+answer_stays a (Some (Open c n)) (reply.Is v) = (refl, as_was a)
+answer_stays a (Some (Open c n)) reply.Done = (refl, as_was a)
+answer_stays a (Some (Open c n)) (reply.Retry d) = again_stays a a.tx
+answer_stays a (Some (Open c n)) reply.Full = (refl, λ e. tt)
+answer_stays a (Some (Open c n)) reply.Memory = (refl, λ e. tt)
+answer_stays a (Some Commit) (reply.At p) = (refl, as_was a)
+answer_stays a (Some Commit) (reply.Is v) = (refl, as_was a)
+answer_stays a (Some Commit) reply.Done = (refl, as_was a)
+answer_stays a (Some Commit) (reply.Retry d) = again_stays a a.tx
+answer_stays a (Some Commit) reply.Full = (refl, λ e. tt)
+answer_stays a (Some Commit) reply.Memory = (refl, λ e. tt)
+answer_stays a (Some (Fail f)) (reply.At p) = (refl, as_was a)
+answer_stays a (Some (Fail f)) (reply.Is v) = (refl, as_was a)
+answer_stays a (Some (Fail f)) reply.Done = (refl, λ e. tt)
+answer_stays a (Some (Fail f)) (reply.Retry d) = (refl, as_was a)
+answer_stays a (Some (Fail f)) reply.Full = (refl, λ e. tt)
+answer_stays a (Some (Fail f)) reply.Memory = (refl, λ e. tt)
+
+pub answered_limited : (limit : ℕ) (a : PlainActor) (r : Reply) → a.outcome ≡ None → IsLimited limit a → IsLimited limit (answered_if a a.pending r)
+answered_limited limit a r e h =
+    let s = answer_stays a a.pending r in
+    limited_as limit a (answered_if a a.pending r) s.0 (s.1 e) h
+
+-- ---- the beginning
+
+pub new_limited : (limit : ℕ) (a : PlainActor) → a.limit ≡ limit → a.outcome ≡ None → IsLimited limit a
+new_limited limit a e o = record { limited = e; spent = λ s. absurd (subst Differs (sym o ∙ s) tt) }

@@ -1,0 +1,43 @@
+use Rattle.txs_actor.specs.declared.outcome.Turn.TheVariants.{Went, Asks, Ended}
+use Rattle.txs_world.specs.Book.{opening}
+use Rattle.txs_machine.proofs.Limits.{turns_limited}
+use Rattle.txs_machine.proofs.RunOver.{turns_over, turns_went, turns_say}
+use Rattle.txs_machine.proofs.run.round.Goals as goal
+
+pub serve_ask-requires-clause-going : goal.serve_ask-requires-clause-going
+serve_ask-requires-clause-going c = (turns_say c.args.code.now c.args.budget c.args.actor.now c.run.new.self (Asks c.in-Asks.ask) c.in-Asks.ensures.turns).0
+
+pub serve_ask-requires-clause-asks : goal.serve_ask-requires-clause-asks
+serve_ask-requires-clause-asks c = (turns_say c.args.code.now c.args.budget c.args.actor.now c.run.new.self (Asks c.in-Asks.ask) c.in-Asks.ensures.turns).1
+
+pub returns-in-Ended-clause-after : goal.returns-in-Ended-clause-after
+returns-in-Ended-clause-after c = turns_say c.args.code.now c.args.budget c.args.actor.now c.run.new.self (Ended c.in-Ended.outcome) c.in-Ended.ensures.turns
+
+pub returns-in-Ended-clause-over : goal.returns-in-Ended-clause-over
+returns-in-Ended-clause-over c =
+    turns_over c.actors_run.ensures c.turns_are_staged.ensures c.args.code.now (opening c.args.store.now.cells) c.args.k c.args.store.now.book c.args.budget c.args.actor.now c.run.new.self (Ended c.in-Ended.outcome)
+    c.requires.answered c.in-Ended.ensures.turns c.requires.over
+
+pub returns-in-Went-clause-after : goal.returns-in-Went-clause-after
+returns-in-Went-clause-after c = turns_went c.args.code.now c.args.budget c.args.actor.now c.run.new.self c.requires.answered c.in-Went.ensures.turns
+
+pub returns-in-Went-clause-over : goal.returns-in-Went-clause-over
+returns-in-Went-clause-over c =
+    turns_over c.actors_run.ensures c.turns_are_staged.ensures c.args.code.now (opening c.args.store.now.cells) c.args.k c.args.store.now.book c.args.budget c.args.actor.now c.run.new.self Went
+    c.requires.answered c.in-Went.ensures.turns c.requires.over
+
+pub returns-in_ok-serve_ask-in-Asks-clause-over : goal.returns-in_ok-serve_ask-in-Asks-clause-over
+returns-in_ok-serve_ask-in-Asks-clause-over c =
+    c.in_ok-serve_ask-in-Asks.ensures.over
+    (turns_over c.actors_run.ensures c.turns_are_staged.ensures c.args.code.now (opening c.args.store.now.cells) c.args.k c.args.store.now.book c.args.budget c.args.actor.now c.run.new.self (Asks c.in-Asks.ask)
+    c.requires.answered c.in-Asks.ensures.turns c.requires.over)
+
+pub returns-in-Ended-clause-limited : goal.returns-in-Ended-clause-limited
+returns-in-Ended-clause-limited c limit h = turns_limited c.args.code.now limit c.args.budget c.args.actor.now c.run.new.self (Ended c.in-Ended.outcome) c.in-Ended.ensures.turns h
+
+pub returns-in-Went-clause-limited : goal.returns-in-Went-clause-limited
+returns-in-Went-clause-limited c limit h = turns_limited c.args.code.now limit c.args.budget c.args.actor.now c.run.new.self Went c.in-Went.ensures.turns h
+
+pub returns-in_ok-serve_ask-in-Asks-clause-limited : goal.returns-in_ok-serve_ask-in-Asks-clause-limited
+returns-in_ok-serve_ask-in-Asks-clause-limited c limit h =
+    c.in_ok-serve_ask-in-Asks.ensures.limited limit (turns_limited c.args.code.now limit c.args.budget c.args.actor.now c.run.new.self (Asks c.in-Asks.ask) c.in-Asks.ensures.turns h)

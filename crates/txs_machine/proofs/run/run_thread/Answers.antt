@@ -1,0 +1,31 @@
+use Rattle.std.proofs.Common.{◌≡◌, ℕ, List, rules, sym, subst}
+use Rattle.txs_world.specs.Book.{opening}
+use Rattle.txs_machine.specs.RunOver.{IsExplained}
+use Rattle.txs_machine.proofs.Limits.{new_limited}
+use Rattle.txs_machine.proofs.RunOver.{new_over, ended_explained}
+use Rattle.txs_machine.proofs.run.run_thread.Goals as goal
+
+pub run_to_end-requires-clause-over : goal.run_to_end-requires-clause-over
+run_to_end-requires-clause-over c =
+    new_over c.actors_run.ensures c.args.code.now (opening c.args.store.now.cells) c.args.k c.args.max_steps c.args.store.now.book c.in_ok-actor.actor c.requires.unused c.in_ok-actor.ensures.new
+
+pub returns-clause-explained : goal.returns-clause-explained
+returns-clause-explained c =
+    let a = c.run_to_end.new.actor in
+    let w = opening c.args.store.now.cells in
+    let book = c.run_to_end.new.store.book in
+    let same : c.in_ok-printed.printed.items ≡ a.printed = search rules in
+    subst (λ (out : List ℕ). IsExplained c.args.code.now w c.args.k book c.in_ok-outcome.outcome out) (sym same)
+    (ended_explained c.actors_explained.ensures c.replies_fit.ensures c.args.code.now w c.args.k book a c.in_ok-outcome.outcome c.in_ok-outcome.ensures.ended c.in_ok-outcome.ensures.over)
+
+pub returns-clause-ended : goal.returns-clause-ended
+returns-clause-ended c =
+    let new = c.in_ok-actor.ensures.new in
+    record {
+      actor = c.run_to_end.new.actor;
+      over = c.in_ok-outcome.ensures.over;
+      limited = c.in_ok-outcome.ensures.limited c.args.max_steps (new_limited c.args.max_steps c.in_ok-actor.actor new.limited new.unended);
+      ended = c.in_ok-outcome.ensures.ended;
+      printed = search rules;
+      counted = search rules;
+    }

@@ -1,0 +1,41 @@
+-- How much an actor has printed at least, wherever it is.
+use Rattle.std.specs.Prelude.{◌≡◌, ℕ, List, [], ◌∷◌, ◌++◌}
+use Rattle.std.proofs.Common.{◌⊎◌}
+use Rattle.txs_value.specs.Cells.{World}
+use Rattle.txs_asks.specs.declared.event.Event.{Event}
+use Rattle.txs_tree.specs.Thread.{SeenEvent, thread_meaning}
+use Rattle.txs_tree.specs.Tree.{ThreadSource}
+use Rattle.txs_code.specs.ActorState.{ActorState}
+use Rattle.txs_code.specs.Machine.{ThreadCode, Configuration, Turned, Ended, Failed, Asking, Unfinished, Stuck, state}
+use Rattle.txs_follows.specs.Follows.{Follows}
+use Rattle.txs_follows.specs.RepliesFit.{halted, HasEaten}
+use Rattle.txs_world.specs.Book as world
+use Rattle.txs_world.specs.declared.cell.StoreCell.{StoreCell}
+use Rattle.txs_machine.specs.Run.{Actor, Play, plays}
+use Rattle.txs_machine.specs.Stages.{seen_by}
+
+-- the state has printed this, and maybe more after it
+abbrev pub Prints : List ℕ → ActorState → Type 0
+Prints out s = (rest : List ℕ) × (s.printed ≡ out ++ rest)
+
+-- and so where an actor is
+abbrev pub HasPrinted : List ℕ → Turned Configuration → Type 0
+HasPrinted out (Ended s) = Prints out s
+HasPrinted out (Failed f s) = Prints out s
+HasPrinted out (Asking s) = Prints out s
+HasPrinted out (Unfinished c) = Prints out (state c)
+HasPrinted out Stuck = Unit {0}
+
+-- what each source that the code follows means on these events, up to where it needs another, the actor has printed
+abbrev pub PrintedOn : ThreadCode → Actor → List SeenEvent → Type 0
+PrintedOn code x hs = (p : ThreadSource) → Follows code p → (out : List ℕ) × HasEaten out (halted (thread_meaning p x.turns hs)) × HasPrinted out x.at
+
+-- an actor that did something has printed what the source means on all of it but the last
+abbrev pub PrintedBeforeLast : ThreadCode → World → ℕ → List Event → Actor → Type 0
+PrintedBeforeLast code w a es x = (seen_by w a es ≡ []) ⊎ ((hs : List SeenEvent) × (e : SeenEvent) × (seen_by w a es ≡ hs ++ e ∷ []) × PrintedOn code x hs)
+
+-- so it is of each actor of a run, also of one that was stopped
+abbrev pub RunPrints : Type 0
+RunPrints =
+    (cells : List StoreCell) (codes : ℕ → ThreadCode) (ys : List Play) (a : ℕ)
+    → PrintedBeforeLast (codes a) (world.opening cells) a (plays cells codes ys).book ((plays cells codes ys).actors a)

@@ -1,0 +1,154 @@
+//! A thread's run over a store.
+
+ghost use Rattle.std.specs.Prelude.{◌≡◌, ◌<◌, ℕ, length, IfOk, OnOk, Some, None, []};
+ghost use Rattle.txs_actor.specs.PlainActor.{Runs, unanswered};
+ghost use Rattle.txs_world.specs.Book.{opening};
+ghost use Rattle.txs_machine.specs.RunOver.{RunOver, IsAfter, IsExplained, IsLimited, HasEnded};
+
+use crate::law::{actors_explained, served_ask_fits, turns_are_staged};
+use std::alloc::{AllocError, Global};
+use thiserror::Error;
+use txs_actor::{Actor, Turn, actors_run};
+use txs_asks::{Ask, Outcome};
+use txs_code::Verified;
+use txs_follows::replies_fit;
+use txs_world::Store;
+
+/// What a thread has printed, how it ended, and how many steps it made.
+#[derive(Drop)]
+pub struct Ran {
+    pub printed: Vec<u8>,
+    pub outcome: Outcome,
+    pub steps: u64,
+}
+
+/// Why there is no account of a run.
+#[derive(Clone, Copy, Debug, PartialEq, Eq, Error)]
+pub enum RunError {
+    /// The actor asked what it may not ask.
+    #[error("JournalMismatch")]
+    Mismatch,
+    /// There was no memory for the actor.
+    #[error("Memory")]
+    Memory,
+}
+
+impl From<AllocError> for RunError {
+    fn from(_: AllocError) -> RunError {
+        RunError::Memory
+    }
+}
+
+/// Serves the actor's ask, and hands it the answer.
+fn serve_ask(
+    actor: &mut Actor,
+    code: &Verified,
+    store: &mut Store,
+    ask: &Ask,
+    k: u16,
+) -> Result<(), RunError>
+    requires runs { Runs code.now actor.old }
+    requires going { actor.old.outcome ≡ None }
+    requires asks { unanswered actor.old ≡ Some ask.now }
+    ensures runs { OnOk result (Runs code.now actor.new) }
+    ensures answered { OnOk result (unanswered actor.new ≡ None) }
+    ensures limited { OnOk result ((limit : ℕ) → IsLimited limit actor.old → IsLimited limit actor.new) }
+    ensures cells { store.new.cells ≡ store.old.cells }
+    ensures over { OnOk result (RunOver code.now (opening store.old.cells) k store.old.book actor.old
+        → RunOver code.now (opening store.old.cells) k store.new.book actor.new) }
+{
+    let number = actor.number();
+    if !store.lawful(number, ask) {
+        return Err(RunError::Mismatch);
+    }
+    let reply = store.serve(number, ask);
+    actor.answer(code, reply);
+    actors_run();
+    served_ask_fits();
+    Ok(())
+}
+
+/// So many turns of the actor, or those up to its end, which is the answer, or up to an ask, which is
+/// served.
+fn round(
+    actor: &mut Actor,
+    code: &Verified,
+    store: &mut Store,
+    k: u16,
+    budget: u64,
+) -> Result<Option<Outcome>, RunError>
+    requires runs { Runs code.now actor.old }
+    requires answered { unanswered actor.old ≡ None }
+    requires over { RunOver code.now (opening store.old.cells) k store.old.book actor.old }
+    ensures runs { OnOk result (Runs code.now actor.new) }
+    ensures after { IfOk result (λ o. IsAfter actor.new o) }
+    ensures limited { OnOk result ((limit : ℕ) → IsLimited limit actor.old → IsLimited limit actor.new) }
+    ensures cells { store.new.cells ≡ store.old.cells }
+    ensures over { OnOk result (RunOver code.now (opening store.old.cells) k store.new.book actor.new) }
+{
+    actors_run();
+    turns_are_staged();
+    match actor.run(code, budget) {
+        Turn::Ended(outcome) => Ok(Some(outcome)),
+        Turn::Went => Ok(None),
+        Turn::Asks(ask) => {
+            serve_ask(actor, code, store, &ask, k)?;
+            Ok(None)
+        }
+    }
+}
+
+/// Turns the actor to its end, with each of its asks served by the store. Each round makes a step at
+/// least, so that the rounds never run out.
+fn run_to_end(
+    actor: &mut Actor,
+    code: &Verified,
+    store: &mut Store,
+    k: u16,
+) -> Result<Outcome, RunError>
+    requires runs { Runs code.now actor.old }
+    requires answered { unanswered actor.old ≡ None }
+    requires over { RunOver code.now (opening store.old.cells) k store.old.book actor.old }
+    ensures ended { IfOk result (λ o. actor.new.outcome ≡ Some o) }
+    ensures limited { OnOk result ((limit : ℕ) → IsLimited limit actor.old → IsLimited limit actor.new) }
+    ensures cells { store.new.cells ≡ store.old.cells }
+    ensures over { OnOk result (RunOver code.now (opening store.old.cells) k store.new.book actor.new) }
+{
+    for _ in 0..u64::MAX {
+        if let Some(outcome) = round(actor, code, store, k, u64::MAX)? {
+            return Ok(outcome);
+        }
+    }
+    Err(RunError::Mismatch)
+}
+
+/// Runs a thread of the code to its end, or for so many steps, over a store that no one has used yet.
+///
+/// # Errors
+/// `Mismatch` where the thread asks what it may not ask; `Memory` where there was no memory for its actor
+/// or for a copy of what it printed.
+pub fn run_thread(
+    alloc: Global,
+    code: &Verified,
+    k: u16,
+    max_steps: u64,
+    store: &mut Store,
+) -> Result<Ran, RunError>
+    requires thread { k < length code.now.threads }
+    requires unused { store.old.book ≡ [] }
+    ensures cells { store.new.cells ≡ store.old.cells }
+    ensures ended { IfOk result (λ ran. HasEnded code.now (opening store.old.cells) k max_steps store.new.book ran.outcome ran.printed.items ran.steps) }
+    ensures explained { IfOk result (λ ran. IsExplained code.now (opening store.old.cells) k store.new.book ran.outcome ran.printed.items) }
+{
+    actors_run();
+    actors_explained();
+    replies_fit();
+    let mut actor = Actor::thread(alloc, code, k, max_steps)?;
+    let outcome = run_to_end(&mut actor, code, store, k)?;
+    let printed = Vec::from_slice(alloc, actor.printed())?;
+    Ok(Ran {
+        printed,
+        outcome,
+        steps: actor.steps(),
+    })
+}

@@ -1,0 +1,9 @@
+//! The program over any streams: `play` takes the words of the command line and a script, and writes what
+//! a run, a check or a refusal tells.
+#![tactic(auto)]
+
+pub mod cells;
+pub mod program;
+pub mod streams;
+
+pub use program::play;

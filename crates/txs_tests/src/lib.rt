@@ -1,0 +1,24 @@
+//! What no contract says: that calls succeed with ample memory, the worked rows of each layer and of the
+//! program, the printed text, and the limits.
+#![tactic(auto)]
+
+#[cfg(test)]
+mod checks;
+#[cfg(test)]
+mod code;
+#[cfg(test)]
+mod positions;
+#[cfg(test)]
+mod program;
+#[cfg(test)]
+mod reader;
+#[cfg(test)]
+mod rows;
+#[cfg(test)]
+mod store;
+#[cfg(test)]
+mod trees;
+#[cfg(test)]
+mod values;
+#[cfg(test)]
+mod vector_rows;

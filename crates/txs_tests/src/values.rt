@@ -1,0 +1,417 @@
+// What no clause says: that the calls succeed with ample memory, what the table means at rows that
+// come from Clojure and from the profile's rules, and the printed text.
+use std::alloc::Global;
+use std::mem;
+use std::test::Fail;
+use txs_asks::{Ask, Event, EventKind, Reply, copy_ask, copy_event, copy_reply, copy_writes};
+use txs_operations::{apply, apply_owned, make_vector, takes};
+use txs_value::value::is_name;
+use txs_value::{
+    CellId, CellKind, FaultKind, Listed, Name, Op, Stop, Text, Value, copy_value, copy_values, same,
+    write_line, write_text,
+};
+
+// Each line is a call and its answer: a value as it prints, a fault, or `arity` where the operation
+// doesn't take so many arguments. A cell is written `#ref0`, a text has no space in it.
+const TABLE: &str = "\
++ 1 2 => 3
++ 1 2 3 => 6
++ 1 2 3 4 => 10
++ -1 1 => 0
++ 9223372036854775807 1 => Overflow
++ -9223372036854775808 -1 => Overflow
++ 9223372036854775807 -1 1 => 9223372036854775807
++ 9223372036854775807 1 -1 => Overflow
++ 1 nil => NotANumber
++ nil 1 => NotANumber
++ 9223372036854775807 nil => NotANumber
++ 9223372036854775807 1 nil => Overflow
++ 1 nil 9223372036854775807 => NotANumber
++ 1 => arity
+- 5 => -5
+- 0 => 0
+- -9223372036854775808 => Overflow
+- 9223372036854775807 => -9223372036854775807
+- nil => NotANumber
+- 5 3 => 2
+- 10 1 2 3 => 4
+- -9223372036854775808 1 => Overflow
+- 0 -9223372036854775808 => Overflow
+- -1 -9223372036854775808 => 9223372036854775807
+- 1 :a => NotANumber
+- => arity
+* 2 3 => 6
+* 2 3 4 => 24
+* -2 3 => -6
+* 0 9223372036854775807 => 0
+* 4294967296 2147483648 => Overflow
+* 4294967296 2147483647 => 9223372032559808512
+* -4294967296 2147483648 => -9223372036854775808
+* -1 -9223372036854775808 => Overflow
+* 9223372036854775807 2 0 => Overflow
+* 9223372036854775807 0 2 => 0
+* \"a\" 1 => NotANumber
+inc 41 => 42
+inc -1 => 0
+inc 9223372036854775807 => Overflow
+inc nil => NotANumber
+inc 1 2 => arity
+dec 0 => -1
+dec -9223372036854775808 => Overflow
+dec [ 1 ] => NotANumber
+quot 7 2 => 3
+quot -7 2 => -3
+quot 7 -2 => -3
+quot -7 -2 => 3
+quot 1 0 => DivideByZero
+quot nil 0 => NotANumber
+quot 1 nil => NotANumber
+quot -9223372036854775808 -1 => Overflow
+quot -9223372036854775808 1 => -9223372036854775808
+quot 9223372036854775807 -1 => -9223372036854775807
+rem 7 3 => 1
+rem -7 3 => -1
+rem 7 -3 => 1
+rem -7 -3 => -1
+rem 6 3 => 0
+rem 1 0 => DivideByZero
+rem :k 0 => NotANumber
+rem -9223372036854775808 -1 => 0
+mod 7 3 => 1
+mod -7 3 => 2
+mod 7 -3 => -2
+mod -7 -3 => -1
+mod 6 -3 => 0
+mod -6 3 => 0
+mod 1 0 => DivideByZero
+mod 5 nil => NotANumber
+mod -9223372036854775808 -1 => 0
+mod -9223372036854775808 9223372036854775807 => 9223372036854775806
+= 1 1 => true
+= 1 2 => false
+= 1 true => false
+= nil nil => true
+= nil false => false
+= :a :a => true
+= :a \":a\" => false
+= \"a\" \"a\" => true
+= \"a\" \"b\" => false
+= [ ] [ ] => true
+= [ 1 [ 2 ] ] [ 1 [ 2 ] ] => true
+= [ 1 2 ] [ 1 ] => false
+= [ 1 2 ] [ 2 1 ] => false
+= #ref0 #ref0 => true
+= #ref0 #ref1 => false
+= #ref0 #atom0 => false
+= 1 => arity
+not= 1 1 => false
+not= 1 2 => true
+not= [ 1 ] [ 1 ] => false
+not= nil 0 => true
+< 1 2 => true
+< 1 1 => false
+< 2 1 => false
+< -9223372036854775808 9223372036854775807 => true
+< nil 1 => NotANumber
+< 1 nil => NotANumber
+< 1 2 3 => arity
+> 2 1 => true
+> 1 1 => false
+> 1 nil => NotANumber
+<= 1 1 => true
+<= 2 1 => false
+<= :a 1 => NotANumber
+>= 1 1 => true
+>= 1 2 => false
+>= 1 \"a\" => NotANumber
+max 1 2 => 2
+max -1 -2 => -1
+max nil 1 => NotANumber
+min 1 2 => 1
+min 0 -9223372036854775808 => -9223372036854775808
+min 1 nil => NotANumber
+not nil => true
+not false => true
+not true => false
+not 0 => false
+not [ ] => false
+nil? nil => true
+nil? false => false
+zero? 0 => true
+zero? -1 => false
+zero? nil => NotANumber
+pos? 1 => true
+pos? 0 => false
+pos? -1 => false
+pos? :a => NotANumber
+neg? -1 => true
+neg? 0 => false
+neg? #ref0 => NotANumber
+count nil => 0
+count [ ] => 0
+count [ 1 [ 2 3 ] ] => 2
+count \"abc\" => NotAVector
+count false => NotAVector
+nth [ 10 20 30 ] 0 => 10
+nth [ 10 20 30 ] 2 => 30
+nth [ 10 20 30 ] 3 => IndexOut
+nth [ 10 20 30 ] -1 => IndexOut
+nth [ 10 ] 9223372036854775807 => IndexOut
+nth [ [ 1 2 ] ] 0 => [1 2]
+nth [ 1 ] nil => NotANumber
+nth nil nil => NotAVector
+conj [ ] 1 => [1]
+conj [ 1 2 ] 3 => [1 2 3]
+conj [ 1 ] [ 2 ] => [1 [2]]
+conj [ ] nil => [nil]
+conj nil 1 => NotAVector
+assoc [ 1 2 ] 0 9 => [9 2]
+assoc [ 1 2 ] 1 9 => [1 9]
+assoc [ 1 2 ] 2 9 => [1 2 9]
+assoc [ 1 2 ] 3 9 => IndexOut
+assoc [ 1 2 ] -1 9 => IndexOut
+assoc [ ] 0 1 => [1]
+assoc [ 1 ] :a 1 => NotANumber
+assoc nil nil 1 => NotAVector
+assoc [ 1 ] 0 => arity
+peek [ 1 2 ] => 2
+peek [ [ 1 ] ] => [1]
+peek [ ] => nil
+peek nil => NotAVector
+pop [ 1 2 ] => [1]
+pop [ 1 ] => []
+pop [ ] => PopEmpty
+pop \"a\" => NotAVector
+conj [ 1 \"a\" :b nil #ref0 ] #agent2 => [1 a :b nil #ref[0] #agent[2]]
+conj [ [ true [ ] ] #atom65535 ] -9223372036854775808 => [[true []] #atom[65535] -9223372036854775808]";
+
+fn cell(kind: CellKind, digits: &str) -> Result<Value, Fail> {
+    let number = digits.parse::<u16>()?;
+    Ok(Value::Cell(CellId { kind, number }))
+}
+
+fn keyword(alloc: Global, name: &[u8]) -> Result<Value, Fail> {
+    if !is_name(name) {
+        Err("no name")?;
+    }
+    Ok(Value::Key(Name::from_bytes(alloc, name)?))
+}
+
+fn text(alloc: Global, bytes: &str) -> Result<Value, Fail> {
+    if bytes.len() > 65_535 {
+        Err("long text")?;
+    }
+    Ok(Value::Text(Text::from_string(alloc, String::from_str(alloc, bytes)?)?))
+}
+
+fn atom(alloc: Global, word: &str) -> Result<Value, Fail> {
+    if word == "nil" {
+        return Ok(Value::Nil);
+    }
+    if word == "true" || word == "false" {
+        return Ok(Value::Truth(word == "true"));
+    }
+    if let Some(name) = word.strip_prefix(':') {
+        return keyword(alloc, name.as_bytes());
+    }
+    if let Some(quoted) = word.strip_prefix('"') {
+        return text(alloc, quoted.trim_end_matches('"'));
+    }
+    if let Some(digits) = word.strip_prefix("#ref") {
+        return cell(CellKind::Ref, digits);
+    }
+    if let Some(digits) = word.strip_prefix("#atom") {
+        return cell(CellKind::Atom, digits);
+    }
+    if let Some(digits) = word.strip_prefix("#agent") {
+        return cell(CellKind::Agent, digits);
+    }
+    Ok(Value::Int(word.parse::<i64>()?))
+}
+
+// The values of a line, whose words stand apart.
+fn values(alloc: Global, text: &str) -> Result<Vec<Value>, Fail> {
+    let mut open: Vec<Vec<Value>> = Vec::new(alloc);
+    let mut items: Vec<Value> = Vec::new(alloc);
+    for word in text.split_whitespace() {
+        if word == "[" {
+            open.push(mem::replace(&mut items, Vec::new(alloc)))?;
+        } else if word == "]" {
+            let outer = open.pop().ok_or("no bracket")?;
+            let inner = mem::replace(&mut items, outer);
+            items.push(make_vector(alloc, inner)?)?;
+        } else {
+            items.push(atom(alloc, word)?)?;
+        }
+    }
+    Ok(items)
+}
+
+// An answer as the table writes it.
+fn shown(alloc: Global, answer: &Result<Value, Stop>) -> Result<Vec<u8>, Fail> {
+    let mut out = Vec::new(alloc);
+    match answer {
+        Ok(value) => write_text(value, &mut out)?,
+        Err(stop) => {
+            let name = stop.to_string(alloc)?;
+            out.extend_from_slice(name.as_bytes())?;
+        }
+    }
+    Ok(out)
+}
+
+#[test]
+fn answers_the_table(rt: HostRuntime) -> Result<(), Fail> {
+    let alloc = rt.alloc();
+    let mut rows = 0u32;
+    for line in TABLE.lines() {
+        let (call, expected) = line.split_once(" => ").ok_or("no answer")?;
+        let (name, rest) = call.split_once(' ').unwrap_or((call, ""));
+        let op = Op::from_name(name.as_bytes()).ok_or("no operation")?;
+        assert_eq!(rt; op.name(), name.as_bytes());
+        assert_eq!(rt; Op::from_number(op.number()), Some(op));
+        let mut args = values(alloc, rest)?;
+        if !takes(op, args.len()) {
+            assert_eq!(rt; "arity", expected, "{line}");
+            continue;
+        }
+        let answer = apply(alloc, op, args.as_slice());
+        let text = shown(alloc, &answer)?;
+        assert_eq!(rt; text.as_slice(), expected.as_bytes(), "{line}");
+        let answer = apply_owned(alloc, op, args.as_mut_slice());
+        let text = shown(alloc, &answer)?;
+        assert_eq!(rt; text.as_slice(), expected.as_bytes(), "{line}");
+        rows = rows.wrapping_add(1);
+    }
+    assert!(rt; rows > 120);
+    assert!(rt; Op::from_name(b"foo").is_none() && Op::from_number(27).is_none());
+    Ok(())
+}
+
+// An empty vector in so many vectors.
+fn nested(alloc: Global, levels: u8) -> Result<Value, Fail> {
+    let mut value = make_vector(alloc, Vec::new(alloc))?;
+    for _ in 0..levels {
+        value = make_vector(alloc, vec![in alloc; value]?)?;
+    }
+    Ok(value)
+}
+
+#[test]
+#[tactic(auto, unfolding(txs_operations::specs::Core::takes))]
+fn keeps_the_limits(rt: HostRuntime) -> Result<(), Fail> {
+    let alloc = rt.alloc();
+    let deep = Stop::Fault(FaultKind::TooDeep);
+    let empty = make_vector(alloc, Vec::new(alloc))?;
+    let fits = apply(alloc, Op::Conj, &[copy_value(&empty)?, nested(alloc, 30)?])?;
+    assert!(rt; same(&fits, &nested(alloc, 31)?));
+    assert!(rt; make_vector(alloc, vec![in alloc; nested(alloc, 31)?]?).is_err());
+    let refused = apply(alloc, Op::Conj, &[copy_value(&empty)?, nested(alloc, 31)?]);
+    assert!(rt; matches!(&refused, Err(stop) if *stop == deep));
+    let refused = apply(
+        alloc,
+        Op::Assoc,
+        &[empty, Value::Int(0), nested(alloc, 31)?],
+    );
+    assert!(rt; matches!(&refused, Err(stop) if *stop == deep));
+    Ok(())
+}
+
+#[test]
+#[tactic(auto, unfolding(txs_operations::specs::Core::takes))]
+fn grows_to_the_limit(rt: HostRuntime) -> Result<(), Fail> {
+    let alloc = rt.alloc();
+    let long = Stop::Fault(FaultKind::TooLong);
+    let mut vector = make_vector(alloc, Vec::new(alloc))?;
+    for i in 0..65_535u16 {
+        vector = apply_owned(alloc, Op::Conj, &mut [vector, Value::Int(i64::from(i))])?;
+    }
+    let count = apply(alloc, Op::Count, &[copy_value(&vector)?])?;
+    assert!(rt; same(&count, &Value::Int(65_535)));
+    let refused = apply(alloc, Op::Conj, &[copy_value(&vector)?, Value::Nil]);
+    assert!(rt; matches!(&refused, Err(stop) if *stop == long));
+    let end = Value::Int(65_535);
+    let refused = apply(alloc, Op::Assoc, &[copy_value(&vector)?, end, Value::Nil]);
+    assert!(rt; matches!(&refused, Err(stop) if *stop == long));
+    let last = Value::Int(65_534);
+    let changed = apply_owned(alloc, Op::Assoc, &mut [vector, last, Value::Nil])?;
+    let peeked = apply(alloc, Op::Peek, &[changed])?;
+    assert!(rt; same(&peeked, &Value::Nil));
+    Ok(())
+}
+
+// A vector of the numbers from 0, and all the vectors on the way to it.
+#[tactic(auto, unfolding(txs_operations::specs::Core::takes))]
+fn grown(alloc: Global, count: u16) -> Result<Vec<Value>, Fail> {
+    let mut all = vec![in alloc; make_vector(alloc, Vec::new(alloc))?]?;
+    for i in 0..count {
+        let last = all.last().ok_or("no vector")?;
+        let call = [copy_value(last)?, Value::Int(i64::from(i))];
+        all.push(apply(alloc, Op::Conj, &call)?)?;
+    }
+    Ok(all)
+}
+
+#[tactic(auto, unfolding(txs_operations::specs::Core::takes))]
+fn item(alloc: Global, vector: &Value, place: usize) -> Result<Value, Fail> {
+    let place = Value::Int(i64::try_from(place)?);
+    Ok(apply(alloc, Op::Nth, &[copy_value(vector)?, place])?)
+}
+
+// Each vector on the way has its own items, and keeps them while others are made of it: across leaves
+// of 32 items and branches of 1,024.
+#[test]
+#[tactic(auto, unfolding(txs_operations::specs::Core::takes))]
+fn keeps_old_vectors(rt: HostRuntime) -> Result<(), Fail> {
+    let alloc = rt.alloc();
+    let all = grown(alloc, 2_200)?;
+    for (i, vector) in all.as_slice().iter().enumerate() {
+        let place = Value::Int(i64::try_from(i / 2)?);
+        let _changed = apply(alloc, Op::Assoc, &[copy_value(vector)?, place, Value::Nil])?;
+        if i > 0 {
+            let shorter = apply(alloc, Op::Pop, &[copy_value(vector)?])?;
+            assert!(rt; same(&shorter, all.get(i - 1).ok_or("none")?));
+        }
+    }
+    for (i, vector) in all.as_slice().iter().enumerate() {
+        let count = apply(alloc, Op::Count, &[copy_value(vector)?])?;
+        assert!(rt; same(&count, &Value::Int(i64::try_from(i)?)));
+        for place in [0, i / 2, i / 3, i.saturating_sub(33), i.saturating_sub(1)] {
+            if place < i {
+                let number = Value::Int(i64::try_from(place)?);
+                assert!(rt; same(&item(alloc, vector, place)?, &number), "{i} {place}");
+            }
+        }
+    }
+    Ok(())
+}
+
+#[test]
+fn copies(rt: HostRuntime) -> Result<(), Fail> {
+    let alloc = rt.alloc();
+    let all = values(alloc, "nil true -7 :key \"text\" [ 1 [ 2 ] ] #agent9")?;
+    let mut line = Vec::new(alloc);
+    write_line(all.as_slice(), &mut line)?;
+    assert_eq!(rt;
+        line.as_slice(),
+        b"nil true -7 :key text [1 [2]] #agent[9]\n".as_slice()
+    );
+    let copied = copy_values(alloc, &Listed::from_vec(all))?;
+    for value in copied.as_slice() {
+        assert!(rt; same(&copy_value(value)?, value));
+    }
+    let cell = CellId {
+        kind: CellKind::Ref,
+        number: 3,
+    };
+    let sets = Listed::from_vec(vec![in alloc; (cell, nested(alloc, 2)?)]?);
+    let sets = copy_writes(alloc, &sets)?;
+    let ask = copy_ask(alloc, &Ask::Commit { at: 5, sets })?;
+    assert!(rt; matches!(&ask, Ask::Commit { at: 5, sets } if sets.as_slice().len() == 1));
+    let kind = EventKind::Retry { since: 4, cell };
+    let event = copy_event(alloc, &Event { actor: 2, kind })?;
+    assert!(rt; event.actor == 2 && matches!(&event.kind, EventKind::Retry { since: 4, .. }));
+    let reply = copy_reply(alloc, &Reply::Is(nested(alloc, 1)?))?;
+    assert!(rt; matches!(&reply, Reply::Is(value) if same(value, &nested(alloc, 1)?)));
+    Ok(())
+}
