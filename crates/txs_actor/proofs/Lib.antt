@@ -1,11 +1,9 @@
-pub mod Acts
 pub mod Answering
 pub mod Calling
 pub mod Departing
 pub mod Effects
 pub mod Following
 pub mod Landing
-pub mod Later
 pub mod Lists
 pub mod Meaning
 pub mod Nesting

@@ -5,7 +5,7 @@ use txs_asks::{Ask, Outcome};
 use txs_value::FaultKind;
 
 /// What a turn came to.
-#[derive(Debug, Drop)]
+#[derive(Drop)]
 pub enum Turn {
     /// The actor made a step and goes on.
     Went,

@@ -4,14 +4,14 @@ use crate::stack::Stack;
 use txs_value::{CellId, Fault, Span};
 
 /// Where a transaction began: its span, and the stack there, whose body goes on at its first instruction.
-#[derive(Debug, Drop)]
+#[derive(Drop)]
 pub struct Origin {
     pub span: Span,
     pub stack: Stack,
 }
 
 /// The transaction of an actor.
-#[derive(Debug, Drop)]
+#[derive(Drop)]
 pub enum Transaction {
     /// None.
     Outside,
@@ -22,7 +22,7 @@ pub enum Transaction {
 }
 
 /// What an actor's unanswered ask is for.
-#[derive(Debug, Drop)]
+#[derive(Drop)]
 pub enum Pending {
     /// A transaction begins, which may run again so many times from here.
     Begin { left: u16, from: Origin },

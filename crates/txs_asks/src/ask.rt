@@ -8,7 +8,7 @@ use txs_value::{CellId, Listed, Value};
 
 /// One request of an actor to the shared state. Each place is a number of events: `at` is the read
 /// point of the transaction that asks.
-#[derive(Debug, Drop)]
+#[derive(Drop)]
 pub enum Ask {
     /// A transaction begins.
     Begin,
@@ -33,7 +33,7 @@ pub enum Ask {
 }
 
 /// The answer to a request.
-#[derive(Debug, Drop)]
+#[derive(Drop)]
 pub enum Reply {
     /// The read point: how many events the store's book has.
     At(u32),

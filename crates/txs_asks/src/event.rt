@@ -3,7 +3,7 @@
 use txs_value::{CellId, Fault, Listed, Value};
 
 /// What an actor did to the shared state. Places are numbers of events of the same book.
-#[derive(Debug, Drop)]
+#[derive(Drop)]
 pub enum EventKind {
     /// It read a cell outside every transaction.
     Read {
@@ -26,14 +26,14 @@ pub enum EventKind {
 }
 
 /// An event: which actor did what. Threads are numbered from 0 in script order, agents after them.
-#[derive(Debug, Drop)]
+#[derive(Drop)]
 pub struct Event {
     pub actor: u16,
     pub kind: EventKind,
 }
 
 /// How an actor ends.
-#[derive(Clone, Copy, Debug, PartialEq, Eq)]
+#[derive(Clone, Copy, PartialEq, Eq)]
 pub enum Outcome {
     /// It has done all that its script says.
     Done,

@@ -6,4 +6,3 @@ pub mod Lists
 pub mod Order
 pub mod Same
 pub mod Steps
-pub mod Trees

@@ -10,7 +10,7 @@ use std::alloc::{AllocError, Global};
 use txs_tree::{Function, Node, NodeKind};
 
 /// What a body is: for transactions alone, for outside alone, or pure.
-#[derive(Clone, Copy, Debug, PartialEq, Eq)]
+#[derive(Clone, Copy, PartialEq, Eq)]
 pub struct Class {
     pub inside: bool,
     pub outside: bool,
@@ -18,7 +18,7 @@ pub struct Class {
 }
 
 /// What is known of a function.
-#[derive(Clone, Copy, Debug, PartialEq, Eq)]
+#[derive(Clone, Copy, PartialEq, Eq)]
 pub struct Signature {
     pub parameters: u8,
     pub class: Class,

@@ -8,7 +8,7 @@ use txs_value::Span;
 
 /// Where a node stands: in a function outside every transaction of it, in a future outside every transaction,
 /// or in a transaction.
-#[derive(Clone, Copy, Debug, PartialEq, Eq)]
+#[derive(Clone, Copy, PartialEq, Eq)]
 pub enum Zone {
     InFunction,
     InFuture,
@@ -17,7 +17,7 @@ pub enum Zone {
 
 /// What a recur meets: no loop or function at all, one with a `dosync` between, or one of so many values, in
 /// whose tail position it stands or not.
-#[derive(Clone, Copy, Debug, PartialEq, Eq)]
+#[derive(Clone, Copy, PartialEq, Eq)]
 pub enum Target {
     Nowhere,
     Across,

@@ -1,5 +1,5 @@
 -- Where a thread begins, and where its code comes to.
-use Rattle.std.specs.Prelude.{ℕ, List, [], Some, None}
+use Rattle.std.specs.Prelude.{ℕ, List, [], ◌++◌, Some, None}
 use Rattle.txs_asks.specs.Ask.{Exchange}
 use Rattle.txs_code.specs.ActorState.{ActorState}
 use Rattle.txs_code.specs.Machine.{ThreadCode, locals_of, Outside, Configuration, configuration, Outcome, exec}
@@ -15,3 +15,7 @@ opening code todo = configuration 0 0 [] (locals_of (Some code.main) []) [] Outs
 -- the machine on these exchanges, after at most m instructions
 abbrev pub target : ThreadCode → ℕ → List Exchange → Outcome
 target code m todo = exec code m (opening code todo)
+
+-- a configuration to which more exchanges come at the end
+abbrev pub given : List Exchange → Configuration → Configuration
+given xs (configuration b pc stack locals frames tx s) = configuration b pc stack locals frames tx (record s { todo = s.todo ++ xs })

@@ -9,7 +9,7 @@ use txs_value::{CellDefinition, Span, Value};
 
 /// The code of a body: how many parameters it has, which are the first of its locals; how many locals in all; and its
 /// instructions, each with the span of what it was made for. A thread's body has no parameters.
-#[derive(Debug, Drop)]
+#[derive(Drop)]
 pub struct Body {
     parameters: u8,
     locals: u8,
@@ -73,7 +73,7 @@ impl Body {
 }
 
 /// Code: the cells by their numbers, the constants, and a body for each function and for each thread.
-#[derive(Debug, Drop)]
+#[derive(Drop)]
 pub struct Code {
     cells: Vec<CellDefinition>,
     constants: Vec<Value>,

@@ -3,7 +3,7 @@ use Rattle.std.proofs.Common.{ℕ, List, [], refl, sym, subst, arith, ⊎_elim, 
 use Rattle.std.proofs.lemmas.Bool.{cases_lt}
 use Rattle.txs_code.specs.ActorState.{ActorState}
 use Rattle.txs_code.specs.Machine.{ThreadCode, Ended, Failed, Asking, Unfinished, Stuck, Outcome}
-use Rattle.txs_follows.proofs.Acts.{longer}
+use Rattle.txs_follows.proofs.Longer.{longer}
 use Rattle.txs_follows.proofs.Fitted.{fits_of}
 use Rattle.txs_follows.proofs.Grows.{GrowsTo}
 use Rattle.txs_follows.proofs.Loops.{loops_too}

@@ -3,7 +3,7 @@ use Rattle.std.proofs.Common.{ℕ, zero, suc, Bool, true, false, List, [], Optio
 use Rattle.std.proofs.lemmas.List.{append-nil}
 use Rattle.txs_code.specs.ActorState.{ActorState, Reception, Replied, Unreplied, receives, asks, StepResult, Continue, Break, Redo, Await, Malformed, Passage, Passed, Again, Pending, Unlawful, begun, begin, failed, fail, committed, commit, looked, buffered_or, look, peeked, peek, put_write, print, read, opens}
 use Rattle.txs_code.specs.Machine.{PlainInstr, Push, Load, Store, Pop, Jump, JumpFalse, CoreOf, CallOf, Return, MakeVector, PrintOf, DerefOf, TxBegin, TxEnd, AlterOpen, AlterClose, Halt, ThreadCode, fetch, Frame, frame, Savepoint, savepoint, Transaction, Outside, Restarting, Running, is_inside, Configuration, configuration, Ended, Failed, Asking, Unfinished, Stuck, Outcome, Next, after_fail, raise, rerun, retried, on, on_reach, found, step_of, on_top, on_args, begins, ends, returns_to, act, state, exec}
-use Rattle.txs_follows.proofs.Acts.{act_alike}
+use Rattle.txs_code.proofs.Alike.{act_alike}
 use Rattle.txs_asks.specs.Ask.{buffered, Exchange, same_ask}
 use Rattle.txs_value.specs.Cells.{any_cell, readable_cell, ref_cell}
 use Rattle.txs_operations.specs.Core.{core, vector_of}
@@ -291,4 +291,4 @@ pub later : (code : ThreadCode) (m n : ℕ) → m ≤ n → (c : Configuration) 
 later code zero n le (configuration b pc st L fr tx s) = exec_grows code n (configuration b pc st L fr tx s)
 later code (suc m) zero le c = absurd (omega (arith, le))
 later code (suc m) (suc n) le (configuration b pc st L fr tx s) =
-    act_alike code Later later_same (exec code m) (exec code n) (later code m n (omega (arith, le))) (fetch code b pc) b pc st L fr tx s
+    act_alike Later later_same (exec code m) (exec code n) (later code m n (omega (arith, le))) code (fetch code b pc) b pc st L fr tx s

@@ -1,14 +1,14 @@
-mod Acts
-mod All
-mod Ends
-mod Fitted
+pub mod All
+pub mod Ends
+pub mod Fitted
 pub mod Functions
-mod Grows
-mod Loops
-mod More
-mod MoreEvents
-mod Related
-mod Sound
-mod Threads
-mod Whole
-mod Worlds
+pub mod Grows
+pub mod Longer
+pub mod Loops
+pub mod More
+pub mod MoreEvents
+pub mod Related
+pub mod Sound
+pub mod Threads
+pub mod Whole
+pub mod Worlds

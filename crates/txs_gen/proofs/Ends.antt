@@ -12,7 +12,7 @@ use Rattle.txs_code.specs.Opening.{fresh, opening, target}
 use Rattle.txs_follows.specs.Behaves.{source, IsMeant, HasEnded, outcome_of, IsOver, Behaves}
 use Rattle.txs_follows.specs.OnReplies.{on_replies}
 use Rattle.txs_gen.specs.Gen.{gen, function_code, functions_code, body_code, generated}
-use Rattle.txs_gen.proofs.Acts.{act_alike}
+use Rattle.txs_follows.proofs.Longer.{longer}
 use Rattle.txs_gen.proofs.Lists.{Stands, holds_opening, stands_front, stands_back}
 use Rattle.txs_gen.proofs.Simulates.{AtValue, AtLoop, Never, CallSimulates, expression_simulates, turns_simulates}
 use Rattle.txs_gen.proofs.Steps.{Lands, Simulates, step, one_to, to_from, onward, closed_simulates}
@@ -105,17 +105,6 @@ ends_so p todo n =
     main_ends p todo n (source p n todo)
     (closed_simulates code n Outside (AtValue 0 stop [] [] [] Outside) (AtLoop 0 0 [] [] [] Outside) Never c (eval on_replies call n false p.main [] (fresh todo))
     (expression_simulates code n call (call_simulates p n (length p.functions)) 0 [] p.main Outside [] [] [] (locals_of (Some (body_code p.main)) []) 0 0 0 0 stop (fresh todo) tt (stands_front code 0 0 is (Halt ∷ []) _ has) (record { inner = []; within = refl; size = refl; depth = refl }) (holds_opening (Some (body_code p.main)) [])))
-
--- where the first is over, the second is over with the same outcome
-abbrev Ext : Outcome → Outcome → Type 0
-Ext a b = (o : Outcome) → IsOver o → a ≡ o → b ≡ o
-
--- more instructions change nothing of a run that is over
-pub longer : (code : ThreadCode) (m n : ℕ) → m ≤ n → (c : Configuration) → Ext (exec code m c) (exec code n c)
-longer code zero n le (configuration b pc st L fr tx s) o over e = absurd (subst IsOver (sym e) over)
-longer code (suc m) zero le c o over e = absurd (omega (arith, le))
-longer code (suc m) (suc n) le (configuration b pc st L fr tx s) o over e =
-    act_alike Ext (λ q u ov p. p) (exec code m) (exec code n) (longer code m n (omega (arith, le))) code (fetch code b pc) b pc st L fr tx s o over e
 
 one_end : (p : ThreadSource) (todo : List Exchange) (m n : ℕ) (o q : Outcome) → IsOver o → IsOver q → target (generated p) m todo ≡ o → target (generated p) n todo ≡ q → o ≡ q
 one_end p todo m n o q over_o over_q e f =

@@ -1,8 +1,7 @@
-pub mod Acts
 pub mod Bodies
+pub mod CodesFollow
 pub mod Emissions
 pub mod Ends
-pub mod CodesFollow
 pub mod Generation
 pub mod Lists
 pub mod Segments

@@ -19,7 +19,8 @@ use Rattle.txs_world.specs.Store.{Served, event_of, disturbed, looks, commits, s
 use Rattle.txs_world.specs.declared.cell.StoreCell.{StoreCell}
 use Rattle.txs_machine.specs.Invariant.{RunInvariant}
 use Rattle.txs_machine.specs.Lawful.{IsKnown, CodeIsKnown, OpeningIsKnown, AsksAreLawful}
-use Rattle.txs_machine.specs.Run.{Stop, Actor, Moved, moved, exchange, given, replied, asked, asks_for, turned, turns_from, stops_from, Play, TakesTurn, IsStopped, State, moves, actor_of, play, plays_from, opens}
+use Rattle.txs_machine.specs.Run.{Stop, Actor, Moved, moved, exchange, replied, asked, asks_for, turned, turns_from, stops_from, Play, TakesTurn, IsStopped, State, moves, actor_of, play, plays_from, opens}
+use Rattle.txs_code.specs.Opening.{given}
 use Rattle.txs_machine.specs.Stages.{Stage, Idle, Open, stage_of, AsksIn, MayName, StagedFrom, IsStaged}
 use Rattle.txs_machine.proofs.Known.{ValuesKnown, ReplyKnown, TodoKnown, ConfigurationKnown, AskKnown, WantsKnown, TurnKnown, OptionKnown, buffered_known, locals_known, turn_known}
 use Rattle.txs_machine.proofs.Served.{both_true, added}

@@ -12,7 +12,7 @@ use Rattle.txs_value.proofs.SameLemmas.{numbers, number-itself}
 use Rattle.txs_tree.specs.Thread.{SeenEvent, thread_meaning}
 use Rattle.txs_code.specs.ActorState.{ActorState}
 use Rattle.txs_code.specs.Machine.{ThreadCode, Configuration, configuration, Turned, Ended, Failed, Asking, Unfinished, Stuck, Outcome, state, turn, run}
-use Rattle.txs_code.specs.Opening.{opening, target}
+use Rattle.txs_code.specs.Opening.{given, opening, target}
 use Rattle.txs_follows.specs.RepliesFit.{Out, RepliesFit, Explained, Consumed}
 use Rattle.txs_follows.specs.RepliesFitTo.{FittingToFits}
 use Rattle.txs_world.specs.Book as world
@@ -23,9 +23,9 @@ use Rattle.txs_machine.specs.Invariant.{ActorInvariant, RunInvariant}
 use Rattle.txs_machine.specs.Laws.{IsExchanged}
 use Rattle.txs_machine.specs.Printed.{Prints, HasPrinted, PrintedBeforeLast}
 use Rattle.txs_machine.specs.Run as run_of
-use Rattle.txs_machine.specs.Run.{Stop, Actor, Moved, moved, exchange, given, stop, comes_to, hears, replied, asked, asks_for, turned, turns_from, stops_from, Play, TakesTurn, IsStopped, State, moves, actor_of, play, plays_from, opens}
+use Rattle.txs_machine.specs.Run.{Stop, Actor, Moved, moved, exchange, stop, comes_to, hears, replied, asked, asks_for, turned, turns_from, stops_from, Play, TakesTurn, IsStopped, State, moves, actor_of, play, plays_from, opens}
 use Rattle.txs_machine.specs.Stages.{seen_as, seen_by, phase_of, IsStaged}
-use Rattle.txs_machine.proofs.Acts.{and_then, stated, run_more, exec_run}
+use Rattle.txs_code.proofs.Acts.{and_then, stated, run_more, exec_run}
 use Rattle.txs_machine.proofs.Keeping.{IsKept, Holds, turn_keeps}
 use Rattle.txs_machine.proofs.Served.{other_seen, own_seen, serve_grows, Grown}
 use Rattle.txs_machine.proofs.Steps.{Lower, play_holds, moves_well}

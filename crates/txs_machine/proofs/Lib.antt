@@ -1,14 +1,11 @@
-pub mod Acts
 pub mod Asks
 pub mod CoreKnown
 pub mod Following
 pub mod Keeping
 pub mod Known
 pub mod Lasts
-pub mod Later
 pub mod Limits
 pub mod RunOver
-pub mod Sample
 pub mod Served
 pub mod Staged
 pub mod Steps

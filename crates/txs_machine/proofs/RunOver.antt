@@ -30,7 +30,7 @@ use Rattle.txs_actor.specs.declared.state.Pending.TheVariants.{Begin, Read, Open
 use Rattle.txs_actor.specs.declared.state.Transaction.{Transaction}
 use Rattle.txs_actor.specs.declared.state.Transaction.TheVariants.{Outside, Restarting, Running}
 use Rattle.txs_machine.specs.Laws.{TurnsAreStaged, ServedAskFits, IsExchanged}
-use Rattle.txs_machine.specs.Run.{given}
+use Rattle.txs_code.specs.Opening.{given}
 use Rattle.txs_machine.specs.Stages.{Stage, Idle, AsksIn, stage_after, stage_of, phase_of, ToldBy, IsStaged, StagedFrom, seen_by}
 use Rattle.txs_world.specs.Book.{opening, after, written, most_events}
 use Rattle.txs_world.specs.Store as world

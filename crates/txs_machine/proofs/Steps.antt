@@ -8,7 +8,7 @@ use Rattle.txs_asks.specs.declared.ask.Reply.TheVariants as reply
 use Rattle.txs_asks.specs.declared.event.Event.{Event}
 use Rattle.txs_value.proofs.SameLemmas.{numbers, number-itself}
 use Rattle.txs_code.specs.Machine.{ThreadCode, Configuration, Turned, Ended, Failed, Asking, Unfinished, Stuck, turn}
-use Rattle.txs_code.specs.Opening.{opening}
+use Rattle.txs_code.specs.Opening.{given, opening}
 use Rattle.txs_follows.specs.RepliesFitTo.{OneMoreFits}
 use Rattle.txs_world.specs.Book as world
 use Rattle.txs_world.specs.Book.{Legal, Undisturbed}
@@ -18,10 +18,10 @@ use Rattle.txs_world.specs.declared.cell.StoreCell.{StoreCell}
 use Rattle.txs_machine.specs.Invariant.{ActorInvariant, RunInvariant}
 use Rattle.txs_machine.specs.Laws.{IsExchanged}
 use Rattle.txs_machine.specs.Run as run_of
-use Rattle.txs_machine.specs.Run.{Stop, Actor, Moved, moved, exchange, given, stop, comes_to, hears, replied, answered, asked, asks_for, turned, turns_from, stops_from, Play, TakesTurn, IsStopped, State, placed, moves, actor_of, play}
+use Rattle.txs_machine.specs.Run.{Stop, Actor, Moved, moved, exchange, stop, comes_to, hears, replied, answered, asked, asks_for, turned, turns_from, stops_from, Play, TakesTurn, IsStopped, State, placed, moves, actor_of, play}
 use Rattle.txs_machine.specs.Stages.{stage_of, AsksIn, stage_after, ToldBy, IsStaged, TurnIsStaged}
-use Rattle.txs_machine.proofs.Acts.{and_then, run_more}
-use Rattle.txs_machine.proofs.Later.{more_to_come}
+use Rattle.txs_code.proofs.Acts.{and_then, run_more}
+use Rattle.txs_code.proofs.Later.{more_to_come}
 use Rattle.txs_machine.proofs.Served.{other_told, serve_told, serve_grows, Grown}
 use Rattle.txs_machine.proofs.Staged.{turn_staged}
 

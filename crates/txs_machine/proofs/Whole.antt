@@ -20,7 +20,7 @@ use Rattle.txs_machine.specs.Lawful.{RunAsksLawful}
 use Rattle.txs_machine.specs.Printed.{RunPrints}
 use Rattle.txs_machine.specs.Run.{Actor, State, Play, opens, play, plays, plays_from}
 use Rattle.txs_machine.specs.Stages.{seen_by, Stage, Idle, IsStaged, phase_of}
-use Rattle.txs_machine.proofs.Acts.{and_then, stated, exec_run}
+use Rattle.txs_code.proofs.Acts.{and_then, stated, exec_run}
 use Rattle.txs_machine.proofs.Asks.{opens_known, all_lawful}
 use Rattle.txs_machine.proofs.Lasts.{plays_last, printed_before}
 use Rattle.txs_machine.proofs.Steps.{Lower, play_holds}

@@ -7,7 +7,7 @@ use Rattle.txs_asks.specs.declared.ask.Reply.TheVariants as reply
 use Rattle.txs_asks.specs.declared.event.Event.{Event}
 use Rattle.txs_code.specs.ActorState.{ActorState}
 use Rattle.txs_code.specs.Machine.{ThreadCode, Configuration, configuration, Turned, Ended, Failed, Asking, Unfinished, Stuck, turn}
-use Rattle.txs_code.specs.Opening.{opening}
+use Rattle.txs_code.specs.Opening.{given, opening}
 use Rattle.txs_world.specs.Book as world
 use Rattle.txs_world.specs.Store.{Served, serve, is_lawful}
 use Rattle.txs_world.specs.declared.cell.StoreCell.{StoreCell}
@@ -42,10 +42,6 @@ moved x book = record { actor = x; book = book }
 -- an ask with its reply
 abbrev pub exchange : Ask → Reply → Exchange
 exchange q r = record { ask = q; reply = r }
-
--- a configuration to which more exchanges come at the end
-abbrev pub given : List Exchange → Configuration → Configuration
-given xs (configuration b pc stack locals frames tx s) = configuration b pc stack locals frames tx (record s { todo = s.todo ++ xs })
 
 -- an actor that is stopped where it is
 abbrev pub stop : Stop → Actor → Actor

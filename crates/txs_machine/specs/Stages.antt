@@ -14,7 +14,8 @@ use Rattle.txs_follows.specs.RepliesFitTo.{RepliesFitTo}
 use Rattle.txs_world.specs.Book.{after, may_name}
 use Rattle.txs_world.specs.History.{PastEvent, history_of}
 use Rattle.txs_world.specs.History as past
-use Rattle.txs_machine.specs.Run.{exchange, given}
+use Rattle.txs_machine.specs.Run.{exchange}
+use Rattle.txs_code.specs.Opening.{given}
 
 -- an event of the book's history as the thread's meaning takes it
 abbrev pub seen_as : PastEvent → SeenEvent

@@ -8,7 +8,7 @@ ghost use Rattle.txs_names.specs.Scope.{form_name, form_names, operations, with_
 use txs_value::Op;
 
 /// The forms that have a name.
-#[derive(Clone, Copy, Debug, PartialEq, Eq)]
+#[derive(Clone, Copy, PartialEq, Eq)]
 pub enum FormName {
     Ns,
     Def,

@@ -11,7 +11,7 @@ use std::marker::Model;
 use txs_value::{Name, Op, Value};
 
 /// What a name is defined as.
-#[derive(Debug, Drop)]
+#[derive(Drop)]
 pub enum Definition {
     /// A constant.
     Constant(Value),
@@ -22,7 +22,7 @@ pub enum Definition {
 }
 
 /// What a name may stand for.
-#[derive(Clone, Copy, Debug)]
+#[derive(Clone, Copy)]
 pub enum Found<'s> {
     /// A form.
     Form(FormName),

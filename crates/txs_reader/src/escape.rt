@@ -7,7 +7,7 @@ ghost use Rattle.txs_reader.specs.Escapes.{BeginsEscape};
 ghost use Rattle.txs_reader.specs.Quoted.{short_value, IsAtPart};
 
 /// What an escape stands for, and how many bytes it has.
-#[derive(Clone, Copy, Debug)]
+#[derive(Clone, Copy)]
 pub struct Escape {
     pub value: char,
     pub len: usize,

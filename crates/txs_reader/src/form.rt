@@ -6,14 +6,14 @@ ghost use Rattle.txs_reader.specs.Tree.{tree, place};
 use txs_value::{Name, Span, Text};
 
 /// The two kinds of brackets: a list stands in round ones, a vector in square ones.
-#[derive(Clone, Copy, Debug, PartialEq, Eq)]
+#[derive(Clone, Copy, PartialEq, Eq)]
 pub enum Bracket {
     Round,
     Square,
 }
 
 /// A form, with its span. `@form` is the list of the symbol `deref` and the form.
-#[derive(Debug, Drop)]
+#[derive(Drop)]
 pub enum Form {
     Nil(Span),
     Truth(bool, Span),

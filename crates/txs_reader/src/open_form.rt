@@ -5,7 +5,7 @@ ghost use Rattle.std.specs.Prelude.{◌+◌, ◌^◌, ◌<◌};
 use crate::form::Bracket;
 
 /// An opening byte whose form isn't whole yet.
-#[derive(Clone, Copy, Debug)]
+#[derive(Clone, Copy)]
 pub struct OpenForm {
     /// The bracket, or none for the sign `@`.
     pub bracket: Option<Bracket>,

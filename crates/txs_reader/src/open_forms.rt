@@ -17,7 +17,7 @@ const MAX_PARTS: usize = 65_535;
 /// What has been read: the openings, and all whole forms in one row, first those before the outermost
 /// opening, then those between it and the next, and so on. So a list takes memory only where it closes,
 /// when the number of its parts is known.
-#[derive(Debug, Drop)]
+#[derive(Drop)]
 pub struct OpenForms {
     pub open: Vec<OpenForm>,
     pub forms: Vec<Form>,

@@ -9,7 +9,7 @@ use crate::escape::read_escape;
 use std::alloc::{AllocError, Global};
 
 /// What stands between two quotes, its escapes replaced, and where its second quote stands.
-#[derive(Debug, Drop)]
+#[derive(Drop)]
 pub struct Quoted {
     pub text: String,
     pub end: usize,

@@ -20,7 +20,7 @@ use txs_value::{Callee, CellId, CellKind, Name, Op, Span, Value, copy_value};
 pub const MAX_LOCALS: usize = 200;
 
 /// Where a node stands: how many levels it may have, its span, and whether its result is wanted.
-#[derive(Clone, Copy, Debug)]
+#[derive(Clone, Copy)]
 pub struct Spot {
     pub room: usize,
     pub span: Span,
@@ -53,14 +53,14 @@ impl Spot {
 }
 
 /// What stands at the head of a list: the name of a form, or what is called.
-#[derive(Clone, Copy, Debug)]
+#[derive(Clone, Copy)]
 pub enum Head {
     Form(FormName),
     Called(Callee),
 }
 
 /// The kinds of nodes that are made of a row of nodes alone.
-#[derive(Clone, Copy, Debug)]
+#[derive(Clone, Copy)]
 pub enum Sequence {
     Recur,
     Println,

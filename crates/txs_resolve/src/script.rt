@@ -55,7 +55,7 @@ pub struct Script<'a> {
 }
 
 /// A function as it is written: its name and where it stands, its parameters and its body.
-#[derive(Clone, Copy, Debug)]
+#[derive(Clone, Copy)]
 pub struct Signature<'a> {
     pub name: &'a Name,
     pub at: Span,

@@ -19,7 +19,7 @@ use txs_operations::{apply, is_false, make_vector};
 use txs_value::{Fault, FaultKind, Op, Span, Stop, Value, copy_value, write_line};
 
 /// Why an evaluation outside every transaction gives no value.
-#[derive(Debug, Drop)]
+#[derive(Drop)]
 pub(crate) enum ThreadStop {
     /// A form faults.
     Fault(Fault),
@@ -32,7 +32,7 @@ pub(crate) enum ThreadStop {
 }
 
 /// What a node in tail position gives.
-#[derive(Debug, Drop)]
+#[derive(Drop)]
 enum Step {
     Value(Value),
     /// The values of the loop's next turn.

@@ -14,7 +14,7 @@ use txs_asks::Outcome;
 use txs_value::Listed;
 
 /// What a thread lacks that hasn't ended.
-#[derive(Clone, Copy, Debug, PartialEq, Eq)]
+#[derive(Clone, Copy, PartialEq, Eq)]
 pub enum Needs {
     /// It has ended.
     Nothing,
@@ -28,7 +28,7 @@ pub enum Needs {
 
 /// What a thread means: the bytes that it prints, what it needs, and its outcome. The outcome is there
 /// where it needs nothing: Done where its body has a value, Failed where it faults.
-#[derive(Debug, Drop)]
+#[derive(Drop)]
 pub struct ThreadMeaning {
     pub printed: Listed<u8>,
     pub needs: Needs,

@@ -4,7 +4,7 @@ use txs_value::{Callee, Op, Span, Value};
 
 /// What a node does.
 #[cycle(node)]
-#[derive(Debug, Drop)]
+#[derive(Drop)]
 pub enum NodeKind {
     /// A constant.
     Const(Value),
@@ -38,7 +38,7 @@ pub enum NodeKind {
 
 /// A node of a program: what it does, where it stands in the script, and whether its result is wanted.
 #[cycle(node)]
-#[derive(Debug, Drop)]
+#[derive(Drop)]
 pub struct Node {
     pub kind: NodeKind,
     pub span: Span,
@@ -47,7 +47,7 @@ pub struct Node {
 
 /// A function: how many parameters it has, its body, and where its definition stands in the script. It calls
 /// functions before it alone.
-#[derive(Debug, Drop)]
+#[derive(Drop)]
 pub struct Function {
     pub parameters: u8,
     pub body: Node,
@@ -55,7 +55,7 @@ pub struct Function {
 }
 
 /// A thread: the body of a future, and where the future stands in the script.
-#[derive(Debug, Drop)]
+#[derive(Drop)]
 pub struct Thread {
     pub body: Node,
     pub span: Span,

@@ -11,7 +11,7 @@ use txs_value::CellDefinition;
 
 /// A program that the checks accepted: the cells that it defines, in the order of their numbers, its functions
 /// and its threads, each in script order. Contracts see it as `program_of` its parts, which is sound.
-#[derive(Debug, Drop)]
+#[derive(Drop)]
 pub struct Program {
     raw: Raw,
 }

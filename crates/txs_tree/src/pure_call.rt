@@ -21,7 +21,7 @@ use txs_operations::apply;
 use txs_value::{Callee, Fault, Op, Span, Stop, Value, copy_value};
 
 /// Why an evaluation gives no value.
-#[derive(Debug, Drop)]
+#[derive(Drop)]
 pub enum EvalStop {
     /// A form faults.
     Fault(Fault),

@@ -11,7 +11,7 @@ use txs_value::CellDefinition;
 /// A program of which names are resolved, and that the checks haven't seen: the cells that it defines, in the
 /// order of their numbers, its functions and its threads, each in script order. Contracts see it as
 /// `program_of` its parts, which is scoped.
-#[derive(Debug, Drop)]
+#[derive(Drop)]
 pub struct Raw {
     cells: Vec<CellDefinition>,
     functions: Vec<Function>,

@@ -5,7 +5,7 @@ ghost use Rattle.std.specs.Prelude.{◌≡◌, length};
 use std::marker::Model;
 
 /// A list of items. Contracts see its items alone, so that a copy with other room is equal.
-#[derive(Debug, Drop)]
+#[derive(Drop)]
 pub struct Listed<T> {
     items: Vec<T>,
 }

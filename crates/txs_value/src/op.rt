@@ -169,7 +169,7 @@ pub fn op_names_differ()
 {}
 
 /// What `alter`, `commute`, `swap!` and `send` call: a core operation, or a function by its number.
-#[derive(Clone, Copy, Debug, PartialEq, Eq)]
+#[derive(Clone, Copy, PartialEq, Eq)]
 pub enum Callee {
     Core(Op),
     Function(u16),

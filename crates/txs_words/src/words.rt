@@ -8,7 +8,7 @@ use std::alloc::{AllocError, Global};
 const DEFAULT_STEPS: u64 = 100_000_000;
 
 /// What the words ask for.
-#[derive(Debug, Drop)]
+#[derive(Drop)]
 pub enum Words {
     /// To check a script: its file, where it is named.
     Check {

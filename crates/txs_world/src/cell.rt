@@ -3,7 +3,7 @@
 use txs_value::{CellKind, Value};
 
 /// A cell of a store: its kind, and the value that it opened with.
-#[derive(Debug, Drop)]
+#[derive(Drop)]
 pub struct StoreCell {
     pub kind: CellKind,
     pub opening: Value,

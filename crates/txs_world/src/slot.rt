@@ -10,7 +10,7 @@ use txs_value::{CellDefinition, CellId, Value, copy_value};
 
 /// The newest value of a ref, and how many events the book has up to the last one that wrote it: 0
 /// where none did.
-#[derive(Debug, Drop)]
+#[derive(Drop)]
 pub(crate) struct Slot {
     pub(crate) value: Value,
     pub(crate) written: u32,

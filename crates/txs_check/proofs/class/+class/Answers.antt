@@ -1,6 +1,6 @@
 use Rattle.std.proofs.Common.{true, false, sym, ap, ◌∙◌}
 use Rattle.txs_check.specs.Signatures.{joined, class_in, known_as}
-use Rattle.txs_check.proofs.Trees.{do_node, let_node, loop_node, recur_node, core_node, call_node, vector_node, println_node, alter_node}
+use Rattle.txs_tree.proofs.Trees.{do_node, let_node, loop_node, recur_node, core_node, call_node, vector_node, println_node, alter_node}
 use Rattle.txs_check.proofs.class.+class.Goals as goal
 
 pub class_of-returns-in-Do : goal.class_of-returns-in-Do

@@ -2,7 +2,7 @@ use Rattle.std.proofs.Common.{◌≡◌, ◌<◌, ◌-◌, ◌+◌, None, MatchO
 use Rattle.txs_tree.specs.Sound.{nodes, nodes_in}
 use Rattle.txs_tree.specs.View.{tree_of, trees_of}
 use Rattle.txs_check.proofs.Counting.{nodes-some, counted, counted-two}
-use Rattle.txs_check.proofs.Trees.{do_node, let_node, loop_node, recur_node, core_node, call_node, vector_node, println_node, alter_node}
+use Rattle.txs_tree.proofs.Trees.{do_node, let_node, loop_node, recur_node, core_node, call_node, vector_node, println_node, alter_node}
 use Rattle.txs_check.proofs.size.+nodes.Goals as goal
 
 pub nodes_left-returns-then-limit-eq0 : goal.nodes_left-returns-then-limit-eq0

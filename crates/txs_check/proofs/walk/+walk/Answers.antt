@@ -5,7 +5,7 @@ use Rattle.txs_check.specs.declared.place.Target.TheVariants.{Nearest}
 use Rattle.txs_check.specs.Refused.{◌>>◌, here, inner, checked, checked_all, checked_do}
 use Rattle.txs_check.specs.Signatures.{known_as}
 use Rattle.txs_check.proofs.Lists.{count_nodes, do_nothing, do_parts}
-use Rattle.txs_check.proofs.Trees.{do_node, let_node, loop_node, recur_node, core_node, call_node, vector_node, println_node, alter_node}
+use Rattle.txs_tree.proofs.Trees.{do_node, let_node, loop_node, recur_node, core_node, call_node, vector_node, println_node, alter_node}
 use Rattle.txs_check.proofs.walk.+walk.Goals as goal
 
 pub check_node-returns-in-Recur : goal.check_node-returns-in-Recur

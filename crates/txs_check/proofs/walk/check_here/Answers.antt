@@ -4,7 +4,7 @@ use Rattle.txs_tree.specs.View.{trees_of}
 use Rattle.txs_check.specs.Refused.{alter_here, calls, here, operates, recurs}
 use Rattle.txs_check.specs.Signatures.{known_as}
 use Rattle.txs_check.proofs.Lists.{count_nodes}
-use Rattle.txs_check.proofs.Trees.{recur_node, core_node, call_node, alter_node}
+use Rattle.txs_tree.proofs.Trees.{recur_node, core_node, call_node, alter_node}
 use Rattle.txs_check.proofs.walk.check_here.Goals as goal
 
 pub returns-in-Recur : goal.returns-in-Recur

@@ -16,7 +16,7 @@ use Rattle.txs_value.specs.declared.value.Value.{Value}
 use Rattle.txs_value.specs.declared.value.Value.TheVariants.{Nil, Truth, Int, Key, Text, Vector, Cell}
 use Rattle.txs_code.specs.ActorState.{ActorState, Reception, Replied, Unreplied, receives, asks, StepResult, Continue, Break, Redo, Await, Malformed, Passage, Passed, Again, Pending, Unlawful, begun, failed, committed, looked, buffered_or, peeked, begin, fail, commit, look, peek, put_write, print, read, opens}
 use Rattle.txs_code.specs.Machine.{PlainInstr, Push, Load, Store, Pop, Jump, JumpFalse, CoreOf, CallOf, Return, MakeVector, PrintOf, DerefOf, TxBegin, TxEnd, AlterOpen, AlterClose, Halt, ThreadCode, fetch, Frame, frame, Savepoint, savepoint, Transaction, Outside, Restarting, Running, is_inside, Configuration, configuration, Turned, Ended, Failed, Asking, Unfinished, Stuck, NextTo, after_fail, raise, rerun, retried, on, on_reach, found, step_of, on_top, on_args, begins, ends, returns_to, act, run}
-use Rattle.txs_actor.specs.PlainActor.{given}
+use Rattle.txs_code.specs.Opening.{given}
 
 module _ (ys : List Exchange) where
   abbrev later : ActorState → ActorState

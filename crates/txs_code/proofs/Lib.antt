@@ -1,0 +1,3 @@
+pub mod Acts
+pub mod Alike
+pub mod Later
