@@ -9,8 +9,8 @@ ghost use Rattle.txs_check.specs.Signatures.{known_as, known_if};
 use crate::class::{Signature, signature_of};
 use crate::error::{CheckError, CheckErrorKind};
 use crate::place::{Target, Zone, only};
-use txs_tree::{Node, NodeKind};
 use txs_operations::takes;
+use txs_tree::{Node, NodeKind};
 use txs_value::{Callee, Op, Span};
 
 /// Whether the operation takes so many arguments.

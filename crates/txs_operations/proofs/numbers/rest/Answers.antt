@@ -5,7 +5,7 @@ use Rattle.std.specs.Int.RustNames.{FitsSigned}
 use Rattle.txs_operations.specs.Core.{from_left, minus, arg}
 use Rattle.txs_value.specs.declared.value.Value.TheVariants.{Int}
 use Rattle.txs_operations.proofs.CoreLemmas.{from_left-at, from_left-first}
-use Rattle.txs_value.proofs.numbers.rest.Goals as goal
+use Rattle.txs_operations.proofs.numbers.rest.Goals as goal
 
 pub returns-in_err-total : goal.returns-in_err-total
 returns-in_err-total c =
