@@ -14,4 +14,4 @@ pub record ActorsRun : Type 0 where
   pub turns : (code : PlainCode) (xs : List Exchange) (a b : PlainActor) (r : Turn) → unanswered a ≡ None → HasRun code xs a → Turns code a r b → HasRun code xs b
   pub answers : (code : PlainCode) (xs : List Exchange) (a : PlainActor) (q : Ask) (r : Reply) → a.outcome ≡ None → unanswered a ≡ Some q → MayAnswer q r → (Stops r → ⊥) → HasRun code xs a
       → HasRun code (xs ++ record { ask = q; reply = r } ∷ []) (answered a r)
-  pub stops : (code : PlainCode) (xs : List Exchange) (a : PlainActor) (q : Ask) (r : Reply) → a.outcome ≡ None → unanswered a ≡ Some q → Stops r → HasRun code xs a → HasRun code xs (answered a r)
+  pub stops : (code : PlainCode) (xs : List Exchange) (a : PlainActor) (q : Ask) (r : Reply) → a.outcome ≡ None → unanswered a ≡ Some q → MayAnswer q r → Stops r → HasRun code xs a → HasRun code xs (answered a r)

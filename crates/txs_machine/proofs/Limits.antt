@@ -1,6 +1,6 @@
 -- How many steps an actor makes.
-use Rattle.std.proofs.Common.{◌≡◌, ℕ, zero, suc, ◌≤◌, Bool, true, false, nat_lt, Option, Some, None, refl, sym, subst, ◌∙◌}
-use Rattle.std.proofs.lemmas.Bool.{ltb-false}
+use Rattle.std.proofs.Common.{◌≡◌, ℕ, zero, suc, ◌+◌, ◌-◌, ◌<◌, ◌≤◌, Bool, true, false, nat_lt, Option, Some, None, refl, sym, subst, ◌∙◌, arith}
+use Rattle.std.proofs.lemmas.Bool.{ltb-false, ltb-true}
 use Rattle.txs_asks.specs.declared.ask.Reply.{Reply}
 use Rattle.txs_asks.specs.declared.ask.Reply.TheVariants as reply
 use Rattle.txs_asks.specs.declared.event.Outcome.{Outcome}
@@ -25,27 +25,31 @@ Differs (Some outcome.StepsSpent) = ⊥
 Differs (Some outcome.JournalFull) = Unit {0}
 Differs (Some outcome.Memory) = Unit {0}
 
-limited_as : (limit : ℕ) (a b : PlainActor) → b.limit ≡ a.limit → Differs b.outcome → IsLimited limit a → IsLimited limit b
-limited_as limit a b e d h = record { limited = e ∙ h.limited; spent = λ s. absurd (subst Differs s d) }
+limited_as : (limit : ℕ) (a b : PlainActor) → b.limit ≡ a.limit → Differs b.outcome → b.steps ≤ limit → IsLimited limit a → IsLimited limit b
+limited_as limit a b e d n h = record { limited = e ∙ h.limited; within = n; spent = λ s. absurd (subst Differs s d) }
 
 -- ---- turns
 
-step_limited : (code : PlainCode) (limit : ℕ) (a b : PlainActor) (r : Turn) → Answers code a r b → IsLimited limit a → IsLimited limit b
-step_limited code limit a b turned.Went t h = limited_as limit a b t.1.limited (subst Differs (sym t.1.outcome) tt) h
-step_limited code limit a b (turned.Asks q) t h = limited_as limit a b t.1.limited (subst Differs (sym t.1.outcome) tt) h
-step_limited code limit a b (turned.Ended outcome.Done) t h = limited_as limit a b t.1.limited (subst Differs (sym t.1.outcome) tt) h
-step_limited code limit a b (turned.Ended (outcome.Failed f)) t h = limited_as limit a b t.1.limited (subst Differs (sym t.1.outcome) tt) h
-step_limited code limit a b (turned.Ended outcome.StepsSpent) t h = absurd t
-step_limited code limit a b (turned.Ended outcome.JournalFull) t h = absurd t
-step_limited code limit a b (turned.Ended outcome.Memory) t h = limited_as limit a b t.1.limited (subst Differs (sym t.1.outcome) tt) h
+-- one step more is within the limit
+one_more : (limit : ℕ) (a b : PlainActor) → nat_lt a.steps a.limit ≡ true → b.steps ≡ a.steps + 1 → IsLimited limit a → b.steps ≤ limit
+one_more limit a b e s h = omega (arith, ltb-true a.steps a.limit e, s, h.limited)
+
+step_limited : (code : PlainCode) (limit : ℕ) (a b : PlainActor) (r : Turn) → nat_lt a.steps a.limit ≡ true → Answers code a r b → IsLimited limit a → IsLimited limit b
+step_limited code limit a b turned.Went e t h = limited_as limit a b t.1.limited (subst Differs (sym t.1.outcome) tt) (one_more limit a b e t.1.counted h) h
+step_limited code limit a b (turned.Asks q) e t h = limited_as limit a b t.1.limited (subst Differs (sym t.1.outcome) tt) (one_more limit a b e t.1.counted h) h
+step_limited code limit a b (turned.Ended outcome.Done) e t h = limited_as limit a b t.1.limited (subst Differs (sym t.1.outcome) tt) (one_more limit a b e t.1.counted h) h
+step_limited code limit a b (turned.Ended (outcome.Failed f)) e t h = limited_as limit a b t.1.limited (subst Differs (sym t.1.outcome) tt) (one_more limit a b e t.1.counted h) h
+step_limited code limit a b (turned.Ended outcome.StepsSpent) e t h = absurd t
+step_limited code limit a b (turned.Ended outcome.JournalFull) e t h = absurd t
+step_limited code limit a b (turned.Ended outcome.Memory) e t h = limited_as limit a b t.1.limited (subst Differs (sym t.1.outcome) tt) (one_more limit a b e t.1.counted h) h
 
 spent_at : (limit steps most : ℕ) → nat_lt steps most ≡ false → most ≡ limit → limit ≤ steps
 spent_at limit steps most e f = subst (λ n. n ≤ steps) f (ltb-false steps most e)
 
 move_limited : (code : PlainCode) (limit : ℕ) (a b : PlainActor) (r : Turn) (may : Bool) → nat_lt a.steps a.limit ≡ may → Moves code a may r b → IsLimited limit a → IsLimited limit b
-move_limited code limit a b r true e t h = step_limited code limit a b r t h
+move_limited code limit a b r true e t h = step_limited code limit a b r e t h
 move_limited code limit a b r false e t h =
-    subst (IsLimited limit) (sym t.1) (record { limited = h.limited; spent = λ s. spent_at limit a.steps a.limit e h.limited })
+    subst (IsLimited limit) (sym t.1) (record { limited = h.limited; within = h.within; spent = λ s. spent_at limit a.steps a.limit e h.limited })
 
 turn_limited : (code : PlainCode) (limit : ℕ) (a b : PlainActor) (r : Turn) (o : Option Outcome) → TurnsFrom code a o r b → IsLimited limit a → IsLimited limit b
 turn_limited code limit a b r None t h = move_limited code limit a b r (nat_lt a.steps a.limit) refl t h
@@ -64,58 +68,118 @@ turns_limited code limit (suc n) a b r t h = after_turn (λ g x. turns_limited c
 
 -- ---- answers
 
--- the limit stays, and what ends now doesn't end for want of steps
+-- the limit and the steps stay, and what ends now doesn't end for want of steps
 abbrev Stays : PlainActor → PlainActor → Type 0
-Stays a b = (b.limit ≡ a.limit) × (a.outcome ≡ None → Differs b.outcome)
+Stays a b = (b.limit ≡ a.limit) × (a.outcome ≡ None → Differs b.outcome) × (b.steps ≡ a.steps)
 
 as_was : (a : PlainActor) → a.outcome ≡ None → Differs a.outcome
 as_was a e = subst Differs (sym e) tt
 
 again_stays : (a : PlainActor) (tx : Transaction) → Stays a (run_again a tx)
-again_stays a Outside = (refl, as_was a)
-again_stays a (Restarting left) = (refl, as_was a)
-again_stays a (Running zero inner from) = (refl, λ e. tt)
-again_stays a (Running (suc left) inner from) = (refl, as_was a)
+again_stays a Outside = (refl, as_was a, refl)
+again_stays a (Restarting left) = (refl, as_was a, refl)
+again_stays a (Running zero inner from) = (refl, λ e. tt, refl)
+again_stays a (Running (suc left) inner from) = (refl, as_was a, refl)
 
 answer_stays : (a : PlainActor) (p : Option Pending) (r : Reply) → Stays a (answered_if a p r)
-answer_stays a None r = (refl, as_was a)
-answer_stays a (Some (Begin left from)) (reply.At p) = (refl, as_was a)
-answer_stays a (Some (Begin left from)) (reply.Is v) = (refl, as_was a)
-answer_stays a (Some (Begin left from)) reply.Done = (refl, as_was a)
-answer_stays a (Some (Begin left from)) (reply.Retry d) = (refl, as_was a)
-answer_stays a (Some (Begin left from)) reply.Full = (refl, λ e. tt)
-answer_stays a (Some (Begin left from)) reply.Memory = (refl, λ e. tt)
-answer_stays a (Some (Read c)) (reply.At p) = (refl, as_was a)
-answer_stays a (Some (Read c)) (reply.Is v) = (refl, as_was a)
-answer_stays a (Some (Read c)) reply.Done = (refl, as_was a)
+answer_stays a None r = (refl, as_was a, refl)
+answer_stays a (Some (Begin left from)) (reply.At p) = (refl, as_was a, refl)
+answer_stays a (Some (Begin left from)) (reply.Is v) = (refl, as_was a, refl)
+answer_stays a (Some (Begin left from)) reply.Done = (refl, as_was a, refl)
+answer_stays a (Some (Begin left from)) (reply.Retry d) = (refl, as_was a, refl)
+answer_stays a (Some (Begin left from)) reply.Full = (refl, λ e. tt, refl)
+answer_stays a (Some (Begin left from)) reply.Memory = (refl, λ e. tt, refl)
+answer_stays a (Some (Read c)) (reply.At p) = (refl, as_was a, refl)
+answer_stays a (Some (Read c)) (reply.Is v) = (refl, as_was a, refl)
+answer_stays a (Some (Read c)) reply.Done = (refl, as_was a, refl)
 answer_stays a (Some (Read c)) (reply.Retry d) = again_stays a a.tx
-answer_stays a (Some (Read c)) reply.Full = (refl, λ e. tt)
-answer_stays a (Some (Read c)) reply.Memory = (refl, λ e. tt)
-answer_stays a (Some (Open c n)) (reply.At p) = (refl, as_was a)
-answer_stays a (Some (Open c n)) (reply.Is v) = (refl, as_was a)
-answer_stays a (Some (Open c n)) reply.Done = (refl, as_was a)
+answer_stays a (Some (Read c)) reply.Full = (refl, λ e. tt, refl)
+answer_stays a (Some (Read c)) reply.Memory = (refl, λ e. tt, refl)
+answer_stays a (Some (Open c n)) (reply.At p) = (refl, as_was a, refl)
+answer_stays a (Some (Open c n)) (reply.Is v) = (refl, as_was a, refl)
+answer_stays a (Some (Open c n)) reply.Done = (refl, as_was a, refl)
 answer_stays a (Some (Open c n)) (reply.Retry d) = again_stays a a.tx
-answer_stays a (Some (Open c n)) reply.Full = (refl, λ e. tt)
-answer_stays a (Some (Open c n)) reply.Memory = (refl, λ e. tt)
-answer_stays a (Some Commit) (reply.At p) = (refl, as_was a)
-answer_stays a (Some Commit) (reply.Is v) = (refl, as_was a)
-answer_stays a (Some Commit) reply.Done = (refl, as_was a)
+answer_stays a (Some (Open c n)) reply.Full = (refl, λ e. tt, refl)
+answer_stays a (Some (Open c n)) reply.Memory = (refl, λ e. tt, refl)
+answer_stays a (Some Commit) (reply.At p) = (refl, as_was a, refl)
+answer_stays a (Some Commit) (reply.Is v) = (refl, as_was a, refl)
+answer_stays a (Some Commit) reply.Done = (refl, as_was a, refl)
 answer_stays a (Some Commit) (reply.Retry d) = again_stays a a.tx
-answer_stays a (Some Commit) reply.Full = (refl, λ e. tt)
-answer_stays a (Some Commit) reply.Memory = (refl, λ e. tt)
-answer_stays a (Some (Fail f)) (reply.At p) = (refl, as_was a)
-answer_stays a (Some (Fail f)) (reply.Is v) = (refl, as_was a)
-answer_stays a (Some (Fail f)) reply.Done = (refl, λ e. tt)
-answer_stays a (Some (Fail f)) (reply.Retry d) = (refl, as_was a)
-answer_stays a (Some (Fail f)) reply.Full = (refl, λ e. tt)
-answer_stays a (Some (Fail f)) reply.Memory = (refl, λ e. tt)
+answer_stays a (Some Commit) reply.Full = (refl, λ e. tt, refl)
+answer_stays a (Some Commit) reply.Memory = (refl, λ e. tt, refl)
+answer_stays a (Some (Fail f)) (reply.At p) = (refl, as_was a, refl)
+answer_stays a (Some (Fail f)) (reply.Is v) = (refl, as_was a, refl)
+answer_stays a (Some (Fail f)) reply.Done = (refl, λ e. tt, refl)
+answer_stays a (Some (Fail f)) (reply.Retry d) = (refl, as_was a, refl)
+answer_stays a (Some (Fail f)) reply.Full = (refl, λ e. tt, refl)
+answer_stays a (Some (Fail f)) reply.Memory = (refl, λ e. tt, refl)
 
 pub answered_limited : (limit : ℕ) (a : PlainActor) (r : Reply) → a.outcome ≡ None → IsLimited limit a → IsLimited limit (answered_if a a.pending r)
 answered_limited limit a r e h =
     let s = answer_stays a a.pending r in
-    limited_as limit a (answered_if a a.pending r) s.0 (s.1 e) h
+    limited_as limit a (answered_if a a.pending r) s.0 (s.1 e) (subst (λ n. n ≤ limit) (sym s.2) h.within) h
 
 -- ---- the beginning
 
-pub new_limited : (limit : ℕ) (a : PlainActor) → a.limit ≡ limit → a.outcome ≡ None → IsLimited limit a
-new_limited limit a e o = record { limited = e; spent = λ s. absurd (subst Differs (sym o ∙ s) tt) }
+pub new_limited : (limit : ℕ) (a : PlainActor) → a.limit ≡ limit → a.outcome ≡ None → a.steps ≡ 0 → IsLimited limit a
+new_limited limit a e o n = record { limited = e; within = omega (arith, n); spent = λ s. absurd (subst Differs (sym o ∙ s) tt) }
+
+-- ---- progress
+
+-- a turn that goes on, or asks, is one step more
+abbrev GoesOn : Turn → Type 0
+GoesOn turned.Went = Unit {0}
+GoesOn (turned.Asks q) = Unit {0}
+GoesOn (turned.Ended o) = ⊥
+
+move_steps : (code : PlainCode) (a b : PlainActor) (r : Turn) (may : Bool) → Moves code a may r b → a.steps ≤ b.steps
+move_steps code a b turned.Went true t = omega (arith, t.1.counted)
+move_steps code a b (turned.Asks q) true t = omega (arith, t.1.counted)
+move_steps code a b (turned.Ended outcome.Done) true t = omega (arith, t.1.counted)
+move_steps code a b (turned.Ended (outcome.Failed f)) true t = omega (arith, t.1.counted)
+move_steps code a b (turned.Ended outcome.StepsSpent) true t = absurd t
+move_steps code a b (turned.Ended outcome.JournalFull) true t = absurd t
+move_steps code a b (turned.Ended outcome.Memory) true t = omega (arith, t.1.counted)
+move_steps code a b r false t = subst (λ (x : PlainActor). a.steps ≤ x.steps) (sym t.1) (omega arith)
+
+move_counts : (code : PlainCode) (a b : PlainActor) (r : Turn) (may : Bool) → GoesOn r → Moves code a may r b → a.steps < b.steps
+move_counts code a b turned.Went true g t = omega (arith, t.1.counted)
+move_counts code a b (turned.Asks q) true g t = omega (arith, t.1.counted)
+move_counts code a b (turned.Ended o) true g t = absurd g
+move_counts code a b r false g t = absurd (subst GoesOn t.0 g)
+
+turn_steps : (code : PlainCode) (a b : PlainActor) (r : Turn) (o : Option Outcome) → TurnsFrom code a o r b → a.steps ≤ b.steps
+turn_steps code a b r None t = move_steps code a b r (nat_lt a.steps a.limit) t
+turn_steps code a b r (Some o) t = subst (λ (x : PlainActor). a.steps ≤ x.steps) (sym t.1) (omega arith)
+
+turn_counts : (code : PlainCode) (a b : PlainActor) (r : Turn) (o : Option Outcome) → GoesOn r → TurnsFrom code a o r b → a.steps < b.steps
+turn_counts code a b r None g t = move_counts code a b r (nat_lt a.steps a.limit) g t
+turn_counts code a b r (Some o) g t = absurd (subst GoesOn t.0 g)
+
+turns_steps : (code : PlainCode) (n : ℕ) (a b : PlainActor) (r : Turn) → TurnsOf code n a r b → a.steps ≤ b.steps
+turns_steps code zero a b r t = subst (λ (x : PlainActor). a.steps ≤ x.steps) (sym t.1) (omega arith)
+turns_steps code (suc n) a b r t = after_turn (λ g. turns_steps code n t.1 b r g) t.0 t.2 t.3
+  where
+    after_turn : (TurnsOf code n t.1 r b → t.1.steps ≤ b.steps) → (s : Turn) → Turns code a s t.1 → GoesOnAfter s (TurnsOf code n t.1 r b) ((r ≡ s) × (b ≡ t.1)) → a.steps ≤ b.steps
+    after_turn go turned.Went u g = omega (arith, turn_steps code a t.1 turned.Went a.outcome u, go g)
+    after_turn go (turned.Asks q) u g = subst (λ (x : PlainActor). a.steps ≤ x.steps) (sym g.1) (turn_steps code a t.1 (turned.Asks q) a.outcome u)
+    after_turn go (turned.Ended o) u g = subst (λ (x : PlainActor). a.steps ≤ x.steps) (sym g.1) (turn_steps code a t.1 (turned.Ended o) a.outcome u)
+
+-- some turns of which none ends make a step
+pub turns_count : (code : PlainCode) (n : ℕ) (a b : PlainActor) (r : Turn) → 0 < n → GoesOn r → TurnsOf code n a r b → a.steps < b.steps
+turns_count code zero a b r some goes t = absurd (omega (arith, some))
+turns_count code (suc n) a b r some goes t = after_turn t.0 t.2 t.3
+  where
+    after_turn : (s : Turn) → Turns code a s t.1 → GoesOnAfter s (TurnsOf code n t.1 r b) ((r ≡ s) × (b ≡ t.1)) → a.steps < b.steps
+    after_turn turned.Went u g = omega (arith, turn_counts code a t.1 turned.Went a.outcome tt u, turns_steps code n t.1 b r g)
+    after_turn (turned.Asks q) u g = subst (λ (x : PlainActor). a.steps < x.steps) (sym g.1) (turn_counts code a t.1 (turned.Asks q) a.outcome tt u)
+    after_turn (turned.Ended o) u g = absurd (subst GoesOn g.0 goes)
+
+-- no answer makes a step
+pub answered_steps : (a : PlainActor) (r : Reply) → (answered_if a a.pending r).steps ≡ a.steps
+answered_steps a r = (answer_stays a a.pending r).2
+
+-- how many rounds there may still be: none after the end
+abbrev pub rounds_left : Option Outcome → PlainActor → ℕ
+rounds_left None a = suc (a.limit - a.steps)
+rounds_left (Some o) a = 0

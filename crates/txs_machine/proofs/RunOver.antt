@@ -1,5 +1,6 @@
 -- An actor's run over a store, step by step.
-use Rattle.std.proofs.Common.{◌≡◌, ℕ, zero, suc, List, [], ◌∷◌, ◌++◌, length, true, false, Bool, nat_lt, Option, Some, None, refl, sym, ap, subst, ◌∙◌, if◌then◌else◌}
+use Rattle.std.proofs.Common.{◌≡◌, ℕ, zero, suc, List, [], ◌∷◌, ◌++◌, length, true, false, Bool, nat_lt, ◌≤◌, Option, Some, None, refl, sym, ap, subst, ◌∙◌, if◌then◌else◌}
+use Rattle.std.proofs.lemmas.Bool.{ltb-false}
 use Rattle.txs_asks.specs.Ask.{Writes}
 use Rattle.txs_value.specs.Cells.{World}
 use Rattle.txs_asks.specs.declared.ask.Ask.{Ask}
@@ -21,6 +22,7 @@ use Rattle.txs_tree.specs.Meaning.{Completion}
 use Rattle.txs_tree.specs.Thread.{ThreadState, thread_meaning}
 use Rattle.txs_actor.specs.PlainActor.{PlainActor, MayAnswer, Stops, answered, answered_if, asked_for, run_again, unanswered, configuration_of, state_of, code_of, stands_at, standing}
 use Rattle.txs_actor.specs.Laws.{ActorsRun}
+use Rattle.txs_actor.proofs.Following.{Unstopped, unstopped_if}
 use Rattle.txs_machine.specs.Followed.{ActorsExplained, told}
 use Rattle.txs_actor.specs.Turns.{IsNew, OneStep, Answers, Moves, TurnsFrom, Turns, GoesOnAfter, TurnsOf}
 use Rattle.txs_actor.specs.declared.outcome.Turn.{Turn}
@@ -35,7 +37,7 @@ use Rattle.txs_machine.specs.Stages.{Stage, Idle, AsksIn, stage_after, stage_of,
 use Rattle.txs_world.specs.Book.{opening, after, written, most_events}
 use Rattle.txs_world.specs.Store as world
 use Rattle.txs_world.specs.Store.{PlainStore, store_with, Served, serve, disturbed}
-use Rattle.txs_machine.specs.RunOver.{IsIn, RunOver, ExplainsEnd, IsExplained}
+use Rattle.txs_machine.specs.RunOver.{IsIn, IsOwn, RunOver, ExplainsEnd, IsExplained}
 
 -- what holds of an actor's outcome and ask as they are
 as_is : (b : PlainActor) (st : Stage) (o : Option Outcome) (q : Option Ask) → b.outcome ≡ o → unanswered b ≡ q → IsIn b st o q → IsIn b st b.outcome (unanswered b)
@@ -99,6 +101,33 @@ turn_keeps : TurnsAreStaged → (code : PlainCode) (a b : PlainActor) (r : Turn)
 turn_keeps law code a b r st None e f t here = move_keeps law code a b r st (nat_lt a.steps a.limit) t here
 turn_keeps law code a b r st (Some o) e f t here = subst (λ x. Keeps a x st) (sym t.1) (refl, as_is a st (Some o) None e f tt)
 
+-- an outcome that isn't a full book
+abbrev Unfilled : Option Outcome → Type 0
+Unfilled None = Unit {0}
+Unfilled (Some outcome.Done) = Unit {0}
+Unfilled (Some (outcome.Failed f)) = Unit {0}
+Unfilled (Some outcome.StepsSpent) = Unit {0}
+Unfilled (Some outcome.JournalFull) = ⊥
+Unfilled (Some outcome.Memory) = Unit {0}
+
+-- a turn fills no book
+step_unfilled : (code : PlainCode) (a b : PlainActor) (r : Turn) → Answers code a r b → Unfilled b.outcome
+step_unfilled code a b turned.Went t = subst Unfilled (sym t.1.outcome) tt
+step_unfilled code a b (turned.Asks q) t = subst Unfilled (sym t.1.outcome) tt
+step_unfilled code a b (turned.Ended outcome.Done) t = subst Unfilled (sym t.1.outcome) tt
+step_unfilled code a b (turned.Ended (outcome.Failed f)) t = subst Unfilled (sym t.1.outcome) tt
+step_unfilled code a b (turned.Ended outcome.StepsSpent) t = absurd t
+step_unfilled code a b (turned.Ended outcome.JournalFull) t = absurd t
+step_unfilled code a b (turned.Ended outcome.Memory) t = subst Unfilled (sym t.1.outcome) tt
+
+move_unfilled : (code : PlainCode) (a b : PlainActor) (r : Turn) (may : Bool) → Moves code a may r b → Unfilled b.outcome
+move_unfilled code a b r true t = step_unfilled code a b r t
+move_unfilled code a b r false t = subst (λ (x : PlainActor). Unfilled x.outcome) (sym t.1) tt
+
+turn_filled : (code : PlainCode) (a b : PlainActor) (r : Turn) (o : Option Outcome) → a.outcome ≡ o → TurnsFrom code a o r b → b.outcome ≡ Some outcome.JournalFull → a.outcome ≡ Some outcome.JournalFull
+turn_filled code a b r None e t x = absurd (subst Unfilled x (move_unfilled code a b r (nat_lt a.steps a.limit) t))
+turn_filled code a b r (Some o) e t x = ap (λ (x : PlainActor). x.outcome) (sym t.1) ∙ x
+
 -- a turn keeps what an actor has done over a store
 turn_over : ActorsRun → TurnsAreStaged → (code : PlainCode) (w : World) (k : ℕ) (book : List Event) (a b : PlainActor) (r : Turn) → unanswered a ≡ None → Turns code a r b → RunOver code w k book a → RunOver code w k book b
 turn_over laws law code w k book a b r f t h =
@@ -110,6 +139,8 @@ turn_over laws law code w k book a b r f t h =
       ran = laws.turns code h.exchanges a b r f h.ran t;
       told = h.told;
       here = kept.1;
+      own = h.own;
+      full = λ x. h.full (turn_filled code a b r a.outcome refl t x);
     }
 
 abbrev is_went : Turn → Type 0
@@ -190,6 +221,8 @@ new_over laws code w k limit book a e n = subst (λ es. RunOver code w k es a) (
   ran = laws.begins code k limit a n;
   told = record { fits = (refl, refl); names = tt };
   here = as_is a Idle None None n.unended n.unasking (ap stage_of n.opens);
+  own = tt;
+  full = λ x. absurd (subst Unfilled x (subst Unfilled (sym n.unended) tt));
 })
 
 -- ---- answers
@@ -271,6 +304,48 @@ in_after : (b : PlainActor) (st : Stage) (o : Option Outcome) → IsStaged st (s
 in_after b st None h = h.1
 in_after b st (Some o) h = tt
 
+-- an answer after which the actor isn't stopped is no full book
+unfilled_of : (o : Option Outcome) → Unstopped o → Unfilled o
+unfilled_of None u = tt
+unfilled_of (Some outcome.Done) u = tt
+unfilled_of (Some (outcome.Failed f)) u = tt
+unfilled_of (Some outcome.StepsSpent) u = tt
+unfilled_of (Some outcome.JournalFull) u = u
+unfilled_of (Some outcome.Memory) u = tt
+
+-- neither is want of memory
+memory_unfilled : (a : PlainActor) (p : Option Pending) → a.outcome ≡ None → Unfilled (answered_if a p reply.Memory).outcome
+memory_unfilled a None e = subst Unfilled (sym e) tt
+memory_unfilled a (Some (Begin left from)) e = tt
+memory_unfilled a (Some (Read c)) e = tt
+memory_unfilled a (Some (Open c n)) e = tt
+memory_unfilled a (Some Commit) e = tt
+memory_unfilled a (Some (Fail f)) e = tt
+
+-- what the store adds to the book is the event of the actor that asks
+own_more : (k : ℕ) (kind : EventKind) (book : List Event) → IsOwn k book → IsOwn k (book ++ world.event_of k kind ∷ [])
+own_more k kind [] h = (refl, tt)
+own_more k kind (e ∷ es) h = (h.0, own_more k kind es h.1)
+
+own_added : (k : ℕ) (kind : EventKind) (r : Reply) (book : List Event) (has : Bool) → IsOwn k book → IsOwn k (if has then world.served r (book ++ world.event_of k kind ∷ []) else world.served reply.Full book).book
+own_added k kind r book true h = own_more k kind book h
+own_added k kind r book false h = h
+
+own_served : (w : World) (k : ℕ) (q : Ask) (book : List Event) → IsOwn k book → IsOwn k (serve w k q book).book
+own_served w k ask.Begin book h = h
+own_served w k (ask.Look c p) book h = looked (written c.number p book)
+  where
+    looked : (b : Bool) → IsOwn k (world.looks b w k c p book).book
+    looked true = own_added k _ (reply.Retry c) book (nat_lt (length book) most_events) h
+    looked false = h
+own_served w k (ask.Commit p ws) book h = committed (disturbed book p ws)
+  where
+    committed : (d : Option CellId) → IsOwn k (world.commits d k p ws book).book
+    committed None = own_added k _ reply.Done book (nat_lt (length book) most_events) h
+    committed (Some c) = own_added k _ (reply.Retry c) book (nat_lt (length book) most_events) h
+own_served w k (ask.Fail p) book h = own_added k _ reply.Done book (nat_lt (length book) most_events) h
+own_served w k (ask.Peek c) book h = own_added k _ (reply.Is (after w book (length book) c.number)) book (nat_lt (length book) most_events) h
+
 -- an answer that the actor goes on after
 heard_over : ActorsRun → ServedAskFits → (code : PlainCode) (w : World) (k : ℕ) (book : List Event) (a : PlainActor) (q : Ask) (r : Reply)
     → a.outcome ≡ None → unanswered a ≡ Some q → unanswered (answered a r) ≡ None → MayAnswer q r → (Stops r → ⊥) → IsExchanged r → r ≡ (serve w k q book).reply
@@ -285,20 +360,24 @@ heard_over laws fits code w k book a q r e f free may on x same h =
       told = subst (λ y. ToldBy w k (serve w k q book).book (h.exchanges ++ record { ask = q; reply = y } ∷ []) (stage_after h.stage q y)) (sym same)
           (fits w k book h.exchanges h.stage q known.0 h.told (subst IsExchanged same x));
       here = as_is (answered a r) (stage_after h.stage q r) (answered a r).outcome None refl free (in_after (answered a r) (stage_after h.stage q r) (answered a r).outcome (known.1 r may on));
+      own = own_served w k q book h.own;
+      full = λ x. absurd (subst Unfilled x (unfilled_of (answered a r).outcome (unstopped_if a e a.pending r on)));
     }
 
 -- an answer that stops the actor, and leaves the book as it was
 stopped_over : ActorsRun → (code : PlainCode) (w : World) (k : ℕ) (book : List Event) (a : PlainActor) (q : Ask) (r : Reply)
-    → a.outcome ≡ None → unanswered a ≡ Some q → Stops r → RunOver code w k book a → RunOver code w k book (answered a r)
-stopped_over laws code w k book a q r e f stop h =
+    → a.outcome ≡ None → unanswered a ≡ Some q → MayAnswer q r → Stops r → ((answered a r).outcome ≡ Some outcome.JournalFull → most_events ≤ length book) → RunOver code w k book a → RunOver code w k book (answered a r)
+stopped_over laws code w k book a q r e f may stop filled h =
     let ends = stop_ends a a.pending r _ a.at a.writes q f stop in
     record {
       number = answered_number a a.pending r ∙ h.number;
       exchanges = h.exchanges;
       stage = h.stage;
-      ran = laws.stops code h.exchanges a q r e f stop h.ran;
+      ran = laws.stops code h.exchanges a q r e f may stop h.ran;
       told = h.told;
       here = as_is (answered a r) h.stage (Some ends.0) (unanswered (answered a r)) ends.1 refl tt;
+      own = h.own;
+      full = filled;
     }
 
 abbrev is_full : Reply → Type 0
@@ -331,6 +410,27 @@ full_keeps w a (ask.Commit p ws) book h = committed (disturbed book p ws) h
 full_keeps w a (ask.Fail p) book h = adds_full a _ reply.Done book (nat_lt (length book) most_events) (λ x. x) h
 full_keeps w a (ask.Peek c) book h = adds_full a _ (reply.Is (after w book (length book) c.number)) book (nat_lt (length book) most_events) (λ x. x) h
 
+-- and there is no room in it
+adds_past : (a : ℕ) (kind : EventKind) (r : Reply) (book : List Event) (has : Bool) → nat_lt (length book) most_events ≡ has → (is_full r → ⊥)
+    → is_full (if has then world.served r (book ++ world.event_of a kind ∷ []) else world.served reply.Full book).reply → most_events ≤ length book
+adds_past a kind r book true e never h = absurd (never h)
+adds_past a kind r book false e never h = ltb-false (length book) most_events e
+
+full_past : (w : World) (a : ℕ) (q : Ask) (book : List Event) → is_full (serve w a q book).reply → most_events ≤ length book
+full_past w a ask.Begin book h = absurd h
+full_past w a (ask.Look c p) book h = looked (written c.number p book) h
+  where
+    looked : (b : Bool) → is_full (world.looks b w a c p book).reply → most_events ≤ length book
+    looked true h = adds_past a _ (reply.Retry c) book (nat_lt (length book) most_events) refl (λ x. x) h
+    looked false h = absurd h
+full_past w a (ask.Commit p ws) book h = committed (disturbed book p ws) h
+  where
+    committed : (d : Option CellId) → is_full (world.commits d a p ws book).reply → most_events ≤ length book
+    committed None h = adds_past a _ reply.Done book (nat_lt (length book) most_events) refl (λ x. x) h
+    committed (Some c) h = adds_past a _ (reply.Retry c) book (nat_lt (length book) most_events) refl (λ x. x) h
+full_past w a (ask.Fail p) book h = adds_past a _ reply.Done book (nat_lt (length book) most_events) refl (λ x. x) h
+full_past w a (ask.Peek c) book h = adds_past a _ (reply.Is (after w book (length book) c.number)) book (nat_lt (length book) most_events) refl (λ x. x) h
+
 served_from : ActorsRun → ServedAskFits → (code : PlainCode) (s t : PlainStore) (k : ℕ) (a : PlainActor) (q : Ask) (r : Reply)
     → a.outcome ≡ None → unanswered a ≡ Some q → unanswered (answered a r) ≡ None → MayAnswer q r
     → world.Answers s (serve (opening s.cells) k q s.book) r t
@@ -346,10 +446,10 @@ served_from laws fits code s t k a q (reply.Retry c) e f free may g h =
 served_from laws fits code s t k a q reply.Full e f free may g h = (
   ap (λ (x : PlainStore). x.cells) g.1,
   subst (λ (x : PlainStore). RunOver code (opening s.cells) k x.book (answered a reply.Full)) (sym g.1)
-      (subst (λ (es : List Event). RunOver code (opening s.cells) k es (answered a reply.Full)) (sym (full_keeps (opening s.cells) k q s.book (subst is_full g.0 tt))) (stopped_over laws code (opening s.cells) k s.book a q reply.Full e f tt h)),
+      (subst (λ (es : List Event). RunOver code (opening s.cells) k es (answered a reply.Full)) (sym (full_keeps (opening s.cells) k q s.book (subst is_full g.0 tt))) (stopped_over laws code (opening s.cells) k s.book a q reply.Full e f may tt (λ x. full_past (opening s.cells) k q s.book (subst is_full g.0 tt)) h)),
 )
 served_from laws fits code s t k a q reply.Memory e f free may g h =
-    (ap (λ (x : PlainStore). x.cells) g.1, subst (λ (x : PlainStore). RunOver code (opening s.cells) k x.book (answered a reply.Memory)) (sym g.1) (stopped_over laws code (opening s.cells) k s.book a q reply.Memory e f tt h))
+    (ap (λ (x : PlainStore). x.cells) g.1, subst (λ (x : PlainStore). RunOver code (opening s.cells) k x.book (answered a reply.Memory)) (sym g.1) (stopped_over laws code (opening s.cells) k s.book a q reply.Memory e f may tt (λ x. absurd (subst Unfilled x (memory_unfilled a a.pending e))) h))
 
 -- what the store answers the actor, and the actor after the answer
 pub served_over : ActorsRun → ServedAskFits → (code : PlainCode) (s t : PlainStore) (k : ℕ) (a : PlainActor) (q : Ask) (r : Reply)

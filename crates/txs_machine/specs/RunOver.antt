@@ -1,12 +1,12 @@
 -- What an actor has done over a store, and what the source of its thread says of it.
-use Rattle.std.specs.Prelude.{◌≡◌, ◌≤◌, ℕ, List, [], Option, Some, None}
+use Rattle.std.specs.Prelude.{◌≡◌, ◌≤◌, ℕ, List, [], ◌∷◌, length, false, Option, Some, None}
 use Rattle.txs_asks.specs.Ask.{Exchange}
 use Rattle.txs_value.specs.Cells.{World}
 use Rattle.txs_asks.specs.declared.ask.Ask.{Ask}
 use Rattle.txs_asks.specs.declared.ask.Reply.{Reply}
 use Rattle.txs_asks.specs.declared.event.Event.{Event}
 use Rattle.txs_asks.specs.declared.event.Outcome.{Outcome}
-use Rattle.txs_asks.specs.declared.event.Outcome.TheVariants.{StepsSpent}
+use Rattle.txs_asks.specs.declared.event.Outcome.TheVariants.{StepsSpent, JournalFull}
 use Rattle.txs_value.specs.declared.value.Value.{Value}
 use Rattle.txs_tree.specs.Meaning.{Completion}
 use Rattle.txs_tree.specs.Thread.{ThreadState, thread_meaning}
@@ -15,6 +15,11 @@ use Rattle.txs_code.specs.PlainCode.{PlainCode}
 use Rattle.txs_follows.specs.Follows.{Follows}
 use Rattle.txs_follows.specs.RepliesFit.{Explained}
 use Rattle.txs_actor.specs.PlainActor.{PlainActor, HasRun, MayAnswer, Stops, answered, unanswered, configuration_of, code_of, stating, standing, stands_at}
+use Rattle.txs_world.specs.Book.{most_events, opening}
+use Rattle.txs_world.specs.Store.{is_lawful}
+use Rattle.txs_world.specs.declared.cell.StoreCell.{StoreCell}
+use Rattle.txs_machine.specs.declared.run.RunError.{RunError}
+use Rattle.txs_machine.specs.declared.run.RunError.TheVariants.{Mismatch, Memory}
 use Rattle.txs_machine.specs.Stages.{Stage, AsksIn, stage_after, stage_of, ToldBy, IsStaged, seen_by}
 
 -- an actor is in this stage; one that asks is in the next stage after each answer
@@ -23,7 +28,13 @@ IsIn a st (Some o) q = Unit {0}
 IsIn a st None None = stage_of (configuration_of a) ≡ st
 IsIn a st None (Some q) = AsksIn st q × ((r : Reply) → MayAnswer q r → (Stops r → ⊥) → IsStaged (stage_after st q r) (stands_at (answered a r)))
 
--- the actor of the k-th thread has done what the machine does on exchanges that the book told it
+-- every event of the book is this actor's
+abbrev pub IsOwn : ℕ → List Event → Type 0
+IsOwn k [] = Unit {0}
+IsOwn k (e ∷ es) = (e.actor ≡ k) × IsOwn k es
+
+-- The actor of the k-th thread has done what the machine does on exchanges that the book told it. Nobody else has written in
+-- the book, and it is full where the actor was stopped for that.
 pub record RunOver (code : PlainCode) (w : World) (k : ℕ) (book : List Event) (a : PlainActor) : Type 0 where
   pub number : a.number ≡ k
   pub exchanges : List Exchange
@@ -31,6 +42,8 @@ pub record RunOver (code : PlainCode) (w : World) (k : ℕ) (book : List Event) 
   pub ran : HasRun code exchanges a
   pub told : ToldBy w k book exchanges stage
   pub here : IsIn a stage a.outcome (unanswered a)
+  pub own : IsOwn k book
+  pub full : a.outcome ≡ Some JournalFull → most_events ≤ length book
 
 -- an actor that asks nothing, or has ended so
 abbrev pub IsAfter : PlainActor → Option Outcome → Type 0
@@ -45,12 +58,15 @@ ExplainsEnd o out r = Explained (standing (Some o) (stating out 0 []) (stating o
 abbrev pub IsExplained : PlainCode → World → ℕ → List Event → Outcome → List ℕ → Type 0
 IsExplained code w k book o out = (p : ThreadSource) → Follows (code_of code k) p → (m : ℕ) × ExplainsEnd o out (thread_meaning p m (seen_by w k book))
 
--- an actor that may make so many steps, and has made them all where it was stopped for that
+-- an actor that may make so many steps, has made no more, and has made them all where it was stopped for that
 pub record IsLimited (limit : ℕ) (a : PlainActor) : Type 0 where
   pub limited : a.limit ≡ limit
+  pub within : a.steps ≤ limit
   pub spent : a.outcome ≡ Some StepsSpent → limit ≤ a.steps
 
--- an actor of the k-th thread has made so many steps over the book, and printed these bytes and ended so
+-- An actor of the k-th thread has made so many steps over the book, and printed these bytes and ended so: with the last of
+-- its steps where it is done or failed, with as many as it may make where they were spent, with an ask that adds an event
+-- to a full book, or in the middle of a step for want of memory.
 pub record HasEnded (code : PlainCode) (w : World) (k limit : ℕ) (book : List Event) (o : Outcome) (out : List ℕ) (steps : ℕ) : Type 0 where
   pub actor : PlainActor
   pub over : RunOver code w k book actor
@@ -58,3 +74,16 @@ pub record HasEnded (code : PlainCode) (w : World) (k limit : ℕ) (book : List 
   pub ended : actor.outcome ≡ Some o
   pub printed : actor.printed ≡ out
   pub counted : actor.steps ≡ steps
+
+-- The actor asks what it may not ask of this store: why a run over it has no account.
+pub record AsksUnlawfully (code : PlainCode) (cells : List StoreCell) (k : ℕ) (book : List Event) : Type 0 where
+  pub actor : PlainActor
+  pub ask : Ask
+  pub over : RunOver code (opening cells) k book actor
+  pub asks : unanswered actor ≡ Some ask
+  pub unlawful : is_lawful cells book k ask ≡ false
+
+-- why there is no account of a run: the actor asks what it may not ask, or there was no memory
+abbrev pub HasNoAccount : PlainCode → List StoreCell → ℕ → List Event → RunError → Type 0
+HasNoAccount code cells k book Mismatch = AsksUnlawfully code cells k book
+HasNoAccount code cells k book Memory = Unit {0}

@@ -1,9 +1,10 @@
 //! A thread's run over a store.
 
-ghost use Rattle.std.specs.Prelude.{◌≡◌, ◌<◌, ℕ, length, IfOk, OnOk, Some, None, []};
+ghost use Rattle.std.specs.Prelude.{◌≡◌, ◌<◌, ℕ, length, IfOk, IfErr, OnOk, OnErr, Some, None, []};
 ghost use Rattle.txs_actor.specs.PlainActor.{Runs, unanswered};
 ghost use Rattle.txs_world.specs.Book.{opening};
-ghost use Rattle.txs_machine.specs.RunOver.{RunOver, IsAfter, IsExplained, IsLimited, HasEnded};
+ghost use Rattle.txs_machine.specs.declared.run.RunError.TheVariants.{Mismatch, Memory};
+ghost use Rattle.txs_machine.specs.RunOver.{RunOver, IsAfter, IsExplained, IsLimited, HasEnded, AsksUnlawfully, HasNoAccount};
 
 use crate::law::{actors_explained, served_ask_fits, turns_are_staged};
 use std::alloc::{AllocError, Global};
@@ -33,7 +34,21 @@ pub enum RunError {
     Memory,
 }
 
+/// The actor asked what it may not ask.
+#[derive(Clone, Copy)]
+struct Unlawful;
+
+impl From<Unlawful> for RunError {
+    ghost from_gives = { λ _ e. e ≡ Mismatch };
+
+    fn from(_: Unlawful) -> RunError {
+        RunError::Mismatch
+    }
+}
+
 impl From<AllocError> for RunError {
+    ghost from_gives = { λ _ e. e ≡ Memory };
+
     fn from(_: AllocError) -> RunError {
         RunError::Memory
     }
@@ -46,20 +61,23 @@ fn serve_ask(
     store: &mut Store,
     ask: &Ask,
     k: u16,
-) -> Result<(), RunError>
+) -> Result<(), Unlawful>
     requires runs { Runs code.now actor.old }
     requires going { actor.old.outcome ≡ None }
     requires asks { unanswered actor.old ≡ Some ask.now }
+    requires limited { IsLimited actor.old.limit actor.old }
+    requires over { RunOver code.now (opening store.old.cells) k store.old.book actor.old }
     ensures runs { OnOk result (Runs code.now actor.new) }
     ensures answered { OnOk result (unanswered actor.new ≡ None) }
-    ensures limited { OnOk result ((limit : ℕ) → IsLimited limit actor.old → IsLimited limit actor.new) }
+    ensures steps { OnOk result (actor.new.steps ≡ actor.old.steps) }
+    ensures limited { OnOk result (IsLimited actor.old.limit actor.new) }
     ensures cells { store.new.cells ≡ store.old.cells }
-    ensures over { OnOk result (RunOver code.now (opening store.old.cells) k store.old.book actor.old
-        → RunOver code.now (opening store.old.cells) k store.new.book actor.new) }
+    ensures over { OnOk result (RunOver code.now (opening store.old.cells) k store.new.book actor.new) }
+    ensures refused { OnErr result (AsksUnlawfully code.now store.old.cells k store.new.book) }
 {
     let number = actor.number();
     if !store.lawful(number, ask) {
-        return Err(RunError::Mismatch);
+        return Err(Unlawful);
     }
     let reply = store.serve(number, ask);
     actor.answer(code, reply);
@@ -69,22 +87,26 @@ fn serve_ask(
 }
 
 /// So many turns of the actor, or those up to its end, which is the answer, or up to an ask, which is
-/// served.
+/// served. One after which the actor goes on made a step at least.
 fn round(
     actor: &mut Actor,
     code: &Verified,
     store: &mut Store,
     k: u16,
     budget: u64,
-) -> Result<Option<Outcome>, RunError>
+) -> Result<Option<Outcome>, Unlawful>
     requires runs { Runs code.now actor.old }
+    requires some { 0 < budget }
     requires answered { unanswered actor.old ≡ None }
+    requires limited { IsLimited actor.old.limit actor.old }
     requires over { RunOver code.now (opening store.old.cells) k store.old.book actor.old }
     ensures runs { OnOk result (Runs code.now actor.new) }
     ensures after { IfOk result (λ o. IsAfter actor.new o) }
-    ensures limited { OnOk result ((limit : ℕ) → IsLimited limit actor.old → IsLimited limit actor.new) }
+    ensures progress { IfOk result (λ o. o ≡ None → actor.old.steps < actor.new.steps) }
+    ensures limited { OnOk result (IsLimited actor.old.limit actor.new) }
     ensures cells { store.new.cells ≡ store.old.cells }
     ensures over { OnOk result (RunOver code.now (opening store.old.cells) k store.new.book actor.new) }
+    ensures refused { OnErr result (AsksUnlawfully code.now store.old.cells k store.new.book) }
 {
     actors_run();
     turns_are_staged();
@@ -99,33 +121,37 @@ fn round(
 }
 
 /// Turns the actor to its end, with each of its asks served by the store. Each round makes a step at
-/// least, so that the rounds never run out.
+/// least, and the actor may make no more than its limit.
 fn run_to_end(
     actor: &mut Actor,
     code: &Verified,
     store: &mut Store,
     k: u16,
-) -> Result<Outcome, RunError>
+) -> Result<Outcome, Unlawful>
     requires runs { Runs code.now actor.old }
     requires answered { unanswered actor.old ≡ None }
+    requires limited { IsLimited actor.old.limit actor.old }
     requires over { RunOver code.now (opening store.old.cells) k store.old.book actor.old }
     ensures ended { IfOk result (λ o. actor.new.outcome ≡ Some o) }
-    ensures limited { OnOk result ((limit : ℕ) → IsLimited limit actor.old → IsLimited limit actor.new) }
+    ensures limited { OnOk result (IsLimited actor.old.limit actor.new) }
     ensures cells { store.new.cells ≡ store.old.cells }
     ensures over { OnOk result (RunOver code.now (opening store.old.cells) k store.new.book actor.new) }
+    ensures refused { OnErr result (AsksUnlawfully code.now store.old.cells k store.new.book) }
 {
-    for _ in 0..u64::MAX {
-        if let Some(outcome) = round(actor, code, store, k, u64::MAX)? {
-            return Ok(outcome);
-        }
+    let mut ended = None;
+    while ended.is_none() {
+        ended = round(actor, code, store, k, u64::MAX)?;
     }
-    Err(RunError::Mismatch)
+    match ended {
+        Some(outcome) => Ok(outcome),
+        None => unreachable!(),
+    }
 }
 
 /// Runs a thread of the code to its end, or for so many steps, over a store that no one has used yet.
 ///
 /// # Errors
-/// `Mismatch` where the thread asks what it may not ask; `Memory` where there was no memory for its actor
+/// `Mismatch` where the thread asks what it may not ask of the store; `Memory` where there was no memory for its actor
 /// or for a copy of what it printed.
 pub fn run_thread(
     alloc: Global,
@@ -139,6 +165,7 @@ pub fn run_thread(
     ensures cells { store.new.cells ≡ store.old.cells }
     ensures ended { IfOk result (λ ran. HasEnded code.now (opening store.old.cells) k max_steps store.new.book ran.outcome ran.printed.items ran.steps) }
     ensures explained { IfOk result (λ ran. IsExplained code.now (opening store.old.cells) k store.new.book ran.outcome ran.printed.items) }
+    ensures refused { IfErr result (λ e. HasNoAccount code.now store.old.cells k store.new.book e) }
 {
     actors_run();
     actors_explained();

@@ -1,6 +1,8 @@
+use Rattle.std.proofs.Common.{ℕ, ◌<◌, sym, subst}
+use Rattle.txs_machine.specs.RunOver.{IsLimited}
 use Rattle.txs_actor.specs.declared.outcome.Turn.TheVariants.{Went, Asks, Ended}
 use Rattle.txs_world.specs.Book.{opening}
-use Rattle.txs_machine.proofs.Limits.{turns_limited}
+use Rattle.txs_machine.proofs.Limits.{turns_limited, turns_count}
 use Rattle.txs_machine.proofs.RunOver.{turns_over, turns_went, turns_say}
 use Rattle.txs_machine.proofs.run.round.Goals as goal
 
@@ -26,18 +28,33 @@ returns-in-Went-clause-over c =
     turns_over c.actors_run.ensures c.turns_are_staged.ensures c.args.code.now (opening c.args.store.now.cells) c.args.k c.args.store.now.book c.args.budget c.args.actor.now c.run.new.self Went
     c.requires.answered c.in-Went.ensures.turns c.requires.over
 
-pub returns-in_ok-serve_ask-in-Asks-clause-over : goal.returns-in_ok-serve_ask-in-Asks-clause-over
-returns-in_ok-serve_ask-in-Asks-clause-over c =
-    c.in_ok-serve_ask-in-Asks.ensures.over
-    (turns_over c.actors_run.ensures c.turns_are_staged.ensures c.args.code.now (opening c.args.store.now.cells) c.args.k c.args.store.now.book c.args.budget c.args.actor.now c.run.new.self (Asks c.in-Asks.ask)
-    c.requires.answered c.in-Asks.ensures.turns c.requires.over)
-
 pub returns-in-Ended-clause-limited : goal.returns-in-Ended-clause-limited
-returns-in-Ended-clause-limited c limit h = turns_limited c.args.code.now limit c.args.budget c.args.actor.now c.run.new.self (Ended c.in-Ended.outcome) c.in-Ended.ensures.turns h
+returns-in-Ended-clause-limited c =
+    turns_limited c.args.code.now c.args.actor.now.limit c.args.budget c.args.actor.now c.run.new.self (Ended c.in-Ended.outcome) c.in-Ended.ensures.turns c.requires.limited
 
 pub returns-in-Went-clause-limited : goal.returns-in-Went-clause-limited
-returns-in-Went-clause-limited c limit h = turns_limited c.args.code.now limit c.args.budget c.args.actor.now c.run.new.self Went c.in-Went.ensures.turns h
+returns-in-Went-clause-limited c =
+    turns_limited c.args.code.now c.args.actor.now.limit c.args.budget c.args.actor.now c.run.new.self Went c.in-Went.ensures.turns c.requires.limited
+
+pub returns-in-Went-clause-progress : goal.returns-in-Went-clause-progress
+returns-in-Went-clause-progress c e = turns_count c.args.code.now c.args.budget c.args.actor.now c.run.new.self Went c.requires.some tt c.in-Went.ensures.turns
+
+pub serve_ask-requires-clause-limited : goal.serve_ask-requires-clause-limited
+serve_ask-requires-clause-limited c =
+    let h = turns_limited c.args.code.now c.args.actor.now.limit c.args.budget c.args.actor.now c.run.new.self (Asks c.in-Asks.ask) c.in-Asks.ensures.turns c.requires.limited in
+    subst (λ (n : ℕ). IsLimited n c.run.new.self) (sym h.limited) h
+
+pub serve_ask-requires-clause-over : goal.serve_ask-requires-clause-over
+serve_ask-requires-clause-over c =
+    turns_over c.actors_run.ensures c.turns_are_staged.ensures c.args.code.now (opening c.args.store.now.cells) c.args.k c.args.store.now.book c.args.budget c.args.actor.now c.run.new.self (Asks c.in-Asks.ask)
+    c.requires.answered c.in-Asks.ensures.turns c.requires.over
 
 pub returns-in_ok-serve_ask-in-Asks-clause-limited : goal.returns-in_ok-serve_ask-in-Asks-clause-limited
-returns-in_ok-serve_ask-in-Asks-clause-limited c limit h =
-    c.in_ok-serve_ask-in-Asks.ensures.limited limit (turns_limited c.args.code.now limit c.args.budget c.args.actor.now c.run.new.self (Asks c.in-Asks.ask) c.in-Asks.ensures.turns h)
+returns-in_ok-serve_ask-in-Asks-clause-limited c =
+    let h = turns_limited c.args.code.now c.args.actor.now.limit c.args.budget c.args.actor.now c.run.new.self (Asks c.in-Asks.ask) c.in-Asks.ensures.turns c.requires.limited in
+    subst (λ (n : ℕ). IsLimited n c.serve_ask.new.actor) h.limited c.in_ok-serve_ask-in-Asks.ensures.limited
+
+pub returns-in_ok-serve_ask-in-Asks-clause-progress : goal.returns-in_ok-serve_ask-in-Asks-clause-progress
+returns-in_ok-serve_ask-in-Asks-clause-progress c e =
+    subst (λ (n : ℕ). c.args.actor.now.steps < n) (sym c.in_ok-serve_ask-in-Asks.ensures.steps)
+    (turns_count c.args.code.now c.args.budget c.args.actor.now c.run.new.self (Asks c.in-Asks.ask) c.requires.some tt c.in-Asks.ensures.turns)

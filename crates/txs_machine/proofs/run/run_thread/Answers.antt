@@ -1,6 +1,6 @@
-use Rattle.std.proofs.Common.{◌≡◌, ℕ, List, rules, sym, subst}
+use Rattle.std.proofs.Common.{◌≡◌, ℕ, List, rules, refl, sym, subst}
 use Rattle.txs_world.specs.Book.{opening}
-use Rattle.txs_machine.specs.RunOver.{IsExplained}
+use Rattle.txs_machine.specs.RunOver.{IsExplained, IsLimited}
 use Rattle.txs_machine.proofs.Limits.{new_limited}
 use Rattle.txs_machine.proofs.RunOver.{new_over, ended_explained}
 use Rattle.txs_machine.proofs.run.run_thread.Goals as goal
@@ -24,8 +24,13 @@ returns-clause-ended c =
     record {
       actor = c.run_to_end.new.actor;
       over = c.in_ok-outcome.ensures.over;
-      limited = c.in_ok-outcome.ensures.limited c.args.max_steps (new_limited c.args.max_steps c.in_ok-actor.actor new.limited new.unended);
+      limited = subst (λ (n : ℕ). IsLimited n c.run_to_end.new.actor) new.limited c.in_ok-outcome.ensures.limited;
       ended = c.in_ok-outcome.ensures.ended;
       printed = search rules;
       counted = search rules;
     }
+
+pub run_to_end-requires-clause-limited : goal.run_to_end-requires-clause-limited
+run_to_end-requires-clause-limited c =
+    let new = c.in_ok-actor.ensures.new in
+    new_limited c.in_ok-actor.actor.limit c.in_ok-actor.actor refl new.unended new.unused
