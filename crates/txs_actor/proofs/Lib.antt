@@ -11,5 +11,6 @@ pub mod Openings
 pub mod OwnWrites
 pub mod Ready
 pub mod Running
+pub mod Saying
 pub mod Striding
 pub mod Turning

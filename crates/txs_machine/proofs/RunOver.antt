@@ -23,6 +23,7 @@ use Rattle.txs_tree.specs.Thread.{ThreadState, thread_meaning}
 use Rattle.txs_actor.specs.PlainActor.{PlainActor, MayAnswer, Stops, answered, answered_if, asked_for, run_again, unanswered, configuration_of, state_of, code_of, stands_at, standing}
 use Rattle.txs_actor.specs.Laws.{ActorsRun}
 use Rattle.txs_actor.proofs.Following.{Unstopped, unstopped_if}
+use Rattle.txs_actor.proofs.Saying.{turn_says}
 use Rattle.txs_machine.specs.Followed.{ActorsExplained, told}
 use Rattle.txs_actor.specs.Turns.{IsNew, OneStep, Answers, Moves, TurnsFrom, Turns, GoesOnAfter, TurnsOf}
 use Rattle.txs_actor.specs.declared.outcome.Turn.{Turn}
@@ -143,19 +144,6 @@ turn_over laws law code w k book a b r f t h =
       full = λ x. h.full (turn_filled code a b r a.outcome refl t x);
     }
 
-abbrev is_went : Turn → Type 0
-is_went turned.Went = Unit {0}
-is_went (turned.Asks q) = ⊥
-is_went (turned.Ended o) = ⊥
-
-went_free : (code : PlainCode) (a b : PlainActor) (o : Option Outcome) → TurnsFrom code a o turned.Went b → unanswered b ≡ None
-went_free code a b (Some o) t = absurd (subst is_went t.0 tt)
-went_free code a b None t = went_moved (nat_lt a.steps a.limit) t
-  where
-    went_moved : (may : Bool) → Moves code a may turned.Went b → unanswered b ≡ None
-    went_moved true t = t.1.unanswered
-    went_moved false t = absurd (subst is_went t.0 tt)
-
 -- so do many turns
 pub turns_over : ActorsRun → TurnsAreStaged → (code : PlainCode) (w : World) (k : ℕ) (book : List Event) (n : ℕ) (a b : PlainActor) (r : Turn) → unanswered a ≡ None → TurnsOf code n a r b → RunOver code w k book a → RunOver code w k book b
 turns_over laws law code w k book zero a b r f t h = subst (λ x. RunOver code w k book x) (sym t.1) h
@@ -163,53 +151,9 @@ turns_over laws law code w k book (suc n) a b r f t h = after_turn (λ i g x. tu
   where
     after_turn : (unanswered t.1 ≡ None → TurnsOf code n t.1 r b → RunOver code w k book t.1 → RunOver code w k book b)
         → (s : Turn) → Turns code a s t.1 → GoesOnAfter s (TurnsOf code n t.1 r b) ((r ≡ s) × (b ≡ t.1)) → RunOver code w k book b
-    after_turn go turned.Went u g = go (went_free code a t.1 a.outcome u) g (turn_over laws law code w k book a t.1 turned.Went f u h)
+    after_turn go turned.Went u g = go (turn_says code a t.1 turned.Went a.outcome refl u) g (turn_over laws law code w k book a t.1 turned.Went f u h)
     after_turn go (turned.Asks q) u g = subst (λ x. RunOver code w k book x) (sym g.1) (turn_over laws law code w k book a t.1 (turned.Asks q) f u h)
     after_turn go (turned.Ended o) u g = subst (λ x. RunOver code w k book x) (sym g.1) (turn_over laws law code w k book a t.1 (turned.Ended o) f u h)
-
--- an actor whose turns all went asks nothing
-pub turns_went : (code : PlainCode) (n : ℕ) (a b : PlainActor) → unanswered a ≡ None → TurnsOf code n a turned.Went b → unanswered b ≡ None
-turns_went code zero a b f t = subst (λ x. unanswered x ≡ None) (sym t.1) f
-turns_went code (suc n) a b f t = after_turn (λ i g. turns_went code n t.1 b i g) t.0 t.2 t.3
-  where
-    after_turn : (unanswered t.1 ≡ None → TurnsOf code n t.1 turned.Went b → unanswered b ≡ None)
-        → (s : Turn) → Turns code a s t.1 → GoesOnAfter s (TurnsOf code n t.1 turned.Went b) ((turned.Went ≡ s) × (b ≡ t.1)) → unanswered b ≡ None
-    after_turn go turned.Went u g = go (went_free code a t.1 a.outcome u) g
-    after_turn go (turned.Asks q) u g = absurd (subst is_went g.0 tt)
-    after_turn go (turned.Ended o) u g = absurd (subst is_went g.0 tt)
-
--- what an actor's last turn says of it: it asks for this, or has ended so
-abbrev pub Says : Turn → PlainActor → Type 0
-Says turned.Went b = Unit {0}
-Says (turned.Asks q) b = (b.outcome ≡ None) × (unanswered b ≡ Some q)
-Says (turned.Ended o) b = b.outcome ≡ Some o
-
-step_says : (code : PlainCode) (a b : PlainActor) (r : Turn) → Answers code a r b → Says r b
-step_says code a b turned.Went t = tt
-step_says code a b (turned.Asks q) t = (t.1.outcome, t.1.unanswered)
-step_says code a b (turned.Ended outcome.Done) t = t.1.outcome
-step_says code a b (turned.Ended (outcome.Failed f)) t = t.1.outcome
-step_says code a b (turned.Ended outcome.StepsSpent) t = absurd t
-step_says code a b (turned.Ended outcome.JournalFull) t = absurd t
-step_says code a b (turned.Ended outcome.Memory) t = t.1.outcome
-
-move_says : (code : PlainCode) (a b : PlainActor) (r : Turn) (may : Bool) → Moves code a may r b → Says r b
-move_says code a b r true t = step_says code a b r t
-move_says code a b r false t = subst (λ x. Says x b) (sym t.0) (ap (λ (x : PlainActor). x.outcome) t.1)
-
-turn_says : (code : PlainCode) (a b : PlainActor) (r : Turn) (o : Option Outcome) → a.outcome ≡ o → TurnsFrom code a o r b → Says r b
-turn_says code a b r None e t = move_says code a b r (nat_lt a.steps a.limit) t
-turn_says code a b r (Some o) e t = subst (λ x. Says x b) (sym t.0) (ap (λ (x : PlainActor). x.outcome) t.1 ∙ e)
-
--- so does the last of many
-pub turns_say : (code : PlainCode) (n : ℕ) (a b : PlainActor) (r : Turn) → TurnsOf code n a r b → Says r b
-turns_say code zero a b r t = subst (λ x. Says x b) (sym t.0) tt
-turns_say code (suc n) a b r t = after_turn (λ g. turns_say code n t.1 b r g) t.0 t.2 t.3
-  where
-    after_turn : (TurnsOf code n t.1 r b → Says r b) → (s : Turn) → Turns code a s t.1 → GoesOnAfter s (TurnsOf code n t.1 r b) ((r ≡ s) × (b ≡ t.1)) → Says r b
-    after_turn go turned.Went u g = go g
-    after_turn go (turned.Asks q) u g = subst (λ x. Says x b) (sym g.0) (subst (λ x. Says (turned.Asks q) x) (sym g.1) (turn_says code a t.1 (turned.Asks q) a.outcome refl u))
-    after_turn go (turned.Ended o) u g = subst (λ x. Says x b) (sym g.0) (subst (λ x. Says (turned.Ended o) x) (sym g.1) (turn_says code a t.1 (turned.Ended o) a.outcome refl u))
 
 -- ---- the beginning
 

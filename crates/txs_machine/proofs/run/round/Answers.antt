@@ -3,17 +3,17 @@ use Rattle.txs_machine.specs.RunOver.{IsLimited}
 use Rattle.txs_actor.specs.declared.outcome.Turn.TheVariants.{Went, Asks, Ended}
 use Rattle.txs_world.specs.Book.{opening}
 use Rattle.txs_machine.proofs.Limits.{turns_limited, turns_count}
-use Rattle.txs_machine.proofs.RunOver.{turns_over, turns_went, turns_say}
+use Rattle.txs_machine.proofs.RunOver.{turns_over}
 use Rattle.txs_machine.proofs.run.round.Goals as goal
 
 pub serve_ask-requires-clause-going : goal.serve_ask-requires-clause-going
-serve_ask-requires-clause-going c = (turns_say c.args.code.now c.args.budget c.args.actor.now c.run.new.self (Asks c.in-Asks.ask) c.in-Asks.ensures.turns).0
+serve_ask-requires-clause-going c = c.in-Asks.ensures.says.0
 
 pub serve_ask-requires-clause-asks : goal.serve_ask-requires-clause-asks
-serve_ask-requires-clause-asks c = (turns_say c.args.code.now c.args.budget c.args.actor.now c.run.new.self (Asks c.in-Asks.ask) c.in-Asks.ensures.turns).1
+serve_ask-requires-clause-asks c = c.in-Asks.ensures.says.1
 
 pub returns-in-Ended-clause-after : goal.returns-in-Ended-clause-after
-returns-in-Ended-clause-after c = turns_say c.args.code.now c.args.budget c.args.actor.now c.run.new.self (Ended c.in-Ended.outcome) c.in-Ended.ensures.turns
+returns-in-Ended-clause-after c = c.in-Ended.ensures.says
 
 pub returns-in-Ended-clause-over : goal.returns-in-Ended-clause-over
 returns-in-Ended-clause-over c =
@@ -21,7 +21,7 @@ returns-in-Ended-clause-over c =
     c.requires.answered c.in-Ended.ensures.turns c.requires.over
 
 pub returns-in-Went-clause-after : goal.returns-in-Went-clause-after
-returns-in-Went-clause-after c = turns_went c.args.code.now c.args.budget c.args.actor.now c.run.new.self c.requires.answered c.in-Went.ensures.turns
+returns-in-Went-clause-after c = c.in-Went.ensures.says
 
 pub returns-in-Went-clause-over : goal.returns-in-Went-clause-over
 returns-in-Went-clause-over c =
