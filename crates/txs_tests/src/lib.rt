@@ -13,6 +13,8 @@ mod program;
 #[cfg(test)]
 mod reader;
 #[cfg(test)]
+mod rerun;
+#[cfg(test)]
 mod rows;
 #[cfg(test)]
 mod store;
