@@ -86,6 +86,7 @@ fn program_of_forms(alloc: Global, bytes: &[u8], forms: &[Form]) -> Result<Progr
 pub fn compile(alloc: Global, bytes: &[u8]) -> Result<(Program, Verified), CompileError>
     ensures program { IfOk result (λ c. IsProgramOf bytes.now (program_of c.0)) }
     ensures code { IfOk result (λ c. FollowsAll (codes_of c.1) (program_of c.0)) }
+    ensures cells { IfOk result (λ c. c.1.cells ≡ c.0.cells) }
     ensures refused { IfErr result (λ e. IsRefusal bytes.now e) }
 {
     let forms = forms_of(alloc, bytes)?;

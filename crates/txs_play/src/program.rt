@@ -6,12 +6,12 @@ use crate::cells::write_cells;
 use crate::streams::{ReadFault, read_bytes, write_bytes};
 use std::alloc::{AllocError, Global};
 use std::io::{Read, Write};
+use txs_asks::Outcome;
 use txs_code::Verified;
 use txs_compile::{CompileError, compile};
 use txs_machine::{Ran, RunError, run_thread};
-use txs_words::{Words, parse_words};
-use txs_asks::Outcome;
 use txs_value::Span;
+use txs_words::{Words, parse_words};
 use txs_world::Store;
 
 /// What the program tells: its standard output and error, and its status.
