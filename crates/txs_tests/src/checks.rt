@@ -26,12 +26,20 @@ fn tells_pure_callees(rt: HostRuntime) -> Result<(), Fail> {
     let script = b"(defn f [a b] [b a]) (defn g [] (println 1)) (defn h [x] (f x (g)))".as_slice();
     let compiled = compile(alloc, script);
     let (program, _) = compiled?;
-    for (number, count, pure) in [(0, 2, true), (0, 1, false), (1, 0, false), (2, 1, false), (3, 0, false)] {
+    for (number, count, pure) in [
+        (0, 2, true),
+        (0, 1, false),
+        (1, 0, false),
+        (2, 1, false),
+        (3, 0, false),
+    ] {
         let told = is_pure_callee(alloc, &program, Callee::Function(number), count)?;
         assert!(rt; told == pure, "{number}");
     }
     let sum = Callee::Core(Op::Add);
-    assert!(rt; is_pure_callee(alloc, &program, sum, 2)? && !is_pure_callee(alloc, &program, sum, 1)?);
+    assert!(rt;
+        is_pure_callee(alloc, &program, sum, 2)? && !is_pure_callee(alloc, &program, sum, 1)?
+    );
     Ok(())
 }
 

@@ -1,251 +1,122 @@
 // The code of small scripts, instruction by instruction.
+use std::alloc::Global;
 use std::test::Fail;
-use txs_code::Instr;
+use txs_code::{Body, Code};
 use txs_compile::compile;
-use txs_value::{CellKind, Op, Span, Value, same};
+use txs_value::{write_line, write_text};
 
-fn at(from: u32, to: u32) -> Span {
-    Span { from, to }
+// A body: its parameters, its locals, the room that its stack needs, and its instructions.
+fn write_body(out: &mut Vec<u8>, alloc: Global, body: &Body, room: u32) -> Result<(), Fail> {
+    let numbers = format!(in alloc; "{} {} {room}", body.parameters(), body.locals())?;
+    out.extend_from_slice(numbers.as_bytes())?;
+    for instr in body.instrs() {
+        let word = format!(in alloc; " {instr:?}")?;
+        out.extend_from_slice(word.as_bytes())?;
+    }
+    Ok(out.push(b'\n')?)
 }
 
-#[test]
-fn a_sum_is_printed(rt: HostRuntime) -> Result<(), Fail> {
-    let alloc = rt.alloc();
-    let compiled = compile(alloc, b"(future (println (+ 1 2)))".as_slice());
-    let (_, verified) = compiled?;
-    let code = verified.code();
-    assert_eq!(rt; code.constants().len(), 2);
-    for (constant, n) in code.constants().iter().zip([1, 2].as_slice()) {
-        assert!(rt; same(constant, &Value::Int(*n)));
+// The places of a body's instructions.
+fn write_spans(out: &mut Vec<u8>, alloc: Global, body: &Body) -> Result<(), Fail> {
+    for span in body.spans() {
+        let place = format!(in alloc; "{}..{} ", span.from, span.to)?;
+        out.extend_from_slice(place.as_bytes())?;
     }
-    assert_eq!(rt; code.functions().len(), 0);
-    assert_eq!(rt; code.threads().len(), 1);
-    for thread in code.threads() {
-        assert_eq!(rt; thread.parameters(), 0);
-        assert_eq!(rt; thread.locals(), 0);
-        let instrs = [
-            Instr::Const(0),
-            Instr::Const(1),
-            Instr::Core(Op::Add, 2),
-            Instr::Print(1),
-            Instr::Halt,
-        ];
-        assert!(rt; thread.instrs() == instrs.as_slice());
-        let spans = [at(20, 21), at(22, 23), at(17, 24), at(8, 25), at(0, 26)];
-        assert!(rt; thread.spans() == spans.as_slice());
-    }
-    let (of_functions, of_threads) = verified.rooms();
-    assert!(rt; of_functions.is_empty());
-    assert!(rt; of_threads == [2].as_slice());
-    Ok(())
+    Ok(out.push(b'\n')?)
 }
 
-#[test]
-fn a_local_is_stored_and_a_value_dropped(rt: HostRuntime) -> Result<(), Fail> {
-    let alloc = rt.alloc();
-    let compiled = compile(alloc, b"(future (let [x 5] (do x (println x))))".as_slice());
-    let (_, verified) = compiled?;
-    for thread in verified.code().threads() {
-        assert_eq!(rt; thread.locals(), 1);
-        let instrs = [
-            Instr::Const(0),
-            Instr::Store(0),
-            Instr::Local(0),
-            Instr::Pop,
-            Instr::Local(0),
-            Instr::Print(1),
-            Instr::Halt,
-        ];
-        assert!(rt; thread.instrs() == instrs.as_slice());
-    }
-    let (_, of_threads) = verified.rooms();
-    assert!(rt; of_threads == [1].as_slice());
-    Ok(())
-}
-
-#[test]
-fn a_choice_jumps_over_one_branch(rt: HostRuntime) -> Result<(), Fail> {
-    let alloc = rt.alloc();
-    let compiled = compile(alloc, b"(future (if 0 [1] 2))".as_slice());
-    let (_, verified) = compiled?;
-    for thread in verified.code().threads() {
-        let instrs = [
-            Instr::Const(0),
-            Instr::JumpFalse(5),
-            Instr::Const(1),
-            Instr::Vector(1),
-            Instr::Jump(6),
-            Instr::Const(2),
-            Instr::Halt,
-        ];
-        assert!(rt; thread.instrs() == instrs.as_slice());
-        let spans = [
-            at(12, 13),
-            at(8, 20),
-            at(15, 16),
-            at(14, 17),
-            at(8, 20),
-            at(18, 19),
-            at(0, 21),
-        ];
-        assert!(rt; thread.spans() == spans.as_slice());
-    }
-    Ok(())
-}
-
-#[test]
-fn a_loop_goes_on_behind_its_stores(rt: HostRuntime) -> Result<(), Fail> {
-    let alloc = rt.alloc();
-    let text = b"(future (loop [i 0 s 0] (if (= i 3) s (recur (inc i) (+ s i)))))".as_slice();
-    let (_, verified) = compile(alloc, text)?;
-    for thread in verified.code().threads() {
-        assert_eq!(rt; thread.locals(), 2);
-        let instrs = [
-            Instr::Const(0),
-            Instr::Store(0),
-            Instr::Const(1),
-            Instr::Store(1),
-            Instr::Local(0),
-            Instr::Const(2),
-            Instr::Core(Op::Equal, 2),
-            Instr::JumpFalse(10),
-            Instr::Local(1),
-            Instr::Jump(18),
-            Instr::Local(0),
-            Instr::Core(Op::Inc, 1),
-            Instr::Local(1),
-            Instr::Local(0),
-            Instr::Core(Op::Add, 2),
-            Instr::Store(1),
-            Instr::Store(0),
-            Instr::Jump(4),
-            Instr::Halt,
-        ];
-        assert!(rt; thread.instrs() == instrs.as_slice());
-    }
-    let (_, of_threads) = verified.rooms();
-    assert!(rt; of_threads == [3].as_slice());
-    Ok(())
-}
-
-#[test]
-fn a_ref_is_altered_and_read(rt: HostRuntime) -> Result<(), Fail> {
-    let alloc = rt.alloc();
-    let text = b"(def r (ref 7)) (future (dosync (alter r + 1)) @r)".as_slice();
-    let (_, verified) = compile(alloc, text)?;
-    let code = verified.code();
-    assert_eq!(rt; code.cells().len(), 1);
+// The names and opening values of the cells, and the constants.
+fn write_values(out: &mut Vec<u8>, code: &Code) -> Result<(), Fail> {
     for cell in code.cells() {
-        assert!(rt; cell.kind == CellKind::Ref);
-        assert!(rt; cell.name.as_bytes() == b"r".as_slice());
-        assert!(rt; same(&cell.opening, &Value::Int(7)));
+        out.extend_from_slice(cell.name.as_bytes())?;
+        out.push(b' ')?;
+        write_text(&cell.opening, out)?;
+        out.push(b'\n')?;
     }
-    for thread in code.threads() {
-        let instrs = [
-            Instr::TxBegin,
-            Instr::Const(0),
-            Instr::Const(1),
-            Instr::AlterOpen(1),
-            Instr::Core(Op::Add, 2),
-            Instr::AlterClose,
-            Instr::TxEnd,
-            Instr::Pop,
-            Instr::Const(2),
-            Instr::Deref,
-            Instr::Halt,
-        ];
-        assert!(rt; thread.instrs() == instrs.as_slice());
-    }
-    let (_, of_threads) = verified.rooms();
-    assert!(rt; of_threads == [3].as_slice());
-    Ok(())
+    Ok(write_line(code.constants(), out)?)
 }
 
-#[test]
-fn a_function_is_called(rt: HostRuntime) -> Result<(), Fail> {
-    let alloc = rt.alloc();
-    let text = b"(defn twice [x] (* 2 x)) (future (println (twice 4)))".as_slice();
-    let (_, verified) = compile(alloc, text)?;
+// The code of a script: its cells, a line each; its constants; its functions and threads, a line each; and, where
+// they are wanted, the places of their instructions.
+fn listed(alloc: Global, script: &str, places: bool, out: &mut Vec<u8>) -> Result<(), Fail> {
+    let (_, verified) = compile(alloc, script.as_bytes())?;
     let code = verified.code();
-    // the constants of functions come first
-    assert_eq!(rt; code.constants().len(), 2);
-    for (constant, n) in code.constants().iter().zip([2, 4].as_slice()) {
-        assert!(rt; same(constant, &Value::Int(*n)));
-    }
-    assert_eq!(rt; code.functions().len(), 1);
-    for function in code.functions() {
-        assert_eq!(rt; function.parameters(), 1);
-        assert_eq!(rt; function.locals(), 1);
-        let instrs = [
-            Instr::Const(0),
-            Instr::Local(0),
-            Instr::Core(Op::Multiply, 2),
-            Instr::Return,
-        ];
-        assert!(rt; function.instrs() == instrs.as_slice());
-        let spans = [at(19, 20), at(21, 22), at(16, 23), at(0, 24)];
-        assert!(rt; function.spans() == spans.as_slice());
-    }
-    for thread in code.threads() {
-        let instrs = [
-            Instr::Const(1),
-            Instr::Call(0),
-            Instr::Print(1),
-            Instr::Halt,
-        ];
-        assert!(rt; thread.instrs() == instrs.as_slice());
-        let spans = [at(49, 50), at(42, 51), at(33, 52), at(25, 53)];
-        assert!(rt; thread.spans() == spans.as_slice());
-    }
     let (of_functions, of_threads) = verified.rooms();
-    assert!(rt; of_functions == [2].as_slice());
-    assert!(rt; of_threads == [1].as_slice());
-    Ok(())
-}
-
-#[test]
-fn a_function_runs_again_from_its_start(rt: HostRuntime) -> Result<(), Fail> {
-    let alloc = rt.alloc();
-    let text =
-        b"(defn down [n] (if (= n 0) n (recur (dec n)))) (future (println (down 3)))".as_slice();
-    let (_, verified) = compile(alloc, text)?;
-    for function in verified.code().functions() {
-        let instrs = [
-            Instr::Local(0),
-            Instr::Const(0),
-            Instr::Core(Op::Equal, 2),
-            Instr::JumpFalse(6),
-            Instr::Local(0),
-            Instr::Jump(10),
-            Instr::Local(0),
-            Instr::Core(Op::Dec, 1),
-            Instr::Store(0),
-            Instr::Jump(0),
-            Instr::Return,
-        ];
-        assert!(rt; function.instrs() == instrs.as_slice());
+    write_values(out, code)?;
+    for (body, room) in code.functions().iter().zip(of_functions) {
+        write_body(out, alloc, body, *room)?;
+    }
+    for (body, room) in code.threads().iter().zip(of_threads) {
+        write_body(out, alloc, body, *room)?;
+    }
+    if places {
+        for body in code.functions() {
+            write_spans(out, alloc, body)?;
+        }
+        for body in code.threads() {
+            write_spans(out, alloc, body)?;
+        }
     }
     Ok(())
 }
 
-#[test]
-fn a_ref_is_altered_by_a_function(rt: HostRuntime) -> Result<(), Fail> {
-    let alloc = rt.alloc();
-    let text =
-        b"(def r (ref 7)) (defn add [v n] (+ v n)) (future (dosync (alter r add 1)))".as_slice();
-    let (_, verified) = compile(alloc, text)?;
-    for thread in verified.code().threads() {
-        let instrs = [
-            Instr::TxBegin,
-            Instr::Const(0),
-            Instr::Const(1),
-            Instr::AlterOpen(1),
-            Instr::Call(0),
-            Instr::AlterClose,
-            Instr::TxEnd,
-            Instr::Halt,
-        ];
-        assert!(rt; thread.instrs() == instrs.as_slice());
+// The first of the scripts whose code isn't this.
+fn first_other<'a>(alloc: Global, rows: &[(&'a str, bool, &str)]) -> Result<Option<&'a str>, Fail> {
+    for (script, places, code) in rows {
+        let mut out = Vec::new(alloc);
+        listed(alloc, script, *places, &mut out)?;
+        if out.as_slice() != code.as_bytes() {
+            return Ok(Some(script));
+        }
     }
+    Ok(None)
+}
+
+const LISTINGS: [(&str, bool, &str); 8] = [
+    (
+        "(future (println (+ 1 2)))",
+        true,
+        "1 2\n0 0 2 Const(0) Const(1) Core(Add, 2) Print(1) Halt\n20..21 22..23 17..24 8..25 0..26 \n",
+    ),
+    (
+        "(future (let [x 5] (do x (println x))))",
+        false,
+        "5\n0 1 1 Const(0) Store(0) Local(0) Pop Local(0) Print(1) Halt\n",
+    ),
+    (
+        "(future (if 0 [1] 2))",
+        true,
+        "0 1 2\n0 0 1 Const(0) JumpFalse(5) Const(1) Vector(1) Jump(6) Const(2) Halt\n12..13 8..20 15..16 14..17 8..20 18..19 0..21 \n",
+    ),
+    (
+        "(future (loop [i 0 s 0] (if (= i 3) s (recur (inc i) (+ s i)))))",
+        false,
+        "0 0 3\n0 2 3 Const(0) Store(0) Const(1) Store(1) Local(0) Const(2) Core(Equal, 2) JumpFalse(10) Local(1) Jump(18) Local(0) Core(Inc, 1) Local(1) Local(0) Core(Add, 2) Store(1) Store(0) Jump(4) Halt\n",
+    ),
+    (
+        "(def r (ref 7)) (future (dosync (alter r + 1)) @r)",
+        false,
+        "r 7\n#ref[0] 1 #ref[0]\n0 0 3 TxBegin Const(0) Const(1) AlterOpen(1) Core(Add, 2) AlterClose TxEnd Pop Const(2) Deref Halt\n",
+    ),
+    (
+        "(defn twice [x] (* 2 x)) (future (println (twice 4)))",
+        true,
+        "2 4\n1 1 2 Const(0) Local(0) Core(Multiply, 2) Return\n0 0 1 Const(1) Call(0) Print(1) Halt\n19..20 21..22 16..23 0..24 \n49..50 42..51 33..52 25..53 \n",
+    ),
+    (
+        "(defn down [n] (if (= n 0) n (recur (dec n)))) (future (println (down 3)))",
+        false,
+        "0 3\n1 1 2 Local(0) Const(0) Core(Equal, 2) JumpFalse(6) Local(0) Jump(10) Local(0) Core(Dec, 1) Store(0) Jump(0) Return\n0 0 1 Const(1) Call(0) Print(1) Halt\n",
+    ),
+    (
+        "(def r (ref 7)) (defn add [v n] (+ v n)) (future (dosync (alter r add 1)))",
+        false,
+        "r 7\n#ref[0] 1\n2 2 2 Local(0) Local(1) Core(Add, 2) Return\n0 0 3 TxBegin Const(0) Const(1) AlterOpen(1) Call(0) AlterClose TxEnd Halt\n",
+    ),
+];
+
+#[test]
+fn scripts_have_this_code(rt: HostRuntime) -> Result<(), Fail> {
+    assert_eq!(rt; first_other(rt.alloc(), LISTINGS.as_slice())?, None);
     Ok(())
 }

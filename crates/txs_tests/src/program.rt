@@ -197,30 +197,58 @@ const ROWS: [(&str, &str, &str, u8); 21] = [
     ),
 ];
 
+// The first of the scripts whose run doesn't tell this.
+fn first_other<'a>(
+    alloc: Global,
+    rows: &[(&'a str, &str, &str, u8)],
+) -> Result<Option<&'a str>, Fail> {
+    for (script, out, err, status) in rows {
+        if !row(alloc, script, out, err, *status)? {
+            return Ok(Some(script));
+        }
+    }
+    Ok(None)
+}
+
 #[test]
-fn rows(rt: HostRuntime) -> Result<(), Fail> {
-    for (script, out, err, status) in ROWS {
-        assert!(rt; row(rt.alloc(), script, out, err, status)?, "{script}");
-    }
-    for (script, out, err, status) in PRINTED {
-        assert!(rt; row(rt.alloc(), script, out, err, status)?, "{script}");
-    }
+fn scripts_run(rt: HostRuntime) -> Result<(), Fail> {
+    assert_eq!(rt; first_other(rt.alloc(), ROWS.as_slice())?, None);
+    assert_eq!(rt; first_other(rt.alloc(), PRINTED.as_slice())?, None);
     Ok(())
+}
+
+// The first of the scripts that doesn't print this.
+fn first_unlike<'a>(alloc: Global, rows: &[(&'a str, &str)]) -> Result<Option<&'a str>, Fail> {
+    for (script, out) in rows {
+        if !row(alloc, script, out, "", 0)? {
+            return Ok(Some(script));
+        }
+    }
+    Ok(None)
 }
 
 #[test]
 fn vectors_stay_with_their_holders(rt: HostRuntime) -> Result<(), Fail> {
-    for (script, out) in HELD {
-        assert!(rt; row(rt.alloc(), script, out, "", 0)?, "{script}");
-    }
+    assert_eq!(rt; first_unlike(rt.alloc(), HELD.as_slice())?, None);
     Ok(())
+}
+
+// The first of the scripts that doesn't print this, or doesn't fail so.
+fn first_unfailed<'a>(
+    alloc: Global,
+    rows: &[(&'a str, &str, &str)],
+) -> Result<Option<&'a str>, Fail> {
+    for (script, out, err) in rows {
+        if !row(alloc, script, out, err, 3)? {
+            return Ok(Some(script));
+        }
+    }
+    Ok(None)
 }
 
 #[test]
 fn vectors_are_limited(rt: HostRuntime) -> Result<(), Fail> {
-    for (script, out, err) in PAST {
-        assert!(rt; row(rt.alloc(), script, out, err, 3)?, "{script}");
-    }
+    assert_eq!(rt; first_unfailed(rt.alloc(), PAST.as_slice())?, None);
     Ok(())
 }
 
@@ -232,65 +260,71 @@ fn checked(alloc: Global, script: &str, out: &str, err: &str, status: u8) -> Res
     Ok(got == status && told.as_slice() == out.as_bytes() && faults.as_slice() == err.as_bytes())
 }
 
-// Whether `check` refuses each of these so.
-fn are_refused(alloc: Global, rows: &[(&str, &str)]) -> Result<bool, Fail> {
+// The first of the scripts that `check` doesn't refuse so.
+fn first_unrefused<'a>(alloc: Global, rows: &[(&'a str, &str)]) -> Result<Option<&'a str>, Fail> {
     for (script, err) in rows {
         if !checked(alloc, script, "", err, 1)? {
-            return Ok(false);
+            return Ok(Some(script));
         }
     }
-    Ok(true)
+    Ok(None)
 }
 
 #[test]
 fn scripts_are_left_out(rt: HostRuntime) -> Result<(), Fail> {
-    assert!(rt; are_refused(rt.alloc(), LEFT_OUT.as_slice())?);
+    assert_eq!(rt; first_unrefused(rt.alloc(), LEFT_OUT.as_slice())?, None);
     Ok(())
 }
 
 #[test]
 fn names_are_unknown(rt: HostRuntime) -> Result<(), Fail> {
-    assert!(rt; are_refused(rt.alloc(), UNKNOWN.as_slice())?);
+    assert_eq!(rt; first_unrefused(rt.alloc(), UNKNOWN.as_slice())?, None);
     Ok(())
 }
 
 #[test]
 fn forms_are_bad(rt: HostRuntime) -> Result<(), Fail> {
-    assert!(rt; are_refused(rt.alloc(), BAD.as_slice())?);
+    assert_eq!(rt; first_unrefused(rt.alloc(), BAD.as_slice())?, None);
     Ok(())
 }
 
 #[test]
 fn what_is_called_is_no_function(rt: HostRuntime) -> Result<(), Fail> {
-    assert!(rt; are_refused(rt.alloc(), CALLED.as_slice())?);
+    assert_eq!(rt; first_unrefused(rt.alloc(), CALLED.as_slice())?, None);
     Ok(())
 }
 
 #[test]
 fn recurs_and_arguments_are_refused(rt: HostRuntime) -> Result<(), Fail> {
-    assert!(rt; are_refused(rt.alloc(), RECURS.as_slice())?);
+    assert_eq!(rt; first_unrefused(rt.alloc(), RECURS.as_slice())?, None);
     Ok(())
 }
 
 #[test]
 fn places_are_refused(rt: HostRuntime) -> Result<(), Fail> {
-    assert!(rt; are_refused(rt.alloc(), PLACED.as_slice())?);
+    assert_eq!(rt; first_unrefused(rt.alloc(), PLACED.as_slice())?, None);
     Ok(())
+}
+
+// The first of the scripts that `check` doesn't accept.
+fn first_unaccepted<'a>(alloc: Global, scripts: &[&'a str]) -> Result<Option<&'a str>, Fail> {
+    for script in scripts {
+        if !checked(alloc, script, "ok\n", "", 0)? {
+            return Ok(Some(script));
+        }
+    }
+    Ok(None)
 }
 
 #[test]
 fn scripts_are_accepted(rt: HostRuntime) -> Result<(), Fail> {
-    for script in ACCEPTED {
-        assert!(rt; checked(rt.alloc(), script, "ok\n", "", 0)?, "{script}");
-    }
+    assert_eq!(rt; first_unaccepted(rt.alloc(), ACCEPTED.as_slice())?, None);
     Ok(())
 }
 
 #[test]
 fn what_nearly_meets_a_refusal_is_accepted(rt: HostRuntime) -> Result<(), Fail> {
-    for script in NEARLY {
-        assert!(rt; checked(rt.alloc(), script, "ok\n", "", 0)?, "{script}");
-    }
+    assert_eq!(rt; first_unaccepted(rt.alloc(), NEARLY.as_slice())?, None);
     Ok(())
 }
 
@@ -312,33 +346,30 @@ fn repeat(script: &mut String, count: usize, text: &str) -> Result<(), Fail> {
     Ok(())
 }
 
+// Whether `check` answers so of so many definitions.
+fn numbered_is(
+    alloc: Global,
+    count: usize,
+    around: (&str, &str),
+    out: &str,
+    err: &str,
+    status: u8,
+) -> Result<bool, Fail> {
+    let script = numbered(alloc, count, around.0, around.1)?;
+    checked(alloc, script.as_str(), out, err, status)
+}
+
 #[test]
 fn definitions_are_limited(rt: HostRuntime) -> Result<(), Fail> {
     let alloc = rt.alloc();
-    let most = numbered(alloc, 1000, "(def d", " 1)")?;
-    assert!(rt; checked(alloc, most.as_str(), "ok\n", "", 0)?);
-    let over = numbered(alloc, 1001, "(def d", " 1)")?;
-    assert!(rt;
-        checked(
-            alloc,
-            over.as_str(),
-            "",
-            "refused 17 TooMany at 11890..11903\n",
-            1
-        )?
-    );
-    let most = numbered(alloc, 1000, "(defn f", " [] 1)")?;
-    assert!(rt; checked(alloc, most.as_str(), "ok\n", "", 0)?);
-    let over = numbered(alloc, 1001, "(defn f", " [] 1)")?;
-    assert!(rt;
-        checked(
-            alloc,
-            over.as_str(),
-            "",
-            "refused 17 TooMany at 15890..15907\n",
-            1
-        )?
-    );
+    let cells = ("(def d", " 1)");
+    let err = "refused 17 TooMany at 11890..11903\n";
+    assert!(rt; numbered_is(alloc, 1000, cells, "ok\n", "", 0)?);
+    assert!(rt; numbered_is(alloc, 1001, cells, "", err, 1)?);
+    let functions = ("(defn f", " [] 1)");
+    let err = "refused 17 TooMany at 15890..15907\n";
+    assert!(rt; numbered_is(alloc, 1000, functions, "ok\n", "", 0)?);
+    assert!(rt; numbered_is(alloc, 1001, functions, "", err, 1)?);
     Ok(())
 }
 
@@ -350,21 +381,17 @@ fn locals(alloc: Global, count: usize) -> Result<String, Fail> {
     Ok(script)
 }
 
+// Whether `check` answers so of so many locals.
+fn locals_are(alloc: Global, count: usize, out: &str, err: &str, status: u8) -> Result<bool, Fail> {
+    let script = locals(alloc, count)?;
+    checked(alloc, script.as_str(), out, err, status)
+}
+
 #[test]
 fn locals_are_limited(rt: HostRuntime) -> Result<(), Fail> {
-    let alloc = rt.alloc();
-    let most = locals(alloc, 200)?;
-    assert!(rt; checked(alloc, most.as_str(), "ok\n", "", 0)?);
-    let over = locals(alloc, 201)?;
-    assert!(rt;
-        checked(
-            alloc,
-            over.as_str(),
-            "",
-            "refused 17 TooMany at 814..815\n",
-            1
-        )?
-    );
+    let err = "refused 17 TooMany at 814..815\n";
+    assert!(rt; locals_are(rt.alloc(), 200, "ok\n", "", 0)?);
+    assert!(rt; locals_are(rt.alloc(), 201, "", err, 1)?);
     Ok(())
 }
 
@@ -376,31 +403,18 @@ fn sum(alloc: Global, count: usize) -> Result<String, Fail> {
     Ok(script)
 }
 
+// Whether `check` answers so of the sum of so many numbers.
+fn sum_is(alloc: Global, count: usize, out: &str, err: &str, status: u8) -> Result<bool, Fail> {
+    let script = sum(alloc, count)?;
+    checked(alloc, script.as_str(), out, err, status)
+}
+
 #[test]
 fn levels_are_limited(rt: HostRuntime) -> Result<(), Fail> {
     let alloc = rt.alloc();
-    let most = sum(alloc, 1000)?;
-    assert!(rt; checked(alloc, most.as_str(), "ok\n", "", 0)?);
-    let deeper = sum(alloc, 1001)?;
-    assert!(rt;
-        checked(
-            alloc,
-            deeper.as_str(),
-            "",
-            "refused 17 TooMany at 11..12\n",
-            1
-        )?
-    );
-    let over = sum(alloc, 1002)?;
-    assert!(rt;
-        checked(
-            alloc,
-            over.as_str(),
-            "",
-            "refused 17 TooMany at 8..2015\n",
-            1
-        )?
-    );
+    assert!(rt; sum_is(alloc, 1000, "ok\n", "", 0)?);
+    assert!(rt; sum_is(alloc, 1001, "", "refused 17 TooMany at 11..12\n", 1)?);
+    assert!(rt; sum_is(alloc, 1002, "", "refused 17 TooMany at 8..2015\n", 1)?);
     Ok(())
 }
 
@@ -414,147 +428,116 @@ fn body_of(script: &mut String, name: &str, count: usize) -> Result<(), Fail> {
     Ok(())
 }
 
-// Three functions of 50,000 nodes each.
-fn three_bodies(alloc: Global) -> Result<String, Fail> {
+// Whether `check` answers so of three functions of 50,000 nodes each, one of so many and one more, and what stands behind.
+fn nodes_are(
+    alloc: Global,
+    count: usize,
+    behind: &str,
+    out: &str,
+    err: &str,
+    status: u8,
+) -> Result<bool, Fail> {
     let mut script = String::new(alloc);
     for name in ["a", "b", "c"] {
         body_of(&mut script, name, 49_999)?;
     }
-    Ok(script)
+    body_of(&mut script, "d", count)?;
+    script.push_str(behind)?;
+    checked(alloc, script.as_str(), out, err, status)
 }
 
 #[test]
 fn nodes_are_limited(rt: HostRuntime) -> Result<(), Fail> {
     let alloc = rt.alloc();
-    let mut script = three_bodies(alloc)?;
-    body_of(&mut script, "d", 49_999)?;
-    assert!(rt; checked(alloc, script.as_str(), "ok\n", "", 0)?);
-    script.push_str("(future)")?;
-    assert!(rt;
-        checked(
-            alloc,
-            script.as_str(),
-            "",
-            "refused 28 CodeTooLarge at 400036..400044\n",
-            1
-        )?
-    );
+    let err = "refused 28 CodeTooLarge at 400036..400044\n";
+    assert!(rt; nodes_are(alloc, 49_999, "", "ok\n", "", 0)?);
+    assert!(rt; nodes_are(alloc, 49_999, "(future)", "", err, 1)?);
     Ok(())
 }
 
 #[test]
 fn the_function_that_passes_the_limit_is_refused(rt: HostRuntime) -> Result<(), Fail> {
     let alloc = rt.alloc();
-    let mut script = three_bodies(alloc)?;
-    body_of(&mut script, "d", 50_000)?;
-    assert!(rt;
-        checked(
-            alloc,
-            script.as_str(),
-            "",
-            "refused 28 CodeTooLarge at 300027..400038\n",
-            1
-        )?
-    );
-    let mut script = three_bodies(alloc)?;
-    body_of(&mut script, "d", 49_998)?;
-    script.push_str("(future)")?;
-    assert!(rt; checked(alloc, script.as_str(), "ok\n", "", 0)?);
-    script.push_str("(defn e [] 1)")?;
-    assert!(rt;
-        checked(
-            alloc,
-            script.as_str(),
-            "",
-            "refused 28 CodeTooLarge at 400042..400055\n",
-            1
-        )?
-    );
+    let fourth = "refused 28 CodeTooLarge at 300027..400038\n";
+    let fifth = "refused 28 CodeTooLarge at 400042..400055\n";
+    assert!(rt; nodes_are(alloc, 50_000, "", "", fourth, 1)?);
+    assert!(rt; nodes_are(alloc, 49_998, "(future)", "ok\n", "", 0)?);
+    assert!(rt; nodes_are(alloc, 49_998, "(future)(defn e [] 1)", "", fifth, 1)?);
     Ok(())
+}
+
+// What a script tells through a reader and two writers that fail at these calls: its outputs, and its status behind them.
+fn through(
+    alloc: Global,
+    reader: &mut Source<'_>,
+    bad_out: Option<usize>,
+    bad_err: Option<usize>,
+) -> Result<String, Fail> {
+    let args = vec![in alloc; String::from_str(alloc, "run")?]?;
+    let mut writer = make_sink(alloc);
+    writer.bad = bad_out;
+    let mut faults = make_sink(alloc);
+    faults.bad = bad_err;
+    let status = play(alloc, args.as_slice(), reader, &mut writer, &mut faults);
+    told(alloc, writer.got.as_slice(), faults.got.as_slice(), status)
+}
+
+// Two outputs and a status as one text.
+fn told(alloc: Global, out: &[u8], err: &[u8], status: u8) -> Result<String, Fail> {
+    let out = str::from_utf8(out)?;
+    let err = str::from_utf8(err)?;
+    Ok(format!(in alloc; "{out}|{err}|{status}")?)
+}
+
+// What a script tells where its reader fails so at this call.
+fn read_told(alloc: Global, bad: usize, kind: ErrorKind) -> Result<String, Fail> {
+    let mut reader = make_source("(future (println (+ 1 2)))");
+    reader.bad = Some(bad);
+    reader.kind = kind;
+    through(alloc, &mut reader, None, None)
+}
+
+// Whether a script tells this where its reader fails so at this call.
+fn read_tells(alloc: Global, bad: usize, kind: ErrorKind, text: &str) -> Result<bool, Fail> {
+    Ok(read_told(alloc, bad, kind)?.as_str() == text)
 }
 
 #[test]
 fn each_read_may_fail(rt: HostRuntime) -> Result<(), Fail> {
     let alloc = rt.alloc();
-    let args = vec![in alloc; String::from_str(alloc, "run")?]?;
     for bad in 0..10 {
-        let mut reader = make_source("(future (println (+ 1 2)))");
-        reader.bad = Some(bad);
-        let mut writer = make_sink(alloc);
-        let mut faults = make_sink(alloc);
-        let status = play(
-            alloc,
-            args.as_slice(),
-            &mut reader,
-            &mut writer,
-            &mut faults,
+        assert!(rt;
+            read_tells(alloc, bad, ErrorKind::BrokenPipe, "|read failed\n|2")?,
+            "{bad}"
         );
-        assert_eq!(rt; status, 2, "read {bad}");
-        assert!(rt; writer.got.is_empty());
-        assert_eq!(rt; faults.got.as_slice(), b"read failed\n".as_slice());
     }
+    assert!(rt; read_tells(alloc, 2, ErrorKind::Interrupted, "3\n||0")?);
     Ok(())
 }
 
-#[test]
-fn a_read_that_was_interrupted_is_made_again(rt: HostRuntime) -> Result<(), Fail> {
-    let alloc = rt.alloc();
-    let args = vec![in alloc; String::from_str(alloc, "run")?]?;
-    let mut reader = make_source("(future (println (+ 1 2)))");
-    reader.bad = Some(2);
-    reader.kind = ErrorKind::Interrupted;
-    let mut writer = make_sink(alloc);
-    let mut faults = make_sink(alloc);
-    let status = play(
-        alloc,
-        args.as_slice(),
-        &mut reader,
-        &mut writer,
-        &mut faults,
-    );
-    assert_eq!(rt; status, 0);
-    assert_eq!(rt; writer.got.as_slice(), b"3\n".as_slice());
-    Ok(())
+// Whether a script tells this where a call of its writers fails.
+fn write_tells(
+    alloc: Global,
+    script: &str,
+    bad_out: Option<usize>,
+    bad_err: Option<usize>,
+    text: &str,
+) -> Result<bool, Fail> {
+    Ok(through(alloc, &mut make_source(script), bad_out, bad_err)?.as_str() == text)
 }
 
 #[test]
 fn each_write_may_fail(rt: HostRuntime) -> Result<(), Fail> {
     let alloc = rt.alloc();
-    let args = vec![in alloc; String::from_str(alloc, "run")?]?;
-    for bad in 0..4 {
-        let mut reader = make_source("(future (println 1234567890))");
-        let mut writer = make_sink(alloc);
-        writer.bad = Some(bad);
-        let mut faults = make_sink(alloc);
-        let status = play(
-            alloc,
-            args.as_slice(),
-            &mut reader,
-            &mut writer,
-            &mut faults,
+    let script = "(future (println 1234567890))";
+    for (bad, text) in [(0, ""), (1, "123"), (2, "123456"), (3, "123456789")] {
+        let text = format!(in alloc; "{text}|write failed\n|2")?;
+        assert!(rt;
+            write_tells(alloc, script, Some(bad), None, text.as_str())?,
+            "{bad}"
         );
-        assert_eq!(rt; status, 2, "write {bad}");
-        assert_eq!(rt; writer.got.len(), bad * 3);
-        assert_eq!(rt; faults.got.as_slice(), b"write failed\n".as_slice());
     }
-    Ok(())
-}
-
-#[test]
-fn a_fault_that_cannot_be_written_is_status_two(rt: HostRuntime) -> Result<(), Fail> {
-    let alloc = rt.alloc();
-    let args = vec![in alloc; String::from_str(alloc, "run")?]?;
-    let mut writer = make_sink(alloc);
-    let mut faults = make_sink(alloc);
-    faults.bad = Some(1);
-    let status = play(
-        alloc,
-        args.as_slice(),
-        &mut make_source("("),
-        &mut writer,
-        &mut faults,
-    );
-    assert_eq!(rt; status, 2);
+    assert!(rt; write_tells(alloc, "(", None, Some(1), "|ref|2")?);
     Ok(())
 }
 
@@ -584,125 +567,103 @@ fn with_words(
     Ok(status)
 }
 
+// Whether these words can't be used: nothing but a text on standard error.
+fn are_unusable(alloc: Global, words: &[&str]) -> Result<bool, Fail> {
+    let mut out = Vec::new(alloc);
+    let mut err = Vec::new(alloc);
+    let status = with_words(alloc, words, "(future (println 1))", &mut out, &mut err)?;
+    Ok(status == 2 && out.is_empty() && !err.is_empty())
+}
+
 #[test]
 fn words_that_cannot_be_used(rt: HostRuntime) -> Result<(), Fail> {
     let alloc = rt.alloc();
-    let bad: [&[&str]; 5] = [
-        &[],
-        &["walk"],
-        &["run", "--steps", "0"],
-        &["run", "--steps", "1000000000001"],
-        &["run", "a", "b"],
-    ];
-    for words in bad {
-        let mut out = Vec::new(alloc);
-        let mut err = Vec::new(alloc);
-        let status = with_words(alloc, words, "(future (println 1))", &mut out, &mut err)?;
-        assert_eq!(rt; status, 2, "{words:?}");
-        assert!(rt; out.is_empty());
-        assert!(rt; !err.is_empty());
-    }
+    assert!(rt; are_unusable(alloc, &[])?);
+    assert!(rt; are_unusable(alloc, &["walk"])?);
+    assert!(rt; are_unusable(alloc, &["run", "--steps", "0"])?);
+    assert!(rt; are_unusable(alloc, &["run", "--steps", "1000000000001"])?);
+    assert!(rt; are_unusable(alloc, &["run", "a", "b"])?);
     Ok(())
 }
 
 #[test]
 fn scripts_are_checked(rt: HostRuntime) -> Result<(), Fail> {
     let alloc = rt.alloc();
-    let rows = [
-        ("(future (println 1))", "ok\n", "", 0),
-        ("", "ok\n", "", 0),
-        ("\"abc", "", "refused 2 Unclosed at 0..1\n", 1),
-        (
-            "(future (println \"a\\q\"))",
-            "",
-            "refused 6 BadEscape at 19..20\n",
-            1,
-        ),
-        (
+    let escape = "(future (println \"a\\q\"))";
+    assert!(rt; checked(alloc, "(future (println 1))", "ok\n", "", 0)?);
+    assert!(rt; checked(alloc, "", "ok\n", "", 0)?);
+    assert!(rt; checked(alloc, "\"abc", "", "refused 2 Unclosed at 0..1\n", 1)?);
+    assert!(rt; checked(alloc, escape, "", "refused 6 BadEscape at 19..20\n", 1)?);
+    assert!(rt;
+        checked(
+            alloc,
             "(future (println @))",
             "",
             "refused 3 Unopened at 18..19\n",
-            1,
-        ),
-    ];
-    for (script, wanted, refusal, status) in rows {
-        let mut out = Vec::new(alloc);
-        let mut err = Vec::new(alloc);
-        let got = with_words(alloc, ["check"].as_slice(), script, &mut out, &mut err)?;
-        assert_eq!(rt; got, status, "{script}");
-        assert_eq!(rt; out.as_slice(), wanted.as_bytes());
-        assert_eq!(rt; err.as_slice(), refusal.as_bytes());
-    }
+            1
+        )?
+    );
     Ok(())
+}
+
+// What these words tell of a script.
+fn words_tell(alloc: Global, words: &[&str], script: &str, text: &str) -> Result<bool, Fail> {
+    let mut out = Vec::new(alloc);
+    let mut err = Vec::new(alloc);
+    let status = with_words(alloc, words, script, &mut out, &mut err)?;
+    Ok(told(alloc, out.as_slice(), err.as_slice(), status)?.as_str() == text)
 }
 
 #[test]
 fn steps_are_counted(rt: HostRuntime) -> Result<(), Fail> {
     let alloc = rt.alloc();
-    let mut out = Vec::new(alloc);
-    let mut err = Vec::new(alloc);
-    let words = ["run", "--steps", "3"];
-    let script = "(future (println 1) (println 2))";
-    let status = with_words(alloc, words.as_slice(), script, &mut out, &mut err)?;
-    assert_eq!(rt; status, 4);
-    assert_eq!(rt; out.as_slice(), b"1\n".as_slice());
-    assert_eq!(rt;
-        err.as_slice(),
-        b"thread 0 stopped: StepsSpent\n".as_slice()
+    let spent = "1\n|thread 0 stopped: StepsSpent\n|4";
+    assert!(rt;
+        words_tell(
+            alloc,
+            &["run", "--steps", "3"],
+            "(future (println 1) (println 2))",
+            spent
+        )?
+    );
+    let endless = "|thread 0 stopped: StepsSpent\n|4";
+    assert!(rt;
+        words_tell(
+            alloc,
+            &["run", "--steps", "1000"],
+            "(future (loop [] (recur)))",
+            endless
+        )?
     );
     Ok(())
 }
 
-#[test]
-fn an_endless_loop_is_stopped(rt: HostRuntime) -> Result<(), Fail> {
-    let alloc = rt.alloc();
-    let mut out = Vec::new(alloc);
-    let mut err = Vec::new(alloc);
-    let words = ["run", "--steps", "1000"];
-    let script = "(future (loop [] (recur)))";
-    let status = with_words(alloc, words.as_slice(), script, &mut out, &mut err)?;
-    assert_eq!(rt; status, 4);
-    assert!(rt; out.is_empty());
-    assert_eq!(rt;
-        err.as_slice(),
-        b"thread 0 stopped: StepsSpent\n".as_slice()
-    );
-    Ok(())
+const CELLS: [(&str, &str); 4] = [
+    (
+        "(def r (ref 9223372036854775807)) (future (dosync (alter r inc)))",
+        "r 9223372036854775807\n|thread 0 failed: Overflow at 50..63\n|3",
+    ),
+    (
+        "(def a (ref 10)) (def b (ref -2)) (future (dosync (alter a - 3) (alter b + 3)) (println @a @b))",
+        "7 1\na 7\nb 1\n||0",
+    ),
+    ("(def r (ref 5))", "r 5\n||0"),
+    ("(def r (ref 5)) (future (println r))", "#ref[0]\nr 5\n||0"),
+];
+
+// The first of the scripts whose run with its cells doesn't tell this.
+fn first_other_cells<'a>(alloc: Global, rows: &[(&'a str, &str)]) -> Result<Option<&'a str>, Fail> {
+    for (script, text) in rows {
+        if !words_tell(alloc, &["run", "--cells"], script, text)? {
+            return Ok(Some(script));
+        }
+    }
+    Ok(None)
 }
 
 #[test]
 fn cells_are_printed(rt: HostRuntime) -> Result<(), Fail> {
-    let alloc = rt.alloc();
-    let rows = [
-        (
-            "(def r (ref 9223372036854775807)) (future (dosync (alter r inc)))",
-            "r 9223372036854775807\n",
-            "thread 0 failed: Overflow at 50..63\n",
-            3,
-        ),
-        (
-            "(def a (ref 10)) (def b (ref -2)) (future (dosync (alter a - 3) (alter b + 3)) (println @a @b))",
-            "7 1\na 7\nb 1\n",
-            "",
-            0,
-        ),
-        ("(def r (ref 5))", "r 5\n", "", 0),
-        (
-            "(def r (ref 5)) (future (println r))",
-            "#ref[0]\nr 5\n",
-            "",
-            0,
-        ),
-    ];
-    for (script, wanted, fault, status) in rows {
-        let mut out = Vec::new(alloc);
-        let mut err = Vec::new(alloc);
-        let words = ["run", "--cells"];
-        let got = with_words(alloc, words.as_slice(), script, &mut out, &mut err)?;
-        assert_eq!(rt; got, status, "{script}");
-        assert_eq!(rt; out.as_slice(), wanted.as_bytes());
-        assert_eq!(rt; err.as_slice(), fault.as_bytes());
-    }
+    assert_eq!(rt; first_other_cells(rt.alloc(), CELLS.as_slice())?, None);
     Ok(())
 }
 
@@ -816,10 +777,18 @@ const SCRIPTS: [&str; 95] = [
     "(future (println (loop [i 0 v []] (cond (= i 3) v :else (recur (inc i) (conj v i))))))",
 ];
 
+// The first of the scripts whose run and meaning differ.
+fn first_differing<'a>(alloc: Global, scripts: &[&'a str]) -> Result<Option<&'a str>, Fail> {
+    for script in scripts {
+        if !agrees(alloc, script)? {
+            return Ok(Some(script));
+        }
+    }
+    Ok(None)
+}
+
 #[test]
 fn runs_agree_with_meanings(rt: HostRuntime) -> Result<(), Fail> {
-    for script in SCRIPTS {
-        assert!(rt; agrees(rt.alloc(), script)?, "{script}");
-    }
+    assert_eq!(rt; first_differing(rt.alloc(), SCRIPTS.as_slice())?, None);
     Ok(())
 }

@@ -89,23 +89,41 @@ fn round(
     Ok(true)
 }
 
-#[test]
-fn a_rerun_finds_its_old_vectors(rt: HostRuntime) -> Result<(), Fail> {
-    let alloc = rt.alloc();
-    let compiled = compile(alloc, SCRIPT);
-    let (program, code) = compiled?;
-    if code.code().threads().is_empty() {
-        panic!(rt; "a thread");
-    }
-    let mut store = Store::open(alloc, program.cells())?;
-    let mut actor = Actor::thread(alloc, &code, 0, 100_000)?;
+/// Turns the actor to its end, or for 100 rounds. How many commits it asked for.
+fn commits_of(
+    alloc: Global,
+    actor: &mut Actor,
+    code: &Verified,
+    store: &mut Store,
+) -> Result<u32, Fail>
+    requires runs { Runs code.now actor.old }
+    requires answered { unanswered actor.old ≡ None }
+{
     let mut commits = 0;
     for _ in 0..100 {
-        if !round(alloc, &mut actor, &code, &mut store, &mut commits)? {
+        if !round(alloc, actor, code, store, &mut commits)? {
             break;
         }
     }
-    assert_eq!(rt; actor.printed(), b"[1 2] [[1 2] 9 [1 2 3]]\n".as_slice());
+    Ok(commits)
+}
+
+/// What the script's thread prints, and how many commits it asked for.
+fn rerun(alloc: Global) -> Result<(Vec<u8>, u32), Fail> {
+    let (program, code) = compile(alloc, SCRIPT)?;
+    if code.code().threads().is_empty() {
+        return Err(Fail::from("no thread"));
+    }
+    let mut store = Store::open(alloc, program.cells())?;
+    let mut actor = Actor::thread(alloc, &code, 0, 100_000)?;
+    let commits = commits_of(alloc, &mut actor, &code, &mut store)?;
+    Ok((Vec::from_slice(alloc, actor.printed())?, commits))
+}
+
+#[test]
+fn finds_its_old_vectors(rt: HostRuntime) -> Result<(), Fail> {
+    let (printed, commits) = rerun(rt.alloc())?;
+    assert_eq!(rt; printed.as_slice(), b"[1 2] [[1 2] 9 [1 2 3]]\n".as_slice());
     assert_eq!(rt; commits, 2);
     Ok(())
 }

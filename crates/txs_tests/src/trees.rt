@@ -57,7 +57,9 @@ fn evaluates_pure_operations(rt: HostRuntime) -> Result<(), Fail> {
     let values = [Value::Int(1), Value::Int(0)];
     let quot = Callee::Core(Op::Quot);
     let subtract = Callee::Core(Op::Subtract);
-    if !is_pure_callee(alloc, &program, quot, 2)? || !is_pure_callee(alloc, &program, subtract, 2)? {
+    if !is_pure_callee(alloc, &program, quot, 2)?
+        || !is_pure_callee(alloc, &program, subtract, 2)?
+    {
         panic!(rt; "two operations");
     }
     let quotient = eval_pure(alloc, &program, quot, &values, 0);

@@ -7,8 +7,8 @@ use txs_asks::{Ask, Event, EventKind, Reply, copy_ask, copy_event, copy_reply, c
 use txs_operations::{apply, apply_owned, make_vector, takes};
 use txs_value::value::is_name;
 use txs_value::{
-    CellId, CellKind, FaultKind, Listed, Name, Op, Stop, Text, Value, copy_value, copy_values, same,
-    write_line, write_text,
+    CellId, CellKind, FaultKind, Listed, Name, Op, Stop, Text, Value, copy_value, copy_values,
+    same, write_line, write_text,
 };
 
 // Each line is a call and its answer: a value as it prints, a fault, or `arity` where the operation
@@ -260,27 +260,32 @@ fn shown(alloc: Global, answer: &Result<Value, Stop>) -> Result<Vec<u8>, Fail> {
     Ok(out)
 }
 
+// Whether an operation answers this, of arguments that stay and of arguments that it may take.
+fn is_answered(alloc: Global, op: Op, mut args: Vec<Value>, expected: &str) -> Result<bool, Fail> {
+    if !takes(op, args.len()) {
+        return Ok(expected == "arity");
+    }
+    let lent = shown(alloc, &apply(alloc, op, args.as_slice()))?;
+    let owned = shown(alloc, &apply_owned(alloc, op, args.as_mut_slice()))?;
+    Ok(lent.as_slice() == expected.as_bytes() && owned.as_slice() == expected.as_bytes())
+}
+
+// Whether a row of the table holds.
+fn holds(alloc: Global, line: &str) -> Result<bool, Fail> {
+    let (call, expected) = line.split_once(" => ").ok_or("no answer")?;
+    let (name, rest) = call.split_once(' ').unwrap_or((call, ""));
+    let op = Op::from_name(name.as_bytes()).ok_or("no operation")?;
+    if op.name() != name.as_bytes() || Op::from_number(op.number()) != Some(op) {
+        return Ok(false);
+    }
+    is_answered(alloc, op, values(alloc, rest)?, expected)
+}
+
 #[test]
 fn answers_the_table(rt: HostRuntime) -> Result<(), Fail> {
-    let alloc = rt.alloc();
     let mut rows = 0u32;
     for line in TABLE.lines() {
-        let (call, expected) = line.split_once(" => ").ok_or("no answer")?;
-        let (name, rest) = call.split_once(' ').unwrap_or((call, ""));
-        let op = Op::from_name(name.as_bytes()).ok_or("no operation")?;
-        assert_eq!(rt; op.name(), name.as_bytes());
-        assert_eq!(rt; Op::from_number(op.number()), Some(op));
-        let mut args = values(alloc, rest)?;
-        if !takes(op, args.len()) {
-            assert_eq!(rt; "arity", expected, "{line}");
-            continue;
-        }
-        let answer = apply(alloc, op, args.as_slice());
-        let text = shown(alloc, &answer)?;
-        assert_eq!(rt; text.as_slice(), expected.as_bytes(), "{line}");
-        let answer = apply_owned(alloc, op, args.as_mut_slice());
-        let text = shown(alloc, &answer)?;
-        assert_eq!(rt; text.as_slice(), expected.as_bytes(), "{line}");
+        assert!(rt; holds(rt.alloc(), line)?, "{line}");
         rows = rows.wrapping_add(1);
     }
     assert!(rt; rows > 120);
@@ -297,46 +302,107 @@ fn nested(alloc: Global, levels: u8) -> Result<Value, Fail> {
     Ok(value)
 }
 
-#[test]
+// What `conj` to an empty vector answers of so many levels.
 #[tactic(auto, unfolding(txs_operations::specs::Core::takes))]
-fn keeps_the_limits(rt: HostRuntime) -> Result<(), Fail> {
-    let alloc = rt.alloc();
-    let deep = Stop::Fault(FaultKind::TooDeep);
+fn conj_of(alloc: Global, levels: u8) -> Result<Vec<u8>, Fail> {
     let empty = make_vector(alloc, Vec::new(alloc))?;
-    let fits = apply(alloc, Op::Conj, &[copy_value(&empty)?, nested(alloc, 30)?])?;
-    assert!(rt; same(&fits, &nested(alloc, 31)?));
-    assert!(rt; make_vector(alloc, vec![in alloc; nested(alloc, 31)?]?).is_err());
-    let refused = apply(alloc, Op::Conj, &[copy_value(&empty)?, nested(alloc, 31)?]);
-    assert!(rt; matches!(&refused, Err(stop) if *stop == deep));
-    let refused = apply(
+    shown(
         alloc,
-        Op::Assoc,
-        &[empty, Value::Int(0), nested(alloc, 31)?],
-    );
-    assert!(rt; matches!(&refused, Err(stop) if *stop == deep));
-    Ok(())
+        &apply(alloc, Op::Conj, &[empty, nested(alloc, levels)?]),
+    )
+}
+
+// What `assoc` to an empty vector answers of so many levels.
+#[tactic(auto, unfolding(txs_operations::specs::Core::takes))]
+fn assoc_of(alloc: Global, levels: u8) -> Result<Vec<u8>, Fail> {
+    let empty = make_vector(alloc, Vec::new(alloc))?;
+    shown(
+        alloc,
+        &apply(
+            alloc,
+            Op::Assoc,
+            &[empty, Value::Int(0), nested(alloc, levels)?],
+        ),
+    )
+}
+
+// The text of so many levels.
+fn text_of(alloc: Global, levels: u8) -> Result<Vec<u8>, Fail> {
+    let mut out = Vec::new(alloc);
+    write_text(&nested(alloc, levels)?, &mut out)?;
+    Ok(out)
+}
+
+// Whether no vector can be made of so many levels.
+fn is_too_deep(alloc: Global, levels: u8) -> Result<bool, Fail> {
+    let items = vec![in alloc; nested(alloc, levels)?]?;
+    Ok(make_vector(alloc, items).is_err())
 }
 
 #[test]
-#[tactic(auto, unfolding(txs_operations::specs::Core::takes))]
-fn grows_to_the_limit(rt: HostRuntime) -> Result<(), Fail> {
+fn keeps_the_limits(rt: HostRuntime) -> Result<(), Fail> {
     let alloc = rt.alloc();
-    let long = Stop::Fault(FaultKind::TooLong);
+    assert!(rt; conj_of(alloc, 30)? == text_of(alloc, 31)?);
+    assert!(rt; conj_of(alloc, 31)?.as_slice() == b"TooDeep".as_slice());
+    assert!(rt; assoc_of(alloc, 30)? == text_of(alloc, 31)?);
+    assert!(rt; assoc_of(alloc, 31)?.as_slice() == b"TooDeep".as_slice());
+    assert!(rt; is_too_deep(alloc, 31)?);
+    Ok(())
+}
+
+// A vector of so many numbers, from 0.
+#[tactic(auto, unfolding(txs_operations::specs::Core::takes))]
+fn counted(alloc: Global, count: u16) -> Result<Value, Fail> {
     let mut vector = make_vector(alloc, Vec::new(alloc))?;
-    for i in 0..65_535u16 {
+    for i in 0..count {
         vector = apply_owned(alloc, Op::Conj, &mut [vector, Value::Int(i64::from(i))])?;
     }
-    let count = apply(alloc, Op::Count, &[copy_value(&vector)?])?;
-    assert!(rt; same(&count, &Value::Int(65_535)));
-    let refused = apply(alloc, Op::Conj, &[copy_value(&vector)?, Value::Nil]);
-    assert!(rt; matches!(&refused, Err(stop) if *stop == long));
+    Ok(vector)
+}
+
+// What an operation answers of a vector and another value behind it, or of the vector alone.
+#[tactic(auto, unfolding(txs_operations::specs::Core::takes))]
+fn answer_is(alloc: Global, op: Op, args: &[Value], text: &[u8]) -> Result<bool, Fail> {
+    if !takes(op, args.len()) {
+        return Err(Fail::from("arity"));
+    }
+    Ok(shown(alloc, &apply(alloc, op, args))?.as_slice() == text)
+}
+
+// The last item of a vector of 65,535 after that was set to nil.
+#[tactic(auto, unfolding(txs_operations::specs::Core::takes))]
+fn last_of_changed(alloc: Global, vector: Value) -> Result<Value, Fail> {
+    let changed = apply_owned(
+        alloc,
+        Op::Assoc,
+        &mut [vector, Value::Int(65_534), Value::Nil],
+    )?;
+    Ok(apply(alloc, Op::Peek, &[changed])?)
+}
+
+#[test]
+fn grows_to_the_limit(rt: HostRuntime) -> Result<(), Fail> {
+    let alloc = rt.alloc();
+    let vector = counted(alloc, 65_535)?;
     let end = Value::Int(65_535);
-    let refused = apply(alloc, Op::Assoc, &[copy_value(&vector)?, end, Value::Nil]);
-    assert!(rt; matches!(&refused, Err(stop) if *stop == long));
-    let last = Value::Int(65_534);
-    let changed = apply_owned(alloc, Op::Assoc, &mut [vector, last, Value::Nil])?;
-    let peeked = apply(alloc, Op::Peek, &[changed])?;
-    assert!(rt; same(&peeked, &Value::Nil));
+    assert!(rt; answer_is(alloc, Op::Count, &[copy_value(&vector)?], b"65535")?);
+    assert!(rt;
+        answer_is(
+            alloc,
+            Op::Conj,
+            &[copy_value(&vector)?, Value::Nil],
+            b"TooLong"
+        )?
+    );
+    assert!(rt;
+        answer_is(
+            alloc,
+            Op::Assoc,
+            &[copy_value(&vector)?, end, Value::Nil],
+            b"TooLong"
+        )?
+    );
+    assert!(rt; same(&last_of_changed(alloc, vector)?, &Value::Nil));
     Ok(())
 }
 
@@ -358,60 +424,111 @@ fn item(alloc: Global, vector: &Value, place: usize) -> Result<Value, Fail> {
     Ok(apply(alloc, Op::Nth, &[copy_value(vector)?, place])?)
 }
 
+// The vector without its last item, while another is made of it by a change in the middle.
+#[tactic(auto, unfolding(txs_operations::specs::Core::takes))]
+fn shorter(alloc: Global, vector: &Value, place: usize) -> Result<Value, Fail> {
+    let place = Value::Int(i64::try_from(place)?);
+    let _changed = apply(alloc, Op::Assoc, &[copy_value(vector)?, place, Value::Nil])?;
+    Ok(apply(alloc, Op::Pop, &[copy_value(vector)?])?)
+}
+
+// Whether each vector without its last item is the one before it.
+fn stand_in_row(alloc: Global, all: &[Value]) -> Result<bool, Fail> {
+    for (i, vector) in all.iter().enumerate() {
+        if i > 0
+            && !same(
+                &shorter(alloc, vector, i / 2)?,
+                all.get(i - 1).ok_or("none")?,
+            )
+        {
+            return Ok(false);
+        }
+    }
+    Ok(true)
+}
+
+// Whether a vector has so many numbers, and those from 0 at some places.
+#[tactic(auto, unfolding(txs_operations::specs::Core::takes))]
+fn is_counted(alloc: Global, vector: &Value, count: usize) -> Result<bool, Fail> {
+    let told = apply(alloc, Op::Count, &[copy_value(vector)?])?;
+    for place in [
+        0,
+        count / 2,
+        count / 3,
+        count.saturating_sub(33),
+        count.saturating_sub(1),
+    ] {
+        let number = Value::Int(i64::try_from(place)?);
+        if place < count && !same(&item(alloc, vector, place)?, &number) {
+            return Ok(false);
+        }
+    }
+    Ok(same(&told, &Value::Int(i64::try_from(count)?)))
+}
+
 // Each vector on the way has its own items, and keeps them while others are made of it: across leaves
 // of 32 items and branches of 1,024.
 #[test]
-#[tactic(auto, unfolding(txs_operations::specs::Core::takes))]
 fn keeps_old_vectors(rt: HostRuntime) -> Result<(), Fail> {
     let alloc = rt.alloc();
     let all = grown(alloc, 2_200)?;
+    assert!(rt; stand_in_row(alloc, all.as_slice())?);
     for (i, vector) in all.as_slice().iter().enumerate() {
-        let place = Value::Int(i64::try_from(i / 2)?);
-        let _changed = apply(alloc, Op::Assoc, &[copy_value(vector)?, place, Value::Nil])?;
-        if i > 0 {
-            let shorter = apply(alloc, Op::Pop, &[copy_value(vector)?])?;
-            assert!(rt; same(&shorter, all.get(i - 1).ok_or("none")?));
-        }
-    }
-    for (i, vector) in all.as_slice().iter().enumerate() {
-        let count = apply(alloc, Op::Count, &[copy_value(vector)?])?;
-        assert!(rt; same(&count, &Value::Int(i64::try_from(i)?)));
-        for place in [0, i / 2, i / 3, i.saturating_sub(33), i.saturating_sub(1)] {
-            if place < i {
-                let number = Value::Int(i64::try_from(place)?);
-                assert!(rt; same(&item(alloc, vector, place)?, &number), "{i} {place}");
-            }
-        }
+        assert!(rt; is_counted(alloc, vector, i)?, "{i}");
     }
     Ok(())
+}
+
+// Whether copies of values are equal to them.
+fn copies_values(alloc: Global, all: Vec<Value>) -> Result<bool, Fail> {
+    let copied = copy_values(alloc, &Listed::from_vec(all))?;
+    for value in copied.as_slice() {
+        if !same(&copy_value(value)?, value) {
+            return Ok(false);
+        }
+    }
+    Ok(true)
+}
+
+// Whether the copy of a commit of one set is one.
+fn copies_a_commit(alloc: Global, cell: CellId) -> Result<bool, Fail> {
+    let sets = Listed::from_vec(vec![in alloc; (cell, nested(alloc, 2)?)]?);
+    let sets = copy_writes(alloc, &sets)?;
+    let ask = copy_ask(alloc, &Ask::Commit { at: 5, sets })?;
+    Ok(matches!(&ask, Ask::Commit { at: 5, sets } if sets.as_slice().len() == 1))
+}
+
+// Whether the copies of an event and of a reply are as they are.
+fn copies_what_is_told(alloc: Global, cell: CellId) -> Result<bool, Fail> {
+    let kind = EventKind::Retry { since: 4, cell };
+    let event = copy_event(alloc, &Event { actor: 2, kind })?;
+    let reply = copy_reply(alloc, &Reply::Is(nested(alloc, 1)?))?;
+    Ok(
+        event.actor == 2
+            && matches!(&event.kind, EventKind::Retry { since: 4, .. })
+            && matches!(&reply, Reply::Is(value) if same(value, &nested(alloc, 1)?)),
+    )
 }
 
 #[test]
 fn copies(rt: HostRuntime) -> Result<(), Fail> {
     let alloc = rt.alloc();
-    let all = values(alloc, "nil true -7 :key \"text\" [ 1 [ 2 ] ] #agent9")?;
-    let mut line = Vec::new(alloc);
-    write_line(all.as_slice(), &mut line)?;
-    assert_eq!(rt;
-        line.as_slice(),
-        b"nil true -7 :key text [1 [2]] #agent[9]\n".as_slice()
-    );
-    let copied = copy_values(alloc, &Listed::from_vec(all))?;
-    for value in copied.as_slice() {
-        assert!(rt; same(&copy_value(value)?, value));
-    }
     let cell = CellId {
         kind: CellKind::Ref,
         number: 3,
     };
-    let sets = Listed::from_vec(vec![in alloc; (cell, nested(alloc, 2)?)]?);
-    let sets = copy_writes(alloc, &sets)?;
-    let ask = copy_ask(alloc, &Ask::Commit { at: 5, sets })?;
-    assert!(rt; matches!(&ask, Ask::Commit { at: 5, sets } if sets.as_slice().len() == 1));
-    let kind = EventKind::Retry { since: 4, cell };
-    let event = copy_event(alloc, &Event { actor: 2, kind })?;
-    assert!(rt; event.actor == 2 && matches!(&event.kind, EventKind::Retry { since: 4, .. }));
-    let reply = copy_reply(alloc, &Reply::Is(nested(alloc, 1)?))?;
-    assert!(rt; matches!(&reply, Reply::Is(value) if same(value, &nested(alloc, 1)?)));
+    let all = values(alloc, "nil true -7 :key \"text\" [ 1 [ 2 ] ] #agent9")?;
+    assert!(rt; copies_values(alloc, all)?);
+    assert!(rt; copies_a_commit(alloc, cell)?);
+    assert!(rt; copies_what_is_told(alloc, cell)?);
+    Ok(())
+}
+
+#[test]
+fn prints_a_line(rt: HostRuntime) -> Result<(), Fail> {
+    let all = values(rt.alloc(), "nil true -7 :key \"text\" [ 1 [ 2 ] ] #agent9")?;
+    let mut line = Vec::new(rt.alloc());
+    write_line(all.as_slice(), &mut line)?;
+    assert!(rt; line.as_slice() == b"nil true -7 :key text [1 [2]] #agent[9]\n".as_slice());
     Ok(())
 }
