@@ -31,12 +31,7 @@ fn args_of(rt: &HostRuntime) -> io::Result<Vec<String>> {
 /// The file that the words name, if they name one.
 fn file_of(rt: &HostRuntime, args: &[String]) -> Result<Option<String>, AllocError> {
     match parse_words(rt.alloc(), args)? {
-        Words::Check { file }
-        | Words::Run {
-            file,
-            steps: _,
-            cells: _,
-        } => Ok(file),
+        Words::Check { file, .. } | Words::Run { file, .. } => Ok(file),
         Words::Shown(_) | Words::Faulty(_) => Ok(None),
     }
 }

@@ -1,1 +1,2 @@
 pub mod CellLines
+pub mod Explained

@@ -2,7 +2,9 @@
 //! a run, a check or a refusal tells.
 #![tactic(auto)]
 
+mod advice;
 pub mod cells;
+pub mod explain;
 pub mod program;
 pub mod streams;
 

@@ -7,6 +7,8 @@ mod checks;
 #[cfg(test)]
 mod code;
 #[cfg(test)]
+mod explained;
+#[cfg(test)]
 mod positions;
 #[cfg(test)]
 mod program;

@@ -10,16 +10,18 @@ const DEFAULT_STEPS: u64 = 100_000_000;
 /// What the words ask for.
 #[derive(Drop)]
 pub enum Words {
-    /// To check a script: its file, where it is named.
+    /// To check a script: its file, where it is named, and whether a refusal is explained.
     Check {
         file: Option<String>,
+        explain: bool,
     },
-    /// To run a script: its file, where it is named, how many steps an actor makes at most, and whether the
-    /// cells are printed.
+    /// To run a script: its file, where it is named, how many steps an actor makes at most, whether the
+    /// cells are printed, and whether refusals, faults and stops are explained.
     Run {
         file: Option<String>,
         steps: u64,
         cells: bool,
+        explain: bool,
     },
     /// A text for the standard output.
     Shown(String),
@@ -32,11 +34,24 @@ fn file_arg<'a>(alloc: Global) -> Arg<'a> {
     Arg::new(alloc, "FILE").help("The script; without it, standard input")
 }
 
-/// The commands and their options.
-fn command<'a>(alloc: Global) -> Result<Command<'a>, AllocError> {
-    let check = Command::new(alloc, "check")
+/// The flag by which a command explains what it complains of.
+fn explain_arg<'a>(alloc: Global) -> Arg<'a> {
+    Arg::new(alloc, "explain")
+        .long("explain")
+        .help("Shows the place of a refusal or a fault, and what to do")
+        .action(ArgAction::SetTrue)
+}
+
+/// The command that checks.
+fn check_command<'a>(alloc: Global) -> Result<Command<'a>, AllocError> {
+    Command::new(alloc, "check")
         .about("Checks a script without running it")
-        .arg(file_arg(alloc))?;
+        .arg(explain_arg(alloc))?
+        .arg(file_arg(alloc))
+}
+
+/// The command that runs.
+fn run_command<'a>(alloc: Global) -> Result<Command<'a>, AllocError> {
     let steps = Arg::new(alloc, "steps")
         .long("steps")
         .help("How many steps an actor makes at most")
@@ -46,11 +61,18 @@ fn command<'a>(alloc: Global) -> Result<Command<'a>, AllocError> {
         .long("cells")
         .help("Prints each cell with its newest value")
         .action(ArgAction::SetTrue);
-    let run = Command::new(alloc, "run")
+    Command::new(alloc, "run")
         .about("Runs a script")
         .arg(steps)?
         .arg(cells)?
-        .arg(file_arg(alloc))?;
+        .arg(explain_arg(alloc))?
+        .arg(file_arg(alloc))
+}
+
+/// The commands and their options.
+fn command<'a>(alloc: Global) -> Result<Command<'a>, AllocError> {
+    let check = check_command(alloc)?;
+    let run = run_command(alloc)?;
     Command::new(alloc, "txs")
         .about("Compiles and runs transaction scripts")
         .subcommand_required(true)
@@ -73,12 +95,18 @@ fn asked(alloc: Global, matches: &ArgMatches<'_>) -> Result<Words, AllocError> {
         return Ok(Words::Faulty(String::new(alloc)));
     };
     let file = named_file(alloc, words)?;
+    let explain = words.get_flag("explain");
     if name == "check" {
-        return Ok(Words::Check { file });
+        return Ok(Words::Check { file, explain });
     }
     let steps = words.get_one::<u64>("steps").unwrap_or(DEFAULT_STEPS);
     let cells = words.get_flag("cells");
-    Ok(Words::Run { file, steps, cells })
+    Ok(Words::Run {
+        file,
+        steps,
+        cells,
+        explain,
+    })
 }
 
 /// The text of what isn't run: help, or a usage fault.
