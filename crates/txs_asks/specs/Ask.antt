@@ -31,12 +31,15 @@ pub record Exchange : Type 0 where
   pub ask : Ask
   pub reply : Reply
 
+-- whether two values are equal
 abbrev pub same_value : Value → Value → Bool
 same_value v w = same_plain (plain_of v) (plain_of w)
 
+-- whether two cells are the same: of one kind, with one number
 abbrev pub same_cell : CellId → CellId → Bool
 same_cell c d = kind_out c.kind == kind_out d.kind && c.number == d.number
 
+-- whether two lists of writes are equal, each to the one in its place
 abbrev pub same_writes : Writes → Writes → Bool
 same_writes [] [] = true
 same_writes (w ∷ ws) (x ∷ xs) = same_cell w.0 x.0 && (same_value w.1 x.1 && same_writes ws xs)

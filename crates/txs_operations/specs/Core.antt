@@ -65,15 +65,19 @@ abbrev pub from_left : (ℤ → ℤ → Result ℤ FaultKind) → Value → List
 from_left f a [] = Ok a
 from_left f a (b ∷ bs) = of_numbers f a b >>= λ c. from_left f c bs
 
+-- the sum, where it has 64 bits
 abbrev pub plus : ℤ → ℤ → Result ℤ FaultKind
 plus x y = whole (x +ℤ y)
 
+-- the difference, where it has 64 bits
 abbrev pub minus : ℤ → ℤ → Result ℤ FaultKind
 minus x y = whole (x -ℤ y)
 
+-- the product, where it has 64 bits
 abbrev pub times : ℤ → ℤ → Result ℤ FaultKind
 times x y = whole (x *ℤ y)
 
+-- the number with the other sign, where that has 64 bits
 abbrev pub negated : ℤ → Result ℤ FaultKind
 negated x = whole (neg_ℤ x)
 
@@ -120,10 +124,11 @@ tested f a = do
   x ← number_of a
   Ok (Truth (f x))
 
--- the greater and the lesser of two numbers
+-- the greater of two numbers
 abbrev pub greatest : ℤ → ℤ → Result ℤ FaultKind
 greatest x y = Ok (int_max x y)
 
+-- the lesser of two numbers
 abbrev pub least : ℤ → ℤ → Result ℤ FaultKind
 least x y = Ok (int_min x y)
 
@@ -137,6 +142,7 @@ is_false Nil = true
 is_false (Truth b) = not b
 is_false _ = false
 
+-- whether a value is `nil`
 abbrev pub is_nil : Value → Bool
 is_nil Nil = true
 is_nil _ = false
@@ -159,6 +165,7 @@ abbrev pub item_at : List PlainValue → ℤ → Answer
 item_at ds (negsuc n) = Err IndexOut
 item_at ds (pos n) = found (slice_get ds n)
 
+-- `nth`: the vector is tested first, then the index
 abbrev pub nth_of : Value → Value → Answer
 nth_of a b = do
   ds ← items_of a
@@ -169,6 +176,7 @@ nth_of a b = do
 abbrev pub added : List PlainValue → PlainValue → Answer
 added ds d = if nat_le 65535 (length ds) then Err TooLong else (if nat_le 32 (depth d) then Err TooDeep else Ok (Vector (ds ++ d ∷ [])))
 
+-- `conj`: a vector with one more item
 abbrev pub conj_of : Value → Value → Answer
 conj_of a b = do
   ds ← items_of a
@@ -183,6 +191,7 @@ place_in ds (pos n) = if nat_le n (length ds) then Ok n else Err IndexOut
 abbrev pub replaced : List PlainValue → ℕ → PlainValue → Answer
 replaced ds n d = if nat_le 65535 n then Err TooLong else (if nat_le 32 (depth d) then Err TooDeep else Ok (Vector (take n ds ++ d ∷ drop (n + 1) ds)))
 
+-- `assoc`: the vector is tested first, then the index, then where it points
 abbrev pub assoc_of : Value → Value → Value → Answer
 assoc_of a b c = do
   ds ← items_of a
@@ -194,6 +203,7 @@ assoc_of a b c = do
 abbrev pub last_of : List PlainValue → Value
 last_of ds = value_of (slice_index_or ds (length ds - 1) nil)
 
+-- `peek`: the last item of a vector
 abbrev pub peek_of : Value → Answer
 peek_of a = do
   ds ← items_of a
@@ -203,6 +213,7 @@ peek_of a = do
 abbrev pub shorter : List PlainValue → Answer
 shorter ds = if length ds == 0 then Err PopEmpty else Ok (Vector (take (length ds - 1) ds))
 
+-- `pop`: a vector without its last item
 abbrev pub pop_of : Value → Answer
 pop_of a = do
   ds ← items_of a

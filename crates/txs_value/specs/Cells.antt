@@ -12,6 +12,7 @@ use Rattle.txs_value.specs.declared.value.Value.TheVariants.{Cell}
 abbrev pub World : Type 0
 World = ℕ → Value
 
+-- a cell that is a ref; another is this fault
 abbrev pub of_kind_ref : FaultKind → CellKind → CellId → Result CellId FaultKind
 of_kind_ref k Ref c = Ok c
 of_kind_ref k Atom c = Err k

@@ -10,5 +10,6 @@ nth [] i = None
 nth (x ∷ xs) zero = Some x
 nth (x ∷ xs) (suc i) = nth xs i
 
+-- a fault of this kind at this place of the script
 abbrev pub fault_at : FaultKind → Span → Fault
 fault_at kind span = record { kind = kind; span = span }
