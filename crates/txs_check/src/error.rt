@@ -4,6 +4,7 @@ ghost use Rattle.std.specs.Prelude.{◌≡◌};
 ghost use Rattle.txs_check.specs.Errors.{check_number, check_name, out_of_memory};
 
 use std::alloc::{AllocError, AllocFailed};
+use std::fmt::{self, Display, Formatter, Write};
 use thiserror::Error;
 use txs_value::Span;
 
@@ -11,31 +12,22 @@ use txs_value::Span;
 #[derive(Clone, Copy, Debug, PartialEq, Eq, Error)]
 pub enum CheckErrorKind {
     /// A `recur` with no loop or function around it, or outside its tail position.
-    #[error("RecurNotTail")]
     RecurNotTail,
     /// A `recur` with another number of values than its loop or function has.
-    #[error("RecurCount")]
     RecurCount,
     /// A `recur` with a `dosync` between it and its loop or function.
-    #[error("RecurAcrossDosync")]
     RecurAcrossDosync,
     /// A number of arguments that the operation or function doesn't take.
-    #[error("Arity")]
     Arity,
     /// A function that isn't pure, where a form on a cell calls it.
-    #[error("NotPure")]
     NotPure,
     /// What is for transactions alone, in a future outside every transaction.
-    #[error("InsideOnly")]
     InsideOnly,
     /// What is for outside alone, in a transaction.
-    #[error("OutsideOnly")]
     OutsideOnly,
     /// More nodes than a program may have.
-    #[error("CodeTooLarge")]
     CodeTooLarge,
     /// There was no memory for the checks.
-    #[error("Memory")]
     Memory,
 }
 
@@ -72,6 +64,12 @@ impl CheckErrorKind {
             CheckErrorKind::CodeTooLarge => "CodeTooLarge",
             CheckErrorKind::Memory => "Memory",
         }
+    }
+}
+
+impl Display for CheckErrorKind {
+    fn fmt<W: Write>(&self, f: &mut Formatter<W>) -> fmt::Result {
+        f.write_str(self.name())
     }
 }
 

@@ -5,6 +5,7 @@ ghost use Rattle.txs_reader.specs.Errors.{report_number, report_name};
 ghost use Rattle.txs_reader.specs.Refused.{out_of_memory};
 
 use std::alloc::{AllocError, AllocFailed};
+use std::fmt::{self, Display, Formatter, Write};
 use thiserror::Error;
 use txs_value::Span;
 
@@ -12,34 +13,24 @@ use txs_value::Span;
 #[derive(Clone, Copy, Debug, PartialEq, Eq, Error)]
 pub enum ReadErrorKind {
     /// A byte that begins no character.
-    #[error("NotUtf8")]
     NotUtf8,
     /// The end of the script, with a bracket, `@` or quote open.
-    #[error("Unclosed")]
     Unclosed,
     /// A closing bracket that doesn't fit what is open.
-    #[error("Unopened")]
     Unopened,
     /// A word that isn't one of Clojure.
-    #[error("BadToken")]
     BadToken,
     /// A whole number past the 64-bit range.
-    #[error("NumberTooLarge")]
     NumberTooLarge,
     /// A backslash in a text that begins no escape.
-    #[error("BadEscape")]
     BadEscape,
     /// The 101st nested opening.
-    #[error("TooDeep")]
     TooDeep,
     /// A script, text, name, list or vector past its limit.
-    #[error("TooLarge")]
     TooLarge,
     /// What Clojure reads and this profile leaves out.
-    #[error("LeftOut")]
     LeftOut,
     /// There was no memory for the forms.
-    #[error("Memory")]
     Memory,
 }
 
@@ -78,6 +69,12 @@ impl ReadErrorKind {
             ReadErrorKind::LeftOut => "LeftOut",
             ReadErrorKind::Memory => "Memory",
         }
+    }
+}
+
+impl Display for ReadErrorKind {
+    fn fmt<W: Write>(&self, f: &mut Formatter<W>) -> fmt::Result {
+        f.write_str(self.name())
     }
 }
 

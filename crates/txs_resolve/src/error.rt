@@ -5,6 +5,7 @@ ghost use Rattle.txs_resolve.specs.Reported.{report_number, report_name};
 ghost use Rattle.txs_resolve.specs.declared.error.Stop.TheVariants.{Refused, Memory};
 
 use std::alloc::{AllocError, AllocFailed};
+use std::fmt::{self, Display, Formatter, Write};
 use thiserror::Error;
 use txs_value::Span;
 
@@ -12,28 +13,20 @@ use txs_value::Span;
 #[derive(Clone, Copy, Debug, PartialEq, Eq, Error)]
 pub enum ResolveErrorKind {
     /// A name that stands for nothing here.
-    #[error("UnknownName")]
     UnknownName,
     /// A definition of a name that is defined already, or that a core operation has.
-    #[error("Redefined")]
     Redefined,
     /// What reads, and is no form of the language in this place.
-    #[error("BadForm")]
     BadForm,
     /// What is no function stands where one is called.
-    #[error("NotCallable")]
     NotCallable,
     /// A local stands where a function is called.
-    #[error("LocalCalled")]
     LocalCalled,
     /// A function calls itself.
-    #[error("SelfCall")]
     SelfCall,
     /// A definition, parameter, name or form past its limit.
-    #[error("TooMany")]
     TooMany,
     /// There was no memory for the program.
-    #[error("Memory")]
     Memory,
 }
 
@@ -68,6 +61,12 @@ impl ResolveErrorKind {
             ResolveErrorKind::TooMany => "TooMany",
             ResolveErrorKind::Memory => "Memory",
         }
+    }
+}
+
+impl Display for ResolveErrorKind {
+    fn fmt<W: Write>(&self, f: &mut Formatter<W>) -> fmt::Result {
+        f.write_str(self.name())
     }
 }
 

@@ -1,5 +1,5 @@
-//! What no contract says: that calls succeed with ample memory, the worked rows of each layer and of the
-//! program, the printed text, and the limits.
+//! What no contract says from trees and code up: that calls succeed with ample memory, the worked rows of
+//! each layer and of the program, the printed text, and the limits.
 #![tactic(auto)]
 
 #[cfg(test)]
@@ -9,20 +9,12 @@ mod code;
 #[cfg(test)]
 mod explained;
 #[cfg(test)]
-mod positions;
-#[cfg(test)]
 mod program;
-#[cfg(test)]
-mod reader;
 #[cfg(test)]
 mod rerun;
 #[cfg(test)]
 mod rows;
 #[cfg(test)]
-mod store;
-#[cfg(test)]
 mod trees;
-#[cfg(test)]
-mod values;
 #[cfg(test)]
 mod vector_rows;

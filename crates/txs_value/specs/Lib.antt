@@ -1,5 +1,6 @@
 pub mod Cells
 pub mod Falls
+pub mod Faults
 pub mod Limits
 pub mod Names
 pub mod Operations
