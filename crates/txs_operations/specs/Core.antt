@@ -289,6 +289,15 @@ takes Assoc n = n == 3
 takes Peek n = n == 1
 takes Pop n = n == 1
 
+-- the operations that may copy a value or make room for one, and so want memory
+abbrev pub may_copy : Op → Bool
+may_copy Nth = true
+may_copy Conj = true
+may_copy Assoc = true
+may_copy Peek = true
+may_copy Pop = true
+may_copy _ = false
+
 -- the result is the table's answer, or there was no memory for it
 abbrev pub Answers : Result Value Stop → Answer → Type 0
 Answers (Ok v) a = a ≡ Ok v

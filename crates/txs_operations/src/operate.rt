@@ -1,7 +1,8 @@
 //! The core operations by their table.
 
-ghost use Rattle.std.specs.Prelude.{◌≡◌, length, IsTrue};
-ghost use Rattle.txs_operations.specs.Core.{core, takes, Answers};
+ghost use Rattle.std.specs.Prelude.{◌≡◌, true, false, length, IsTrue, Err};
+ghost use Rattle.txs_operations.specs.Core.{core, takes, may_copy, Answers};
+ghost use Rattle.txs_value.specs.declared.fault.Stop.TheVariants.{Memory};
 
 use crate::comparisons::{
     equal, greater, greater_or_equal, is_false, is_negative, is_nil, is_positive, is_zero, less,
@@ -11,7 +12,7 @@ use crate::numbers::{dec, difference, inc, max, min, product, quot, rem, remaind
 use crate::vectors::{assoc, assoc_owned, conj, conj_owned, count, nth, peek, pop, pop_owned};
 use std::alloc::Global;
 use std::mem;
-use txs_value::{Op, Stop, Value};
+use txs_value::{FaultKind, Op, Stop, Value};
 
 /// Whether the operation takes so many arguments.
 #[tactic(auto, unfolding(crate::specs::Core::takes))]
@@ -49,41 +50,56 @@ pub fn takes(op: Op, count: usize) -> bool
     }
 }
 
+/// The operation on numbers, truth values and values as wholes: all but those that may copy a value.
+#[tactic(auto, unfolding(crate::specs::Core::core, crate::specs::Core::takes))]
+fn apply_plain(op: Op, args: &[Value]) -> Result<Value, FaultKind>
+    requires takes { IsTrue (takes op (length args.now)) }
+    requires plain { may_copy op ≡ false }
+    ensures { result ≡ core op args.now }
+{
+    match op {
+        Op::Add => sum(args),
+        Op::Subtract => difference(args),
+        Op::Multiply => product(args),
+        Op::Inc => inc(&args[0]),
+        Op::Dec => dec(&args[0]),
+        Op::Quot => quot(&args[0], &args[1]),
+        Op::Rem => rem(&args[0], &args[1]),
+        Op::Mod => remainder_down(&args[0], &args[1]),
+        Op::Equal => Ok(Value::Truth(equal(&args[0], &args[1]))),
+        Op::NotEqual => Ok(Value::Truth(!equal(&args[0], &args[1]))),
+        Op::Less => less(&args[0], &args[1]),
+        Op::Greater => greater(&args[0], &args[1]),
+        Op::LessOrEqual => less_or_equal(&args[0], &args[1]),
+        Op::GreaterOrEqual => greater_or_equal(&args[0], &args[1]),
+        Op::Max => max(&args[0], &args[1]),
+        Op::Min => min(&args[0], &args[1]),
+        Op::Not => Ok(Value::Truth(is_false(&args[0]))),
+        Op::IsNil => Ok(Value::Truth(is_nil(&args[0]))),
+        Op::IsZero => is_zero(&args[0]),
+        Op::IsPositive => is_positive(&args[0]),
+        Op::IsNegative => is_negative(&args[0]),
+        Op::Count => count(&args[0]),
+        Op::Nth | Op::Conj | Op::Assoc | Op::Peek | Op::Pop => unreachable!(),
+    }
+}
+
 /// The operation on its arguments, of which there are as many as it takes: its value, the first fault
-/// of those that the table tests, or Memory where there is none for a vector's items.
+/// of those that the table tests, or Memory where there is none for a vector's items. Only `nth`, `conj`,
+/// `assoc`, `peek` and `pop` want memory.
 #[tactic(auto, unfolding(crate::specs::Core::core, crate::specs::Core::takes))]
 pub fn apply(alloc: Global, op: Op, args: &[Value]) -> Result<Value, Stop>
     requires { IsTrue (takes op (length args.now)) }
-    ensures { Answers result (core op args.now) }
+    ensures value { Answers result (core op args.now) }
+    ensures memory { result ≡ Err Memory → may_copy op ≡ true }
 {
     match op {
-        Op::Add => Ok(sum(args)?),
-        Op::Subtract => Ok(difference(args)?),
-        Op::Multiply => Ok(product(args)?),
-        Op::Inc => Ok(inc(&args[0])?),
-        Op::Dec => Ok(dec(&args[0])?),
-        Op::Quot => Ok(quot(&args[0], &args[1])?),
-        Op::Rem => Ok(rem(&args[0], &args[1])?),
-        Op::Mod => Ok(remainder_down(&args[0], &args[1])?),
-        Op::Equal => Ok(Value::Truth(equal(&args[0], &args[1]))),
-        Op::NotEqual => Ok(Value::Truth(!equal(&args[0], &args[1]))),
-        Op::Less => Ok(less(&args[0], &args[1])?),
-        Op::Greater => Ok(greater(&args[0], &args[1])?),
-        Op::LessOrEqual => Ok(less_or_equal(&args[0], &args[1])?),
-        Op::GreaterOrEqual => Ok(greater_or_equal(&args[0], &args[1])?),
-        Op::Max => Ok(max(&args[0], &args[1])?),
-        Op::Min => Ok(min(&args[0], &args[1])?),
-        Op::Not => Ok(Value::Truth(is_false(&args[0]))),
-        Op::IsNil => Ok(Value::Truth(is_nil(&args[0]))),
-        Op::IsZero => Ok(is_zero(&args[0])?),
-        Op::IsPositive => Ok(is_positive(&args[0])?),
-        Op::IsNegative => Ok(is_negative(&args[0])?),
-        Op::Count => Ok(count(&args[0])?),
         Op::Nth => nth(&args[0], &args[1]),
         Op::Conj => conj(alloc, &args[0], &args[1]),
         Op::Assoc => assoc(alloc, &args[0], &args[1], &args[2]),
         Op::Peek => peek(&args[0]),
         Op::Pop => pop(alloc, &args[0]),
+        _ => Ok(apply_plain(op, args)?),
     }
 }
 
@@ -99,7 +115,8 @@ fn take(place: &mut Value) -> Value
 #[tactic(auto, unfolding(crate::specs::Core::core, crate::specs::Core::takes))]
 pub fn apply_owned(alloc: Global, op: Op, args: &mut [Value]) -> Result<Value, Stop>
     requires { IsTrue (takes op (length args.old)) }
-    ensures { Answers result (core op args.old) }
+    ensures value { Answers result (core op args.old) }
+    ensures memory { result ≡ Err Memory → may_copy op ≡ true }
 {
     match op {
         Op::Conj => {
