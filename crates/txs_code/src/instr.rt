@@ -3,7 +3,7 @@
 use txs_value::Op;
 
 /// An instruction. Its places are numbers of instructions of the same body, from 0.
-#[derive(Clone, Copy, Debug, PartialEq, Eq)]
+#[derive(Clone, Copy, Debug)]
 pub enum Instr {
     /// Pushes a constant, by its number.
     Const(u32),

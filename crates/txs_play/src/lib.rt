@@ -7,5 +7,6 @@ pub mod cells;
 pub mod explain;
 pub mod program;
 pub mod streams;
+pub mod told;
 
 pub use program::play;

@@ -1,154 +1,23 @@
 //! The program, over any streams.
 
-ghost use Rattle.std.specs.Prelude.{◌≡◌, []};
+ghost use Rattle.std.specs.Prelude.{◌≡◌, ◌×◌, ◌++◌, [], take, IfOk, OnOk, IfSome};
+ghost use Rattle.txs_play.specs.Lent.{text_in, script_of, told_of};
+ghost use Rattle.txs_play.specs.Told.{Told as PlainTold, RunTells, ScriptTells, StreamTells, WordsTell, Tells, Written, cells_told};
+ghost use Rattle.txs_play.specs.declared.told.Use.TheVariants.{Check, Run};
+ghost use Rattle.txs_world.specs.Store.{cells_of};
 
-use crate::advice::{of_check, of_outcome, of_read, of_resolve};
 use crate::cells::write_cells;
-use crate::explain::{Script, write_explained};
+use crate::explain::Script;
 use crate::streams::{ReadFault, read_bytes, write_bytes};
+use crate::told::{SPENT, Told, UNUSABLE, Use, answer, complaint, of_thread, refused};
 use std::alloc::{AllocError, Global};
 use std::io::{Read, Write};
-use txs_asks::Outcome;
 use txs_code::Verified;
-use txs_compile::{CompileError, compile};
-use txs_machine::{Ran, RunError, run_thread};
-use txs_value::Span;
+use txs_compile::compile;
+use txs_machine::{RunError, run_thread};
+use txs_tree::Program;
 use txs_words::{Words, parse_words};
 use txs_world::Store;
-
-/// What the program tells: its standard output and error, and its status.
-#[derive(Drop)]
-struct Told {
-    output: Vec<u8>,
-    errors: Vec<u8>,
-    status: u8,
-}
-
-/// All threads ended.
-const DONE: u8 = 0;
-
-/// The script was refused.
-const REFUSED: u8 = 1;
-
-/// The words can't be used, or a stream couldn't be read or written.
-const UNUSABLE: u8 = 2;
-
-/// A thread failed.
-const FAILED: u8 = 3;
-
-/// Steps or memory didn't suffice.
-const SPENT: u8 = 4;
-
-/// A line on the standard error alone.
-fn complaint(alloc: Global, status: u8, line: &str) -> Result<Told, AllocError> {
-    let mut errors = Vec::new(alloc);
-    errors.extend_from_slice(line.as_bytes())?;
-    errors.push(b'\n')?;
-    Ok(Told {
-        output: Vec::new(alloc),
-        errors,
-        status,
-    })
-}
-
-/// A line on the standard error alone, and behind it what explains it, where that is wanted.
-fn lesson(
-    alloc: Global,
-    script: Script<'_>,
-    status: u8,
-    line: &str,
-    at: Option<Span>,
-    advice: Option<&str>,
-) -> Result<Told, AllocError> {
-    let mut told = complaint(alloc, status, line)?;
-    if let (Some(file), Some(advice)) = (script.file, advice) {
-        write_explained(&mut told.errors, file, script.text, at, advice)?;
-    }
-    Ok(told)
-}
-
-/// The line of a refused script.
-fn refusal(
-    alloc: Global,
-    script: Script<'_>,
-    number: u8,
-    name: &str,
-    at: Span,
-    advice: Option<&str>,
-) -> Result<Told, AllocError> {
-    let Span { from, to } = at;
-    let line = format!(in alloc; "refused {number} {name} at {from}..{to}")?;
-    lesson(alloc, script, REFUSED, line.as_str(), Some(at), advice)
-}
-
-/// What is told of a script that isn't compiled.
-fn refused(alloc: Global, script: Script<'_>, error: &CompileError) -> Result<Told, AllocError> {
-    match error {
-        CompileError::Read(e) => {
-            let advice = of_read(e.kind, script.has_list_at(e.at));
-            refusal(alloc, script, e.kind.number(), e.kind.name(), e.at, advice)
-        }
-        CompileError::Resolve(e) => {
-            let advice = of_resolve(e.kind);
-            refusal(alloc, script, e.kind.number(), e.kind.name(), e.at, advice)
-        }
-        CompileError::Check(e) => {
-            let advice = of_check(e.kind);
-            refusal(alloc, script, e.kind.number(), e.kind.name(), e.at, advice)
-        }
-        CompileError::Memory => Err(AllocError),
-    }
-}
-
-/// The line of a thread that was stopped.
-fn stopped(
-    alloc: Global,
-    script: Script<'_>,
-    k: u16,
-    why: &str,
-    advice: Option<&str>,
-) -> Result<Told, AllocError> {
-    let line = format!(in alloc; "thread {k} stopped: {why}")?;
-    lesson(alloc, script, SPENT, line.as_str(), None, advice)
-}
-
-/// What is told of a thread that has run.
-fn of_thread(alloc: Global, script: Script<'_>, k: u16, ran: Ran) -> Result<Told, AllocError> {
-    let Ran {
-        printed,
-        outcome,
-        ..
-    } = ran;
-    let advice = of_outcome(outcome);
-    let mut told = match outcome {
-        Outcome::Done => Told {
-            output: Vec::new(alloc),
-            errors: Vec::new(alloc),
-            status: DONE,
-        },
-        Outcome::Failed(fault) => {
-            let kind = fault.kind;
-            let Span { from, to } = fault.span;
-            let line = format!(in alloc; "thread {k} failed: {kind} at {from}..{to}")?;
-            let at = Some(fault.span);
-            lesson(alloc, script, FAILED, line.as_str(), at, advice)?
-        }
-        Outcome::StepsSpent => stopped(alloc, script, k, "StepsSpent", advice)?,
-        Outcome::JournalFull => stopped(alloc, script, k, "JournalFull", advice)?,
-        Outcome::Memory => stopped(alloc, script, k, "Memory", advice)?,
-    };
-    told.output = printed;
-    Ok(told)
-}
-
-/// Nothing on either stream.
-fn nothing(alloc: Global) -> Told {
-    Told {
-        output: Vec::new(alloc),
-        errors: Vec::new(alloc),
-        status: DONE,
-    }
-}
 
 /// What is told of the one thread of the code, if it has one, that runs over the store.
 fn run_code(
@@ -160,9 +29,10 @@ fn run_code(
 ) -> Result<Told, AllocError>
     requires unused { store.old.book ≡ [] }
     ensures cells { store.new.cells ≡ store.old.cells }
+    ensures told { IfOk result (λ t. RunTells code.now store.old.cells (script_of script) steps store.new.book (told_of t)) }
 {
     if code.code().threads().is_empty() {
-        return Ok(nothing(alloc));
+        return Ok(answer(Vec::new(alloc), alloc));
     }
     match run_thread(alloc, code, 0, steps, store) {
         Ok(ran) => of_thread(alloc, script, 0, ran),
@@ -171,49 +41,58 @@ fn run_code(
     }
 }
 
+/// Appends the lines of the program's cells, where they are wanted.
+fn tell_cells(
+    told: &mut Told,
+    wanted: bool,
+    program: &Program,
+    store: &Store,
+) -> Result<(), AllocError>
+    requires made { store.now.cells ≡ cells_of program.now.cells }
+    ensures output { OnOk result (told.new.output.items ≡ told.old.output.items ++ cells_told wanted program.now.cells store.now.book) }
+    ensures errors { told.new.errors.items ≡ told.old.errors.items }
+    ensures status { told.new.status ≡ told.old.status }
+{
+    if wanted {
+        program.is_sound();
+        write_cells(&mut told.output, program.cells(), store)?;
+    }
+    Ok(())
+}
+
 /// Runs the script, and tells of its cells where they are wanted.
 fn run_script(
     alloc: Global,
     script: Script<'_>,
     steps: u64,
     cells: bool,
-) -> Result<Told, AllocError> {
+) -> Result<Told, AllocError>
+    ensures { IfOk result (λ t. ScriptTells (script_of script) (told_of t) (Run steps cells)) }
+{
     let (program, code) = match compile(alloc, script.text) {
         Ok(compiled) => compiled,
         Err(error) => return refused(alloc, script, &error),
     };
     let mut store = Store::open(alloc, program.cells())?;
     let mut told = run_code(alloc, script, &code, steps, &mut store)?;
-    if cells {
-        program.is_sound();
-        write_cells(&mut told.output, program.cells(), &store)?;
-    }
+    tell_cells(&mut told, cells, &program, &store)?;
     Ok(told)
 }
 
 /// Compiles the script, and runs nothing.
-fn check_script(alloc: Global, script: Script<'_>) -> Result<Told, AllocError> {
-    if let Err(error) = compile(alloc, script.text) {
-        return refused(alloc, script, &error);
+fn check_script(alloc: Global, script: Script<'_>) -> Result<Told, AllocError>
+    ensures { IfOk result (λ t. ScriptTells (script_of script) (told_of t) Check) }
+{
+    match compile(alloc, script.text) {
+        Ok(_) => Ok(answer(Vec::from_slice(alloc, b"ok\n")?, alloc)),
+        Err(error) => refused(alloc, script, &error),
     }
-    let mut output = Vec::new(alloc);
-    output.extend_from_slice(b"ok\n")?;
-    Ok(Told {
-        output,
-        errors: Vec::new(alloc),
-        status: DONE,
-    })
-}
-
-/// What is done with a script.
-#[derive(Clone, Copy)]
-enum Use {
-    Check,
-    Run { steps: u64, cells: bool },
 }
 
 /// Does with the script what is wanted.
-fn use_script(alloc: Global, script: Script<'_>, wanted: Use) -> Result<Told, AllocError> {
+fn use_script(alloc: Global, script: Script<'_>, wanted: Use) -> Result<Told, AllocError>
+    ensures { IfOk result (λ t. ScriptTells (script_of script) (told_of t) wanted) }
+{
     match wanted {
         Use::Check => check_script(alloc, script),
         Use::Run { steps, cells } => run_script(alloc, script, steps, cells),
@@ -226,7 +105,9 @@ fn play_stream<R: Read>(
     reader: &mut R,
     wanted: Use,
     file: Option<&str>,
-) -> Result<Told, AllocError> {
+) -> Result<Told, AllocError>
+    ensures { IfOk result (λ t. IfSome (R.remaining reader.old) (λ input. StreamTells (record { text = take 1048577 input; file = text_in file }) wanted (told_of t))) }
+{
     match read_bytes(alloc, reader) {
         Ok(bytes) => {
             let text = bytes.as_slice();
@@ -249,7 +130,9 @@ fn explained_as(explain: bool, file: &Option<String>) -> Option<&str> {
 }
 
 /// What the program does with its words and its script.
-fn work<R: Read>(alloc: Global, args: &[String], reader: &mut R) -> Result<Told, AllocError> {
+fn work<R: Read>(alloc: Global, args: &[String], reader: &mut R) -> Result<Told, AllocError>
+    ensures { IfOk result (λ t. IfSome (R.remaining reader.old) (λ input. WordsTell (take 1048577 input) (told_of t))) }
+{
     match parse_words(alloc, args)? {
         Words::Check { file, explain } => {
             play_stream(alloc, reader, Use::Check, explained_as(explain, &file))
@@ -263,11 +146,7 @@ fn work<R: Read>(alloc: Global, args: &[String], reader: &mut R) -> Result<Told,
             let wanted = Use::Run { steps, cells };
             play_stream(alloc, reader, wanted, explained_as(explain, &file))
         }
-        Words::Shown(text) => Ok(Told {
-            output: text.into_bytes(),
-            errors: Vec::new(alloc),
-            status: DONE,
-        }),
+        Words::Shown(text) => Ok(answer(text.into_bytes(), alloc)),
         Words::Faulty(text) => Ok(Told {
             output: Vec::new(alloc),
             errors: text.into_bytes(),
@@ -283,15 +162,17 @@ fn tell<W: Write, F: Write>(
     status: u8,
     writer: &mut W,
     faults: &mut F,
-) -> u8 {
-    let mut status = status;
-    let written = write_bytes(writer, output).is_ok();
-    let mut told = write_bytes(faults, errors).is_ok();
-    if !written {
-        told = told && write_bytes(faults, b"write failed\n").is_ok();
+) -> u8
+    ensures { Written (W.contents writer.old) (W.contents writer.new) (F.contents faults.old) (F.contents faults.new) (record { output = output.now; errors = errors.now; status = status }) result }
+{
+    if write_bytes(writer, output).is_err() {
+        if write_bytes(faults, errors).is_ok() {
+            let _ = write_bytes(faults, b"write failed\n");
+        }
+        return status.max(UNUSABLE);
     }
-    if !written || !told {
-        status = status.max(UNUSABLE);
+    if write_bytes(faults, errors).is_err() {
+        return status.max(UNUSABLE);
     }
     status
 }
@@ -306,7 +187,10 @@ pub fn play<R: Read, W: Write, F: Write>(
     reader: &mut R,
     writer: &mut W,
     faults: &mut F,
-) -> u8 {
+) -> u8
+    ensures { IfSome (R.remaining reader.old) (λ input. (t : PlainTold) × Tells (take 1048577 input) t
+        × Written (W.contents writer.old) (W.contents writer.new) (F.contents faults.old) (F.contents faults.new) t result) }
+{
     match work(alloc, args, reader) {
         Ok(told) => tell(
             told.output.as_slice(),

@@ -1,6 +1,8 @@
-//! Streams: a script is read and answers are written in a bounded number of calls.
+//! Streams: a script is read to its end, or to one byte past what a script may have, in a bounded number of
+//! calls; answers are written whole.
 
-ghost use Rattle.std.specs.Prelude.{◌≤◌, IfOk, vec_len};
+ghost use Rattle.std.specs.Prelude.{◌≡◌, ◌≤◌, take, IfOk, OnOk, IfSome, vec_len};
+ghost use Rattle.std.specs.Io.KnownBytes.{Appends};
 
 use std::alloc::{AllocError, AllocFailed, Global};
 use std::io::{ErrorKind, Read, Write};
@@ -11,9 +13,6 @@ const MAX_READS: u32 = 100_000_000;
 
 /// How many bytes are read at most: one more than a script may have.
 const MAX_BYTES: usize = 1_048_577;
-
-/// How many times a write may be interrupted, the last one being a fault.
-const MAX_INTERRUPTED: u32 = 100_000_000;
 
 /// Why the bytes of a stream aren't there.
 #[derive(Clone, Copy, Debug, PartialEq, Eq, Error)]
@@ -38,13 +37,15 @@ impl<T: Drop> From<AllocFailed<T>> for ReadFault {
     }
 }
 
-/// The bytes of a stream up to its end, and no more than one past those that a script may have.
+/// The bytes of a stream up to its end, and no more than one past those that a script may have: all that the
+/// reader gives, in order, where it tells what it will give.
 ///
 /// # Errors
 /// `Failed` where a call of the reader fails, but for one that was interrupted, or where 100,000,000
 /// calls don't come to the end. `Memory` where the bytes don't fit into memory.
 pub fn read_bytes<R: Read>(alloc: Global, reader: &mut R) -> Result<Vec<u8>, ReadFault>
-    ensures { IfOk result (λ bytes. vec_len bytes ≤ 1048577) }
+    ensures few { IfOk result (λ bytes. vec_len bytes ≤ 1048577) }
+    ensures all { IfOk result (λ bytes. IfSome (R.remaining reader.old) (λ input. bytes.items ≡ take 1048577 input)) }
 {
     let mut bytes = Vec::new(alloc);
     let mut chunk = [0u8; 8_192];
@@ -71,25 +72,15 @@ pub fn read_bytes<R: Read>(alloc: Global, reader: &mut R) -> Result<Vec<u8>, Rea
 #[error("write failed")]
 pub struct WriteFault;
 
-/// Writes all bytes.
+/// Writes all bytes, in order and nothing else, and flushes the writer.
 ///
 /// # Errors
-/// Where a call of the writer fails or takes no byte, but for one that was interrupted; the 100,000,000th
-/// such one is a fault too.
-pub fn write_bytes<W: Write>(writer: &mut W, bytes: &[u8]) -> Result<(), WriteFault> {
-    let mut rest = bytes;
-    let mut patience = MAX_INTERRUPTED;
-    while !rest.is_empty() {
-        match writer.write(rest) {
-            Ok(0) => return Err(WriteFault),
-            Ok(n) => rest = &rest[n..],
-            Err(e) => {
-                patience -= 1;
-                if e.kind() != ErrorKind::Interrupted || patience == 0 {
-                    return Err(WriteFault);
-                }
-            }
-        }
+/// Where a call of the writer fails or takes no byte, but for one that was interrupted.
+pub fn write_bytes<W: Write>(writer: &mut W, bytes: &[u8]) -> Result<(), WriteFault>
+    ensures { OnOk result (Appends (W.contents writer.old) (W.contents writer.new) bytes.now) }
+{
+    if writer.write_all(bytes).is_err() {
+        return Err(WriteFault);
     }
     writer.flush().map_err(|_| WriteFault)
 }

@@ -2,9 +2,11 @@
 
 ghost use Rattle.std.specs.Prelude.{◌≡◌, ◌≤◌, ◌-◌, ◌+◌, ◌++◌, length, take, drop, None, Some, IsTrue, IfOk, OnOk};
 ghost use Rattle.txs_value.specs.Cells.{any_cell};
-ghost use Rattle.txs_operations.specs.Core.{core, takes, vector_of};
+ghost use Rattle.txs_operations.specs.Core.{core, takes, vector_of, is_false as is_false_value};
 ghost use Rattle.txs_tree.specs.Evaluated.{Stops, Gives, GivesAll, Steps, means, all_mean, do_means, let_means, locals_mean, loop_means, turns_mean, call_means, printing};
-ghost use Rattle.txs_tree.specs.Meaning.{result_of};
+ghost use Rattle.txs_value.specs.Printed.{printed_line};
+ghost use Rattle.txs_value.specs.declared.value.Value.TheVariants.{Nil};
+ghost use Rattle.txs_tree.specs.Meaning.{Completes, result_of};
 ghost use Rattle.txs_tree.specs.Setting.{callable};
 ghost use Rattle.txs_tree.specs.Sound.{InSomeTail, SoundCall, SoundTree, SoundAll, SoundDo, SoundLet, in_thread};
 ghost use Rattle.txs_tree.specs.Thread.{reads};
@@ -55,18 +57,25 @@ impl<T: Drop> From<AllocFailed<T>> for ThreadStop {
     }
 }
 
+/// Whether the value of a test chooses the second branch.
+fn is_other(value: Value) -> bool
+    ensures { result ≡ is_false_value value }
+{
+    is_false(&value)
+}
+
 /// The operation on its arguments; a fault has the span.
 fn operate(
     alloc: Global,
     op: Op,
-    args: &[Value],
+    args: Vec<Value>,
     span: Span,
     printed: &[u8],
 ) -> Result<Step, ThreadStop>
-    requires { IsTrue (takes op (length args.now)) }
-    ensures { Steps result printed.now (result_of (core op args.now) span (printing printed.now)) }
+    requires { IsTrue (takes op (length args.items)) }
+    ensures { Steps result printed.now (result_of (core op args.items) span (printing printed.now)) }
 {
-    match apply(alloc, op, args) {
+    match apply(alloc, op, args.as_slice()) {
         Ok(value) => Ok(Step::Value(value)),
         Err(Stop::Fault(kind)) => Err(ThreadStop::Fault(Fault { kind, span })),
         Err(Stop::Memory) => Err(ThreadStop::Memory),
@@ -84,9 +93,17 @@ fn collect(alloc: Global, items: Vec<Value>, span: Span, printed: &[u8]) -> Resu
     }
 }
 
+/// Appends the line of these values, whose value is nil.
+fn print_line(values: Vec<Value>, printed: &mut Vec<u8>) -> Result<Step, ThreadStop>
+    ensures { Steps result printed.new.items (Completes Nil (printing (printed.old.items ++ printed_line values.items))) }
+{
+    write_line(values.as_slice(), printed)?;
+    Ok(Step::Value(Value::Nil))
+}
+
 /// A read outside every transaction, where no event is there: it waits for one, unless the value is no cell.
-fn read(value: &Value, span: Span, printed: &[u8]) -> ThreadStop
-    ensures { Stops result printed.now (reads span (any_cell value.now) (printing printed.now)) }
+fn read(value: Value, span: Span, printed: &[u8]) -> ThreadStop
+    ensures { Stops result printed.now (reads span (any_cell value) (printing printed.now)) }
 {
     match value {
         Value::Cell(_) => ThreadStop::Event,
@@ -144,7 +161,7 @@ fn evaluate_tail(
         NodeKind::Local(place) => Ok(Step::Value(copy_value(&locals[usize::from(*place)])?)),
         NodeKind::If(test, yes, no) => {
             let value = evaluate(alloc, context, test, locals, printed)?;
-            if is_false(&value) {
+            if is_other(value) {
                 return evaluate_tail(alloc, context, no, locals, printed);
             }
             evaluate_tail(alloc, context, yes, locals, printed)
@@ -160,7 +177,7 @@ fn evaluate_tail(
         }
         NodeKind::Core(op, args) => {
             let values = evaluate_all(alloc, context, args, locals, printed)?;
-            operate(alloc, *op, &values, node.span, printed)
+            operate(alloc, *op, values, node.span, printed)
         }
         NodeKind::Call(function, args) => {
             let values = evaluate_all(alloc, context, args, locals, printed)?;
@@ -173,13 +190,12 @@ fn evaluate_tail(
         }
         NodeKind::Println(args) => {
             let values = evaluate_all(alloc, context, args, locals, printed)?;
-            write_line(&values, printed)?;
-            Ok(Step::Value(Value::Nil))
+            print_line(values, printed)
         }
         NodeKind::Dosync(_) => Err(ThreadStop::Event),
         NodeKind::Deref(cell) => {
             let value = evaluate(alloc, context, cell, locals, printed)?;
-            Err(read(&value, node.span, printed))
+            Err(read(value, node.span, printed))
         }
         NodeKind::Alter(_, _, _) => unreachable!(),
     }

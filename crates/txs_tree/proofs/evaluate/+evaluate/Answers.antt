@@ -2,6 +2,7 @@ use Rattle.std.proofs.Common.{rules, suc, ◌≡◌, ◌+◌, ◌-◌, ◌*◌, 
 use Rattle.std.proofs.lemmas.List.{drop_all, length_push, length-drop}
 use Rattle.txs_operations.specs.Core.{takes}
 use Rattle.txs_value.specs.Places.{nth}
+use Rattle.txs_value.specs.Printed.{printed_line}
 use Rattle.txs_value.specs.declared.value.Value.{Value}
 use Rattle.txs_tree.specs.Evaluated.{no_events, calls_in, Stops, Gives, GivesAll, Steps, means, all_mean, do_means, let_means, locals_mean, loop_means, turns_mean, printing}
 use Rattle.txs_tree.specs.Setting.{callable}
@@ -197,8 +198,7 @@ pub evaluate_tail-operate-requires : goal.evaluate_tail-operate-requires
 evaluate_tail-operate-requires t c =
     let is = core_node c.args.node.now c.in-Core.op c.in-Core.args c.deref-in-Core.result.now c.in-Core.is c.deref-in-Core.ensures.value in
     let sound = subst (λ e. SoundTree (callable c.args.context.now) in_thread (length c.args.locals.now.items) c.requires.tail e) is c.requires.sound in
-    let many = ap length c.deref-in-Core-2.ensures.value ∙ c.in_ok-values-in-Core.ensures.count in
-    subst (λ k. IsTrue (takes c.in-Core.op k)) (sym many) sound.0.0
+    subst (λ k. IsTrue (takes c.in-Core.op k)) (sym c.in_ok-values-in-Core.ensures.count) sound.0.0
 
 pub evaluate_tail-returns-in_ok-copy_value-in-Local-clause-value : goal.evaluate_tail-returns-in_ok-copy_value-in-Local-clause-value
 evaluate_tail-returns-in_ok-copy_value-in-Local-clause-value t c =
@@ -216,21 +216,21 @@ evaluate_tail-returns-in_err-value-in-If-clause-value t c =
     let whole = if_stop c.args.context.now (tree_of n) (mark_of n.span n.wanted) c.args.locals.now.items c.args.printed.now.items (tree_of c.deref.result.now) (tree_of c.in-If.yes.value) (tree_of c.in-If.no.value) is y out c.in_err-value-in-If.ensures.value in
     stops_steps c.from_residual-in_err-value-in-If.result y out (means c.args.context.now (tree_of n) c.args.locals.now.items c.args.printed.now.items) (search rules) whole
 
-pub evaluate_tail-returns-then-is_false-clause-value : goal.evaluate_tail-returns-then-is_false-clause-value
-evaluate_tail-returns-then-is_false-clause-value t c =
+pub evaluate_tail-returns-then-is_other-clause-value : goal.evaluate_tail-returns-then-is_other-clause-value
+evaluate_tail-returns-then-is_other-clause-value t c =
     let n = c.args.node.now in
-    let b = c.deref-then-is_false.result.now in
-    let is = if_node n c.in-If.test c.in-If.yes c.in-If.no c.deref.result.now c.in-If.yes.value b c.in-If.is c.deref.ensures refl c.deref-then-is_false.ensures in
+    let b = c.deref-then-is_other.result.now in
+    let is = if_node n c.in-If.test c.in-If.yes c.in-If.no c.deref.result.now c.in-If.yes.value b c.in-If.is c.deref.ensures refl c.deref-then-is_other.ensures in
     if_goes c.args.context.now (tree_of n) (mark_of n.span n.wanted) c.args.locals.now.items c.args.printed.now.items (tree_of c.deref.result.now) (tree_of c.in-If.yes.value) (tree_of b) is c.in_ok-value-in-If.value true
-    c.evaluate.new.locals.items c.evaluate.new.printed.items c.evaluate_tail.new.printed.items c.evaluate_tail.result c.in_ok-value-in-If.ensures.value (sym c.if-is_false.true ∙ c.is_false.ensures) c.in_ok-value-in-If.ensures.kept c.evaluate_tail.ensures.value
+    c.evaluate.new.locals.items c.evaluate.new.printed.items c.evaluate_tail.new.printed.items c.evaluate_tail.result c.in_ok-value-in-If.ensures.value (sym c.if-is_other.true ∙ c.is_other.ensures) c.in_ok-value-in-If.ensures.kept c.evaluate_tail.ensures.value
 
-pub evaluate_tail-returns-else-is_false-clause-value : goal.evaluate_tail-returns-else-is_false-clause-value
-evaluate_tail-returns-else-is_false-clause-value t c =
+pub evaluate_tail-returns-else-is_other-clause-value : goal.evaluate_tail-returns-else-is_other-clause-value
+evaluate_tail-returns-else-is_other-clause-value t c =
     let n = c.args.node.now in
     let b = c.deref-in-If.result.now in
     let is = if_node n c.in-If.test c.in-If.yes c.in-If.no c.deref.result.now b c.in-If.no.value c.in-If.is c.deref.ensures c.deref-in-If.ensures refl in
     if_goes c.args.context.now (tree_of n) (mark_of n.span n.wanted) c.args.locals.now.items c.args.printed.now.items (tree_of c.deref.result.now) (tree_of b) (tree_of c.in-If.no.value) is c.in_ok-value-in-If.value false
-    c.evaluate.new.locals.items c.evaluate.new.printed.items c.evaluate_tail-in-If.new.printed.items c.evaluate_tail-in-If.result c.in_ok-value-in-If.ensures.value (sym c.if-is_false.false ∙ c.is_false.ensures) c.in_ok-value-in-If.ensures.kept c.evaluate_tail-in-If.ensures.value
+    c.evaluate.new.locals.items c.evaluate.new.printed.items c.evaluate_tail-in-If.new.printed.items c.evaluate_tail-in-If.result c.in_ok-value-in-If.ensures.value (sym c.if-is_other.false ∙ c.is_other.ensures) c.in_ok-value-in-If.ensures.kept c.evaluate_tail-in-If.ensures.value
 
 pub evaluate_tail-returns-in-Do-clause-value : goal.evaluate_tail-returns-in-Do-clause-value
 evaluate_tail-returns-in-Do-clause-value t c =
@@ -263,8 +263,8 @@ pub evaluate_tail-returns-in_ok-values-in-Core-clause-value : goal.evaluate_tail
 evaluate_tail-returns-in_ok-values-in-Core-clause-value t c =
     let n = c.args.node.now in
     let is = core_node n c.in-Core.op c.in-Core.args c.deref-in-Core.result.now c.in-Core.is c.deref-in-Core.ensures.value in
-    core_done c.args.context.now (tree_of n) (mark_of n.span n.wanted) c.args.locals.now.items c.args.printed.now.items (trees_of c.deref-in-Core.result.now) c.in_ok-values-in-Core.values.items c.deref-in-Core-2.result.now
-    c.evaluate_all-in-Core.new.printed.items c.deref-in-Core-3.result.now c.in_ok-values-in-Core.ensures.value c.deref-in-Core-2.ensures.value c.in-Core.op c.operate.result is c.deref-in-Core-3.ensures.value c.operate.ensures
+    core_done c.args.context.now (tree_of n) (mark_of n.span n.wanted) c.args.locals.now.items c.args.printed.now.items (trees_of c.deref-in-Core.result.now) c.in_ok-values-in-Core.values.items c.in_ok-values-in-Core.values.items
+    c.evaluate_all-in-Core.new.printed.items c.deref-in-Core-2.result.now c.in_ok-values-in-Core.ensures.value refl c.in-Core.op c.operate.result is c.deref-in-Core-2.ensures.value c.operate.ensures
 
 pub evaluate_tail-returns-in_ok-values-in-Vector-clause-value : goal.evaluate_tail-returns-in_ok-values-in-Vector-clause-value
 evaluate_tail-returns-in_ok-values-in-Vector-clause-value t c =
@@ -273,12 +273,14 @@ evaluate_tail-returns-in_ok-values-in-Vector-clause-value t c =
     vector_done c.args.context.now (tree_of n) (mark_of n.span n.wanted) c.args.locals.now.items c.args.printed.now.items (trees_of c.deref-in-Vector.result.now) c.in_ok-values-in-Vector.values.items c.in_ok-values-in-Vector.values.items
     c.evaluate_all-in-Vector.new.printed.items c.deref-in-Vector-2.result.now c.in_ok-values-in-Vector.ensures.value refl c.collect.result is c.deref-in-Vector-2.ensures.value c.collect.ensures
 
-pub evaluate_tail-returns-in_ok-write_line-in-Println-clause-value : goal.evaluate_tail-returns-in_ok-write_line-in-Println-clause-value
-evaluate_tail-returns-in_ok-write_line-in-Println-clause-value t c =
+pub evaluate_tail-returns-in_ok-values-in-Println-clause-value : goal.evaluate_tail-returns-in_ok-values-in-Println-clause-value
+evaluate_tail-returns-in_ok-values-in-Println-clause-value t c =
     let n = c.args.node.now in
     let is = println_node n c.in-Println.args c.deref-in-Println.result.now c.in-Println.is c.deref-in-Println.ensures.value in
-    println_done c.args.context.now (tree_of n) (mark_of n.span n.wanted) c.args.locals.now.items c.args.printed.now.items (trees_of c.deref-in-Println.result.now) c.in_ok-values-in-Println.values.items c.deref-in-Println-2.result.now
-    c.evaluate_all-in-Println.new.printed.items c.write_line.new.out.items c.in_ok-values-in-Println.ensures.value c.deref-in-Println-2.ensures.value is c.in_ok-write_line-in-Println.ensures.ok
+    let ws = c.in_ok-values-in-Println.values.items in
+    let out = c.evaluate_all-in-Println.new.printed.items in
+    let whole = println_done c.args.context.now (tree_of n) (mark_of n.span n.wanted) c.args.locals.now.items c.args.printed.now.items (trees_of c.deref-in-Println.result.now) ws ws out (out ++ printed_line ws) c.in_ok-values-in-Println.ensures.value refl is refl in
+    subst (λ r. Steps c.print_line.result c.print_line.new.printed.items r) (sym whole) c.print_line.ensures
 
 pub evaluate_all-loop-node-init : goal.evaluate_all-loop-node-init
 evaluate_all-loop-node-init t c =

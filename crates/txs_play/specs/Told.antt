@@ -1,0 +1,151 @@
+-- What the program tells of a script: on its standard output, on its standard error, and by its status.
+use Rattle.std.specs.Prelude.{◌≡◌, ℕ, max, Bool, true, false, List, [], ◌++◌, length, codes, decimal, Option, Some, None}
+use Rattle.std.specs.Io.KnownBytes.{Appends}
+use Rattle.txs_asks.specs.declared.event.Event.{Event}
+use Rattle.txs_asks.specs.declared.event.Outcome.{Outcome}
+use Rattle.txs_asks.specs.declared.event.Outcome.TheVariants.{Done, Failed, StepsSpent, JournalFull, Memory}
+use Rattle.txs_check.specs.Errors.{check_number, check_name}
+use Rattle.txs_code.specs.PlainCode.{PlainCode}
+use Rattle.txs_compile.specs.Compiled.{IsProgramOf, IsRefusal, codes_of}
+use Rattle.txs_compile.specs.declared.compile_error.CompileError.{CompileError}
+use Rattle.txs_compile.specs.declared.compile_error.CompileError.TheVariants.{Read, Resolve, Check as Unsound, Memory as NoMemory}
+use Rattle.txs_follows.specs.FollowsAll.{FollowsAll}
+use Rattle.txs_machine.specs.RunOver.{HasEnded, AsksUnlawfully}
+use Rattle.txs_play.specs.CellLines.{cell_lines}
+use Rattle.txs_play.specs.Explained.{explained}
+use Rattle.txs_play.specs.declared.told.Use.{Use}
+use Rattle.txs_play.specs.declared.told.Use.TheVariants.{Check, Run}
+use Rattle.txs_reader.specs.Errors.{report_number as read_number, report_name as read_name}
+use Rattle.txs_resolve.specs.Reported.{report_number as resolve_number, report_name as resolve_name}
+use Rattle.txs_tree.specs.Tree.{PlainProgram}
+use Rattle.txs_value.specs.Faults.{fault_name}
+use Rattle.txs_value.specs.declared.cell.CellDefinition.{CellDefinition}
+use Rattle.txs_value.specs.declared.fault.Span.{Span}
+use Rattle.txs_world.specs.Book.{opening, after}
+use Rattle.txs_world.specs.Store.{cells_of}
+use Rattle.txs_world.specs.declared.cell.StoreCell.{StoreCell}
+
+-- what is told: the bytes of both streams, and the status
+pub record Told : Type 0 where
+  pub output : List ℕ
+  pub errors : List ℕ
+  pub status : ℕ
+
+-- a script as the program has it: its bytes, and the name of its file where lines are explained
+pub record Script : Type 0 where
+  pub text : List ℕ
+  pub file : Option (List ℕ)
+
+-- a place as lines tell it: " at FROM..TO" and the end of the line
+abbrev pub at_place : Span → List ℕ
+at_place s = codes " at " ++ decimal s.from ++ codes ".." ++ decimal s.to ++ codes "\n"
+
+-- ---- lines of the standard error
+
+-- the line of a refusal of this number and name, at this place
+abbrev pub refusal_line : ℕ → List ℕ → Span → List ℕ
+refusal_line number name at = codes "refused " ++ decimal number ++ codes " " ++ name ++ at_place at
+
+-- the line of a script that isn't compiled; of want of memory the program tells otherwise
+abbrev pub refused_line : CompileError → List ℕ
+refused_line (Read e) = refusal_line (read_number e.kind) (read_name e.kind) e.at
+refused_line (Resolve e) = refusal_line (resolve_number e.kind) (resolve_name e.kind) e.at
+refused_line (Unsound e) = refusal_line (check_number e.kind) (check_name e.kind) e.at
+refused_line NoMemory = []
+
+-- the place of that refusal
+abbrev pub refused_place : CompileError → Option Span
+refused_place (Read e) = Some e.at
+refused_place (Resolve e) = Some e.at
+refused_place (Unsound e) = Some e.at
+refused_place NoMemory = None
+
+-- why a thread was stopped, in a word
+abbrev pub stopped_line : ℕ → List ℕ → List ℕ
+stopped_line k why = codes "thread " ++ decimal k ++ codes " stopped: " ++ why ++ codes "\n"
+
+-- the line of a thread that ended so; one that is done has none
+abbrev pub end_line : ℕ → Outcome → List ℕ
+end_line k Done = []
+end_line k (Failed f) = codes "thread " ++ decimal k ++ codes " failed: " ++ fault_name f.kind ++ at_place f.span
+end_line k StepsSpent = stopped_line k (codes "StepsSpent")
+end_line k JournalFull = stopped_line k (codes "JournalFull")
+end_line k Memory = stopped_line k (codes "Memory")
+
+-- the place where it ended
+abbrev pub end_place : Outcome → Option Span
+end_place (Failed f) = Some f.span
+end_place _ = None
+
+-- what explains a line, if a sentence does
+abbrev pub lesson_of : List ℕ → List ℕ → Option Span → Option (List ℕ) → List ℕ
+lesson_of file text at None = []
+lesson_of file text at (Some advice) = explained file text at advice
+
+-- the standard error: a line, and behind it what explains it where that is wanted, with a sentence that says what to do
+abbrev pub IsLesson : Script → List ℕ → Option Span → List ℕ → Type 0
+IsLesson (record { text = text; file = None }) line at errors = errors ≡ line
+IsLesson (record { text = text; file = Some file }) line at errors = (advice : Option (List ℕ)) × (errors ≡ line ++ lesson_of file text at advice)
+
+-- ---- the status
+
+-- of a thread that ended so: 0 where it is done, 3 where it failed, 4 where it was stopped
+abbrev pub status_of : Outcome → ℕ
+status_of Done = 0
+status_of (Failed f) = 3
+status_of StepsSpent = 4
+status_of JournalFull = 4
+status_of Memory = 4
+
+-- ---- what is told of a script
+
+-- What a run of the code's one thread tells, where it leaves this book: nothing where there is none; else what the thread
+-- printed and how it ended; or that it asked what it may not ask.
+pub data RunTells (code : PlainCode) (cells : List StoreCell) (script : Script) (steps : ℕ) (book : List Event) (t : Told) : Type 0 where
+  of_none : (none : code.threads ≡ []) (unused : book ≡ []) (output : t.output ≡ []) (errors : t.errors ≡ []) (status : t.status ≡ 0) → RunTells code cells script steps book t
+  of_thread :
+      (o : Outcome) (made : ℕ) (ended : HasEnded code (opening cells) 0 steps book o t.output made)
+      (errors : IsLesson script (end_line 0 o) (end_place o) t.errors) (status : t.status ≡ status_of o) → RunTells code cells script steps book t
+  of_mismatch :
+      (unlawful : AsksUnlawfully code cells 0 book) (output : t.output ≡ [])
+      (errors : t.errors ≡ codes "run failed: JournalMismatch" ++ codes "\n") (status : t.status ≡ 4) → RunTells code cells script steps book t
+
+-- the lines of the cells behind a run, where they are wanted: their values after all events of the book
+abbrev pub cells_told : Bool → List CellDefinition → List Event → List ℕ
+cells_told false cells book = []
+cells_told true cells book = cell_lines (after (opening (cells_of cells)) book (length book)) 0 cells
+
+-- What is told of a script: that it is refused; that it compiles; or what its run told, and behind it its cells.
+pub data ScriptTells (script : Script) (t : Told) : Use → Type 0 where
+  of_refused :
+      (wanted : Use) (e : CompileError) (refused : IsRefusal script.text e) (output : t.output ≡ [])
+      (errors : IsLesson script (refused_line e) (refused_place e) t.errors) (status : t.status ≡ 1) → ScriptTells script t wanted
+  of_checked :
+      (p : PlainProgram) (program : IsProgramOf script.text p)
+      (output : t.output ≡ codes "ok\n") (errors : t.errors ≡ []) (status : t.status ≡ 0) → ScriptTells script t Check
+  of_run :
+      (steps : ℕ) (with_cells : Bool) (ran : Told) (p : PlainProgram) (code : PlainCode) (book : List Event) (program : IsProgramOf script.text p)
+      (follows : FollowsAll (codes_of code) p) (told : RunTells code (cells_of p.cells) script steps book ran)
+      (output : t.output ≡ ran.output ++ cells_told with_cells p.cells book) (errors : t.errors ≡ ran.errors) (status : t.status ≡ ran.status) → ScriptTells script t (Run steps with_cells)
+
+-- What is told of a stream whose front is the script: that it couldn't be read, or what is told of the script.
+pub data StreamTells (script : Script) (wanted : Use) (t : Told) : Type 0 where
+  of_unread : (output : t.output ≡ []) (errors : t.errors ≡ codes "read failed" ++ codes "\n") (status : t.status ≡ 2) → StreamTells script wanted t
+  of_script : (told : ScriptTells script t wanted) → StreamTells script wanted t
+
+-- What is told for words: what is done with the stream, or a text of the words themselves, such as help (status 0) or a usage fault (status 2).
+pub data WordsTell (input : List ℕ) (t : Told) : Type 0 where
+  of_stream : (file : Option (List ℕ)) (wanted : Use) (told : StreamTells (record { text = input; file = file }) wanted t) → WordsTell input t
+  of_shown : (errors : t.errors ≡ []) (status : t.status ≡ 0) → WordsTell input t
+  of_faulty : (output : t.output ≡ []) (status : t.status ≡ 2) → WordsTell input t
+
+-- What the program tells, where its input begins so: what is told for its words, or that there was no memory.
+pub data Tells (input : List ℕ) (t : Told) : Type 0 where
+  of_words : (told : WordsTell input t) → Tells input t
+  of_memory : (output : t.output ≡ []) (errors : t.errors ≡ codes "out of memory\n") (status : t.status ≡ 4) → Tells input t
+
+-- How what is told is written, where it is known what the writers hold: both streams whole, and its status; or a stream
+-- couldn't be written, and the status is 2 at least.
+pub data Written (output_old output_new errors_old errors_new : Option (List ℕ)) (t : Told) (status : ℕ) : Type 0 where
+  whole : (output : Appends output_old output_new t.output) (errors : Appends errors_old errors_new t.errors) (ended : status ≡ t.status) → Written output_old output_new errors_old errors_new t status
+  cut : (ended : status ≡ max t.status 2) → Written output_old output_new errors_old errors_new t status
