@@ -3,7 +3,7 @@ use Rattle.std.proofs.Common.{List, [], sym, subst, ◌≡◌, ◌∷◌, ◌++�
 use Rattle.std.proofs.lemmas.List.{append-nil}
 use Rattle.txs_follows.specs.RepliesFit.{Phase, Out, In, ReplyFits, RepliesFit}
 use Rattle.txs_follows.specs.RepliesFitTo.{RepliesFitTo, FittingToFits, OneMoreFits}
-use Rattle.txs_tree.specs.Thread.{SeenEvent, Read, Committed, Retried, Aborted}
+use Rattle.txs_asks.specs.SeenEvent.{SeenEvent, Read, Committed, Retried, Aborted}
 use Rattle.txs_asks.specs.declared.ask.Ask.TheVariants.{Begin, Look, Commit, Fail, Peek}
 use Rattle.txs_asks.specs.declared.ask.Ask.{Ask}
 use Rattle.txs_asks.specs.declared.ask.Reply.TheVariants.{At, Is, Done, Retry}

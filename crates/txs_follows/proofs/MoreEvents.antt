@@ -5,7 +5,8 @@ use Rattle.txs_follows.proofs.Related.{Link, Related, bind_related, closed_relat
 use Rattle.txs_follows.specs.EndsSo.{NeedsTurns, HasSettled}
 use Rattle.txs_follows.specs.RepliesFit.{Halt, Going, Stopped, Short, Rerun}
 use Rattle.txs_tree.specs.Meaning.{Completion, Completes, Recurs, Faults, Retries, Waits, OutOfTurns, Invalid, bind, eval, call_at}
-use Rattle.txs_tree.specs.Thread.{SeenEvent, Read, Committed, Retried, Aborted, ThreadState, reads, commits, aborts, eats_tx, on_events, thread_meaning}
+use Rattle.txs_asks.specs.SeenEvent.{SeenEvent, Read, Committed, Retried, Aborted}
+use Rattle.txs_tree.specs.Thread.{ThreadState, reads, commits, aborts, eats_tx, on_events, thread_meaning}
 use Rattle.txs_tree.specs.Transaction.{TxState, taken, set_to, in_transaction, tx_meaning}
 use Rattle.txs_tree.specs.Tree.{Tree, PlainFunction, ThreadSource}
 use Rattle.txs_asks.specs.Ask.{Writes}

@@ -12,7 +12,7 @@ use Rattle.txs_follows.specs.RepliesFit.{Out, In, ReplyFits, RepliesFit}
 use Rattle.txs_tree.specs.Meaning.{Completion, Completes, Recurs, Faults, Retries, Waits, OutOfTurns, Invalid, bind, again, closed, give, result_of, turns, apply, eval, eval_all, eval_let, eval_do, call_at}
 use Rattle.txs_tree.specs.Known.{Known, known, known_of}
 use Rattle.txs_tree.specs.Sound.{Zone, in_function, in_thread, in_dosync, MayLeave, MayEnter, MayCall, SoundTree, SoundAll, SoundLet, SoundDo, SoundFunctions, SoundSource, SoundCallee}
-use Rattle.txs_tree.specs.Thread.{SeenEvent, Read, Committed, Retried, Aborted}
+use Rattle.txs_asks.specs.SeenEvent.{SeenEvent, Read, Committed, Retried, Aborted}
 use Rattle.txs_tree.specs.Tree.{Tree, Const, Local, If, Do, Let, Loop, Recur, Core, Call, VectorOf, Println, Dosync, Deref, Alter, Trees, none, more, count, PlainFunction, ThreadSource}
 use Rattle.txs_asks.specs.Ask.{buffered, Exchange}
 use Rattle.txs_value.specs.Cells.{World, any_cell, readable_cell, ref_cell}

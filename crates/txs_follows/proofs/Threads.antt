@@ -9,7 +9,8 @@ use Rattle.txs_follows.specs.Behaves.{source}
 use Rattle.txs_follows.specs.OnReplies.{res, met, settled, retrying, tries, on_replies}
 use Rattle.txs_follows.specs.RepliesFit.{Phase, Out, In, ReplyFits, RepliesFit, halted, HasEaten, Agrees, TreeFollows}
 use Rattle.txs_tree.specs.Meaning.{Completion, Completes, Recurs, Faults, Retries, Waits, OutOfTurns, Invalid, closed, eval, call_at}
-use Rattle.txs_tree.specs.Thread.{SeenEvent, Read, Committed, Retried, Aborted, ThreadState, eats_read, reads, commits, aborts, eats_tx, on_events, thread_meaning}
+use Rattle.txs_asks.specs.SeenEvent.{SeenEvent, Read, Committed, Retried, Aborted}
+use Rattle.txs_tree.specs.Thread.{ThreadState, eats_read, reads, commits, aborts, eats_tx, on_events, thread_meaning}
 use Rattle.txs_tree.specs.Transaction.{TxState, tx_meaning}
 use Rattle.txs_tree.specs.Tree.{Tree, PlainFunction}
 use Rattle.txs_asks.proofs.AskLemmas.{same_writes-itself}

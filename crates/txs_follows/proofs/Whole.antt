@@ -10,7 +10,8 @@ use Rattle.txs_code.specs.Opening.{opening, target}
 use Rattle.txs_follows.specs.Behaves.{source, IsMeant, HasEnded, outcome_of, IsOver, Behaves}
 use Rattle.txs_follows.specs.RepliesFit.{Out, RepliesFit, halted, HasEaten, Agrees, HasEatenAll, Explained, Consumed}
 use Rattle.txs_tree.specs.Meaning.{Completion, Completes, Recurs, Faults, Retries, Waits, OutOfTurns, Invalid}
-use Rattle.txs_tree.specs.Thread.{SeenEvent, ThreadState, thread_meaning}
+use Rattle.txs_asks.specs.SeenEvent.{SeenEvent}
+use Rattle.txs_tree.specs.Thread.{ThreadState, thread_meaning}
 use Rattle.txs_tree.specs.Tree.{ThreadSource}
 use Rattle.txs_asks.specs.Ask.{Exchange}
 use Rattle.txs_value.specs.declared.value.Value.{Value}

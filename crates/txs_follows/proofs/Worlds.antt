@@ -6,7 +6,7 @@ use Rattle.txs_follows.proofs.Related.{Link, Related, bind_related, closed_relat
 use Rattle.txs_follows.specs.OnReplies.{res, on_replies}
 use Rattle.txs_follows.specs.RepliesFit.{Halt, Going, Stopped, Short, Rerun, Phase, Out, In, ReplyFits, RepliesFit}
 use Rattle.txs_tree.specs.Meaning.{Completion, Completes, bind, closed, eval, call_at}
-use Rattle.txs_tree.specs.Thread.{SeenEvent, Read, Committed, Retried, Aborted}
+use Rattle.txs_asks.specs.SeenEvent.{SeenEvent, Read, Committed, Retried, Aborted}
 use Rattle.txs_tree.specs.Transaction.{TxState, own_or_world, taken, set_to, in_transaction, tx_meaning}
 use Rattle.txs_tree.specs.Tree.{Tree, PlainFunction}
 use Rattle.txs_asks.proofs.AskLemmas.{same_ask-sound}

@@ -2,7 +2,8 @@
 use Rattle.std.specs.Prelude.{ℕ, ◌≡◌, ◌≤◌, List}
 use Rattle.txs_asks.specs.Ask.{Exchange}
 use Rattle.txs_tree.specs.Sound.{SoundSource}
-use Rattle.txs_tree.specs.Thread.{SeenEvent, thread_meaning}
+use Rattle.txs_asks.specs.SeenEvent.{SeenEvent}
+use Rattle.txs_tree.specs.Thread.{thread_meaning}
 use Rattle.txs_tree.specs.Tree.{ThreadSource}
 use Rattle.txs_code.specs.Machine.{ThreadCode}
 use Rattle.txs_code.specs.Opening.{target}

@@ -8,7 +8,8 @@ use Rattle.txs_asks.specs.declared.ask.Reply.{Reply}
 use Rattle.txs_asks.specs.declared.ask.Reply.TheVariants.{At, Is, Done, Retry}
 use Rattle.txs_value.specs.declared.value.Value.{Value}
 use Rattle.txs_tree.specs.Meaning.{Completion, Completes, Recurs, Faults, Retries, Waits, OutOfTurns, Invalid}
-use Rattle.txs_tree.specs.Thread.{SeenEvent, Read, Committed, Retried, Aborted, ThreadState, thread_meaning}
+use Rattle.txs_asks.specs.SeenEvent.{SeenEvent, Read, Committed, Retried, Aborted}
+use Rattle.txs_tree.specs.Thread.{ThreadState, thread_meaning}
 use Rattle.txs_tree.specs.Tree.{ThreadSource}
 use Rattle.txs_code.specs.ActorState.{ActorState}
 use Rattle.txs_code.specs.Machine.{Outcome, Ended, Failed, Asking, Unfinished, Stuck}

@@ -1,7 +1,7 @@
 -- Exchanges that fit events, with the phase that they end in, and one more exchange.
 use Rattle.std.specs.Prelude.{◌≡◌, List, [], ◌∷◌, ◌++◌}
 use Rattle.txs_asks.specs.Ask.{Exchange}
-use Rattle.txs_tree.specs.Thread.{SeenEvent}
+use Rattle.txs_asks.specs.SeenEvent.{SeenEvent}
 use Rattle.txs_follows.specs.RepliesFit.{Phase, ReplyFits, RepliesFit}
 
 -- these exchanges are those of these events, and the phase after them is the given one

@@ -9,14 +9,15 @@ use Rattle.txs_asks.specs.declared.ask.Reply.{Reply}
 use Rattle.txs_asks.specs.declared.ask.Reply.TheVariants as reply
 use Rattle.txs_asks.specs.declared.event.Event.{Event}
 use Rattle.txs_value.proofs.SameLemmas.{numbers, number-itself}
-use Rattle.txs_tree.specs.Thread.{SeenEvent, thread_meaning}
+use Rattle.txs_asks.specs.SeenEvent.{SeenEvent}
+use Rattle.txs_tree.specs.Thread.{thread_meaning}
 use Rattle.txs_code.specs.ActorState.{ActorState}
 use Rattle.txs_code.specs.Machine.{ThreadCode, Configuration, configuration, Turned, Ended, Failed, Asking, Unfinished, Stuck, Outcome, state, turn, run}
 use Rattle.txs_code.specs.Opening.{given, opening, target}
 use Rattle.txs_follows.specs.RepliesFit.{Out, RepliesFit, Explained, Consumed}
 use Rattle.txs_follows.specs.RepliesFitTo.{FittingToFits}
 use Rattle.txs_world.specs.Book as world
-use Rattle.txs_world.specs.History.{past_of}
+use Rattle.txs_world.specs.History.{past_of, history_of}
 use Rattle.txs_world.specs.Store.{event_of, serve, is_lawful}
 use Rattle.txs_world.specs.declared.cell.StoreCell.{StoreCell}
 use Rattle.txs_machine.specs.Invariant.{ActorInvariant, RunInvariant}
@@ -24,7 +25,7 @@ use Rattle.txs_machine.specs.Laws.{IsExchanged}
 use Rattle.txs_machine.specs.Printed.{Prints, HasPrinted, PrintedBeforeLast}
 use Rattle.txs_machine.specs.Run as run_of
 use Rattle.txs_machine.specs.Run.{Stop, Actor, Moved, moved, exchange, stop, comes_to, hears, replied, asked, asks_for, turned, turns_from, stops_from, Play, TakesTurn, IsStopped, State, moves, actor_of, play, plays_from, opens}
-use Rattle.txs_machine.specs.Stages.{seen_as, seen_by, phase_of, IsStaged}
+use Rattle.txs_machine.specs.Stages.{phase_of, IsStaged}
 use Rattle.txs_code.proofs.Acts.{and_then, stated, run_more, exec_run}
 use Rattle.txs_machine.proofs.Keeping.{IsKept, Holds, turn_keeps}
 use Rattle.txs_machine.proofs.Served.{other_seen, own_seen, serve_grows, Grown}
@@ -86,7 +87,7 @@ module _ (by : Lower) (fit : FittingToFits) (cells : List StoreCell) where
   -- the actor's last event, and the code's ask on the exchanges before it
   pub record LastAsk (code : ThreadCode) (a : ℕ) (es : List Event) (x : Actor) (hs : List SeenEvent) : Type 0 where
     pub last : SeenEvent
-    pub seen : seen_by w a es ≡ hs ++ last ∷ []
+    pub seen : history_of w a es ≡ hs ++ last ∷ []
     pub exchanges : List Exchange
     pub fits : RepliesFit Out exchanges hs
     pub waiting : ActorState
@@ -95,7 +96,7 @@ module _ (by : Lower) (fit : FittingToFits) (cells : List StoreCell) where
     pub printed : HasPrinted waiting.printed x.at
 
   abbrev pub Last : ThreadCode → ℕ → List Event → Actor → Type 0
-  Last code a es x = (seen_by w a es ≡ []) ⊎ ((hs : List SeenEvent) × LastAsk code a es x hs)
+  Last code a es x = (history_of w a es ≡ []) ⊎ ((hs : List SeenEvent) × LastAsk code a es x hs)
 
   module _ (code : ThreadCode) (a : ℕ) (es : List Event) (x : Actor) where
     stopped : (why : Stop) → Last code a es x → Last code a es (stop why x)
@@ -146,18 +147,18 @@ module _ (by : Lower) (fit : FittingToFits) (cells : List StoreCell) where
 
     module _ (k : ActorInvariant code w a es x) where
       -- an exchange with an event, which is now the last
-      heard_new : (c : Configuration) (s : ActorState) (q : Ask) (r : Reply) (fs : List Event) → x.at ≡ Unfinished c → turn code c ≡ Asking s → (last : SeenEvent) → seen_by w a fs ≡ seen_by w a es ++ last ∷ [] → Last code a fs (hears code c q r x)
+      heard_new : (c : Configuration) (s : ActorState) (q : Ask) (r : Reply) (fs : List Event) → x.at ≡ Unfinished c → turn code c ≡ Asking s → (last : SeenEvent) → history_of w a fs ≡ history_of w a es ++ last ∷ [] → Last code a fs (hears code c q r x)
       heard_new c s q r fs at e last seen =
           let h = subst (λ o. IsStaged k.stage o) at k.staged in
           let waits = turn_waits code c s h.0 e in
           let xs = exchange q r ∷ [] in
           inr (
-            seen_by w a es,
+            history_of w a es,
             record {
               last = last;
               seen = seen;
               exchanges = x.exchanges;
-              fits = fit Out x.exchanges (seen_by w a es) (phase_of w es k.stage) k.told.fits;
+              fits = fit Out x.exchanges (history_of w a es) (phase_of w es k.stage) k.told.fits;
               waiting = s;
               asking = run_more code x.turns (opening code x.exchanges) ∙ ap (λ o. and_then o (turn code)) (k.ran ∙ at) ∙ e;
               consumed = waits.0;
@@ -168,7 +169,7 @@ module _ (by : Lower) (fit : FittingToFits) (cells : List StoreCell) where
       heard : (c : Configuration) (s : ActorState) (q : Ask) (r : Reply) (fs : List Event) → x.at ≡ Unfinished c → turn code c ≡ Asking s → Grown by.stay by.grows by.more w a es fs → Last code a es x → Last code a fs (hears code c q r x)
       heard c s q r fs at e (inl n) l = subst (λ i. Last code a i (hears code c q r x)) (sym n) (heard_same c q r at l)
       heard c s q r fs at e (inr d) l =
-          heard_new c s q r fs at e (seen_as (past_of w es d.0)) (ap (λ i. seen_by w a i) d.1 ∙ own_seen by.stay by.grows by.more w a es d.0)
+          heard_new c s q r fs at e (past_of w es d.0) (ap (λ i. history_of w a i) d.1 ∙ own_seen by.stay by.grows by.more w a es d.0)
 
       replied_last : (c : Configuration) (s : ActorState) (q : Ask) (r : Reply) (fs : List Event) → x.at ≡ Unfinished c → turn code c ≡ Asking s → Grown by.stay by.grows by.more w a es fs → ((IsExchanged r → ⊥) → fs ≡ es) → Last code a es x → Last code a fs (replied code c q r x)
       replied_last c s q (reply.At p) fs at e g n l = heard c s q (reply.At p) fs at e g l
@@ -219,7 +220,7 @@ module _ (by : Lower) (fit : FittingToFits) (cells : List StoreCell) where
   others code a b es fs x n (inl e) l = subst (λ i. Last code b i x) (sym e) l
   others code a b es fs x n (inr d) l = subst (λ i. Last code b i x) (sym d.1) (go l)
     where
-      same : seen_by w b (es ++ event_of a d.0 ∷ []) ≡ seen_by w b es
+      same : history_of w b (es ++ event_of a d.0 ∷ []) ≡ history_of w b es
       same = other_seen by.stay by.grows by.more w b es (event_of a d.0) n
 
       go : Last code b es x → Last code b (es ++ event_of a d.0 ∷ []) x

@@ -24,6 +24,7 @@ use Rattle.txs_actor.specs.PlainActor.{PlainActor, MayAnswer, Stops, answered, a
 use Rattle.txs_actor.specs.Laws.{ActorsRun}
 use Rattle.txs_actor.proofs.Following.{Unstopped, unstopped_if}
 use Rattle.txs_actor.proofs.Saying.{turn_says}
+use Rattle.txs_world.specs.History.{history_of}
 use Rattle.txs_machine.specs.Followed.{ActorsExplained, told}
 use Rattle.txs_actor.specs.Turns.{IsNew, OneStep, Answers, Moves, TurnsFrom, Turns, GoesOnAfter, TurnsOf}
 use Rattle.txs_actor.specs.declared.outcome.Turn.{Turn}
@@ -34,7 +35,7 @@ use Rattle.txs_actor.specs.declared.state.Transaction.{Transaction}
 use Rattle.txs_actor.specs.declared.state.Transaction.TheVariants.{Outside, Restarting, Running}
 use Rattle.txs_machine.specs.Laws.{TurnsAreStaged, ServedAskFits, IsExchanged}
 use Rattle.txs_code.specs.Opening.{given}
-use Rattle.txs_machine.specs.Stages.{Stage, Idle, AsksIn, stage_after, stage_of, phase_of, ToldBy, IsStaged, StagedFrom, seen_by}
+use Rattle.txs_machine.specs.Stages.{Stage, Idle, AsksIn, stage_after, stage_of, phase_of, ToldBy, IsStaged, StagedFrom}
 use Rattle.txs_world.specs.Book.{opening, after, written, most_events}
 use Rattle.txs_world.specs.Store as world
 use Rattle.txs_world.specs.Store.{PlainStore, store_with, Served, serve, disturbed}
@@ -447,5 +448,5 @@ explained_as a outcome.Memory r h = h
 -- an ended actor is explained
 pub ended_explained : ActorsExplained → FittingToFits → (code : PlainCode) (w : World) (k : ℕ) (book : List Event) (a : PlainActor) (o : Outcome) → a.outcome ≡ Some o → RunOver code w k book a → IsExplained code w k book o a.printed
 ended_explained law fit code w k book a o e h p follows =
-    let m = law code h.exchanges (seen_by w k book) a p h.ran (subst (λ n. Follows (code_of code n) p) (sym h.number) follows) (fit Out h.exchanges (seen_by w k book) (phase_of w book h.stage) h.told.fits) in
-    (m.0, explained_as a o (thread_meaning p m.0 (seen_by w k book)) (subst (λ (x : Option Outcome). Explained (told a x (unanswered a)) (thread_meaning p m.0 (seen_by w k book))) e m.2))
+    let m = law code h.exchanges (history_of w k book) a p h.ran (subst (λ n. Follows (code_of code n) p) (sym h.number) follows) (fit Out h.exchanges (history_of w k book) (phase_of w book h.stage) h.told.fits) in
+    (m.0, explained_as a o (thread_meaning p m.0 (history_of w k book)) (subst (λ (x : Option Outcome). Explained (told a x (unanswered a)) (thread_meaning p m.0 (history_of w k book))) e m.2))

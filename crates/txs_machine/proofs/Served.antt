@@ -20,7 +20,7 @@ use Rattle.txs_world.specs.History.{before, past_of, history_of}
 use Rattle.txs_world.specs.Laws.{WorldsStay, HistoryGrows}
 use Rattle.txs_world.specs.Store.{Served, served, event_of, disturbed, looks, commits, serve}
 use Rattle.txs_machine.specs.Run.{exchange}
-use Rattle.txs_machine.specs.Stages.{seen_as, seen_by, Stage, Idle, Open, AsksIn, stage_after, phase_of, MayName, ToldBy}
+use Rattle.txs_machine.specs.Stages.{Stage, Idle, Open, AsksIn, stage_after, phase_of, MayName, ToldBy}
 use Rattle.txs_machine.specs.Laws.{IsExchanged, ServedAskFits, OthersLeaveTold}
 
 pub both_true : (a b : Bool) → a ≡ true → b ≡ true → (a && b) ≡ true
@@ -80,17 +80,13 @@ abbrev pub added : Bool → ℕ → EventKind → Reply → List Event → Serve
 added b a kind r es = if b then served r (es ++ event_of a kind ∷ []) else served reply.Full es
 
 module _ (stay : WorldsStay) (grows : HistoryGrows) (more : OneMoreFits) (w : World) (a : ℕ) (es : List Event) where
-  -- one more event is seen by its actor alone
-  seen_more : (e : Event) → seen_by w a (es ++ e ∷ []) ≡ seen_by w a es ++ map seen_as (before (e.actor == a) (past_of w es e.kind) [])
-  seen_more e = ap (map seen_as) (grows w a es e) ∙ map_append seen_as (history_of w a es) (before (e.actor == a) (past_of w es e.kind) [])
-
   -- another actor's event leaves what an actor has seen
-  pub other_seen : (e : Event) → (e.actor ≡ a → ⊥) → seen_by w a (es ++ e ∷ []) ≡ seen_by w a es
-  other_seen e n = seen_more e ∙ ap (λ b. seen_by w a es ++ map seen_as (before b (past_of w es e.kind) [])) (differ e.actor a n) ∙ append-nil (seen_by w a es)
+  pub other_seen : (e : Event) → (e.actor ≡ a → ⊥) → history_of w a (es ++ e ∷ []) ≡ history_of w a es
+  other_seen e n = grows w a es e ∙ ap (λ b. history_of w a es ++ (before b (past_of w es e.kind) [])) (differ e.actor a n) ∙ append-nil (history_of w a es)
 
   -- an event of its own is the last that it has seen
-  pub own_seen : (kind : EventKind) → seen_by w a (es ++ event_of a kind ∷ []) ≡ seen_by w a es ++ seen_as (past_of w es kind) ∷ []
-  own_seen kind = seen_more (event_of a kind) ∙ ap (λ b. seen_by w a es ++ map seen_as (before b (past_of w es kind) [])) (number-itself a)
+  pub own_seen : (kind : EventKind) → history_of w a (es ++ event_of a kind ∷ []) ≡ history_of w a es ++ past_of w es kind ∷ []
+  own_seen kind = grows w a es (event_of a kind) ∙ ap (λ b. history_of w a es ++ (before b (past_of w es kind) [])) (number-itself a)
 
   other_phase : (e : Event) (st : Stage) → MayName es a st → phase_of w (es ++ e ∷ []) st ≡ phase_of w es st
   other_phase e Idle n = refl
@@ -103,7 +99,7 @@ module _ (stay : WorldsStay) (grows : HistoryGrows) (more : OneMoreFits) (w : Wo
   -- by another actor's event
   pub other_told : (e : Event) (xs : List Exchange) (st : Stage) → (e.actor ≡ a → ⊥) → ToldBy w a es xs st → ToldBy w a (es ++ e ∷ []) xs st
   other_told e xs st n t = record {
-    fits = subst (λ l. RepliesFitTo Out xs l (phase_of w (es ++ e ∷ []) st)) (sym (other_seen e n)) (subst (λ q. RepliesFitTo Out xs (seen_by w a es) q) (sym (other_phase e st t.names)) t.fits);
+    fits = subst (λ l. RepliesFitTo Out xs l (phase_of w (es ++ e ∷ []) st)) (sym (other_seen e n)) (subst (λ q. RepliesFitTo Out xs (history_of w a es) q) (sym (other_phase e st t.names)) t.fits);
     names = other_names e st (differ e.actor a n) t.names;
   }
 
@@ -113,21 +109,21 @@ module _ (stay : WorldsStay) (grows : HistoryGrows) (more : OneMoreFits) (w : Wo
     ServedFits st q r = IsExchanged r.reply → ToldBy w a r.book (xs ++ exchange q r.reply ∷ []) (stage_after st q r.reply)
 
     -- by an event of its own
-    own_told : (kind : EventKind) (q : Ask) (r : Reply) (st : Stage) → ToldBy w a es xs st → ReplyFitsTo (phase_of w es st) (exchange q r) (seen_as (past_of w es kind) ∷ []) Out → ToldBy w a (es ++ event_of a kind ∷ []) (xs ++ exchange q r ∷ []) Idle
+    own_told : (kind : EventKind) (q : Ask) (r : Reply) (st : Stage) → ToldBy w a es xs st → ReplyFitsTo (phase_of w es st) (exchange q r) (past_of w es kind ∷ []) Out → ToldBy w a (es ++ event_of a kind ∷ []) (xs ++ exchange q r ∷ []) Idle
     own_told kind q r st t m = record {
-      fits = subst (λ l. RepliesFitTo Out (xs ++ exchange q r ∷ []) l Out) (sym (own_seen kind)) (more Out xs (seen_by w a es) (phase_of w es st) (exchange q r) (seen_as (past_of w es kind) ∷ []) Out t.fits m);
+      fits = subst (λ l. RepliesFitTo Out (xs ++ exchange q r ∷ []) l Out) (sym (own_seen kind)) (more Out xs (history_of w a es) (phase_of w es st) (exchange q r) (past_of w es kind ∷ []) Out t.fits m);
       names = tt;
     }
 
     -- an event, if there is room for it
-    added_fits : (b : Bool) (kind : EventKind) (q : Ask) (r : Reply) (st : Stage) → ToldBy w a es xs st → ReplyFitsTo (phase_of w es st) (exchange q r) (seen_as (past_of w es kind) ∷ []) Out → stage_after st q r ≡ Idle → ServedFits st q (added b a kind r es)
+    added_fits : (b : Bool) (kind : EventKind) (q : Ask) (r : Reply) (st : Stage) → ToldBy w a es xs st → ReplyFitsTo (phase_of w es st) (exchange q r) (past_of w es kind ∷ []) Out → stage_after st q r ≡ Idle → ServedFits st q (added b a kind r es)
     added_fits true kind q r st t m e = λ ok. subst (λ i. ToldBy w a (es ++ event_of a kind ∷ []) (xs ++ exchange q r ∷ []) i) (sym e) (own_told kind q r st t m)
     added_fits false kind q r st t m e = λ ok. absurd ok
 
     -- without an event
     same_told : (q : Ask) (r : Reply) (st next : Stage) → ToldBy w a es xs st → MayName es a next → ReplyFitsTo (phase_of w es st) (exchange q r) [] (phase_of w es next) → ToldBy w a es (xs ++ exchange q r ∷ []) next
     same_told q r st next t n m = record {
-      fits = subst (λ l. RepliesFitTo Out (xs ++ exchange q r ∷ []) l (phase_of w es next)) (append-nil (seen_by w a es)) (more Out xs (seen_by w a es) (phase_of w es st) (exchange q r) [] (phase_of w es next) t.fits m);
+      fits = subst (λ l. RepliesFitTo Out (xs ++ exchange q r ∷ []) l (phase_of w es next)) (append-nil (history_of w a es)) (more Out xs (history_of w a es) (phase_of w es st) (exchange q r) [] (phase_of w es next) t.fits m);
       names = n;
     }
 

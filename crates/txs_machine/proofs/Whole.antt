@@ -14,12 +14,13 @@ use Rattle.txs_follows.specs.RepliesFitTo.{FittingToFits}
 use Rattle.txs_world.specs.Book as world
 use Rattle.txs_world.specs.Book.{most_events}
 use Rattle.txs_world.specs.declared.cell.StoreCell.{StoreCell}
+use Rattle.txs_world.specs.History.{history_of}
 use Rattle.txs_machine.specs.Explains.{outcome_at, ActorExplained, RunExplained, code_or_none, code_of, ProgramExplained}
 use Rattle.txs_machine.specs.Invariant.{ActorInvariant, RunInvariant, OpeningHolds, PlayHolds, InvariantExplains}
 use Rattle.txs_machine.specs.Lawful.{RunAsksLawful}
 use Rattle.txs_machine.specs.Printed.{RunPrints}
 use Rattle.txs_machine.specs.Run.{Actor, State, Play, opens, play, plays, plays_from}
-use Rattle.txs_machine.specs.Stages.{seen_by, Stage, Idle, IsStaged, phase_of}
+use Rattle.txs_machine.specs.Stages.{Stage, Idle, IsStaged, phase_of}
 use Rattle.txs_code.proofs.Acts.{and_then, stated, exec_run}
 use Rattle.txs_machine.proofs.Asks.{opens_known, all_lawful}
 use Rattle.txs_machine.proofs.Lasts.{plays_last, printed_before}
@@ -51,7 +52,7 @@ then_outcome Stuck = refl
 
 actor_explained : FittingToFits → (code : ThreadCode) (w : World) (a : ℕ) (es : List Event) (x : Actor) → ActorInvariant code w a es x → ActorExplained code w a es x
 actor_explained fit code w a es x k =
-    let seen = seen_by w a es in
+    let seen = history_of w a es in
     let f = fit Out x.exchanges seen (phase_of w es k.stage) k.told.fits in
     let e : target code x.turns x.exchanges ≡ outcome_at x.at = exec_run code x.turns (opening code x.exchanges) ∙ ap (λ o. and_then o stated) k.ran ∙ then_outcome x.at in
     record {

@@ -13,8 +13,8 @@ use Rattle.txs_follows.specs.RepliesFit.{Out, RepliesFit, Explained}
 use Rattle.txs_world.specs.Book as world
 use Rattle.txs_world.specs.Book.{Legal, Undisturbed}
 use Rattle.txs_world.specs.declared.cell.StoreCell.{StoreCell}
+use Rattle.txs_world.specs.History.{history_of}
 use Rattle.txs_machine.specs.Run.{Actor, State, Play, plays}
-use Rattle.txs_machine.specs.Stages.{seen_by}
 
 -- where an actor is, without its configuration
 abbrev pub outcome_at : Turned Configuration → Outcome
@@ -28,8 +28,8 @@ outcome_at Stuck = Stuck
 -- book, and each source that the code follows means just these events, with what was printed and how the actor ended.
 pub record ActorExplained (code : ThreadCode) (w : World) (a : ℕ) (es : List Event) (x : Actor) : Type 0 where
   pub ran : run code x.turns (opening code x.exchanges) ≡ x.at
-  pub fits : RepliesFit Out x.exchanges (seen_by w a es)
-  pub means : (p : ThreadSource) → Follows code p → Explained (outcome_at x.at) (thread_meaning p x.turns (seen_by w a es))
+  pub fits : RepliesFit Out x.exchanges (history_of w a es)
+  pub means : (p : ThreadSource) → Follows code p → Explained (outcome_at x.at) (thread_meaning p x.turns (history_of w a es))
 
 -- A run is explained: its book is legal, no ref that a commit set was written between its read point and its place, and each actor is explained.
 pub record Explains (cells : List StoreCell) (codes : ℕ → ThreadCode) (st : State) : Type 0 where
@@ -56,7 +56,7 @@ pub record ProgramExplains (p : PlainProgram) (cells : List StoreCell) (st : Sta
   pub legal : Legal cells st.book
   pub undisturbed : Undisturbed st.book
   pub threads : (i : ℕ) (t : PlainThread) → nth p.threads i ≡ Some t
-      → Explained (outcome_at (st.actors i).at) (thread_meaning (source_of p t) (st.actors i).turns (seen_by (world.opening cells) i st.book))
+      → Explained (outcome_at (st.actors i).at) (thread_meaning (source_of p t) (st.actors i).turns (history_of (world.opening cells) i st.book))
 
 -- each program that the code follows explains every run of the code
 abbrev pub ProgramExplained : Type 0

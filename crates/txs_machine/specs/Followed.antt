@@ -3,7 +3,8 @@ use Rattle.std.specs.Prelude.{◌≡◌, ℕ, ◌≤◌, List, Option, Some, Non
 use Rattle.txs_asks.specs.Ask.{Exchange}
 use Rattle.txs_asks.specs.declared.ask.Ask.{Ask}
 use Rattle.txs_asks.specs.declared.event.Outcome.{Outcome}
-use Rattle.txs_tree.specs.Thread.{SeenEvent, thread_meaning}
+use Rattle.txs_asks.specs.SeenEvent.{SeenEvent}
+use Rattle.txs_tree.specs.Thread.{thread_meaning}
 use Rattle.txs_tree.specs.Tree.{ThreadSource}
 use Rattle.txs_code.specs.Machine.{Asking}
 use Rattle.txs_code.specs.Machine as machine

@@ -3,7 +3,8 @@ use Rattle.std.specs.Prelude.{◌≡◌, ℕ, List, [], ◌∷◌, ◌++◌}
 use Rattle.std.proofs.Common.{◌⊎◌}
 use Rattle.txs_value.specs.Cells.{World}
 use Rattle.txs_asks.specs.declared.event.Event.{Event}
-use Rattle.txs_tree.specs.Thread.{SeenEvent, thread_meaning}
+use Rattle.txs_asks.specs.SeenEvent.{SeenEvent}
+use Rattle.txs_tree.specs.Thread.{thread_meaning}
 use Rattle.txs_tree.specs.Tree.{ThreadSource}
 use Rattle.txs_code.specs.ActorState.{ActorState}
 use Rattle.txs_code.specs.Machine.{ThreadCode, Configuration, Turned, Ended, Failed, Asking, Unfinished, Stuck, state}
@@ -11,8 +12,8 @@ use Rattle.txs_follows.specs.Follows.{Follows}
 use Rattle.txs_follows.specs.RepliesFit.{halted, HasEaten}
 use Rattle.txs_world.specs.Book as world
 use Rattle.txs_world.specs.declared.cell.StoreCell.{StoreCell}
+use Rattle.txs_world.specs.History.{history_of}
 use Rattle.txs_machine.specs.Run.{Actor, Play, plays}
-use Rattle.txs_machine.specs.Stages.{seen_by}
 
 -- the state has printed this, and maybe more after it
 abbrev pub Prints : List ℕ → ActorState → Type 0
@@ -32,7 +33,7 @@ PrintedOn code x hs = (p : ThreadSource) → Follows code p → (out : List ℕ)
 
 -- an actor that did something has printed what the source means on all of it but the last
 abbrev pub PrintedBeforeLast : ThreadCode → World → ℕ → List Event → Actor → Type 0
-PrintedBeforeLast code w a es x = (seen_by w a es ≡ []) ⊎ ((hs : List SeenEvent) × (e : SeenEvent) × (seen_by w a es ≡ hs ++ e ∷ []) × PrintedOn code x hs)
+PrintedBeforeLast code w a es x = (history_of w a es ≡ []) ⊎ ((hs : List SeenEvent) × (e : SeenEvent) × (history_of w a es ≡ hs ++ e ∷ []) × PrintedOn code x hs)
 
 -- so it is of each actor of a run, also of one that was stopped
 abbrev pub RunPrints : Type 0

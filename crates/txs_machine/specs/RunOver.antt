@@ -18,9 +18,10 @@ use Rattle.txs_actor.specs.PlainActor.{PlainActor, HasRun, MayAnswer, Stops, ans
 use Rattle.txs_world.specs.Book.{most_events, opening}
 use Rattle.txs_world.specs.Store.{is_lawful}
 use Rattle.txs_world.specs.declared.cell.StoreCell.{StoreCell}
+use Rattle.txs_world.specs.History.{history_of}
 use Rattle.txs_machine.specs.declared.run.RunError.{RunError}
 use Rattle.txs_machine.specs.declared.run.RunError.TheVariants.{Mismatch, Memory}
-use Rattle.txs_machine.specs.Stages.{Stage, AsksIn, stage_after, stage_of, ToldBy, IsStaged, seen_by}
+use Rattle.txs_machine.specs.Stages.{Stage, AsksIn, stage_after, stage_of, ToldBy, IsStaged}
 
 -- an actor is in this stage; one that asks is in the next stage after each answer
 abbrev pub IsIn : PlainActor → Stage → Option Outcome → Option Ask → Type 0
@@ -56,7 +57,7 @@ ExplainsEnd o out r = Explained (standing (Some o) (stating out 0 []) (stating o
 
 -- each source that the thread's code follows means just what the actor did in the book, for some bound on its loops, with what it printed and how it ended
 abbrev pub IsExplained : PlainCode → World → ℕ → List Event → Outcome → List ℕ → Type 0
-IsExplained code w k book o out = (p : ThreadSource) → Follows (code_of code k) p → (m : ℕ) × ExplainsEnd o out (thread_meaning p m (seen_by w k book))
+IsExplained code w k book o out = (p : ThreadSource) → Follows (code_of code k) p → (m : ℕ) × ExplainsEnd o out (thread_meaning p m (history_of w k book))
 
 -- an actor that may make so many steps, has made no more, and has made them all where it was stopped for that
 pub record IsLimited (limit : ℕ) (a : PlainActor) : Type 0 where

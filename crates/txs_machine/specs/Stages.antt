@@ -1,5 +1,5 @@
 -- In which order an actor asks, and what the book tells it.
-use Rattle.std.specs.Prelude.{◌≡◌, ℕ, true, List, [], ◌∷◌, map, Some}
+use Rattle.std.specs.Prelude.{◌≡◌, ℕ, true, List, [], ◌∷◌, Some}
 use Rattle.txs_asks.specs.Ask.{Exchange}
 use Rattle.txs_value.specs.Cells.{World}
 use Rattle.txs_asks.specs.declared.ask.Ask.{Ask}
@@ -7,26 +7,13 @@ use Rattle.txs_asks.specs.declared.ask.Ask.TheVariants as ask
 use Rattle.txs_asks.specs.declared.ask.Reply.{Reply}
 use Rattle.txs_asks.specs.declared.ask.Reply.TheVariants as reply
 use Rattle.txs_asks.specs.declared.event.Event.{Event}
-use Rattle.txs_tree.specs.Thread.{SeenEvent, Read, Committed, Retried, Aborted}
 use Rattle.txs_code.specs.Machine.{ThreadCode, Transaction, Outside, Restarting, Running, Configuration, configuration, Turned, Ended, Failed, Asking, Unfinished, Stuck, state, turn}
 use Rattle.txs_follows.specs.RepliesFit.{Phase, Out, In}
 use Rattle.txs_follows.specs.RepliesFitTo.{RepliesFitTo}
 use Rattle.txs_world.specs.Book.{after, may_name}
-use Rattle.txs_world.specs.History.{PastEvent, history_of}
-use Rattle.txs_world.specs.History as past
+use Rattle.txs_world.specs.History.{history_of}
 use Rattle.txs_machine.specs.Run.{exchange}
 use Rattle.txs_code.specs.Opening.{given}
-
--- an event of the book's history as the thread's meaning takes it
-abbrev pub seen_as : PastEvent → SeenEvent
-seen_as (past.WasRead c C) = Read c C
-seen_as (past.Committed R ws) = Committed R ws
-seen_as past.Retried = Retried
-seen_as (past.Aborted R) = Aborted R
-
--- what the actor did, each event with its worlds, in the book's order
-abbrev pub seen_by : World → ℕ → List Event → List SeenEvent
-seen_by w a book = map seen_as (history_of w a book)
 
 -- no transaction, or one with this read point
 pub data Stage : Type 0 where
@@ -74,7 +61,7 @@ MayName book a (Open p) = may_name book a p ≡ true
 
 -- An actor was told these exchanges by the book: they fit what it did, up to its stage, whose read point it may name.
 pub record ToldBy (w : World) (a : ℕ) (book : List Event) (exchanges : List Exchange) (st : Stage) : Type 0 where
-  pub fits : RepliesFitTo Out exchanges (seen_by w a book) (phase_of w book st)
+  pub fits : RepliesFitTo Out exchanges (history_of w a book) (phase_of w book st)
   pub names : MayName book a st
 
 -- a turn whose replies are all consumed, in this stage where it goes on

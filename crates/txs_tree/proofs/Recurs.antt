@@ -16,7 +16,8 @@ use Rattle.txs_tree.specs.Known.{Known}
 use Rattle.txs_tree.specs.Meaning.{Completion, Completes, Recurs, Faults, Retries, Waits, OutOfTurns, Invalid, bind, again, give, result_of, turns, Effects, eval, eval_all, eval_let, eval_do, call_at}
 use Rattle.txs_tree.specs.Setting.{Setting}
 use Rattle.txs_tree.specs.Sound.{SoundTree, SoundDo, in_thread}
-use Rattle.txs_tree.specs.Thread.{SeenEvent, Read, Committed, Retried, Aborted, ThreadState, on_events, eats_read, reads, eats_tx, commits, aborts}
+use Rattle.txs_asks.specs.SeenEvent.{SeenEvent, Read, Committed, Retried, Aborted}
+use Rattle.txs_tree.specs.Thread.{ThreadState, on_events, eats_read, reads, eats_tx, commits, aborts}
 use Rattle.txs_tree.specs.Transaction.{TxState, tx_meaning}
 use Rattle.txs_tree.specs.Tree.{Tree, Const, Local, If, Do, Let, Loop, Recur, Core, Call, VectorOf, Println, Dosync, Deref, Alter, Trees, none, more, count, PlainFunction}
 use Rattle.txs_tree.specs.View.{functions_of}

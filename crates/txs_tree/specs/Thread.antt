@@ -1,6 +1,7 @@
 -- What a thread means on a list of events, each with its world.
 use Rattle.std.specs.Prelude.{ℕ, zero, suc, false, List, [], ◌∷◌, ◌++◌, length, if◌then◌else◌, Result, Ok, Err}
 use Rattle.txs_asks.specs.Ask.{Writes, same_writes, same_cell}
+use Rattle.txs_asks.specs.SeenEvent.{SeenEvent, Read, Committed, Retried, Aborted}
 use Rattle.txs_value.specs.Printed.{printed_line}
 use Rattle.txs_value.specs.Limits.{reruns}
 use Rattle.txs_value.specs.Places.{fault_at}
@@ -14,13 +15,6 @@ use Rattle.txs_value.specs.Cells.{World, any_cell}
 use Rattle.txs_tree.specs.Meaning.{Completion, Completes, Recurs, Faults, Retries, Waits, OutOfTurns, Invalid, closed, Effects, eval, call_at}
 use Rattle.txs_tree.specs.Transaction.{TxState, tx_meaning}
 use Rattle.txs_tree.specs.Tree.{PlainFunction, ThreadSource}
-
--- an event as its actor saw it, with its worlds: R at the read point, C at its own place
-pub data SeenEvent : Type 0 where
-  Read : (cell : CellId) (C : World) → SeenEvent
-  Committed : (R : World) (writes : Writes) → SeenEvent
-  Retried : SeenEvent
-  Aborted : (R : World) → SeenEvent
 
 -- the events to come, and the bytes that were printed
 pub record ThreadState : Type 0 where

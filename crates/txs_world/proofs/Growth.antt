@@ -3,7 +3,8 @@ use Rattle.std.proofs.Common.{◌≡◌, ◌≤◌, ℕ, zero, suc, Bool, true, 
 use Rattle.txs_value.specs.Cells.{World}
 use Rattle.txs_asks.specs.declared.event.Event.{Event}
 use Rattle.txs_world.specs.Book.{changed, after, writes_to, written, all_before, Each}
-use Rattle.txs_world.specs.History.{PastEvent, past_of, before, history_from}
+use Rattle.txs_asks.specs.SeenEvent.{SeenEvent}
+use Rattle.txs_world.specs.History.{past_of, before, history_from}
 
 append_nil : {A : Type 0} (xs : List A) → xs ++ [] ≡ xs
 append_nil [] = refl
@@ -72,7 +73,7 @@ pub each_more : (P : List Event → Event → Type 0) (done es : List Event) (e 
 each_more P done [] e h p = (subst (λ l. P l e) (append_nil done) p, tt)
 each_more P done (d ∷ es) e h p = (h.0, each_more P (done ++ d ∷ []) es e h.1 (subst (λ l. P l e) (sym (append_assoc done (d ∷ []) es)) p))
 
-before_append : (b : Bool) (x : PastEvent) (xs ys : List PastEvent) → before b x (xs ++ ys) ≡ before b x xs ++ ys
+before_append : (b : Bool) (x : SeenEvent) (xs ys : List SeenEvent) → before b x (xs ++ ys) ≡ before b x xs ++ ys
 before_append true x xs ys = refl
 before_append false x xs ys = refl
 

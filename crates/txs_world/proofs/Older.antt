@@ -9,7 +9,8 @@ use Rattle.txs_asks.specs.declared.event.EventKind.{EventKind}
 use Rattle.txs_asks.specs.declared.event.EventKind.TheVariants.{Read, Commit, Retry, Fail}
 use Rattle.txs_value.specs.declared.value.Value.{Value}
 use Rattle.txs_world.specs.Book.{value_or, changed, after, is_there, writes_to, written, all_before, may_name, LegalKind, Each}
-use Rattle.txs_world.specs.History.{WasRead, Committed, Aborted, past_of, before, history_from, past_at, replayed_from}
+use Rattle.txs_asks.specs.SeenEvent as seen
+use Rattle.txs_world.specs.History.{past_of, before, history_from, past_at, replayed_from}
 use Rattle.txs_world.specs.declared.cell.StoreCell.{StoreCell}
 use Rattle.txs_world.proofs.Growth.{after_front}
 
@@ -49,10 +50,10 @@ pub named : (done : List Event) (a p : ℕ) → may_name done a p ≡ true → p
 named done a p h = let le : nat_le p (length done) ≡ true = (both (nat_le p (length done)) (all_before a p done) h).0 in grind (arith, nat_tests, le)
 
 same_event : (cells : List StoreCell) (w : World) (a : ℕ) (done rest : List Event) (d : EventKind) → LegalKind cells done a d → past_of w done d ≡ past_at w (done ++ rest) (length done) d
-same_event cells w a done rest (Read c) h = ap (WasRead c) (sym (after_front w done rest (length done) (omega arith)))
-same_event cells w a done rest (Commit at ws) h = ap (λ R. Committed R ws) (sym (after_front w done rest at (named done a at h.2)))
+same_event cells w a done rest (Read c) h = ap (seen.Read c) (sym (after_front w done rest (length done) (omega arith)))
+same_event cells w a done rest (Commit at ws) h = ap (λ R. seen.Committed R ws) (sym (after_front w done rest at (named done a at h.2)))
 same_event cells w a done rest (Retry p c) h = refl
-same_event cells w a done rest (Fail at) h = ap Aborted (sym (after_front w done rest at (named done a at h)))
+same_event cells w a done rest (Fail at) h = ap seen.Aborted (sym (after_front w done rest at (named done a at h)))
 
 pub whole_history : (cells : List StoreCell) (w : World) (a : ℕ) (done es : List Event) → Each (λ l e. LegalKind cells l e.actor e.kind) done es
     → history_from w a done es ≡ replayed_from w a (done ++ es) (length done) es
