@@ -5,7 +5,7 @@ use Rattle.txs_reader.specs.declared.form.Form.{Form}
 use Rattle.txs_reader.specs.Tree.{tree, leaf, symbol, first}
 use Rattle.txs_names.specs.declared.names.FormName.TheVariants.{Ns, Ref}
 use Rattle.txs_resolve.specs.Expressions.{Answer, is_symbol}
-use Rattle.txs_resolve.specs.Given.{Gives, GivesLocals}
+use Rattle.txs_resolve.specs.Given.{Gives, GivesLocals, Leaves}
 use Rattle.txs_resolve.specs.Names.{named_form, names_space, ref_of, only_literal}
 use Rattle.txs_resolve.specs.declared.error.ResolveError.{ResolveError}
 use Rattle.txs_resolve.specs.declared.error.Stop.{Stop}
@@ -47,6 +47,10 @@ one_opening [] d h = absurd (omega (arith, h))
 one_opening (f ∷ []) d h = refl
 one_opening (f ∷ g ∷ fs) d h = absurd (omega (arith, h))
 
-pub failed_binding : {A B : Type 0} (f : A → B) (s : Stop) (names : List (List ℕ)) (a : Answer (List (List ℕ))) (b : Answer B) → GivesLocals (Err s) names a → ((e : ResolveError) → a ≡ Err e → b ≡ Err e) → Gives f (Err s) b
-failed_binding f (Refused e) names a b h go = go e h
-failed_binding f Memory names a b h go = tt
+pub failed_binding : {C : Type 0} (s : Stop) (names : List (List ℕ)) (now : C) (a : Answer (List (List ℕ))) (b : Answer C) → GivesLocals (Err s) names a → ((e : ResolveError) → a ≡ Err e → b ≡ Err e) → Leaves (Err s) now b
+failed_binding (Refused e) names now a b h go = go e h
+failed_binding Memory names now a b h go = tt
+
+pub failed_leaves : {A B C : Type 0} (f : A → B) (s : Stop) (now : C) (a : Answer B) (b : Answer C) → Gives f (Err s) a → ((e : ResolveError) → a ≡ Err e → b ≡ Err e) → Leaves (Err s) now b
+failed_leaves f (Refused e) now a b h go = go e h
+failed_leaves f Memory now a b h go = tt

@@ -6,7 +6,9 @@ use Rattle.txs_reader.specs.declared.form.Bracket.TheVariants.{Round, Square}
 use Rattle.txs_reader.specs.declared.form.Form.{Form, Group}
 use Rattle.txs_reader.proofs.Trees.{tree-Group}
 use Rattle.txs_reader.specs.Tree.{tree, first, parts, place, Trees as Forms}
-use Rattle.txs_tree.specs.Tree.{Tree, Trees, Const, Do, Deref, Dosync, Alter, If, more}
+use Rattle.txs_tree.specs.Tree.{Tree, Trees, Const, Do, Deref, Dosync, Alter, If, Let, more}
+use Rattle.txs_tree.specs.Tree.{none as no_trees}
+use Rattle.txs_resolve.specs.Choices.{both, choice_of, hidden_choice, hidden_of}
 use Rattle.txs_value.specs.declared.value.Value.TheVariants.{Nil}
 use Rattle.txs_resolve.specs.declared.error.ResolveError.{ResolveError}
 use Rattle.txs_resolve.specs.declared.error.ResolveErrorKind.TheVariants.{BadForm, TooMany}
@@ -49,6 +51,43 @@ three_third a b c f x y e p q r = ap (λ o. three o b c f) p ∙ ap (λ o. three
 pub three_ok : {A B C D : Type 0} (a : Answer A) (b : Answer B) (c : Answer C) (f : A → B → C → D) (x : A) (y : B) (z : C) → a ≡ Ok x → b ≡ Ok y → c ≡ Ok z → three a b c f ≡ Ok (f x y z)
 three_ok a b c f x y z p q r = ap (λ o. three o b c f) p ∙ ap (λ o. three (Ok x) o c f) q ∙ ap (λ o. three (Ok x) (Ok y) o f) r
 
+-- ---- choices
+
+grouped : {A B C D : Type 0} (a : Answer A) (b : Answer B) (c : Answer C) (f : A → B → C → D) → three a b c f ≡ (a >>= λ x. both b c >>= λ p. Ok (f x p.0 p.1))
+grouped (Err e) b c f = refl
+grouped (Ok x) (Err e) c f = refl
+grouped (Ok x) (Ok y) (Err e) f = refl
+grouped (Ok x) (Ok y) (Ok z) f = refl
+
+-- a test, as the body that it is alone
+pub test_is : (scope : Scope) (s i : Spot) (t : Form) (ts : List Form) → i ≡ spot_at (s.room - 1) s.span true → ts ≡ t ∷ [] → named_body scope i (plain ts) ≡ named scope (s.room - 1) true (tree t)
+test_is scope s i t ts p q = ap (λ (x : Spot). named_body scope x (plain ts)) p ∙ ap (λ l. named_body scope (spot_at (s.room - 1) s.span true) (plain l)) q
+
+pub both_first : {A B : Type 0} (a : Answer A) (b : Answer B) (e : ResolveError) → a ≡ Err e → both a b ≡ Err e
+both_first a b e p = ap (λ o. both o b) p
+
+pub both_second : {A B : Type 0} (a : Answer A) (b : Answer B) (x : A) (e : ResolveError) → a ≡ Ok x → b ≡ Err e → both a b ≡ Err e
+both_second a b x e p q = ap (λ o. both o b) p ∙ ap (both (Ok x)) q
+
+pub both_ok : {A B : Type 0} (a : Answer A) (b : Answer B) (x : A) (y : B) → a ≡ Ok x → b ≡ Ok y → both a b ≡ Ok (x, y)
+both_ok a b x y p q = ap (λ o. both o b) p ∙ ap (both (Ok x)) q
+
+module _ (turned : Bool) (s : Spot) (test : Answer Tree) (branches : Answer (Tree × Tree)) where
+  abbrev choice_whole : Answer Tree → Answer (Tree × Tree) → Answer Tree
+  choice_whole t b = t >>= λ x. b >>= λ y. Ok (choice_node turned x y.0 y.1 (spot_mark s))
+
+  pub choice_roomless : s.room ≡ 0 → choice_of turned s test branches ≡ refuse TooMany s.span
+  choice_roomless room = roomless s (choice_whole test branches) room
+
+  pub choice_no_first : (s.room ≡ 0 → ⊥) → (e : ResolveError) → test ≡ Err e → choice_of turned s test branches ≡ Err e
+  choice_no_first some e p = roomy s (choice_whole test branches) some ∙ ap (λ o. choice_whole o branches) p
+
+  pub choice_no_second : (s.room ≡ 0 → ⊥) → (x : Tree) (e : ResolveError) → test ≡ Ok x → branches ≡ Err e → choice_of turned s test branches ≡ Err e
+  choice_no_second some x e p q = roomy s (choice_whole test branches) some ∙ ap (λ o. choice_whole o branches) p ∙ ap (choice_whole (Ok x)) q
+
+  pub choice_made : (s.room ≡ 0 → ⊥) → (x : Tree) (y : Tree × Tree) → test ≡ Ok x → branches ≡ Ok y → choice_of turned s test branches ≡ Ok (choice_node turned x y.0 y.1 (spot_mark s))
+  choice_made some x y p q = roomy s (choice_whole test branches) some ∙ ap (λ o. choice_whole o branches) p ∙ ap (choice_whole (Ok x)) q
+
 -- ---- if
 
 few : (fs : List Form) → length fs ≤ 1 → at_most_one (plain fs) ≡ true
@@ -68,26 +107,14 @@ module _ (turned : Bool) (scope : Scope) (s : Spot) (args parts rest : List Form
   if_cons : named_if turned scope s (plain args) ≡ cond (at_most_one (plain rest)) (in_room s if_whole) (refuse BadForm s.span)
   if_cons = ap (λ l. named_if turned scope s (plain l)) (is ∙ ap (λ (l : List Form). t ∷ l) is_too)
 
-  pub if_parts : length rest ≤ 1 → (s.room ≡ 0 → ⊥) → named_if turned scope s (plain args) ≡ if_whole
-  if_parts le room = if_cons ∙ ap (λ b. cond b (in_room s if_whole) (refuse BadForm s.span)) (few rest le) ∙ roomy s if_whole room
-
   pub if_many : 1 < length rest → named_if turned scope s (plain args) ≡ refuse BadForm s.span
   if_many lt = if_cons ∙ ap (λ b. cond b (in_room s if_whole) (refuse BadForm s.span)) (many rest lt)
 
-  pub if_roomless : length rest ≤ 1 → s.room ≡ 0 → named_if turned scope s (plain args) ≡ refuse TooMany s.span
-  if_roomless le room = if_cons ∙ ap (λ b. cond b (in_room s if_whole) (refuse BadForm s.span)) (few rest le) ∙ roomless s if_whole room
-
-  pub if_no_first : (le : length rest ≤ 1) (some : s.room ≡ 0 → ⊥) (e : ResolveError) → named scope (s.room - 1) true (tree t) ≡ Err e → named_if turned scope s (plain args) ≡ Err e
-  if_no_first le some e p = if_parts le some ∙ three_first (named scope (s.room - 1) true (tree t)) (named scope (s.room - 1) s.wanted (tree o)) (named_body scope (below 1 s) (plain rest)) (λ x y z. choice_node turned x y z (spot_mark s)) e p
-
-  pub if_no_second : (le : length rest ≤ 1) (some : s.room ≡ 0 → ⊥) (x : Tree) (e : ResolveError) → named scope (s.room - 1) true (tree t) ≡ Ok x → named scope (s.room - 1) s.wanted (tree o) ≡ Err e → named_if turned scope s (plain args) ≡ Err e
-  if_no_second le some x e p1 q1 = if_parts le some ∙ three_second (named scope (s.room - 1) true (tree t)) (named scope (s.room - 1) s.wanted (tree o)) (named_body scope (below 1 s) (plain rest)) (λ x y z. choice_node turned x y z (spot_mark s)) x e p1 q1
-
-  pub if_no_third : (le : length rest ≤ 1) (some : s.room ≡ 0 → ⊥) (x : Tree) (y : Tree) (e : ResolveError) → named scope (s.room - 1) true (tree t) ≡ Ok x → named scope (s.room - 1) s.wanted (tree o) ≡ Ok y → named_body scope (below 1 s) (plain rest) ≡ Err e → named_if turned scope s (plain args) ≡ Err e
-  if_no_third le some x y e p1 q1 r1 = if_parts le some ∙ three_third (named scope (s.room - 1) true (tree t)) (named scope (s.room - 1) s.wanted (tree o)) (named_body scope (below 1 s) (plain rest)) (λ x y z. choice_node turned x y z (spot_mark s)) x y e p1 q1 r1
-
-  pub if_made : (le : length rest ≤ 1) (some : s.room ≡ 0 → ⊥) (x : Tree) (y : Tree) (z : Tree) → named scope (s.room - 1) true (tree t) ≡ Ok x → named scope (s.room - 1) s.wanted (tree o) ≡ Ok y → named_body scope (below 1 s) (plain rest) ≡ Ok z → named_if turned scope s (plain args) ≡ Ok (choice_node turned x y z (spot_mark s))
-  if_made le some x y z p1 q1 r1 = if_parts le some ∙ three_ok (named scope (s.room - 1) true (tree t)) (named scope (s.room - 1) s.wanted (tree o)) (named_body scope (below 1 s) (plain rest)) (λ x y z. choice_node turned x y z (spot_mark s)) x y z p1 q1 r1
+  pub if_choice : (ones : List Form) → ones ≡ o ∷ [] → length rest ≤ 1 → named_if turned scope s (plain args) ≡ choice_of turned s (named scope (s.room - 1) true (tree t)) (both (named_body scope (below 1 s) (plain ones)) (named_body scope (below 1 s) (plain rest)))
+  if_choice ones is_one le =
+      if_cons ∙ ap (λ b. cond b (in_room s if_whole) (refuse BadForm s.span)) (few rest le)
+      ∙ ap (in_room s) (grouped (named scope (s.room - 1) true (tree t)) (named scope (s.room - 1) s.wanted (tree o)) (named_body scope (below 1 s) (plain rest)) (λ x y z. choice_node turned x y z (spot_mark s)))
+      ∙ ap (λ l. choice_of turned s (named scope (s.room - 1) true (tree t)) (both (named_body scope (below 1 s) (plain l)) (named_body scope (below 1 s) (plain rest)))) (sym is_one)
 
 -- ---- cond
 
@@ -98,49 +125,31 @@ module _ (scope : Scope) (s : Spot) (args parts rest : List Form) (t o : Form) (
   cond_cons : named_cond scope s (plain args) ≡ in_room s cond_whole
   cond_cons = ap (λ l. named_cond scope s (plain l)) (is ∙ ap (λ (l : List Form). t ∷ l) is_too)
 
-  pub cond_parts : (s.room ≡ 0 → ⊥) → named_cond scope s (plain args) ≡ cond_whole
-  cond_parts room = cond_cons ∙ roomy s cond_whole room
-
-  pub cond_roomless : s.room ≡ 0 → named_cond scope s (plain args) ≡ refuse TooMany s.span
-  cond_roomless room = cond_cons ∙ roomless s cond_whole room
-
-  pub cond_no_first : (some : s.room ≡ 0 → ⊥) (e : ResolveError) → named scope (s.room - 1) true (tree t) ≡ Err e → named_cond scope s (plain args) ≡ Err e
-  cond_no_first some e p = cond_parts some ∙ three_first (named scope (s.room - 1) true (tree t)) (named scope (s.room - 1) s.wanted (tree o)) (named_cond scope (below 1 s) (plain rest)) (λ x y z. If x y z (spot_mark s)) e p
-
-  pub cond_no_second : (some : s.room ≡ 0 → ⊥) (x : Tree) (e : ResolveError) → named scope (s.room - 1) true (tree t) ≡ Ok x → named scope (s.room - 1) s.wanted (tree o) ≡ Err e → named_cond scope s (plain args) ≡ Err e
-  cond_no_second some x e p1 q1 = cond_parts some ∙ three_second (named scope (s.room - 1) true (tree t)) (named scope (s.room - 1) s.wanted (tree o)) (named_cond scope (below 1 s) (plain rest)) (λ x y z. If x y z (spot_mark s)) x e p1 q1
-
-  pub cond_no_third : (some : s.room ≡ 0 → ⊥) (x : Tree) (y : Tree) (e : ResolveError) → named scope (s.room - 1) true (tree t) ≡ Ok x → named scope (s.room - 1) s.wanted (tree o) ≡ Ok y → named_cond scope (below 1 s) (plain rest) ≡ Err e → named_cond scope s (plain args) ≡ Err e
-  cond_no_third some x y e p1 q1 r1 = cond_parts some ∙ three_third (named scope (s.room - 1) true (tree t)) (named scope (s.room - 1) s.wanted (tree o)) (named_cond scope (below 1 s) (plain rest)) (λ x y z. If x y z (spot_mark s)) x y e p1 q1 r1
-
-  pub cond_made : (some : s.room ≡ 0 → ⊥) (x : Tree) (y : Tree) (z : Tree) → named scope (s.room - 1) true (tree t) ≡ Ok x → named scope (s.room - 1) s.wanted (tree o) ≡ Ok y → named_cond scope (below 1 s) (plain rest) ≡ Ok z → named_cond scope s (plain args) ≡ Ok (If x y z (spot_mark s))
-  cond_made some x y z p1 q1 r1 = cond_parts some ∙ three_ok (named scope (s.room - 1) true (tree t)) (named scope (s.room - 1) s.wanted (tree o)) (named_cond scope (below 1 s) (plain rest)) (λ x y z. If x y z (spot_mark s)) x y z p1 q1 r1
+  pub cond_choice : (ones : List Form) → ones ≡ o ∷ [] → named_cond scope s (plain args) ≡ choice_of false s (named scope (s.room - 1) true (tree t)) (both (named_body scope (below 1 s) (plain ones)) (named_cond scope (below 1 s) (plain rest)))
+  cond_choice ones is_one =
+      cond_cons
+      ∙ ap (in_room s) (grouped (named scope (s.room - 1) true (tree t)) (named scope (s.room - 1) s.wanted (tree o)) (named_cond scope (below 1 s) (plain rest)) (λ x y z. If x y z (spot_mark s)))
+      ∙ ap (λ l. choice_of false s (named scope (s.room - 1) true (tree t)) (both (named_body scope (below 1 s) (plain l)) (named_cond scope (below 1 s) (plain rest)))) (sym is_one)
 
 -- ---- when
 
-module _ (turned : Bool) (scope : Scope) (s : Spot) (args rest : List Form) (t : Form) (is : args ≡ t ∷ rest) where
-  abbrev pub when_whole : Answer Tree
-  when_whole = two (named scope (s.room - 1) true (tree t)) (named_body scope (below 1 s) (plain rest)) (λ x y. choice_node turned x y (Const Nil (spot_mark s)) (spot_mark s))
-
-  when_cons : named_when turned scope s (plain args) ≡ in_room s when_whole
-  when_cons = ap (λ l. named_when turned scope s (plain l)) is
-
-  pub when_parts : (s.room ≡ 0 → ⊥) → named_when turned scope s (plain args) ≡ when_whole
-  when_parts room = when_cons ∙ roomy s when_whole room
-
-  pub when_roomless : s.room ≡ 0 → named_when turned scope s (plain args) ≡ refuse TooMany s.span
-  when_roomless room = when_cons ∙ roomless s when_whole room
-
-  pub when_no_first : (some : s.room ≡ 0 → ⊥) (e : ResolveError) → named scope (s.room - 1) true (tree t) ≡ Err e → named_when turned scope s (plain args) ≡ Err e
-  when_no_first some e p = when_parts some ∙ two_first (named scope (s.room - 1) true (tree t)) (named_body scope (below 1 s) (plain rest)) (λ x y. choice_node turned x y (Const Nil (spot_mark s)) (spot_mark s)) e p
-
-  pub when_no_second : (some : s.room ≡ 0 → ⊥) (x : Tree) (e : ResolveError) → named scope (s.room - 1) true (tree t) ≡ Ok x → named_body scope (below 1 s) (plain rest) ≡ Err e → named_when turned scope s (plain args) ≡ Err e
-  when_no_second some x e p q = when_parts some ∙ two_second (named scope (s.room - 1) true (tree t)) (named_body scope (below 1 s) (plain rest)) (λ x y. choice_node turned x y (Const Nil (spot_mark s)) (spot_mark s)) x e p q
-
-  pub when_made : (some : s.room ≡ 0 → ⊥) (x : Tree) (y : Tree) → named scope (s.room - 1) true (tree t) ≡ Ok x → named_body scope (below 1 s) (plain rest) ≡ Ok y → named_when turned scope s (plain args) ≡ Ok (choice_node turned x y (Const Nil (spot_mark s)) (spot_mark s))
-  when_made some x y p q = when_parts some ∙ two_ok (named scope (s.room - 1) true (tree t)) (named_body scope (below 1 s) (plain rest)) (λ x y. choice_node turned x y (Const Nil (spot_mark s)) (spot_mark s)) x y p q
+pub when_choice : (turned : Bool) (scope : Scope) (s : Spot) (args rest : List Form) (t : Form) → args ≡ t ∷ rest → named_when turned scope s (plain args) ≡ choice_of turned s (named scope (s.room - 1) true (tree t)) (both (named_body scope (below 1 s) (plain rest)) (Ok (Const Nil (spot_mark s))))
+when_choice turned scope s args rest t is =
+    ap (λ l. named_when turned scope s (plain l)) is
+    ∙ ap (in_room s) (grouped (named scope (s.room - 1) true (tree t)) (named_body scope (below 1 s) (plain rest)) (Ok (Const Nil (spot_mark s))) (λ x y z. choice_node turned x y z (spot_mark s)))
 
 -- ---- and, or
+
+abbrev pub logic_of : Spot → Answer Trees → Answer Tree → Answer Tree
+logic_of s values choice = two values choice (λ vs c. Let vs c (spot_mark s))
+
+logic_grouped : (is_or : Bool) (i : ℕ) (s : Spot) (b : Bool) (value made : Answer Tree)
+    → (value >>= λ v. cond b (made >>= λ other. Ok (logic_node is_or i v other s)) (refuse TooMany s.span))
+    ≡ logic_of s (value >>= λ v. Ok (more v no_trees)) (cond b (made >>= λ rest. Ok (hidden_choice is_or i rest s)) (refuse TooMany s.span))
+logic_grouped is_or i s b (Err e) made = refl
+logic_grouped is_or i s false (Ok v) made = refl
+logic_grouped is_or i s true (Ok v) (Err e) = refl
+logic_grouped is_or i s true (Ok v) (Ok x) = refl
 
 logic_step : (is_or : Bool) (scope : Scope) (s : Spot) (v : Form) (rest : List Form) → (length rest ≡ 0 → ⊥) → named_logic is_or scope s (plain (v ∷ rest)) ≡ in_room s (named scope (s.room - 1) true (tree v) >>= λ value. cond (may_hide scope s) (named_logic is_or (with_local [] scope) (below 2 s) (plain rest) >>= λ other. Ok (logic_node is_or (length scope.locals) value other s)) (refuse TooMany s.span))
 logic_step is_or scope s v [] some = absurd (some refl)
@@ -156,44 +165,39 @@ module _ (is_or : Bool) (scope : Scope) (s : Spot) (args rest : List Form) (v : 
   abbrev pub logic_choice : Bool → Answer Tree
   logic_choice b = named scope (s.room - 1) true (tree v) >>= λ value. cond b (named_logic is_or (with_local [] scope) (below 2 s) (plain rest) >>= λ other. Ok (logic_node is_or (length scope.locals) value other s)) (refuse TooMany s.span)
 
-  abbrev pub logic_whole : Answer Tree
-  logic_whole = two (named scope (s.room - 1) true (tree v)) (named_logic is_or (with_local [] scope) (below 2 s) (plain rest)) (λ x y. logic_node is_or (length scope.locals) x y s)
-
   pub logic_cons : (length rest ≡ 0 → ⊥) → named_logic is_or scope s (plain args) ≡ in_room s (logic_choice (may_hide scope s))
   logic_cons some = ap (λ l. named_logic is_or scope s (plain l)) is ∙ logic_step is_or scope s v rest some
 
   pub logic_roomless : (length rest ≡ 0 → ⊥) → s.room ≡ 0 → named_logic is_or scope s (plain args) ≡ refuse TooMany s.span
   logic_roomless some room = logic_cons some ∙ roomless s (logic_choice (may_hide scope s)) room
 
-  pub logic_unvalued : (length rest ≡ 0 → ⊥) → (s.room ≡ 0 → ⊥) → (e : ResolveError) → named scope (s.room - 1) true (tree v) ≡ Err e → named_logic is_or scope s (plain args) ≡ Err e
-  logic_unvalued some room e p =
+  pub logic_hidden : (ones : List Form) → ones ≡ v ∷ [] → (length rest ≡ 0 → ⊥) → (s.room ≡ 0 → ⊥) → named_logic is_or scope s (plain args) ≡ logic_of s (named_all scope (s.room - 1) true true (plain ones)) (hidden_of is_or scope s (named_logic is_or (with_local [] scope) (below 2 s) (plain rest)))
+  logic_hidden ones is_one some room =
       logic_cons some ∙ roomy s (logic_choice (may_hide scope s)) room
-      ∙ ap (λ (o : Answer Tree). o >>= λ value. cond (may_hide scope s) (named_logic is_or (with_local [] scope) (below 2 s) (plain rest) >>= λ other. Ok (logic_node is_or (length scope.locals) value other s)) (refuse TooMany s.span)) p
+      ∙ logic_grouped is_or (length scope.locals) s (may_hide scope s) (named scope (s.room - 1) true (tree v)) (named_logic is_or (with_local [] scope) (below 2 s) (plain rest))
+      ∙ ap (λ l. logic_of s (named_all scope (s.room - 1) true true (plain l)) (hidden_of is_or scope s (named_logic is_or (with_local [] scope) (below 2 s) (plain rest)))) (sym is_one)
 
-  pub logic_full : (length rest ≡ 0 → ⊥) → (s.room ≡ 0 → ⊥) → (x : Tree) → named scope (s.room - 1) true (tree v) ≡ Ok x → may_hide scope s ≡ false → named_logic is_or scope s (plain args) ≡ refuse TooMany s.span
-  logic_full some room x p full =
-      logic_cons some ∙ roomy s (logic_choice (may_hide scope s)) room
-      ∙ ap logic_choice full
-      ∙ ap (λ (o : Answer Tree). o >>= λ value. refuse TooMany s.span) p
+module _ (is_or : Bool) (scope : Scope) (s : Spot) (made : Answer Tree) where
+  abbrev hides : Bool → Answer Tree → Answer Tree
+  hides b o = cond b (o >>= λ rest. Ok (hidden_choice is_or (length scope.locals) rest s)) (refuse TooMany s.span)
 
-  pub logic_parts : (length rest ≡ 0 → ⊥) → (s.room ≡ 0 → ⊥) → may_hide scope s ≡ true → named_logic is_or scope s (plain args) ≡ logic_whole
-  logic_parts some room hides = logic_cons some ∙ roomy s (logic_choice (may_hide scope s)) room ∙ ap logic_choice hides
+  pub hidden_full : may_hide scope s ≡ false → hidden_of is_or scope s made ≡ refuse TooMany s.span
+  hidden_full p = ap (λ b. hides b made) p
 
-  pub logic_no_first : (others : length rest ≡ 0 → ⊥) (some : s.room ≡ 0 → ⊥) (hides : may_hide scope s ≡ true) (e : ResolveError) → named scope (s.room - 1) true (tree v) ≡ Err e → named_logic is_or scope s (plain args) ≡ Err e
-  logic_no_first others some hides e p = logic_parts others some hides ∙ two_first (named scope (s.room - 1) true (tree v)) (named_logic is_or (with_local [] scope) (below 2 s) (plain rest)) (λ x y. logic_node is_or (length scope.locals) x y s) e p
+  pub hidden_no : may_hide scope s ≡ true → (e : ResolveError) → made ≡ Err e → hidden_of is_or scope s made ≡ Err e
+  hidden_no p e q = ap (λ b. hides b made) p ∙ ap (hides true) q
 
-  pub logic_no_second : (others : length rest ≡ 0 → ⊥) (some : s.room ≡ 0 → ⊥) (hides : may_hide scope s ≡ true) (x : Tree) (e : ResolveError) → named scope (s.room - 1) true (tree v) ≡ Ok x → named_logic is_or (with_local [] scope) (below 2 s) (plain rest) ≡ Err e → named_logic is_or scope s (plain args) ≡ Err e
-  logic_no_second others some hides x e p q = logic_parts others some hides ∙ two_second (named scope (s.room - 1) true (tree v)) (named_logic is_or (with_local [] scope) (below 2 s) (plain rest)) (λ x y. logic_node is_or (length scope.locals) x y s) x e p q
-
-  pub logic_made : (others : length rest ≡ 0 → ⊥) (some : s.room ≡ 0 → ⊥) (hides : may_hide scope s ≡ true) (x : Tree) (y : Tree) → named scope (s.room - 1) true (tree v) ≡ Ok x → named_logic is_or (with_local [] scope) (below 2 s) (plain rest) ≡ Ok y → named_logic is_or scope s (plain args) ≡ Ok (logic_node is_or (length scope.locals) x y s)
-  logic_made others some hides x y p q = logic_parts others some hides ∙ two_ok (named scope (s.room - 1) true (tree v)) (named_logic is_or (with_local [] scope) (below 2 s) (plain rest)) (λ x y. logic_node is_or (length scope.locals) x y s) x y p q
+  pub hidden_made : may_hide scope s ≡ true → (x : Tree) → made ≡ Ok x → hidden_of is_or scope s made ≡ Ok (hidden_choice is_or (length scope.locals) x s)
+  hidden_made p x q = ap (λ b. hides b made) p ∙ ap (hides true) q
 
 -- ---- deref, alter
 
-pub deref_parts : (scope : Scope) (s : Spot) (args : List Form) (d : Form) → length args ≡ 1 → named_deref scope s (plain args) ≡ in_room s (named scope (s.room - 1) true (tree (get_or args 0 d)) >>= λ cell. Ok (Deref cell (spot_mark s)))
-deref_parts scope s [] d one = absurd (omega (arith, one))
-deref_parts scope s (a ∷ []) d one = refl
-deref_parts scope s (a ∷ b ∷ args) d one = absurd (omega (arith, one))
+pub deref_parts : (scope : Scope) (s i : Spot) (args : List Form) → i ≡ spot_at (s.room - 1) s.span true → length args ≡ 1 → named_deref scope s (plain args) ≡ in_room s (named_body scope i (plain args) >>= λ cell. Ok (Deref cell (spot_mark s)))
+deref_parts scope s i args p one = alone args one ∙ ap (λ (x : Spot). in_room s (named_body scope x (plain args) >>= λ cell. Ok (Deref cell (spot_mark s)))) (sym p) where
+  alone : (l : List Form) → length l ≡ 1 → named_deref scope s (plain l) ≡ in_room s (named_body scope (spot_at (s.room - 1) s.span true) (plain l) >>= λ cell. Ok (Deref cell (spot_mark s)))
+  alone [] one = absurd (omega (arith, one))
+  alone (a ∷ []) one = refl
+  alone (a ∷ b ∷ l) one = absurd (omega (arith, one))
 
 pub deref_other : (scope : Scope) (s : Spot) (args : List Form) → (length args ≡ 1 → ⊥) → named_deref scope s (plain args) ≡ refuse BadForm s.span
 deref_other scope s [] other = refl

@@ -40,3 +40,9 @@ abbrev pub GivesLocals : Result (Unit {0}) Stop → List (List ℕ) → Answer (
 GivesLocals (Ok u) names wanted = wanted ≡ Ok names
 GivesLocals (Err (Refused e)) names wanted = wanted ≡ Err e
 GivesLocals (Err Memory) names wanted = Unit {0}
+
+-- the definition's answer is what stands here now, unless memory ran out
+abbrev pub Leaves : {A : Type 0} → Result (Unit {0}) Stop → A → Answer A → Type 0
+Leaves (Ok u) now wanted = wanted ≡ Ok now
+Leaves (Err (Refused e)) now wanted = wanted ≡ Err e
+Leaves (Err Memory) now wanted = Unit {0}

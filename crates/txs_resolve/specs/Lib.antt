@@ -1,4 +1,5 @@
 pub mod Answers
+pub mod Choices
 pub mod Depths
 pub mod Expressions
 pub mod Given

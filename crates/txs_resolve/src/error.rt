@@ -78,7 +78,7 @@ pub struct ResolveError {
 }
 
 /// Why the resolver stops: a refusal of the forms, or want of memory.
-#[derive(Clone, Copy, Debug, PartialEq, Eq)]
+#[derive(Clone, Copy)]
 pub enum Stop {
     Refused(ResolveError),
     Memory,

@@ -1,17 +1,21 @@
 //! Expressions: forms to nodes.
 
-ghost use Rattle.std.specs.Prelude.{◌≡◌, ◌<◌, ◌≤◌, ◌-◌, true, length, OnOk};
+ghost use Rattle.std.specs.Prelude.{◌≡◌, ◌<◌, ◌≤◌, ◌-◌, true, [], length, OnOk};
 ghost use Rattle.txs_resolve.specs.Expressions.{named, named_list, named_chain, named_if, named_when, named_cond, named_logic, named_deref, named_alter, named_binding, named_bindings, named_body, named_all, operation_of, sequence_of, choices_of, dosync_of, below, room_for};
 ghost use Rattle.txs_resolve.specs.Given.{Gives, GivesBound, IsWithin};
+ghost use Rattle.txs_resolve.specs.Choices.{branch_trees, both, choice_of, hidden_of, part_of};
+ghost use Rattle.txs_names.specs.Scope.{with_local};
 ghost use Rattle.txs_reader.specs.Tree.{tree, trees, trees_of};
 ghost use Rattle.txs_tree.specs.View.{tree_of, trees_of as nodes_tree};
 
 use crate::error::{ResolveErrorKind, Stop, refused};
 use crate::nodes::{
-    Head, Sequence, Spot, are_pairs, bindable, binding_node, callee, choice_node, constant,
-    empty_logic, flag_at, head_of, is_chain, logic_node, may_hide, pair_of, sequence_node, symbol,
+    Branches, Head, Part, Sequence, Spot, are_pairs, bindable, binding_node, callee, choice_node,
+    constant, empty_logic, flag_at, head_of, hidden_choice, is_chain, keyword, may_hide, pair_of,
+    sequence_node, symbol, text,
 };
 use std::alloc::Global;
+use std::slice::from_ref;
 use txs_names::{FormName, Scope};
 use txs_reader::{Bracket, Form};
 use txs_tree::{Node, NodeKind};
@@ -47,8 +51,8 @@ pub fn expression<'a>(
         Form::Nil(_) => constant(Value::Nil, spot),
         Form::Truth(b, _) => constant(Value::Truth(*b), spot),
         Form::Number(n, _) => constant(Value::Int(*n), spot),
-        Form::Text(text, _) => constant(Value::Text(text.share()?), spot),
-        Form::Keyword(name, _) => constant(Value::Key(name.share()?), spot),
+        Form::Text(bytes, _) => text(bytes, spot),
+        Form::Keyword(name, _) => keyword(name, spot),
         Form::Symbol(name, _) => symbol(scope, name, spot),
         Form::Group(Bracket::Round, forms, _) => {
             let room = room_for(room, forms.len());
@@ -82,8 +86,8 @@ fn list<'a>(
         Head::Called(Callee::Function(number)) => {
             sequence(alloc, scope, spot, Sequence::Call(number), args)
         }
-        Head::Form(FormName::If) => branches(alloc, scope, spot, false, args),
-        Head::Form(FormName::IfNot) => branches(alloc, scope, spot, true, args),
+        Head::Form(FormName::If) => either(alloc, scope, spot, false, args),
+        Head::Form(FormName::IfNot) => either(alloc, scope, spot, true, args),
         Head::Form(FormName::Do) => body(alloc, scope, spot, args),
         Head::Form(FormName::Let) => binding(alloc, scope, spot, false, args),
         Head::Form(FormName::Loop) => binding(alloc, scope, spot, true, args),
@@ -170,9 +174,90 @@ fn chain<'a>(
     Ok(total)
 }
 
-/// The node of an `if`, or of an `if-not`, whose branches are turned.
+/// The node of a part of a form.
+#[cycle(resolve)]
+fn part<'a>(
+    alloc: Global,
+    scope: &mut Scope<'a>,
+    spot: Spot,
+    part: Part,
+    forms: &'a [Form],
+) -> Result<Node, Stop>
+    requires { spot.room ≤ 1000 }
+    ensures node { Gives tree_of result (part_of part scope.old spot (trees_of (trees forms.now))) }
+    ensures kept { OnOk result (scope.new ≡ scope.old) }
+{
+    match part {
+        Part::Body => body(alloc, scope, spot, forms),
+        Part::Choices => cond(alloc, scope, spot, forms),
+        Part::Nil => Ok(spot.node(NodeKind::Const(Value::Nil))),
+    }
+}
+
+/// The node of a part of a form, where another node stands over it.
+#[cycle(resolve)]
+fn boxed<'a>(
+    alloc: Global,
+    scope: &mut Scope<'a>,
+    spot: Spot,
+    kind: Part,
+    forms: &'a [Form],
+) -> Result<Box<Node>, Stop>
+    requires { spot.room ≤ 1000 }
+    ensures node { Gives (λ b. tree_of b.value) result (part_of kind scope.old spot (trees_of (trees forms.now))) }
+    ensures kept { OnOk result (scope.new ≡ scope.old) }
+{
+    let node = part(alloc, scope, spot, kind, forms)?;
+    Ok(Box::new(alloc, node)?)
+}
+
+/// The branches of a choice, of which the first is a body.
 #[cycle(resolve)]
 fn branches<'a>(
+    alloc: Global,
+    scope: &mut Scope<'a>,
+    spot: Spot,
+    one: &'a [Form],
+    part: Part,
+    rest: &'a [Form],
+) -> Result<Branches, Stop>
+    requires { spot.room ≤ 1000 }
+    ensures nodes { Gives branch_trees result (both (named_body scope.old spot (trees_of (trees one.now))) (part_of part scope.old spot (trees_of (trees rest.now)))) }
+    ensures kept { OnOk result (scope.new ≡ scope.old) }
+{
+    let one = boxed(alloc, scope, spot, Part::Body, one)?;
+    let other = boxed(alloc, scope, spot, part, rest)?;
+    Ok(Branches { one, other })
+}
+
+/// The node of a choice by a test, whose branches may be turned.
+#[cycle(resolve)]
+fn choice<'a>(
+    alloc: Global,
+    scope: &mut Scope<'a>,
+    spot: Spot,
+    turned: bool,
+    test: &'a Form,
+    one: &'a [Form],
+    part: Part,
+    rest: &'a [Form],
+) -> Result<Node, Stop>
+    requires { spot.room ≤ 1000 }
+    ensures node { Gives tree_of result (choice_of turned spot (named scope.old (spot.room - 1) true (tree test.now))
+        (both (named_body scope.old (below 1 spot) (trees_of (trees one.now))) (part_of part scope.old (below 1 spot) (trees_of (trees rest.now))))) }
+    ensures kept { OnOk result (scope.new ≡ scope.old) }
+{
+    if spot.room == 0 {
+        return Err(refused(ResolveErrorKind::TooMany, spot.span));
+    }
+    let test = boxed(alloc, scope, spot.inner(), Part::Body, from_ref(test))?;
+    let branches = branches(alloc, scope, spot.below(1), one, part, rest)?;
+    Ok(choice_node(turned, test, branches, spot))
+}
+
+/// The node of an `if`, or of an `if-not`, whose branches are turned.
+#[cycle(resolve)]
+fn either<'a>(
     alloc: Global,
     scope: &mut Scope<'a>,
     spot: Spot,
@@ -192,13 +277,16 @@ fn branches<'a>(
     if rest.len() > 1 {
         return Err(refused(ResolveErrorKind::BadForm, spot.span));
     }
-    if spot.room == 0 {
-        return Err(refused(ResolveErrorKind::TooMany, spot.span));
-    }
-    let test = expression(alloc, scope, spot.room - 1, true, test)?;
-    let one = expression(alloc, scope, spot.room - 1, spot.wanted, one)?;
-    let other = body(alloc, scope, spot.below(1), rest)?;
-    Ok(choice_node(alloc, turned, test, one, other, spot)?)
+    choice(
+        alloc,
+        scope,
+        spot,
+        turned,
+        test,
+        from_ref(one),
+        Part::Body,
+        rest,
+    )
 }
 
 /// The node of a `when`, or of a `when-not`, whose branches are turned.
@@ -214,16 +302,10 @@ fn guarded<'a>(
     ensures node { Gives tree_of result (named_when turned scope.old spot (trees_of (trees args.now))) }
     ensures kept { OnOk result (scope.new ≡ scope.old) }
 {
-    let Some((test, rest)) = args.split_first() else {
+    let Some((test, one)) = args.split_first() else {
         return Err(refused(ResolveErrorKind::BadForm, spot.span));
     };
-    if spot.room == 0 {
-        return Err(refused(ResolveErrorKind::TooMany, spot.span));
-    }
-    let test = expression(alloc, scope, spot.room - 1, true, test)?;
-    let one = body(alloc, scope, spot.below(1), rest)?;
-    let other = spot.node(NodeKind::Const(Value::Nil));
-    Ok(choice_node(alloc, turned, test, one, other, spot)?)
+    choice(alloc, scope, spot, turned, test, one, Part::Nil, &[])
 }
 
 /// The node of a `cond`, of tests and branches in turn.
@@ -262,13 +344,16 @@ fn cond<'a>(
     let Some((one, rest)) = parts.split_first() else {
         return Err(refused(ResolveErrorKind::BadForm, spot.span));
     };
-    if spot.room == 0 {
-        return Err(refused(ResolveErrorKind::TooMany, spot.span));
-    }
-    let test = expression(alloc, scope, spot.room - 1, true, test)?;
-    let one = expression(alloc, scope, spot.room - 1, spot.wanted, one)?;
-    let other = cond(alloc, scope, spot.below(1), rest)?;
-    Ok(choice_node(alloc, false, test, one, other, spot)?)
+    choice(
+        alloc,
+        scope,
+        spot,
+        false,
+        test,
+        from_ref(one),
+        Part::Choices,
+        rest,
+    )
 }
 
 /// The node of an `and`, or of an `or`. Each value but the last is bound to a hidden local.
@@ -293,7 +378,24 @@ fn logic<'a>(
     if spot.room == 0 {
         return Err(refused(ResolveErrorKind::TooMany, spot.span));
     }
-    let value = expression(alloc, scope, spot.room - 1, true, value)?;
+    let values = all(alloc, scope, spot.room - 1, true, true, from_ref(value))?;
+    let choice = hidden(alloc, scope, spot, is_or, rest)?;
+    Ok(binding_node(false, values, choice, spot))
+}
+
+/// What an `and` or an `or` is behind its first value, which is bound to a hidden local.
+#[cycle(resolve)]
+fn hidden<'a>(
+    alloc: Global,
+    scope: &mut Scope<'a>,
+    spot: Spot,
+    is_or: bool,
+    rest: &'a [Form],
+) -> Result<Box<Node>, Stop>
+    requires { spot.room ≤ 1000 }
+    ensures node { Gives (λ b. tree_of b.value) result (hidden_of is_or scope.old spot (named_logic is_or (with_local [] scope.old) (below 2 spot) (trees_of (trees rest.now)))) }
+    ensures kept { OnOk result (scope.new ≡ scope.old) }
+{
     if !may_hide(scope, spot) {
         return Err(refused(ResolveErrorKind::TooMany, spot.span));
     }
@@ -301,7 +403,7 @@ fn logic<'a>(
     scope.push(&[])?;
     let other = logic(alloc, scope, spot.below(2), is_or, rest)?;
     scope.truncate(local);
-    Ok(logic_node(alloc, is_or, local as u8, value, other, spot)?)
+    Ok(hidden_choice(alloc, is_or, local as u8, other, spot)?)
 }
 
 /// The node of a `dosync`.
@@ -319,8 +421,7 @@ fn dosync<'a>(
     if spot.room == 0 {
         return Err(refused(ResolveErrorKind::TooMany, spot.span));
     }
-    let inner = body(alloc, scope, spot.below(1), args)?;
-    let inner = Box::new(alloc, inner)?;
+    let inner = boxed(alloc, scope, spot.below(1), Part::Body, args)?;
     Ok(spot.node(NodeKind::Dosync(inner)))
 }
 
@@ -342,8 +443,7 @@ fn deref<'a>(
     if spot.room == 0 {
         return Err(refused(ResolveErrorKind::TooMany, spot.span));
     }
-    let cell = expression(alloc, scope, spot.room - 1, true, &args[0])?;
-    let cell = Box::new(alloc, cell)?;
+    let cell = boxed(alloc, scope, spot.inner(), Part::Body, args)?;
     Ok(spot.node(NodeKind::Deref(cell)))
 }
 
@@ -368,10 +468,9 @@ fn alter<'a>(
     if spot.room == 0 {
         return Err(refused(ResolveErrorKind::TooMany, spot.span));
     }
-    let cell = expression(alloc, scope, spot.room - 1, true, cell)?;
+    let cell = boxed(alloc, scope, spot.inner(), Part::Body, from_ref(cell))?;
     let called = callee(scope, spot, function)?;
     let nodes = all(alloc, scope, spot.room - 1, true, true, further)?;
-    let cell = Box::new(alloc, cell)?;
     Ok(spot.node(NodeKind::Alter(cell, called, nodes)))
 }
 
@@ -399,9 +498,9 @@ fn binding<'a>(
     }
     let outer = scope.len();
     let values = bindings(alloc, scope, spot.room - 1, pairs)?;
-    let inner = body(alloc, scope, spot.below(1), forms)?;
+    let inner = boxed(alloc, scope, spot.below(1), Part::Body, forms)?;
     scope.truncate(outer);
-    Ok(binding_node(alloc, is_loop, values, inner, spot)?)
+    Ok(binding_node(is_loop, values, inner, spot))
 }
 
 /// The values of a `let` or a `loop`, with its names in scope.
@@ -420,8 +519,8 @@ fn bindings<'a>(
     let mut at = 0;
     while at + 1 < pairs.len() {
         let value = expression(alloc, scope, room, true, &pairs[at + 1])?;
-        let name = bindable(scope, &pairs[at])?;
         values.push(value)?;
+        let name = bindable(scope, &pairs[at])?;
         scope.push(name.as_bytes())?;
         at += 2;
     }

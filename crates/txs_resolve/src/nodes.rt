@@ -1,20 +1,23 @@
 //! Nodes of what is resolved, and what names are where they stand.
 
-ghost use Rattle.std.specs.Prelude.{◌≡◌, ◌<◌, ◌≤◌, ◌+◌, ◌-◌, ◌&&◌, nat_lt, length, drop, Ok, IfOk};
-ghost use Rattle.txs_resolve.specs.Expressions.{below, spot_mark, symbol_node, in_room, callee_at, callee_of, head_at, head_of, is_symbol, flag, sequence_node, choice_node, logic_node, empty_logic, binding_node, pair_node, folds, is_chain, bound_name, are_pairs, may_hide};
+ghost use Rattle.std.specs.Prelude.{◌≡◌, ◌<◌, ◌≤◌, ◌+◌, ◌-◌, ◌&&◌, nat_lt, true, length, drop, Ok, IfOk};
+ghost use Rattle.txs_resolve.specs.Expressions.{below, spot_at, spot_mark, symbol_node, ref_id, in_room, callee_at, callee_of, head_at, head_of, is_symbol, flag, sequence_node, choice_node, empty_logic, binding_node, pair_node, folds, is_chain, bound_name, are_pairs, may_hide};
 ghost use Rattle.txs_resolve.specs.Given.{Gives, BindsName};
+ghost use Rattle.txs_resolve.specs.Choices.{branch_trees, hidden_choice};
 ghost use Rattle.txs_names.specs.Scope.{meaning};
 ghost use Rattle.txs_names.specs.Viewed.{meant};
-ghost use Rattle.txs_tree.specs.Tree.{Const};
+ghost use Rattle.txs_tree.specs.Tree.{Const, Local};
+ghost use Rattle.txs_value.specs.declared.value.Value.TheVariants.{Cell as CellValue, Text as TextValue, Key as KeyValue};
 ghost use Rattle.txs_reader.specs.Tree.{tree, trees, trees_of};
 ghost use Rattle.txs_tree.specs.View.{tree_of, trees_of as nodes_tree, mark_of};
 
 use crate::error::{ResolveErrorKind, Stop, refused};
+use crate::literal::{key_value, text_value};
 use std::alloc::{AllocError, Global};
 use txs_names::{Definition, FormName, Found, Scope, may_bind};
 use txs_reader::Form;
 use txs_tree::{Node, NodeKind};
-use txs_value::{Callee, CellId, CellKind, Name, Op, Span, Value, copy_value};
+use txs_value::{Callee, CellId, CellKind, Name, Op, Span, Text, Value, copy_value};
 
 /// How many locals may be in scope.
 pub const MAX_LOCALS: usize = 200;
@@ -37,6 +40,18 @@ impl Spot {
             room: self.room - levels,
             span: self.span,
             wanted: self.wanted,
+        }
+    }
+
+    /// One level further down, where the result is wanted.
+    pub fn inner(self) -> Spot
+        requires { 1 ≤ self.room }
+        ensures { result ≡ spot_at (self.room - 1) self.span true }
+    {
+        Spot {
+            room: self.room - 1,
+            span: self.span,
+            wanted: true,
         }
     }
 
@@ -69,24 +84,59 @@ pub enum Sequence {
     Call(u16),
 }
 
+/// What forms are to one node: a body, the tests and branches of a `cond`, or nothing, which is nil.
+#[derive(Clone, Copy)]
+pub enum Part {
+    Body,
+    Choices,
+    Nil,
+}
+
+/// The branches of a choice.
+#[derive(Drop)]
+pub struct Branches {
+    pub one: Box<Node>,
+    pub other: Box<Node>,
+}
+
 /// The node of a symbol: a local, a constant or a cell.
 pub fn symbol(scope: &Scope<'_>, name: &Name, spot: Spot) -> Result<Node, Stop>
     ensures { Gives tree_of result (symbol_node (meaning name.now scope.now) spot) }
 {
-    let kind = match scope.lookup(name) {
-        Found::Local(number) => NodeKind::Local(number),
-        Found::Defined(Definition::Constant(value)) => NodeKind::Const(copy_value(value)?),
-        Found::Defined(Definition::Cell(number)) => NodeKind::Const(Value::Cell(CellId {
-            kind: CellKind::Ref,
-            number: *number,
-        })),
-        Found::Unknown => return Err(refused(ResolveErrorKind::UnknownName, spot.span)),
-        _ => return Err(refused(ResolveErrorKind::BadForm, spot.span)),
-    };
+    match scope.lookup(name) {
+        Found::Local(number) => local(number, spot),
+        Found::Defined(Definition::Constant(value)) => copied(value, spot),
+        Found::Defined(Definition::Cell(number)) => constant(ref_value(*number), spot),
+        Found::Unknown => Err(refused(ResolveErrorKind::UnknownName, spot.span)),
+        _ => Err(refused(ResolveErrorKind::BadForm, spot.span)),
+    }
+}
+
+/// The node of a local.
+fn local(number: u8, spot: Spot) -> Result<Node, Stop>
+    ensures { Gives tree_of result (in_room spot (Ok (Local number (spot_mark spot)))) }
+{
     if spot.room == 0 {
         return Err(refused(ResolveErrorKind::TooMany, spot.span));
     }
-    Ok(spot.node(kind))
+    Ok(spot.node(NodeKind::Local(number)))
+}
+
+/// The ref of this number.
+fn ref_value(number: u16) -> Value
+    ensures { result ≡ CellValue (ref_id number) }
+{
+    Value::Cell(CellId {
+        kind: CellKind::Ref,
+        number,
+    })
+}
+
+/// The node of a copy of a constant.
+fn copied(value: &Value, spot: Spot) -> Result<Node, Stop>
+    ensures { Gives tree_of result (in_room spot (Ok (Const value.now (spot_mark spot)))) }
+{
+    constant(copy_value(value)?, spot)
 }
 
 /// The node of a constant.
@@ -97,6 +147,20 @@ pub fn constant(value: Value, spot: Spot) -> Result<Node, Stop>
         return Err(refused(ResolveErrorKind::TooMany, spot.span));
     }
     Ok(spot.node(NodeKind::Const(value)))
+}
+
+/// The node of a text.
+pub fn text(text: &Text, spot: Spot) -> Result<Node, Stop>
+    ensures { Gives tree_of result (in_room spot (Ok (Const (TextValue text.now) (spot_mark spot)))) }
+{
+    constant(text_value(text)?, spot)
+}
+
+/// The node of a keyword.
+pub fn keyword(name: &Name, spot: Spot) -> Result<Node, Stop>
+    ensures { Gives tree_of result (in_room spot (Ok (Const (KeyValue name.now) (spot_mark spot)))) }
+{
+    constant(key_value(name)?, spot)
 }
 
 /// What a name is in the place of a function, for a form at this spot.
@@ -174,46 +238,48 @@ pub fn sequence_node(kind: Sequence, nodes: Vec<Node>, spot: Spot) -> Node
 }
 
 /// A choice by a test. Turned, the second branch is the one of a true test.
-pub fn choice_node(
-    alloc: Global,
-    turned: bool,
-    test: Node,
-    one: Node,
-    other: Node,
-    spot: Spot,
-) -> Result<Node, AllocError>
-    ensures { IfOk result (λ n. tree_of n ≡ choice_node turned (tree_of test) (tree_of one) (tree_of other) (spot_mark spot)) }
+pub fn choice_node(turned: bool, test: Box<Node>, branches: Branches, spot: Spot) -> Node
+    ensures { tree_of result ≡ choice_node turned (tree_of test.value) (tree_of branches.one.value) (tree_of branches.other.value) (spot_mark spot) }
 {
-    let test = Box::new(alloc, test)?;
-    let one = Box::new(alloc, one)?;
-    let other = Box::new(alloc, other)?;
+    let Branches { one, other } = branches;
     if turned {
-        return Ok(spot.node(NodeKind::If(test, other, one)));
+        return spot.node(NodeKind::If(test, other, one));
     }
-    Ok(spot.node(NodeKind::If(test, one, other)))
+    spot.node(NodeKind::If(test, one, other))
+}
+
+/// The node of the local of this number.
+fn local_node(alloc: Global, local: u8, spot: Spot) -> Result<Box<Node>, AllocError>
+    ensures { IfOk result (λ b. tree_of b.value ≡ Local local (spot_mark spot)) }
+{
+    let node = spot.node(NodeKind::Local(local));
+    Ok(Box::new(alloc, node)?)
+}
+
+/// The rest of an `and` or `or`, and the local that the value before it is bound to.
+fn hidden_branches(alloc: Global, local: u8, rest: Node, spot: Spot) -> Result<Branches, AllocError>
+    ensures { IfOk result (λ b. branch_trees b ≡ (tree_of rest, Local local (spot_mark spot))) }
+{
+    let one = Box::new(alloc, rest)?;
+    let other = local_node(alloc, local, spot)?;
+    Ok(Branches { one, other })
 }
 
 /// `and`, or `or`, of a value that is bound to the local of this number, and of the rest.
-pub fn logic_node(
+pub fn hidden_choice(
     alloc: Global,
     is_or: bool,
     local: u8,
-    value: Node,
     rest: Node,
     spot: Spot,
-) -> Result<Node, AllocError>
-    ensures { IfOk result (λ n. tree_of n ≡ logic_node is_or local (tree_of value) (tree_of rest) spot) }
+) -> Result<Box<Node>, AllocError>
+    ensures { IfOk result (λ b. tree_of b.value ≡ hidden_choice is_or local (tree_of rest) spot) }
 {
-    let test = Node {
-        kind: NodeKind::Local(local),
-        span: spot.span,
-        wanted: true,
-    };
-    let hidden = spot.node(NodeKind::Local(local));
-    let choice = choice_node(alloc, is_or, test, rest, hidden, spot)?;
-    let values = vec![in alloc; value]?;
-    let choice = Box::new(alloc, choice)?;
-    Ok(spot.node(NodeKind::Let(values, choice)))
+    let branches = hidden_branches(alloc, local, rest, spot)?;
+    let wanted = true;
+    let test = local_node(alloc, local, Spot { wanted, ..spot })?;
+    let choice = choice_node(is_or, test, branches, spot);
+    Ok(Box::new(alloc, choice)?)
 }
 
 /// `(and)`, or `(or)`.
@@ -228,20 +294,13 @@ pub fn empty_logic(is_or: bool) -> Value
 }
 
 /// A `let`, or a `loop`.
-pub fn binding_node(
-    alloc: Global,
-    is_loop: bool,
-    values: Vec<Node>,
-    body: Node,
-    spot: Spot,
-) -> Result<Node, AllocError>
-    ensures { IfOk result (λ n. tree_of n ≡ binding_node is_loop (nodes_tree values.items) (tree_of body) (spot_mark spot)) }
+pub fn binding_node(is_loop: bool, values: Vec<Node>, body: Box<Node>, spot: Spot) -> Node
+    ensures { tree_of result ≡ binding_node is_loop (nodes_tree values.items) (tree_of body.value) (spot_mark spot) }
 {
-    let body = Box::new(alloc, body)?;
     if is_loop {
-        return Ok(spot.node(NodeKind::Loop(values, body)));
+        return spot.node(NodeKind::Loop(values, body));
     }
-    Ok(spot.node(NodeKind::Let(values, body)))
+    spot.node(NodeKind::Let(values, body))
 }
 
 /// The operation on two nodes.

@@ -40,7 +40,7 @@ fn script<'a>(alloc: Global, forms: &'a [Form]) -> Result<Script<'a>, Stop>
         defs: 0,
     };
     for form in forms {
-        script = step(alloc, script, form)?;
+        step(alloc, &mut script, form)?;
     }
     Ok(script)
 }

@@ -1,8 +1,8 @@
 //! Top-level forms: definitions, functions and threads.
 
 ghost use Rattle.std.specs.Prelude.{◌≡◌, ◌<◌, ◌≤◌, [], length, Some, None, OnOk, Ok, IfOk};
-ghost use Rattle.txs_resolve.specs.Given.{Gives, GivesLocals};
-ghost use Rattle.txs_resolve.specs.Names.{new_name, form_at, only_literal, ref_of, defining_of, named_form, define, untold, written, function, future, parameter, parameters, are_symbols, step, with_constant, with_ref, with_function, names_space, is_namespace};
+ghost use Rattle.txs_resolve.specs.Given.{Gives, GivesLocals, Leaves};
+ghost use Rattle.txs_resolve.specs.Names.{new_name, new_ref, form_at, only_literal, ref_of, defining_of, named_form, define, untold, written, function, future, parameter, parameters, are_symbols, step, with_constant, with_ref, with_function, names_space, is_namespace};
 ghost use Rattle.txs_resolve.specs.Expressions.{is_symbol};
 ghost use Rattle.txs_names.specs.declared.names.FormName.TheVariants.{Ns, Ref};
 ghost use Rattle.txs_names.specs.Scope.{definition_of, with_locals};
@@ -133,38 +133,44 @@ fn defining_of(form: &Form) -> Option<(bool, &Form)>
 }
 
 /// A constant is defined.
-fn with_constant<'a>(script: Script<'a>, name: &'a Name, value: Value) -> Result<Script<'a>, Stop>
-    requires script { IsScript script }
-    requires new { definition_of name.now script.scope.defined ≡ None }
-    requires room { script.defs < 1000 }
-    ensures state { Gives state_of result (Ok (with_constant (state_of script.entry) name.now value)) }
-    ensures next { IfOk result IsScript }
+fn with_constant<'a>(script: &mut Script<'a>, name: &'a Name, value: Value) -> Result<(), Stop>
+    requires script { IsScript script.old }
+    requires new { definition_of name.now script.old.scope.defined ≡ None }
+    requires room { script.old.defs < 1000 }
+    ensures state { Leaves result (state_of script.new) (Ok (with_constant (state_of script.old) name.now value)) }
+    ensures next { OnOk result (IsScript script.new) }
 {
-    let mut script = script;
     script.scope.define(name, Definition::Constant(value))?;
     script.defs += 1;
-    Ok(script)
+    Ok(())
+}
+
+/// The cell of a ref of this name, which opens with this value.
+fn new_ref(name: &Name, value: Value) -> Result<CellDefinition, Stop>
+    ensures { Gives (λ c. c) result (Ok (new_ref name.now value)) }
+{
+    let name = name.share()?;
+    Ok(CellDefinition {
+        kind: CellKind::Ref,
+        name,
+        opening: value,
+    })
 }
 
 /// A ref is defined, which opens with this value.
-fn with_ref<'a>(script: Script<'a>, name: &'a Name, value: Value) -> Result<Script<'a>, Stop>
-    requires script { IsScript script }
-    requires new { definition_of name.now script.scope.defined ≡ None }
-    requires room { script.defs < 1000 }
-    ensures state { Gives state_of result (Ok (with_ref (state_of script.entry) name.now value)) }
-    ensures next { IfOk result IsScript }
+fn with_ref<'a>(script: &mut Script<'a>, name: &'a Name, value: Value) -> Result<(), Stop>
+    requires script { IsScript script.old }
+    requires new { definition_of name.now script.old.scope.defined ≡ None }
+    requires room { script.old.defs < 1000 }
+    ensures state { Leaves result (state_of script.new) (Ok (with_ref (state_of script.old) name.now value)) }
+    ensures next { OnOk result (IsScript script.new) }
 {
-    let mut script = script;
     let number = script.cells.len() as u16;
-    let cell = CellDefinition {
-        kind: CellKind::Ref,
-        name: name.share()?,
-        opening: value,
-    };
+    let cell = new_ref(name, value)?;
     script.cells.push(cell)?;
     script.scope.define(name, Definition::Cell(number))?;
     script.defs += 1;
-    Ok(script)
+    Ok(())
 }
 
 /// The name and the form in `(def name form)` with these parts.
@@ -184,13 +190,13 @@ fn named_form(parts: &[Form]) -> Option<(&Name, Span, &Form)>
 /// What the script has defined behind a `def` with these parts.
 fn define<'a>(
     alloc: Global,
-    script: Script<'a>,
+    script: &mut Script<'a>,
     span: Span,
     parts: &'a [Form],
-) -> Result<Script<'a>, Stop>
-    requires { IsScript script }
-    ensures state { Gives state_of result (define (state_of script.entry) span (trees_of (trees parts.now))) }
-    ensures next { IfOk result IsScript }
+) -> Result<(), Stop>
+    requires { IsScript script.old }
+    ensures state { Leaves result (state_of script.new) (define (state_of script.old) span (trees_of (trees parts.now))) }
+    ensures next { OnOk result (IsScript script.new) }
 {
     let Some((name, at, what)) = named_form(parts) else {
         return Err(refused(ResolveErrorKind::BadForm, span));
@@ -289,48 +295,46 @@ fn bind_parameters<'a>(scope: &mut Scope<'a>, forms: &'a [Form]) -> Result<(), S
 
 /// A function is defined, of so many parameters and with this body.
 fn with_function<'a>(
-    script: Script<'a>,
+    script: &mut Script<'a>,
     name: &'a Name,
     parameters: u8,
     body: Node,
     span: Span,
-) -> Result<Script<'a>, Stop>
-    requires script { IsScript script }
-    requires new { definition_of name.now script.scope.defined ≡ None }
-    requires room { length script.functions.items < 1000 }
+) -> Result<(), Stop>
+    requires script { IsScript script.old }
+    requires new { definition_of name.now script.old.scope.defined ≡ None }
+    requires room { length script.old.functions.items < 1000 }
     requires few { parameters ≤ 20 }
-    requires scoped { ScopedTree (known (functions_of script.functions.items)) parameters (tree_of body) }
-    requires levels { levels (known (functions_of script.functions.items)) (tree_of body) ≤ 1000 }
-    ensures state { Gives state_of result (Ok (with_function (state_of script.entry) name.now parameters (tree_of body) span)) }
-    ensures next { IfOk result IsScript }
+    requires scoped { ScopedTree (known (functions_of script.old.functions.items)) parameters (tree_of body) }
+    requires levels { levels (known (functions_of script.old.functions.items)) (tree_of body) ≤ 1000 }
+    ensures state { Leaves result (state_of script.new) (Ok (with_function (state_of script.old) name.now parameters (tree_of body) span)) }
+    ensures next { OnOk result (IsScript script.new) }
 {
-    let mut script = script;
     let number = script.functions.len() as u16;
     let depth = levels(script.levels.as_slice(), &body) as u16;
-    script.levels.push(depth)?;
     script.functions.push(Function {
         parameters,
         body,
         span,
     })?;
+    script.levels.push(depth)?;
     script
         .scope
         .define(name, Definition::Function(number, depth))?;
-    Ok(script)
+    Ok(())
 }
 
 /// What the script has defined behind a function as it is written.
 fn function_as<'a>(
     alloc: Global,
-    script: Script<'a>,
+    script: &mut Script<'a>,
     span: Span,
     written: Signature<'a>,
-) -> Result<Script<'a>, Stop>
-    requires { IsScript script }
-    ensures state { Gives state_of result (function (state_of script.entry) span (written_in (Some written.entry))) }
-    ensures next { IfOk result IsScript }
+) -> Result<(), Stop>
+    requires { IsScript script.old }
+    ensures state { Leaves result (state_of script.new) (function (state_of script.old) span (written_in (Some written.entry))) }
+    ensures next { OnOk result (IsScript script.new) }
 {
-    let mut script = script;
     if script.functions.len() >= MAX_FUNCTIONS {
         return Err(refused(ResolveErrorKind::TooMany, span));
     }
@@ -351,13 +355,13 @@ fn function_as<'a>(
 /// What the script has defined behind a `defn` with these parts.
 fn function<'a>(
     alloc: Global,
-    script: Script<'a>,
+    script: &mut Script<'a>,
     span: Span,
     parts: &'a [Form],
-) -> Result<Script<'a>, Stop>
-    requires { IsScript script }
-    ensures state { Gives state_of result (function (state_of script.entry) span (written (trees_of (trees parts.now)))) }
-    ensures next { IfOk result IsScript }
+) -> Result<(), Stop>
+    requires { IsScript script.old }
+    ensures state { Leaves result (state_of script.new) (function (state_of script.old) span (written (trees_of (trees parts.now)))) }
+    ensures next { OnOk result (IsScript script.new) }
 {
     match signature_of(parts) {
         Some(written) => function_as(alloc, script, span, written),
@@ -368,15 +372,14 @@ fn function<'a>(
 /// What the script has defined behind a `future` with this body.
 fn future<'a>(
     alloc: Global,
-    script: Script<'a>,
+    script: &mut Script<'a>,
     span: Span,
     forms: &'a [Form],
-) -> Result<Script<'a>, Stop>
-    requires { IsScript script }
-    ensures state { Gives state_of result (future (state_of script.entry) span (trees_of (trees forms.now))) }
-    ensures next { IfOk result IsScript }
+) -> Result<(), Stop>
+    requires { IsScript script.old }
+    ensures state { Leaves result (state_of script.new) (future (state_of script.old) span (trees_of (trees forms.now))) }
+    ensures next { OnOk result (IsScript script.new) }
 {
-    let mut script = script;
     if script.threads.len() >= MAX_THREADS {
         return Err(refused(ResolveErrorKind::TooMany, span));
     }
@@ -387,19 +390,19 @@ fn future<'a>(
     };
     let body = body(alloc, &mut script.scope, spot, forms)?;
     script.threads.push(Thread { body, span })?;
-    Ok(script)
+    Ok(())
 }
 
 /// What the script has defined behind a list at the top level.
 fn list_step<'a>(
     alloc: Global,
-    script: Script<'a>,
+    script: &mut Script<'a>,
     span: Span,
     forms: &'a [Form],
-) -> Result<Script<'a>, Stop>
-    requires { IsScript script }
-    ensures state { Gives state_of result (step (state_of script.entry) (group Round (trees_of (trees forms.now)) span)) }
-    ensures next { IfOk result IsScript }
+) -> Result<(), Stop>
+    requires { IsScript script.old }
+    ensures state { Leaves result (state_of script.new) (step (state_of script.old) (group Round (trees_of (trees forms.now)) span)) }
+    ensures next { OnOk result (IsScript script.new) }
 {
     let Some((head, parts)) = forms.split_first() else {
         return Err(refused(ResolveErrorKind::BadForm, span));
@@ -413,10 +416,10 @@ fn list_step<'a>(
 }
 
 /// What the script has defined behind a top-level form.
-pub fn step<'a>(alloc: Global, script: Script<'a>, form: &'a Form) -> Result<Script<'a>, Stop>
-    requires { IsScript script }
-    ensures state { Gives state_of result (step (state_of script.entry) (tree form.now)) }
-    ensures next { IfOk result IsScript }
+pub fn step<'a>(alloc: Global, script: &mut Script<'a>, form: &'a Form) -> Result<(), Stop>
+    requires { IsScript script.old }
+    ensures state { Leaves result (state_of script.new) (step (state_of script.old) (tree form.now)) }
+    ensures next { OnOk result (IsScript script.new) }
 {
     match form {
         Form::Group(Bracket::Round, forms, span) => list_step(alloc, script, *span, forms),

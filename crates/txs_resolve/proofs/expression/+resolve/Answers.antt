@@ -1,10 +1,10 @@
-use Rattle.std.proofs.Common.{◌≡◌, ◌<◌, ◌≤◌, ◌+◌, ◌-◌, ◌*◌, ◌∷◌, [], ◌++◌, ℕ, Bool, true, false, List, Result, Ok, Err, length, drop, get_or, refl, sym, ap, ◌∙◌, subst, arith, rules, Vec, Global}
+use Rattle.std.proofs.Common.{◌≡◌, ◌<◌, ◌≤◌, ◌+◌, ◌-◌, ◌*◌, ◌∷◌, [], ◌++◌, ℕ, Bool, true, false, List, Result, Ok, Err, length, drop, get_or, refl, sym, ap, ◌∙◌, subst, arith, rules, Vec, Global, Box}
 use Rattle.std.proofs.lemmas.Result.{err_from_is_err_and}
 use Rattle.txs_reader.proofs.form.Form.TheLaws.{the_size}
 use Rattle.txs_reader.specs.declared.form.Bracket.TheVariants.{Round, Square}
 use Rattle.txs_reader.specs.declared.form.Form.{Form, Group, the_lemmas}
 use Rattle.txs_reader.specs.Tree.{tree}
-use Rattle.txs_tree.specs.Tree.{Tree, Trees, Do, If, Deref, Dosync, Alter}
+use Rattle.txs_tree.specs.Tree.{Tree, Trees, Do, If, Let, Deref, Dosync, Alter}
 use Rattle.txs_tree.specs.declared.node.Node.{Node}
 use Rattle.txs_tree.specs.View.{tree_of, trees_of, mark_of}
 use Rattle.txs_names.specs.declared.names.FormName.TheVariants as kind
@@ -17,7 +17,8 @@ use Rattle.txs_resolve.specs.Given.{Gives, IsWithin}
 use Rattle.txs_resolve.specs.Answers.{◌>>=◌}
 use Rattle.txs_names.specs.Scope.{Scope, with_local}
 use Rattle.txs_resolve.proofs.Building.{plain, all_after, bound_after, failed, failed_let, failed_bound, tail_most, roomy, roomless, all_step, all_stop, all_end, bindings_step, bindings_unvalued, bindings_unbound, bindings_odd, bindings_end, failed_name, chain_first, pairs_step, pairs_stop, within_push}
-use Rattle.txs_resolve.proofs.Steps.{if_many, if_roomless, if_no_first, if_no_second, if_no_third, if_made, cond_roomless, cond_no_first, cond_no_second, cond_no_third, cond_made, when_roomless, when_no_first, when_no_second, when_made, logic_alone, logic_roomless, logic_unvalued, logic_full, logic_no_second, logic_made, deref_parts, deref_other, deref_no, deref_made, alter_roomless, alter_no_first, alter_no_second, alter_no_third, alter_made, binding_odd, binding_roomless, binding_parts, body_one, body_several, do_of, do_no, do_made, deref_roomless, choices_odd, choices_even, operation_counted, choices_counted, group_round, group_square, list_head, list_headless, made_of, sequence_no, sequence_made, dosync_no, dosync_made, operation_plain, operation_low, operation_chain}
+use Rattle.txs_resolve.proofs.Steps.{if_many, if_choice, cond_choice, when_choice, test_is, both_first, both_second, both_ok, choice_roomless, choice_no_first, choice_no_second, choice_made, two_first, two_second, two_ok, logic_alone, logic_roomless, logic_hidden, hidden_full, hidden_no, hidden_made, deref_parts, deref_other, deref_no, deref_made, alter_roomless, alter_no_first, alter_no_second, alter_no_third, alter_made, binding_odd, binding_roomless, binding_parts, body_one, body_several, do_of, do_no, do_made, deref_roomless, choices_odd, choices_even, operation_counted, choices_counted, group_round, group_square, list_head, list_headless, made_of, sequence_no, sequence_made, dosync_no, dosync_made, operation_plain, operation_low, operation_chain}
+use Rattle.txs_resolve.specs.Choices.{branch_trees, both, choice_of, hidden_choice, hidden_of, part_of}
 use Rattle.txs_resolve.proofs.NodeTrees.{do_tree, if_tree, deref_tree, dosync_tree, alter_tree}
 use Rattle.txs_resolve.proofs.expression.+resolve.Goals as goal
 
@@ -39,14 +40,14 @@ sequence-returns-clause-node t c =
 pub dosync-returns-in_err-inner-clause-node : goal.dosync-returns-in_err-inner-clause-node
 dosync-returns-in_err-inner-clause-node t c =
     let p = err_from_is_err_and c.from_residual.result c.from_residual.ensures.1 in
-    rw (p.1, p.2) (failed tree_of tree_of _ _ _ c.in_err-inner.ensures.node (λ e no.
+    rw (p.1, p.2) (failed (λ (b : Box Node Global). tree_of b.value) tree_of _ _ _ c.in_err-inner.ensures.node (λ e no.
     dosync_no c.args.spot c.if-spot-eq0.false (named_body c.args.scope.now (below 1 c.args.spot) (plain c.args.args.now)) e (ap (λ (s : Spot). named_body c.args.scope.now s (plain c.args.args.now)) (sym c.below.ensures) ∙ no)))
 
 pub dosync-returns-clause-node : goal.dosync-returns-clause-node
 dosync-returns-clause-node t c =
-    dosync_made c.args.spot c.if-spot-eq0.false (named_body c.args.scope.now (below 1 c.args.spot) (plain c.args.args.now)) (tree_of c.in_ok-inner.inner)
+    dosync_made c.args.spot c.if-spot-eq0.false (named_body c.args.scope.now (below 1 c.args.spot) (plain c.args.args.now)) (tree_of c.in_ok-inner.inner.value)
     (ap (λ (s : Spot). named_body c.args.scope.now s (plain c.args.args.now)) (sym c.below.ensures) ∙ c.in_ok-inner.ensures.node)
-    ∙ ap (λ (x : Tree). Ok x) (sym (ap tree_of c.node.ensures ∙ dosync_tree c.in_ok-inner-2.inner (spot_mark c.args.spot) ∙ ap (λ (n : Node). Dosync (tree_of n) (spot_mark c.args.spot)) c.in_ok-inner-2.ensures.ok))
+    ∙ ap (λ (x : Tree). Ok x) (sym (ap tree_of c.node.ensures ∙ dosync_tree c.in_ok-inner.inner (spot_mark c.args.spot)))
 
 pub deref-returns-then-args-ne1-clause-node : goal.deref-returns-then-args-ne1-clause-node
 deref-returns-then-args-ne1-clause-node t c =
@@ -56,121 +57,102 @@ deref-returns-then-args-ne1-clause-node t c =
 pub deref-returns-in_err-cell-clause-node : goal.deref-returns-in_err-cell-clause-node
 deref-returns-in_err-cell-clause-node t c =
     let p = err_from_is_err_and c.from_residual.result c.from_residual.ensures.1 in
-    rw (p.1, p.2) (failed tree_of tree_of _ _ _ c.in_err-cell.ensures.node (λ e no.
-    deref_parts c.args.scope.now c.args.spot c.args.args.now c.index-args-0.result c.if-args-ne1.false ∙ deref_no c.args.spot c.if-spot-eq0.false (named c.args.scope.now (c.args.spot.room - 1) true (tree (get_or c.args.args.now 0 c.index-args-0.result))) e (ap (λ f. named c.args.scope.now (c.args.spot.room - 1) true (tree f)) (sym c.index-args-0.is) ∙ no)))
+    rw (p.1, p.2) (failed (λ (b : Box Node Global). tree_of b.value) tree_of _ _ _ c.in_err-cell.ensures.node (λ e no.
+    deref_parts c.args.scope.now c.args.spot c.inner.result c.args.args.now c.inner.ensures c.if-args-ne1.false ∙ deref_no c.args.spot c.if-spot-eq0.false (named_body c.args.scope.now c.inner.result (plain c.args.args.now)) e no))
 
 pub deref-returns-clause-node : goal.deref-returns-clause-node
 deref-returns-clause-node t c =
-    deref_parts c.args.scope.now c.args.spot c.args.args.now c.index-args-0.result c.if-args-ne1.false
-    ∙ deref_made c.args.spot c.if-spot-eq0.false (named c.args.scope.now (c.args.spot.room - 1) true (tree (get_or c.args.args.now 0 c.index-args-0.result))) (tree_of c.in_ok-cell.cell) (ap (λ f. named c.args.scope.now (c.args.spot.room - 1) true (tree f)) (sym c.index-args-0.is) ∙ c.in_ok-cell.ensures.node)
-    ∙ ap (λ (x : Tree). Ok x) (sym (ap tree_of c.node.ensures ∙ deref_tree c.in_ok-cell-2.cell (spot_mark c.args.spot) ∙ ap (λ (n : Node). Deref (tree_of n) (spot_mark c.args.spot)) c.in_ok-cell-2.ensures.ok))
+    deref_parts c.args.scope.now c.args.spot c.inner.result c.args.args.now c.inner.ensures c.if-args-ne1.false
+    ∙ deref_made c.args.spot c.if-spot-eq0.false (named_body c.args.scope.now c.inner.result (plain c.args.args.now)) (tree_of c.in_ok-cell.cell.value) c.in_ok-cell.ensures.node
+    ∙ ap (λ (x : Tree). Ok x) (sym (ap tree_of c.node.ensures ∙ deref_tree c.in_ok-cell.cell (spot_mark c.args.spot)))
 
--- ---- if
+-- ---- choices
 
-pub branches-returns-then-rest-gt1-clause-node : goal.branches-returns-then-rest-gt1-clause-node
-branches-returns-then-rest-gt1-clause-node t c =
+pub branches-returns-in_err-one-clause-nodes : goal.branches-returns-in_err-one-clause-nodes
+branches-returns-in_err-one-clause-nodes t c =
+    let p = err_from_is_err_and c.from_residual.result c.from_residual.ensures.1 in
+    rw (p.1, p.2) (failed (λ (b : Box Node Global). tree_of b.value) branch_trees _ _ _ c.in_err-one.ensures.node (λ e no.
+    both_first (named_body c.args.scope.now c.args.spot (plain c.args.one.now)) (part_of c.args.part c.args.scope.now c.args.spot (plain c.args.rest.now)) e no))
+
+pub branches-returns-in_err-other-clause-nodes : goal.branches-returns-in_err-other-clause-nodes
+branches-returns-in_err-other-clause-nodes t c =
+    let p = err_from_is_err_and c.from_residual-in_err-other.result c.from_residual-in_err-other.ensures.1 in
+    rw (p.1, p.2) (failed (λ (b : Box Node Global). tree_of b.value) branch_trees _ _ _ c.in_err-other.ensures.node (λ e no.
+    both_second (named_body c.args.scope.now c.args.spot (plain c.args.one.now)) (part_of c.args.part c.args.scope.now c.args.spot (plain c.args.rest.now)) (tree_of c.in_ok-one.one.value) e c.in_ok-one.ensures.node (ap (λ (s : Scope). part_of c.args.part s c.args.spot (plain c.args.rest.now)) (sym c.in_ok-one.ensures.kept) ∙ no)))
+
+pub branches-returns-clause-nodes : goal.branches-returns-clause-nodes
+branches-returns-clause-nodes t c =
+    both_ok (named_body c.args.scope.now c.args.spot (plain c.args.one.now)) (part_of c.args.part c.args.scope.now c.args.spot (plain c.args.rest.now)) (tree_of c.in_ok-one.one.value) (tree_of c.in_ok-other.other.value) c.in_ok-one.ensures.node (ap (λ (s : Scope). part_of c.args.part s c.args.spot (plain c.args.rest.now)) (sym c.in_ok-one.ensures.kept) ∙ c.in_ok-other.ensures.node)
+
+pub choice-returns-then-spot-eq0-clause-node : goal.choice-returns-then-spot-eq0-clause-node
+choice-returns-then-spot-eq0-clause-node t c =
+    subst (λ st. Gives tree_of (Err st) (choice_of c.args.turned c.args.spot (named c.args.scope.now (c.args.spot.room - 1) true (tree c.args.test.now)) (both (named_body c.args.scope.now (below 1 c.args.spot) (plain c.args.one.now)) (part_of c.args.part c.args.scope.now (below 1 c.args.spot) (plain c.args.rest.now))))) (sym c.refused.ensures)
+    (choice_roomless c.args.turned c.args.spot (named c.args.scope.now (c.args.spot.room - 1) true (tree c.args.test.now)) (both (named_body c.args.scope.now (below 1 c.args.spot) (plain c.args.one.now)) (part_of c.args.part c.args.scope.now (below 1 c.args.spot) (plain c.args.rest.now))) c.if-spot-eq0.true)
+
+pub choice-returns-in_err-test-clause-node : goal.choice-returns-in_err-test-clause-node
+choice-returns-in_err-test-clause-node t c =
+    let p = err_from_is_err_and c.from_residual.result c.from_residual.ensures.1 in
+    rw (p.1, p.2) (failed (λ (b : Box Node Global). tree_of b.value) tree_of _ _ _ c.in_err-test.ensures.node (λ e no.
+    choice_no_first c.args.turned c.args.spot (named c.args.scope.now (c.args.spot.room - 1) true (tree c.args.test.now)) (both (named_body c.args.scope.now (below 1 c.args.spot) (plain c.args.one.now)) (part_of c.args.part c.args.scope.now (below 1 c.args.spot) (plain c.args.rest.now))) c.if-spot-eq0.false e (sym (test_is c.args.scope.now c.args.spot c.inner.result c.args.test.now c.from_ref.result.now c.inner.ensures c.from_ref.ensures.value) ∙ no)))
+
+pub choice-returns-in_err-branches-clause-node : goal.choice-returns-in_err-branches-clause-node
+choice-returns-in_err-branches-clause-node t c =
+    let p = err_from_is_err_and c.from_residual-in_err-branches.result c.from_residual-in_err-branches.ensures.1 in
+    rw (p.1, p.2) (failed branch_trees tree_of _ _ _ c.in_err-branches.ensures.nodes (λ e no.
+    choice_no_second c.args.turned c.args.spot (named c.args.scope.now (c.args.spot.room - 1) true (tree c.args.test.now)) (both (named_body c.args.scope.now (below 1 c.args.spot) (plain c.args.one.now)) (part_of c.args.part c.args.scope.now (below 1 c.args.spot) (plain c.args.rest.now))) c.if-spot-eq0.false (tree_of c.in_ok-test.test.value) e (sym (test_is c.args.scope.now c.args.spot c.inner.result c.args.test.now c.from_ref.result.now c.inner.ensures c.from_ref.ensures.value) ∙ c.in_ok-test.ensures.node) (ap (λ (s : Scope). both (named_body s (below 1 c.args.spot) (plain c.args.one.now)) (part_of c.args.part s (below 1 c.args.spot) (plain c.args.rest.now))) (sym c.in_ok-test.ensures.kept) ∙ ap (λ (x : Spot). both (named_body c.boxed.new.scope x (plain c.args.one.now)) (part_of c.args.part c.boxed.new.scope x (plain c.args.rest.now))) (sym c.below.ensures) ∙ no)))
+
+pub choice-returns-clause-node : goal.choice-returns-clause-node
+choice-returns-clause-node t c =
+    choice_made c.args.turned c.args.spot (named c.args.scope.now (c.args.spot.room - 1) true (tree c.args.test.now)) (both (named_body c.args.scope.now (below 1 c.args.spot) (plain c.args.one.now)) (part_of c.args.part c.args.scope.now (below 1 c.args.spot) (plain c.args.rest.now))) c.if-spot-eq0.false (tree_of c.in_ok-test.test.value) (branch_trees c.in_ok-branches.branches) (sym (test_is c.args.scope.now c.args.spot c.inner.result c.args.test.now c.from_ref.result.now c.inner.ensures c.from_ref.ensures.value) ∙ c.in_ok-test.ensures.node) (ap (λ (s : Scope). both (named_body s (below 1 c.args.spot) (plain c.args.one.now)) (part_of c.args.part s (below 1 c.args.spot) (plain c.args.rest.now))) (sym c.in_ok-test.ensures.kept) ∙ ap (λ (x : Spot). both (named_body c.boxed.new.scope x (plain c.args.one.now)) (part_of c.args.part c.boxed.new.scope x (plain c.args.rest.now))) (sym c.below.ensures) ∙ c.in_ok-branches.ensures.nodes)
+    ∙ ap (λ (x : Tree). Ok x) (sym c.choice_node.ensures)
+
+pub either-returns-then-rest-gt1-clause-node : goal.either-returns-then-rest-gt1-clause-node
+either-returns-then-rest-gt1-clause-node t c =
     subst (λ st. Gives tree_of (Err st) (named_if c.args.turned c.args.scope.now c.args.spot (plain c.args.args.now))) (sym c.refused-then-rest-gt1.ensures)
     (if_many c.args.turned c.args.scope.now c.args.spot c.args.args.now c.in-Some.parts.now c.in-Some-split_first.rest.now c.in-Some.test.now c.in-Some-split_first.one.now c.in-Some.ensures.cases.0 c.in-Some-split_first.ensures.cases.0 c.if-rest-gt1.true)
 
-pub branches-returns-then-spot-eq0-clause-node : goal.branches-returns-then-spot-eq0-clause-node
-branches-returns-then-spot-eq0-clause-node t c =
-    subst (λ st. Gives tree_of (Err st) (named_if c.args.turned c.args.scope.now c.args.spot (plain c.args.args.now))) (sym c.refused-then-spot-eq0.ensures)
-    (if_roomless c.args.turned c.args.scope.now c.args.spot c.args.args.now c.in-Some.parts.now c.in-Some-split_first.rest.now c.in-Some.test.now c.in-Some-split_first.one.now c.in-Some.ensures.cases.0 c.in-Some-split_first.ensures.cases.0 (omega (arith, c.if-rest-gt1.false)) c.if-spot-eq0.true)
-
-pub branches-returns-in_err-test-clause-node : goal.branches-returns-in_err-test-clause-node
-branches-returns-in_err-test-clause-node t c =
-    let p = err_from_is_err_and c.from_residual.result c.from_residual.ensures.1 in
-    rw (p.1, p.2) (failed tree_of tree_of _ _ _ c.in_err-test.ensures.node (λ e no.
-    if_no_first c.args.turned c.args.scope.now c.args.spot c.args.args.now c.in-Some.parts.now c.in-Some-split_first.rest.now c.in-Some.test.now c.in-Some-split_first.one.now c.in-Some.ensures.cases.0 c.in-Some-split_first.ensures.cases.0 (omega (arith, c.if-rest-gt1.false)) c.if-spot-eq0.false e no))
-
-pub branches-returns-in_err-one-clause-node : goal.branches-returns-in_err-one-clause-node
-branches-returns-in_err-one-clause-node t c =
-    let p = err_from_is_err_and c.from_residual-in_err-one.result c.from_residual-in_err-one.ensures.1 in
-    rw (p.1, p.2) (failed tree_of tree_of _ _ _ c.in_err-one.ensures.node (λ e no.
-    if_no_second c.args.turned c.args.scope.now c.args.spot c.args.args.now c.in-Some.parts.now c.in-Some-split_first.rest.now c.in-Some.test.now c.in-Some-split_first.one.now c.in-Some.ensures.cases.0 c.in-Some-split_first.ensures.cases.0 (omega (arith, c.if-rest-gt1.false)) c.if-spot-eq0.false (tree_of c.in_ok-test.test) e c.in_ok-test.ensures.node (ap (λ (s : Scope). named s (c.args.spot.room - 1) c.args.spot.wanted (tree c.in-Some-split_first.one.now)) (sym c.in_ok-test.ensures.kept) ∙ no)))
-
-pub branches-returns-in_err-other-clause-node : goal.branches-returns-in_err-other-clause-node
-branches-returns-in_err-other-clause-node t c =
-    let p = err_from_is_err_and c.from_residual-in_err-other.result c.from_residual-in_err-other.ensures.1 in
-    rw (p.1, p.2) (failed tree_of tree_of _ _ _ c.in_err-other.ensures.node (λ e no.
-    if_no_third c.args.turned c.args.scope.now c.args.spot c.args.args.now c.in-Some.parts.now c.in-Some-split_first.rest.now c.in-Some.test.now c.in-Some-split_first.one.now c.in-Some.ensures.cases.0 c.in-Some-split_first.ensures.cases.0 (omega (arith, c.if-rest-gt1.false)) c.if-spot-eq0.false (tree_of c.in_ok-test.test) (tree_of c.in_ok-one.one) e c.in_ok-test.ensures.node (ap (λ (s : Scope). named s (c.args.spot.room - 1) c.args.spot.wanted (tree c.in-Some-split_first.one.now)) (sym c.in_ok-test.ensures.kept) ∙ c.in_ok-one.ensures.node) (ap (λ (x : Spot). named_body c.args.scope.now x (plain c.in-Some-split_first.rest.now)) (sym c.below.ensures) ∙ ap (λ (s : Scope). named_body s c.below.result (plain c.in-Some-split_first.rest.now)) (sym (c.in_ok-one.ensures.kept ∙ c.in_ok-test.ensures.kept)) ∙ no)))
-
-pub branches-returns-clause-node : goal.branches-returns-clause-node
-branches-returns-clause-node t c =
-    if_made c.args.turned c.args.scope.now c.args.spot c.args.args.now c.in-Some.parts.now c.in-Some-split_first.rest.now c.in-Some.test.now c.in-Some-split_first.one.now c.in-Some.ensures.cases.0 c.in-Some-split_first.ensures.cases.0 (omega (arith, c.if-rest-gt1.false)) c.if-spot-eq0.false (tree_of c.in_ok-test.test) (tree_of c.in_ok-one.one) (tree_of c.in_ok-other.other) c.in_ok-test.ensures.node (ap (λ (s : Scope). named s (c.args.spot.room - 1) c.args.spot.wanted (tree c.in-Some-split_first.one.now)) (sym c.in_ok-test.ensures.kept) ∙ c.in_ok-one.ensures.node) (ap (λ (x : Spot). named_body c.args.scope.now x (plain c.in-Some-split_first.rest.now)) (sym c.below.ensures) ∙ ap (λ (s : Scope). named_body s c.below.result (plain c.in-Some-split_first.rest.now)) (sym (c.in_ok-one.ensures.kept ∙ c.in_ok-test.ensures.kept)) ∙ c.in_ok-other.ensures.node)
-    ∙ ap (λ (x : Tree). Ok x) (sym c.in_ok-choice_node.ensures)
-
--- ---- cond
-
-pub cond-returns-in_err-test-clause-node : goal.cond-returns-in_err-test-clause-node
-cond-returns-in_err-test-clause-node t c =
-    let p = err_from_is_err_and c.from_residual.result c.from_residual.ensures.1 in
-    rw (p.1, p.2) (failed tree_of tree_of _ _ _ c.in_err-test.ensures.node (λ e no.
-    cond_no_first c.args.scope.now c.args.spot c.args.args.now c.in-Some.parts.now c.in-Some-split_first.rest.now c.in-Some.test.now c.in-Some-split_first.one.now c.in-Some.ensures.cases.0 c.in-Some-split_first.ensures.cases.0 c.if-spot-eq0.false e no))
-
-pub cond-returns-in_err-one-clause-node : goal.cond-returns-in_err-one-clause-node
-cond-returns-in_err-one-clause-node t c =
-    let p = err_from_is_err_and c.from_residual-in_err-one.result c.from_residual-in_err-one.ensures.1 in
-    rw (p.1, p.2) (failed tree_of tree_of _ _ _ c.in_err-one.ensures.node (λ e no.
-    cond_no_second c.args.scope.now c.args.spot c.args.args.now c.in-Some.parts.now c.in-Some-split_first.rest.now c.in-Some.test.now c.in-Some-split_first.one.now c.in-Some.ensures.cases.0 c.in-Some-split_first.ensures.cases.0 c.if-spot-eq0.false (tree_of c.in_ok-test.test) e c.in_ok-test.ensures.node (ap (λ (s : Scope). named s (c.args.spot.room - 1) c.args.spot.wanted (tree c.in-Some-split_first.one.now)) (sym c.in_ok-test.ensures.kept) ∙ no)))
-
-pub cond-returns-in_err-other-clause-node : goal.cond-returns-in_err-other-clause-node
-cond-returns-in_err-other-clause-node t c =
-    let p = err_from_is_err_and c.from_residual-in_err-other.result c.from_residual-in_err-other.ensures.1 in
-    rw (p.1, p.2) (failed tree_of tree_of _ _ _ c.in_err-other.ensures.node (λ e no.
-    cond_no_third c.args.scope.now c.args.spot c.args.args.now c.in-Some.parts.now c.in-Some-split_first.rest.now c.in-Some.test.now c.in-Some-split_first.one.now c.in-Some.ensures.cases.0 c.in-Some-split_first.ensures.cases.0 c.if-spot-eq0.false (tree_of c.in_ok-test.test) (tree_of c.in_ok-one.one) e c.in_ok-test.ensures.node (ap (λ (s : Scope). named s (c.args.spot.room - 1) c.args.spot.wanted (tree c.in-Some-split_first.one.now)) (sym c.in_ok-test.ensures.kept) ∙ c.in_ok-one.ensures.node) (ap (λ (x : Spot). named_cond c.args.scope.now x (plain c.in-Some-split_first.rest.now)) (sym c.below.ensures) ∙ ap (λ (s : Scope). named_cond s c.below.result (plain c.in-Some-split_first.rest.now)) (sym (c.in_ok-one.ensures.kept ∙ c.in_ok-test.ensures.kept)) ∙ no)))
+pub either-returns-clause-node : goal.either-returns-clause-node
+either-returns-clause-node t c =
+    subst (λ a. Gives tree_of c.choice.result a)
+    (sym (if_choice c.args.turned c.args.scope.now c.args.spot c.args.args.now c.in-Some.parts.now c.in-Some-split_first.rest.now c.in-Some.test.now c.in-Some-split_first.one.now c.in-Some.ensures.cases.0 c.in-Some-split_first.ensures.cases.0 c.from_ref.result.now c.from_ref.ensures.value (omega (arith, c.if-rest-gt1.false))))
+    c.choice.ensures.node
 
 pub cond-returns-clause-node : goal.cond-returns-clause-node
 cond-returns-clause-node t c =
-    cond_made c.args.scope.now c.args.spot c.args.args.now c.in-Some.parts.now c.in-Some-split_first.rest.now c.in-Some.test.now c.in-Some-split_first.one.now c.in-Some.ensures.cases.0 c.in-Some-split_first.ensures.cases.0 c.if-spot-eq0.false (tree_of c.in_ok-test.test) (tree_of c.in_ok-one.one) (tree_of c.in_ok-other.other) c.in_ok-test.ensures.node (ap (λ (s : Scope). named s (c.args.spot.room - 1) c.args.spot.wanted (tree c.in-Some-split_first.one.now)) (sym c.in_ok-test.ensures.kept) ∙ c.in_ok-one.ensures.node) (ap (λ (x : Spot). named_cond c.args.scope.now x (plain c.in-Some-split_first.rest.now)) (sym c.below.ensures) ∙ ap (λ (s : Scope). named_cond s c.below.result (plain c.in-Some-split_first.rest.now)) (sym (c.in_ok-one.ensures.kept ∙ c.in_ok-test.ensures.kept)) ∙ c.in_ok-other.ensures.node)
-    ∙ ap (λ (x : Tree). Ok x) (sym c.in_ok-choice_node.ensures)
-
--- ---- when
-
-pub guarded-returns-in_err-test-clause-node : goal.guarded-returns-in_err-test-clause-node
-guarded-returns-in_err-test-clause-node t c =
-    let p = err_from_is_err_and c.from_residual.result c.from_residual.ensures.1 in
-    rw (p.1, p.2) (failed tree_of tree_of _ _ _ c.in_err-test.ensures.node (λ e no.
-    when_no_first c.args.turned c.args.scope.now c.args.spot c.args.args.now c.in-Some.rest.now c.in-Some.test.now c.in-Some.ensures.cases.0 c.if-spot-eq0.false e no))
-
-pub guarded-returns-in_err-one-clause-node : goal.guarded-returns-in_err-one-clause-node
-guarded-returns-in_err-one-clause-node t c =
-    let p = err_from_is_err_and c.from_residual-in_err-one.result c.from_residual-in_err-one.ensures.1 in
-    rw (p.1, p.2) (failed tree_of tree_of _ _ _ c.in_err-one.ensures.node (λ e no.
-    when_no_second c.args.turned c.args.scope.now c.args.spot c.args.args.now c.in-Some.rest.now c.in-Some.test.now c.in-Some.ensures.cases.0 c.if-spot-eq0.false (tree_of c.in_ok-test.test) e c.in_ok-test.ensures.node (ap (λ (x : Spot). named_body c.args.scope.now x (plain c.in-Some.rest.now)) (sym c.below.ensures) ∙ ap (λ (s : Scope). named_body s c.below.result (plain c.in-Some.rest.now)) (sym c.in_ok-test.ensures.kept) ∙ no)))
+    subst (λ a. Gives tree_of c.choice.result a)
+    (sym (cond_choice c.args.scope.now c.args.spot c.args.args.now c.in-Some.parts.now c.in-Some-split_first.rest.now c.in-Some.test.now c.in-Some-split_first.one.now c.in-Some.ensures.cases.0 c.in-Some-split_first.ensures.cases.0 c.from_ref.result.now c.from_ref.ensures.value))
+    c.choice.ensures.node
 
 pub guarded-returns-clause-node : goal.guarded-returns-clause-node
 guarded-returns-clause-node t c =
-    when_made c.args.turned c.args.scope.now c.args.spot c.args.args.now c.in-Some.rest.now c.in-Some.test.now c.in-Some.ensures.cases.0 c.if-spot-eq0.false (tree_of c.in_ok-test.test) (tree_of c.in_ok-one.one) c.in_ok-test.ensures.node (ap (λ (x : Spot). named_body c.args.scope.now x (plain c.in-Some.rest.now)) (sym c.below.ensures) ∙ ap (λ (s : Scope). named_body s c.below.result (plain c.in-Some.rest.now)) (sym c.in_ok-test.ensures.kept) ∙ c.in_ok-one.ensures.node)
-    ∙ ap (λ (n : Node). Ok (choice_node c.args.turned (tree_of c.in_ok-test.test) (tree_of c.in_ok-one.one) (tree_of n) (spot_mark c.args.spot))) (sym c.node-other.ensures)
-    ∙ ap (λ (x : Tree). Ok x) (sym c.in_ok-choice_node.ensures)
+    subst (λ a. Gives tree_of c.choice.result a)
+    (sym (when_choice c.args.turned c.args.scope.now c.args.spot c.args.args.now c.in-Some.one.now c.in-Some.test.now c.in-Some.ensures.cases.0))
+    c.choice.ensures.node
 
 -- ---- alter
 
 pub alter-returns-in_err-cell-clause-node : goal.alter-returns-in_err-cell-clause-node
 alter-returns-in_err-cell-clause-node t c =
     let p = err_from_is_err_and c.from_residual.result c.from_residual.ensures.1 in
-    rw (p.1, p.2) (failed tree_of tree_of _ _ _ c.in_err-cell.ensures.node (λ e no.
-    alter_no_first c.args.scope.now c.args.spot c.args.args.now c.in-Some.parts.now c.in-Some-split_first.further.now c.in-Some.cell.now c.in-Some-split_first.function.now c.in-Some.ensures.cases.0 c.in-Some-split_first.ensures.cases.0 c.if-spot-eq0.false e no))
+    rw (p.1, p.2) (failed (λ (b : Box Node Global). tree_of b.value) tree_of _ _ _ c.in_err-cell.ensures.node (λ e no.
+    alter_no_first c.args.scope.now c.args.spot c.args.args.now c.in-Some.parts.now c.in-Some-split_first.further.now c.in-Some.cell.now c.in-Some-split_first.function.now c.in-Some.ensures.cases.0 c.in-Some-split_first.ensures.cases.0 c.if-spot-eq0.false e (sym (test_is c.args.scope.now c.args.spot c.inner.result c.in-Some.cell.now c.from_ref.result.now c.inner.ensures c.from_ref.ensures.value) ∙ no)))
 
 pub alter-returns-in_err-called-clause-node : goal.alter-returns-in_err-called-clause-node
 alter-returns-in_err-called-clause-node t c =
     let p = err_from_is_err_and c.from_residual-in_err-called.result c.from_residual-in_err-called.ensures.1 in
     rw (p.1, p.2) (failed (λ c. c) tree_of _ _ _ c.in_err-called.ensures (λ e no.
-    alter_no_second c.args.scope.now c.args.spot c.args.args.now c.in-Some.parts.now c.in-Some-split_first.further.now c.in-Some.cell.now c.in-Some-split_first.function.now c.in-Some.ensures.cases.0 c.in-Some-split_first.ensures.cases.0 c.if-spot-eq0.false (tree_of c.in_ok-cell.cell) e c.in_ok-cell.ensures.node (ap (λ (s : Scope). callee_of s c.args.spot (tree c.in-Some-split_first.function.now)) (sym c.in_ok-cell.ensures.kept) ∙ no)))
+    alter_no_second c.args.scope.now c.args.spot c.args.args.now c.in-Some.parts.now c.in-Some-split_first.further.now c.in-Some.cell.now c.in-Some-split_first.function.now c.in-Some.ensures.cases.0 c.in-Some-split_first.ensures.cases.0 c.if-spot-eq0.false (tree_of c.in_ok-cell.cell.value) e (sym (test_is c.args.scope.now c.args.spot c.inner.result c.in-Some.cell.now c.from_ref.result.now c.inner.ensures c.from_ref.ensures.value) ∙ c.in_ok-cell.ensures.node) (ap (λ (s : Scope). callee_of s c.args.spot (tree c.in-Some-split_first.function.now)) (sym c.in_ok-cell.ensures.kept) ∙ no)))
 
 pub alter-returns-in_err-nodes-clause-node : goal.alter-returns-in_err-nodes-clause-node
 alter-returns-in_err-nodes-clause-node t c =
     let p = err_from_is_err_and c.from_residual-in_err-nodes.result c.from_residual-in_err-nodes.ensures.1 in
     rw (p.1, p.2) (failed (λ (v : Vec Node Global). trees_of v.items) tree_of _ _ _ c.in_err-nodes.ensures.nodes (λ e no.
-    alter_no_third c.args.scope.now c.args.spot c.args.args.now c.in-Some.parts.now c.in-Some-split_first.further.now c.in-Some.cell.now c.in-Some-split_first.function.now c.in-Some.ensures.cases.0 c.in-Some-split_first.ensures.cases.0 c.if-spot-eq0.false (tree_of c.in_ok-cell.cell) c.in_ok-called.called e c.in_ok-cell.ensures.node (ap (λ (s : Scope). callee_of s c.args.spot (tree c.in-Some-split_first.function.now)) (sym c.in_ok-cell.ensures.kept) ∙ c.in_ok-called.ensures) (ap (λ (s : Scope). named_all s (c.args.spot.room - 1) true true (plain c.in-Some-split_first.further.now)) (sym c.in_ok-cell.ensures.kept) ∙ no)))
+    alter_no_third c.args.scope.now c.args.spot c.args.args.now c.in-Some.parts.now c.in-Some-split_first.further.now c.in-Some.cell.now c.in-Some-split_first.function.now c.in-Some.ensures.cases.0 c.in-Some-split_first.ensures.cases.0 c.if-spot-eq0.false (tree_of c.in_ok-cell.cell.value) c.in_ok-called.called e (sym (test_is c.args.scope.now c.args.spot c.inner.result c.in-Some.cell.now c.from_ref.result.now c.inner.ensures c.from_ref.ensures.value) ∙ c.in_ok-cell.ensures.node) (ap (λ (s : Scope). callee_of s c.args.spot (tree c.in-Some-split_first.function.now)) (sym c.in_ok-cell.ensures.kept) ∙ c.in_ok-called.ensures) (ap (λ (s : Scope). named_all s (c.args.spot.room - 1) true true (plain c.in-Some-split_first.further.now)) (sym c.in_ok-cell.ensures.kept) ∙ no)))
 
 pub alter-returns-clause-node : goal.alter-returns-clause-node
 alter-returns-clause-node t c =
-    alter_made c.args.scope.now c.args.spot c.args.args.now c.in-Some.parts.now c.in-Some-split_first.further.now c.in-Some.cell.now c.in-Some-split_first.function.now c.in-Some.ensures.cases.0 c.in-Some-split_first.ensures.cases.0 c.if-spot-eq0.false (tree_of c.in_ok-cell.cell) c.in_ok-called.called (trees_of c.in_ok-nodes.nodes.items) c.in_ok-cell.ensures.node (ap (λ (s : Scope). callee_of s c.args.spot (tree c.in-Some-split_first.function.now)) (sym c.in_ok-cell.ensures.kept) ∙ c.in_ok-called.ensures) (ap (λ (s : Scope). named_all s (c.args.spot.room - 1) true true (plain c.in-Some-split_first.further.now)) (sym c.in_ok-cell.ensures.kept) ∙ c.in_ok-nodes.ensures.nodes)
-    ∙ ap (λ (x : Tree). Ok x) (sym (ap tree_of c.node.ensures ∙ alter_tree c.in_ok-cell-2.cell c.in_ok-called.called c.in_ok-nodes.nodes (spot_mark c.args.spot) ∙ ap (λ (n : Node). Alter (tree_of n) c.in_ok-called.called (trees_of c.in_ok-nodes.nodes.items) (spot_mark c.args.spot)) c.in_ok-cell-2.ensures.ok))
-
--- ---- and, or
+    alter_made c.args.scope.now c.args.spot c.args.args.now c.in-Some.parts.now c.in-Some-split_first.further.now c.in-Some.cell.now c.in-Some-split_first.function.now c.in-Some.ensures.cases.0 c.in-Some-split_first.ensures.cases.0 c.if-spot-eq0.false (tree_of c.in_ok-cell.cell.value) c.in_ok-called.called (trees_of c.in_ok-nodes.nodes.items) (sym (test_is c.args.scope.now c.args.spot c.inner.result c.in-Some.cell.now c.from_ref.result.now c.inner.ensures c.from_ref.ensures.value) ∙ c.in_ok-cell.ensures.node) (ap (λ (s : Scope). callee_of s c.args.spot (tree c.in-Some-split_first.function.now)) (sym c.in_ok-cell.ensures.kept) ∙ c.in_ok-called.ensures) (ap (λ (s : Scope). named_all s (c.args.spot.room - 1) true true (plain c.in-Some-split_first.further.now)) (sym c.in_ok-cell.ensures.kept) ∙ c.in_ok-nodes.ensures.nodes)
+    ∙ ap (λ (x : Tree). Ok x) (sym (ap tree_of c.node.ensures ∙ alter_tree c.in_ok-cell.cell c.in_ok-called.called c.in_ok-nodes.nodes (spot_mark c.args.spot)))
 
 -- ---- forms one after the other
 
@@ -223,7 +205,7 @@ binding-returns-in_err-inner-clause-node t c =
     let items_too : c.deref-2.result.now ≡ c.in-Some-Group-Square-default-default-default.pairs.items = first_of (search (rules, the_lemmas), search (rules, the_lemmas, c.deref-2.ensures.value, c.in-Some-Group-Square-default-default-default.field-0-0-is), search (rules, the_lemmas) depth 8) in
     let e = binding_parts c.args.is_loop c.args.scope.now c.args.spot c.args.args.now c.in-Some-Group-Square-default-default-default.forms.now c.deref.result.now c.in-Some-Group-Square-default-default-default.field-0-0.now c.in-Some-Group-Square-default-default-default.pairs c.in-Some-Group-Square-default-default-default.field-0-0-2 c.in-Some-Group-Square-default-default-default.ensures.cases.0 square items (sym c.if-not-are_pairs.ensures) c.if-spot-eq0.false
     ∙ ap (λ l. (λ (o : Answer Bound). o >>= λ bound. named_body bound.scope (below 1 c.args.spot) (plain c.in-Some-Group-Square-default-default-default.forms.now) >>= λ node. Ok (binding_node c.args.is_loop bound.values node (spot_mark c.args.spot))) (named_bindings c.args.scope.now (c.args.spot.room - 1) (plain l))) (items ∙ sym items_too) in
-    rw (p.1, p.2) (failed tree_of tree_of _ _ _ c.in_err-inner.ensures.node (λ x no.
+    rw (p.1, p.2) (failed (λ (b : Box Node Global). tree_of b.value) tree_of _ _ _ c.in_err-inner.ensures.node (λ x no.
     e
     ∙ ap (λ (o : Answer Bound). o >>= λ bound. named_body bound.scope (below 1 c.args.spot) (plain c.in-Some-Group-Square-default-default-default.forms.now) >>= λ node. Ok (binding_node c.args.is_loop bound.values node (spot_mark c.args.spot))) c.in_ok-values.ensures.values
     ∙ ap (λ (o : Answer Tree). o >>= λ node. Ok (binding_node c.args.is_loop (trees_of c.in_ok-values.values.items) node (spot_mark c.args.spot)))
@@ -240,7 +222,7 @@ binding-returns-clause-node t c =
     ∙ ap (λ (o : Answer Bound). o >>= λ bound. named_body bound.scope (below 1 c.args.spot) (plain c.in-Some-Group-Square-default-default-default.forms.now) >>= λ node. Ok (binding_node c.args.is_loop bound.values node (spot_mark c.args.spot))) c.in_ok-values.ensures.values
     ∙ ap (λ (o : Answer Tree). o >>= λ node. Ok (binding_node c.args.is_loop (trees_of c.in_ok-values.values.items) node (spot_mark c.args.spot)))
     (ap (λ (x : Spot). named_body c.bindings.new.scope x (plain c.in-Some-Group-Square-default-default-default.forms.now)) (sym c.below.ensures) ∙ c.in_ok-inner.ensures.node)
-    ∙ ap (λ (x : Tree). Ok x) (sym c.in_ok-binding_node.ensures)
+    ∙ ap (λ (x : Tree). Ok x) (sym c.binding_node.ensures)
 
 pub bindings-returns-in_err-value-clause-values : goal.bindings-returns-in_err-value-clause-values
 bindings-returns-in_err-value-clause-values t c =
@@ -401,30 +383,39 @@ pub logic-returns-then-spot-eq0-clause-node : goal.logic-returns-then-spot-eq0-c
 logic-returns-then-spot-eq0-clause-node t c =
     subst (λ st. Gives tree_of (Err st) (named_logic c.args.is_or c.args.scope.now c.args.spot (plain c.args.args.now))) (sym c.refused.ensures) (logic_roomless c.args.is_or c.args.scope.now c.args.spot c.args.args.now c.in-Some.rest.now c.in-Some.value.now c.in-Some.ensures.cases.0 c.if-rest-eq0.false c.if-spot-eq0.true)
 
-pub logic-returns-in_err-value-clause-node : goal.logic-returns-in_err-value-clause-node
-logic-returns-in_err-value-clause-node t c =
+pub logic-returns-in_err-values-clause-node : goal.logic-returns-in_err-values-clause-node
+logic-returns-in_err-values-clause-node t c =
     let p = err_from_is_err_and c.from_residual.result c.from_residual.ensures.1 in
-    rw (p.1, p.2) (failed tree_of tree_of _ _ _ c.in_err-value.ensures.node (λ e no.
-    logic_unvalued c.args.is_or c.args.scope.now c.args.spot c.args.args.now c.in-Some.rest.now c.in-Some.value.now c.in-Some.ensures.cases.0 c.if-rest-eq0.false c.if-spot-eq0.false e no))
+    rw (p.1, p.2) (failed (λ (v : Vec Node Global). trees_of v.items) tree_of _ _ _ c.in_err-values.ensures.nodes (λ e no.
+    logic_hidden c.args.is_or c.args.scope.now c.args.spot c.args.args.now c.in-Some.rest.now c.in-Some.value.now c.in-Some.ensures.cases.0 c.from_ref.result.now c.from_ref.ensures.value c.if-rest-eq0.false c.if-spot-eq0.false ∙ two_first (named_all c.args.scope.now (c.args.spot.room - 1) true true (plain c.from_ref.result.now)) (hidden_of c.args.is_or c.args.scope.now c.args.spot (named_logic c.args.is_or (with_local [] c.args.scope.now) (below 2 c.args.spot) (plain c.in-Some.rest.now))) (λ vs x. Let vs x (spot_mark c.args.spot)) e no))
 
-pub logic-returns-then-not-may_hide-clause-node : goal.logic-returns-then-not-may_hide-clause-node
-logic-returns-then-not-may_hide-clause-node t c =
-    subst (λ st. Gives tree_of (Err st) (named_logic c.args.is_or c.args.scope.now c.args.spot (plain c.args.args.now))) (sym c.refused-then-not-may_hide.ensures)
-    (logic_full c.args.is_or c.args.scope.now c.args.spot c.args.args.now c.in-Some.rest.now c.in-Some.value.now c.in-Some.ensures.cases.0 c.if-rest-eq0.false c.if-spot-eq0.false (tree_of c.in_ok-value.value) c.in_ok-value.ensures.node (ap (λ (z : Scope). may_hide z c.args.spot) (sym c.in_ok-value.ensures.kept) ∙ sym c.if-not-may_hide.ensures))
-
-pub logic-returns-in_err-other-clause-node : goal.logic-returns-in_err-other-clause-node
-logic-returns-in_err-other-clause-node t c =
-    let p = err_from_is_err_and c.from_residual-in_err-other.result c.from_residual-in_err-other.ensures.1 in
-    rw (p.1, p.2) (failed tree_of tree_of _ _ _ c.in_err-other.ensures.node (λ e no.
-    logic_no_second c.args.is_or c.args.scope.now c.args.spot c.args.args.now c.in-Some.rest.now c.in-Some.value.now c.in-Some.ensures.cases.0 c.if-rest-eq0.false c.if-spot-eq0.false (ap (λ (z : Scope). may_hide z c.args.spot) (sym c.in_ok-value.ensures.kept) ∙ sym c.if-not-may_hide.ensures) (tree_of c.in_ok-value.value) e c.in_ok-value.ensures.node
-    (ap (λ (z : Scope). named_logic c.args.is_or (with_local [] z) (below 2 c.args.spot) (plain c.in-Some.rest.now)) (sym c.in_ok-value.ensures.kept) ∙ ap (λ (z : Scope). named_logic c.args.is_or z (below 2 c.args.spot) (plain c.in-Some.rest.now)) (sym c.in_ok-push.ensures) ∙ ap (λ (z : Spot). named_logic c.args.is_or c.push.new.self z (plain c.in-Some.rest.now)) (sym c.below.ensures) ∙ no)))
+pub logic-returns-in_err-choice-clause-node : goal.logic-returns-in_err-choice-clause-node
+logic-returns-in_err-choice-clause-node t c =
+    let p = err_from_is_err_and c.from_residual-in_err-choice.result c.from_residual-in_err-choice.ensures.1 in
+    rw (p.1, p.2) (failed (λ (b : Box Node Global). tree_of b.value) tree_of _ _ _ c.in_err-choice.ensures.node (λ e no.
+    logic_hidden c.args.is_or c.args.scope.now c.args.spot c.args.args.now c.in-Some.rest.now c.in-Some.value.now c.in-Some.ensures.cases.0 c.from_ref.result.now c.from_ref.ensures.value c.if-rest-eq0.false c.if-spot-eq0.false ∙ two_second (named_all c.args.scope.now (c.args.spot.room - 1) true true (plain c.from_ref.result.now)) (hidden_of c.args.is_or c.args.scope.now c.args.spot (named_logic c.args.is_or (with_local [] c.args.scope.now) (below 2 c.args.spot) (plain c.in-Some.rest.now))) (λ vs x. Let vs x (spot_mark c.args.spot)) (trees_of c.in_ok-values.values.items) e c.in_ok-values.ensures.nodes (ap (λ (z : Scope). hidden_of c.args.is_or z c.args.spot (named_logic c.args.is_or (with_local [] z) (below 2 c.args.spot) (plain c.in-Some.rest.now))) (sym c.in_ok-values.ensures.kept) ∙ no)))
 
 pub logic-returns-clause-node : goal.logic-returns-clause-node
 logic-returns-clause-node t c =
-    logic_made c.args.is_or c.args.scope.now c.args.spot c.args.args.now c.in-Some.rest.now c.in-Some.value.now c.in-Some.ensures.cases.0 c.if-rest-eq0.false c.if-spot-eq0.false (ap (λ (z : Scope). may_hide z c.args.spot) (sym c.in_ok-value.ensures.kept) ∙ sym c.if-not-may_hide.ensures) (tree_of c.in_ok-value.value) (tree_of c.in_ok-other.other) c.in_ok-value.ensures.node
-    (ap (λ (z : Scope). named_logic c.args.is_or (with_local [] z) (below 2 c.args.spot) (plain c.in-Some.rest.now)) (sym c.in_ok-value.ensures.kept) ∙ ap (λ (z : Scope). named_logic c.args.is_or z (below 2 c.args.spot) (plain c.in-Some.rest.now)) (sym c.in_ok-push.ensures) ∙ ap (λ (z : Spot). named_logic c.args.is_or c.push.new.self z (plain c.in-Some.rest.now)) (sym c.below.ensures) ∙ c.in_ok-other.ensures.node)
-    ∙ ap (λ (i : ℕ). Ok (logic_node c.args.is_or i (tree_of c.in_ok-value.value) (tree_of c.in_ok-other.other) c.args.spot)) (ap (λ (z : Scope). length z.locals) (sym c.in_ok-value.ensures.kept) ∙ sym c.len-local.ensures)
-    ∙ ap (λ (x : Tree). Ok x) (sym c.in_ok-logic_node.ensures)
+    logic_hidden c.args.is_or c.args.scope.now c.args.spot c.args.args.now c.in-Some.rest.now c.in-Some.value.now c.in-Some.ensures.cases.0 c.from_ref.result.now c.from_ref.ensures.value c.if-rest-eq0.false c.if-spot-eq0.false ∙ two_ok (named_all c.args.scope.now (c.args.spot.room - 1) true true (plain c.from_ref.result.now)) (hidden_of c.args.is_or c.args.scope.now c.args.spot (named_logic c.args.is_or (with_local [] c.args.scope.now) (below 2 c.args.spot) (plain c.in-Some.rest.now))) (λ vs x. Let vs x (spot_mark c.args.spot)) (trees_of c.in_ok-values.values.items) (tree_of c.in_ok-choice.choice.value) c.in_ok-values.ensures.nodes (ap (λ (z : Scope). hidden_of c.args.is_or z c.args.spot (named_logic c.args.is_or (with_local [] z) (below 2 c.args.spot) (plain c.in-Some.rest.now))) (sym c.in_ok-values.ensures.kept) ∙ c.in_ok-choice.ensures.node)
+    ∙ ap (λ (x : Tree). Ok x) (sym c.binding_node.ensures)
+
+pub hidden-returns-then-not-may_hide-clause-node : goal.hidden-returns-then-not-may_hide-clause-node
+hidden-returns-then-not-may_hide-clause-node t c =
+    subst (λ st. Gives (λ (b : Box Node Global). tree_of b.value) (Err st) (hidden_of c.args.is_or c.args.scope.now c.args.spot (named_logic c.args.is_or (with_local [] c.args.scope.now) (below 2 c.args.spot) (plain c.args.rest.now)))) (sym c.refused.ensures)
+    (hidden_full c.args.is_or c.args.scope.now c.args.spot (named_logic c.args.is_or (with_local [] c.args.scope.now) (below 2 c.args.spot) (plain c.args.rest.now)) (sym c.if-not-may_hide.ensures))
+
+pub hidden-returns-in_err-other-clause-node : goal.hidden-returns-in_err-other-clause-node
+hidden-returns-in_err-other-clause-node t c =
+    let p = err_from_is_err_and c.from_residual-in_err-other.result c.from_residual-in_err-other.ensures.1 in
+    rw (p.1, p.2) (failed tree_of (λ (b : Box Node Global). tree_of b.value) _ _ _ c.in_err-other.ensures.node (λ e no.
+    hidden_no c.args.is_or c.args.scope.now c.args.spot (named_logic c.args.is_or (with_local [] c.args.scope.now) (below 2 c.args.spot) (plain c.args.rest.now)) (sym c.if-not-may_hide.ensures) e (ap (λ (z : Scope). named_logic c.args.is_or z (below 2 c.args.spot) (plain c.args.rest.now)) (sym c.in_ok-push.ensures) ∙ ap (λ (z : Spot). named_logic c.args.is_or c.push.new.self z (plain c.args.rest.now)) (sym c.below.ensures) ∙ no)))
+
+pub hidden-returns-clause-node : goal.hidden-returns-clause-node
+hidden-returns-clause-node t c =
+    hidden_made c.args.is_or c.args.scope.now c.args.spot (named_logic c.args.is_or (with_local [] c.args.scope.now) (below 2 c.args.spot) (plain c.args.rest.now)) (sym c.if-not-may_hide.ensures) (tree_of c.in_ok-other.other) (ap (λ (z : Scope). named_logic c.args.is_or z (below 2 c.args.spot) (plain c.args.rest.now)) (sym c.in_ok-push.ensures) ∙ ap (λ (z : Spot). named_logic c.args.is_or c.push.new.self z (plain c.args.rest.now)) (sym c.below.ensures) ∙ c.in_ok-other.ensures.node)
+    ∙ ap (λ (i : ℕ). Ok (hidden_choice c.args.is_or i (tree_of c.in_ok-other.other) c.args.spot)) (sym c.len-local.ensures)
+    ∙ ap (λ (x : Tree). Ok x) (sym c.in_ok-hidden_choice.ensures)
 
 -- ---- groups
 

@@ -1,4 +1,6 @@
-use Rattle.std.proofs.Common.{◌≡◌, ◌≤◌, ◌-◌, ◌+◌, ◌*◌, drop, length}
+use Rattle.std.proofs.Common.{◌≡◌, ◌≤◌, ◌-◌, ◌+◌, ◌*◌, drop, length, max}
+use denote.Param.Weighed.{most}
+use Rattle.txs_reader.proofs.form.Form.TheLaws.{the_size}
 use Rattle.txs_reader.specs.Tree.{trees, trees_of}
 use Rattle.txs_tree.specs.View.{tree_of}
 use Rattle.txs_resolve.specs.Expressions.{named_chain, named_pairs, named_bindings, named_all}
@@ -30,52 +32,67 @@ invariant-chain-loop-i l = record {
 
 -- a list is handed on without its head, and its parts two at a time, so the functions are ranked among one another
 abbrev pub decreases-list : goal.decreases-list
-decreases-list l = 4096 * goal.size-list l + 4000
+decreases-list l = 16384 * goal.size-list l + 12000
 
 abbrev pub decreases-choices : goal.decreases-choices
-decreases-choices l = 4096 * goal.size-choices l + 2000
+decreases-choices l = 16384 * goal.size-choices l + 10000
 
 abbrev pub decreases-cond : goal.decreases-cond
-decreases-cond l = 4096 * goal.size-cond l + 16 + l.spot.room
+decreases-cond l = 16384 * goal.size-cond l + 20 + 8 * l.spot.room
 
 abbrev pub decreases-logic : goal.decreases-logic
-decreases-logic l = 4096 * goal.size-logic l + 16 + l.spot.room
+decreases-logic l = 16384 * goal.size-logic l + 16 + l.spot.room
 
 abbrev pub decreases-binding : goal.decreases-binding
-decreases-binding l = 4096 * goal.size-binding l + 12
+decreases-binding l = 16384 * goal.size-binding l + 20 + 8 * l.spot.room
 
 abbrev pub decreases-operation : goal.decreases-operation
-decreases-operation l = 4096 * goal.size-operation l + 11
+decreases-operation l = 16384 * goal.size-operation l + 11
 
 abbrev pub decreases-sequence : goal.decreases-sequence
-decreases-sequence l = 4096 * goal.size-sequence l + 10
+decreases-sequence l = 16384 * goal.size-sequence l + 10
 
-abbrev pub decreases-branches : goal.decreases-branches
-decreases-branches l = 4096 * goal.size-branches l + 10
+abbrev pub decreases-either : goal.decreases-either
+decreases-either l = 16384 * goal.size-either l + 20 + 8 * l.spot.room
 
 abbrev pub decreases-guarded : goal.decreases-guarded
-decreases-guarded l = 4096 * goal.size-guarded l + 10
+decreases-guarded l = 16384 * goal.size-guarded l + 20 + 8 * l.spot.room
+
+abbrev pub decreases-choice : goal.decreases-choice
+decreases-choice l = 16384 * max (the_size l.test.now) (max (most the_size l.one.now) (most the_size l.rest.now)) + 19 + 8 * l.spot.room
+
+abbrev pub decreases-branches : goal.decreases-branches
+decreases-branches l = 16384 * max (most the_size l.one.now) (most the_size l.rest.now) + 23 + 8 * l.spot.room
+
+abbrev pub decreases-boxed : goal.decreases-boxed
+decreases-boxed l = 16384 * goal.size-boxed l + 22 + 8 * l.spot.room
+
+abbrev pub decreases-part : goal.decreases-part
+decreases-part l = 16384 * goal.size-part l + 21 + 8 * l.spot.room
+
+abbrev pub decreases-hidden : goal.decreases-hidden
+decreases-hidden l = 16384 * goal.size-hidden l + 15 + l.spot.room
 
 abbrev pub decreases-dosync : goal.decreases-dosync
-decreases-dosync l = 4096 * goal.size-dosync l + 10
+decreases-dosync l = 16384 * goal.size-dosync l + 20 + 8 * l.spot.room
 
 abbrev pub decreases-deref : goal.decreases-deref
-decreases-deref l = 4096 * goal.size-deref l + 10
+decreases-deref l = 16384 * goal.size-deref l + 20 + 8 * l.spot.room
 
 abbrev pub decreases-alter : goal.decreases-alter
-decreases-alter l = 4096 * goal.size-alter l + 10
+decreases-alter l = 16384 * goal.size-alter l + 20 + 8 * l.spot.room
 
 abbrev pub decreases-body : goal.decreases-body
-decreases-body l = 4096 * goal.size-body l + 9
+decreases-body l = 16384 * goal.size-body l + 9
 
 abbrev pub decreases-chain : goal.decreases-chain
-decreases-chain l = 4096 * goal.size-chain l + 8
+decreases-chain l = 16384 * goal.size-chain l + 8
 
 abbrev pub decreases-bindings : goal.decreases-bindings
-decreases-bindings l = 4096 * goal.size-bindings l + 8
+decreases-bindings l = 16384 * goal.size-bindings l + 8
 
 abbrev pub decreases-all : goal.decreases-all
-decreases-all l = 4096 * goal.size-all l + 8
+decreases-all l = 16384 * goal.size-all l + 8
 
 abbrev pub decreases-expression : goal.decreases-expression
-decreases-expression l = 4096 * goal.size-expression l
+decreases-expression l = 16384 * goal.size-expression l

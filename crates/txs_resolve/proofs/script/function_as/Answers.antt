@@ -4,44 +4,44 @@ use Rattle.std.proofs.lemmas.Result.{err_from_is_err_and}
 use Rattle.txs_tree.specs.Scoped.{ScopedTree}
 use Rattle.txs_tree.specs.View.{tree_of}
 use Rattle.txs_resolve.specs.Expressions.{named_body, spot_at}
-use Rattle.txs_resolve.specs.Given.{Gives}
+use Rattle.txs_resolve.specs.Given.{Leaves}
 use Rattle.txs_resolve.specs.Names.{Written, new_name, parameters, function}
 use Rattle.txs_names.specs.Scope.{Scope}
 use Rattle.txs_resolve.specs.Scripts.{state_of}
 use Rattle.txs_resolve.specs.declared.error.Stop.{Stop}
-use Rattle.txs_resolve.proofs.Building.{failed, plain}
-use Rattle.txs_resolve.proofs.Parts.{failed_binding}
+use Rattle.txs_resolve.proofs.Building.{plain}
+use Rattle.txs_resolve.proofs.Parts.{failed_binding, failed_leaves}
 use Rattle.txs_resolve.proofs.Tops.{known_in, function_full, function_named, function_bound, function_bodied, body_placed}
 use Rattle.txs_resolve.proofs.script.function_as.Goals as goal
 
 pub returns-then-len-ge-MAX_FUNCTIONS-clause-state : goal.returns-then-len-ge-MAX_FUNCTIONS-clause-state
 returns-then-len-ge-MAX_FUNCTIONS-clause-state c =
-    let s = c.args.script in
+    let s = c.args.script.now in
     let f = c.args.written in
     let w : Written = record { name = f.name.now; at = f.at; parameters = plain f.parameters.now; body = plain f.body.now } in
-    subst (λ (r : Stop). Gives state_of (Err r) (function (state_of s) c.args.span (Some w))) (sym c.refused.ensures) (function_full s w c.args.span (omega (arith, c.if-len-ge-MAX_FUNCTIONS.true, c.len.ensures)))
+    subst (λ (r : Stop). Leaves (Err r) (state_of c.args.script.now) (function (state_of s) c.args.span (Some w))) (sym c.refused.ensures) (function_full s w c.args.span (omega (arith, c.if-len-ge-MAX_FUNCTIONS.true, c.len.ensures)))
 
 pub returns-in_err-name-clause-state : goal.returns-in_err-name-clause-state
 returns-in_err-name-clause-state c =
-    let s = c.args.script in
+    let s = c.args.script.now in
     let f = c.args.written in
     let w : Written = record { name = f.name.now; at = f.at; parameters = plain f.parameters.now; body = plain f.body.now } in
     let p = err_from_is_err_and c.from_residual.result c.from_residual.ensures.1 in
-    rw (p.1, p.2) (failed (λ (n : Bor (List ℕ)). n.now) state_of c.in_err-name.field-0.0 (new_name s.scope.defined f.name.now f.at) (function (state_of s) c.args.span (Some w)) c.in_err-name.ensures.name
+    rw (p.1, p.2) (failed_leaves (λ (n : Bor (List ℕ)). n.now) c.in_err-name.field-0.0 _ (new_name s.scope.defined f.name.now f.at) (function (state_of s) c.args.span (Some w)) c.in_err-name.ensures.name
     (λ e stops. function_named s w c.args.span (omega (arith, c.if-len-ge-MAX_FUNCTIONS.false, c.len.ensures)) (Err e) stops))
 
 pub returns-in_err-bind_parameters-clause-state : goal.returns-in_err-bind_parameters-clause-state
 returns-in_err-bind_parameters-clause-state c =
-    let s = c.args.script in
+    let s = c.args.script.now in
     let f = c.args.written in
     let w : Written = record { name = f.name.now; at = f.at; parameters = plain f.parameters.now; body = plain f.body.now } in
     let p = err_from_is_err_and c.from_residual-in_err-bind_parameters.result c.from_residual-in_err-bind_parameters.ensures.1 in
-    rw (p.1, p.2) (failed_binding state_of c.in_err-bind_parameters.field-0.0 c.bind_parameters.new.scope.locals (parameters [] (plain f.parameters.now)) (function (state_of s) c.args.span (Some w)) c.in_err-bind_parameters.ensures.names
+    rw (p.1, p.2) (failed_binding c.in_err-bind_parameters.field-0.0 c.bind_parameters.new.scope.locals _ (parameters [] (plain f.parameters.now)) (function (state_of s) c.args.span (Some w)) c.in_err-bind_parameters.ensures.names
     (λ e stops. function_bound s w c.args.span (omega (arith, c.if-len-ge-MAX_FUNCTIONS.false, c.len.ensures)) c.in_ok-name.name.now c.in_ok-name.ensures.name (Err e) stops))
 
 pub returns-in_err-body-clause-state : goal.returns-in_err-body-clause-state
 returns-in_err-body-clause-state c =
-    let s = c.args.script in
+    let s = c.args.script.now in
     let f = c.args.written in
     let w : Written = record { name = f.name.now; at = f.at; parameters = plain f.parameters.now; body = plain f.body.now } in
     let name = c.in_ok-name.name.now in
@@ -49,13 +49,13 @@ returns-in_err-body-clause-state c =
     let inside : c.begin.new.self ≡ record { locals = locals; defined = s.scope.defined; current = Some name } =
     c.begin.ensures ∙ ap (λ (x : Scope). record { locals = locals; defined = x.defined; current = Some name }) c.in_ok-bind_parameters.ensures.kept in
     let p = err_from_is_err_and c.from_residual-in_err-body.result c.from_residual-in_err-body.ensures.1 in
-    rw (p.1, p.2) (failed tree_of state_of c.in_err-body.field-0.0 (named_body c.begin.new.self (spot_at 1000 c.args.span true) (plain f.body.now)) (function (state_of s) c.args.span (Some w)) c.in_err-body.ensures.node
+    rw (p.1, p.2) (failed_leaves tree_of c.in_err-body.field-0.0 _ (named_body c.begin.new.self (spot_at 1000 c.args.span true) (plain f.body.now)) (function (state_of s) c.args.span (Some w)) c.in_err-body.ensures.node
     (λ e stops. function_bodied s w c.args.span (omega (arith, c.if-len-ge-MAX_FUNCTIONS.false, c.len.ensures)) name c.in_ok-name.ensures.name locals (Err e) c.in_ok-bind_parameters.ensures.names
     (ap (λ (x : Scope). named_body x (spot_at 1000 c.args.span true) (plain f.body.now)) (sym inside) ∙ stops)))
 
 pub with_function-requires-clause-scoped : goal.with_function-requires-clause-scoped
 with_function-requires-clause-scoped c =
-    let s = c.args.script in
+    let s = c.args.script.now in
     let f = c.args.written in
     let w : Written = record { name = f.name.now; at = f.at; parameters = plain f.parameters.now; body = plain f.body.now } in
     let name = c.in_ok-name.name.now in
@@ -68,7 +68,7 @@ with_function-requires-clause-scoped c =
 
 pub with_function-requires-clause-levels : goal.with_function-requires-clause-levels
 with_function-requires-clause-levels c =
-    let s = c.args.script in
+    let s = c.args.script.now in
     let f = c.args.written in
     let w : Written = record { name = f.name.now; at = f.at; parameters = plain f.parameters.now; body = plain f.body.now } in
     let name = c.in_ok-name.name.now in

@@ -2,11 +2,12 @@ use Rattle.std.proofs.Common.{◌≡◌, sym, ap, ◌∙◌, subst, arith, false
 use Rattle.std.proofs.lemmas.Result.{err_from_is_err_and}
 use Rattle.txs_tree.specs.View.{tree_of}
 use Rattle.txs_resolve.specs.Expressions.{named_body, spot_at}
-use Rattle.txs_resolve.specs.Given.{Gives}
+use Rattle.txs_resolve.specs.Given.{Leaves}
 use Rattle.txs_resolve.specs.Names.{State, future}
 use Rattle.txs_resolve.specs.Scripts.{IsScript, ScopedState, state_of}
 use Rattle.txs_resolve.specs.declared.error.Stop.{Stop}
-use Rattle.txs_resolve.proofs.Building.{failed, plain}
+use Rattle.txs_resolve.proofs.Building.{plain}
+use Rattle.txs_resolve.proofs.Parts.{failed_leaves}
 use Rattle.txs_resolve.proofs.Scoping.{Every}
 use Rattle.txs_resolve.proofs.ScopedScripts.{future_scoped}
 use Rattle.txs_resolve.proofs.Tops.{future_full, future_as, new_thread}
@@ -14,21 +15,21 @@ use Rattle.txs_resolve.proofs.script.future.Goals as goal
 
 pub returns-then-len-ge-MAX_THREADS-clause-state : goal.returns-then-len-ge-MAX_THREADS-clause-state
 returns-then-len-ge-MAX_THREADS-clause-state c =
-    let s = c.args.script in
+    let s = c.args.script.now in
     let fs = c.args.forms.now in
-    subst (λ (r : Stop). Gives state_of (Err r) (future (state_of s) c.args.span (plain fs))) (sym c.refused.ensures) (future_full s c.args.span fs c.requires (omega (arith, c.if-len-ge-MAX_THREADS.true, c.len.ensures)))
+    subst (λ (r : Stop). Leaves (Err r) (state_of c.args.script.now) (future (state_of s) c.args.span (plain fs))) (sym c.refused.ensures) (future_full s c.args.span fs c.requires (omega (arith, c.if-len-ge-MAX_THREADS.true, c.len.ensures)))
 
 pub returns-in_err-body-clause-state : goal.returns-in_err-body-clause-state
 returns-in_err-body-clause-state c =
-    let s = c.args.script in
+    let s = c.args.script.now in
     let fs = c.args.forms.now in
     let p = err_from_is_err_and c.from_residual.result c.from_residual.ensures.1 in
-    rw (p.1, p.2) (failed tree_of state_of c.in_err-body.field-0.0 (named_body s.scope (spot_at 1000 c.args.span false) (plain fs)) (future (state_of s) c.args.span (plain fs)) c.in_err-body.ensures.node
+    rw (p.1, p.2) (failed_leaves tree_of c.in_err-body.field-0.0 _ (named_body s.scope (spot_at 1000 c.args.span false) (plain fs)) (future (state_of s) c.args.span (plain fs)) c.in_err-body.ensures.node
     (λ e stops. future_as s c.args.span fs c.requires (omega (arith, c.if-len-ge-MAX_THREADS.false, c.len.ensures)) (Err e) stops))
 
 pub returns-clause-state : goal.returns-clause-state
 returns-clause-state c =
-    let s = c.args.script in
+    let s = c.args.script.now in
     let fs = c.args.forms.now in
     let node = c.in_ok-body.body in
     future_as s c.args.span fs c.requires (omega (arith, c.if-len-ge-MAX_THREADS.false, c.len.ensures)) (Ok (tree_of node)) c.in_ok-body.ensures.node
@@ -41,5 +42,5 @@ returns-clause-next c =
       outside = ap (λ x. x.locals) kept ∙ c.requires.outside;
       idle = ap (λ x. x.current) kept ∙ c.requires.idle;
       levels = c.requires.levels;
-      scoped = subst (Every ScopedState) (returns-clause-state c) (future_scoped (state_of c.args.script) c.args.span (plain c.args.forms.now) c.requires.scoped);
+      scoped = subst (Every ScopedState) (returns-clause-state c) (future_scoped (state_of c.args.script.now) c.args.span (plain c.args.forms.now) c.requires.scoped);
     }
