@@ -20,6 +20,7 @@ use Rattle.txs_resolve.specs.Reported.{report_number as resolve_number, report_n
 use Rattle.txs_tree.specs.Tree.{PlainProgram}
 use Rattle.txs_value.specs.Faults.{fault_name}
 use Rattle.txs_value.specs.declared.cell.CellDefinition.{CellDefinition}
+use Rattle.txs_value.specs.declared.fault.Fault.{Fault}
 use Rattle.txs_value.specs.declared.fault.Span.{Span}
 use Rattle.txs_world.specs.Book.{opening, after}
 use Rattle.txs_world.specs.Store.{cells_of}
@@ -36,11 +37,11 @@ pub record Script : Type 0 where
   pub text : List ℕ
   pub file : Option (List ℕ)
 
--- a place as lines tell it: " at FROM..TO" and the end of the line
+-- ---- lines of the standard error
+
+-- where a line ends with a place: " at FROM..TO"
 abbrev pub at_place : Span → List ℕ
 at_place s = codes " at " ++ decimal s.from ++ codes ".." ++ decimal s.to ++ codes "\n"
-
--- ---- lines of the standard error
 
 -- the line of a refusal of this number and name, at this place
 abbrev pub refusal_line : ℕ → List ℕ → Span → List ℕ
@@ -60,14 +61,18 @@ refused_place (Resolve e) = Some e.at
 refused_place (Unsound e) = Some e.at
 refused_place NoMemory = None
 
--- why a thread was stopped, in a word
+-- the line of a thread that failed
+abbrev pub failed_line : ℕ → Fault → List ℕ
+failed_line k f = codes "thread " ++ decimal k ++ codes " failed: " ++ fault_name f.kind ++ at_place f.span
+
+-- the line of a thread that was stopped, and why in a word
 abbrev pub stopped_line : ℕ → List ℕ → List ℕ
 stopped_line k why = codes "thread " ++ decimal k ++ codes " stopped: " ++ why ++ codes "\n"
 
 -- the line of a thread that ended so; one that is done has none
 abbrev pub end_line : ℕ → Outcome → List ℕ
 end_line k Done = []
-end_line k (Failed f) = codes "thread " ++ decimal k ++ codes " failed: " ++ fault_name f.kind ++ at_place f.span
+end_line k (Failed f) = failed_line k f
 end_line k StepsSpent = stopped_line k (codes "StepsSpent")
 end_line k JournalFull = stopped_line k (codes "JournalFull")
 end_line k Memory = stopped_line k (codes "Memory")
@@ -77,15 +82,16 @@ abbrev pub end_place : Outcome → Option Span
 end_place (Failed f) = Some f.span
 end_place _ = None
 
--- what explains a line, if a sentence does
-abbrev pub lesson_of : List ℕ → List ℕ → Option Span → Option (List ℕ) → List ℕ
-lesson_of file text at None = []
-lesson_of file text at (Some advice) = explained file text at advice
+-- what explains a line: nothing where no file is named, or where there is no sentence
+abbrev pub lesson_of : Option (List ℕ) → List ℕ → Option Span → Option (List ℕ) → List ℕ
+lesson_of None text at advice = []
+lesson_of (Some file) text at None = []
+lesson_of (Some file) text at (Some advice) = explained file text at advice
 
--- the standard error: a line, and behind it what explains it where that is wanted, with a sentence that says what to do
-abbrev pub IsLesson : Script → List ℕ → Option Span → List ℕ → Type 0
-IsLesson (record { text = text; file = None }) line at errors = errors ≡ line
-IsLesson (record { text = text; file = Some file }) line at errors = (advice : Option (List ℕ)) × (errors ≡ line ++ lesson_of file text at advice)
+-- the standard error: a line, and behind it what explains it, with a sentence that says what to do
+pub record IsLesson (script : Script) (line : List ℕ) (at : Option Span) (errors : List ℕ) : Type 0 where
+  pub advice : Option (List ℕ)
+  pub is : errors ≡ line ++ lesson_of script.file script.text at advice
 
 -- ---- the status
 

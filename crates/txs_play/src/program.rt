@@ -1,6 +1,6 @@
 //! The program, over any streams.
 
-ghost use Rattle.std.specs.Prelude.{◌≡◌, ◌×◌, ◌++◌, [], take, IfOk, OnOk, IfSome};
+ghost use Rattle.std.specs.Prelude.{◌≡◌, ◌++◌, [], codes, take, IfOk, OnOk, IfSome};
 ghost use Rattle.txs_play.specs.Lent.{text_in, script_of, told_of};
 ghost use Rattle.txs_play.specs.Told.{Told as PlainTold, RunTells, ScriptTells, StreamTells, WordsTell, Tells, Written, cells_told};
 ghost use Rattle.txs_play.specs.declared.told.Use.TheVariants.{Check, Run};
@@ -9,7 +9,7 @@ ghost use Rattle.txs_world.specs.Store.{cells_of};
 use crate::cells::write_cells;
 use crate::explain::Script;
 use crate::streams::{ReadFault, read_bytes, write_bytes};
-use crate::told::{SPENT, Told, UNUSABLE, Use, answer, complaint, of_thread, refused};
+use crate::told::{SPENT, Told, UNUSABLE, Use, answer, complaint, nothing, of_thread, refused};
 use std::alloc::{AllocError, Global};
 use std::io::{Read, Write};
 use txs_code::Verified;
@@ -29,14 +29,20 @@ fn run_code(
 ) -> Result<Told, AllocError>
     requires unused { store.old.book ≡ [] }
     ensures cells { store.new.cells ≡ store.old.cells }
-    ensures told { IfOk result (λ t. RunTells code.now store.old.cells (script_of script) steps store.new.book (told_of t)) }
+    ensures told { IfOk result (λ t. RunTells code.now store.old.cells (script_of script.entry) steps store.new.book (told_of t)) }
 {
     if code.code().threads().is_empty() {
-        return Ok(answer(Vec::new(alloc), alloc));
+        return Ok(nothing(alloc));
     }
     match run_thread(alloc, code, 0, steps, store) {
-        Ok(ran) => of_thread(alloc, script, 0, ran),
-        Err(RunError::Mismatch) => complaint(alloc, SPENT, "run failed: JournalMismatch"),
+        Ok(ran) => {
+            let told = of_thread(alloc, script, 0, ran)?;
+            Ok(told)
+        }
+        Err(RunError::Mismatch) => {
+            let told = complaint(alloc, SPENT, "run failed: JournalMismatch")?;
+            Ok(told)
+        }
         Err(RunError::Memory) => Err(AllocError),
     }
 }
@@ -67,11 +73,14 @@ fn run_script(
     steps: u64,
     cells: bool,
 ) -> Result<Told, AllocError>
-    ensures { IfOk result (λ t. ScriptTells (script_of script) (told_of t) (Run steps cells)) }
+    ensures { IfOk result (λ t. ScriptTells (script_of script.entry) (told_of t) (Run steps cells)) }
 {
     let (program, code) = match compile(alloc, script.text) {
         Ok(compiled) => compiled,
-        Err(error) => return refused(alloc, script, &error),
+        Err(error) => {
+            let told = refused(alloc, script, &error)?;
+            return Ok(told);
+        }
     };
     let mut store = Store::open(alloc, program.cells())?;
     let mut told = run_code(alloc, script, &code, steps, &mut store)?;
@@ -79,19 +88,34 @@ fn run_script(
     Ok(told)
 }
 
+/// What is told of a script that compiles, where nothing runs.
+fn accepted(alloc: Global) -> Result<Told, AllocError>
+    ensures output { IfOk result (λ t. t.output.items ≡ codes "ok\n") }
+    ensures errors { IfOk result (λ t. t.errors.items ≡ []) }
+    ensures status { IfOk result (λ t. t.status ≡ 0) }
+{
+    let output = Vec::from_slice(alloc, b"ok\n")?;
+    Ok(answer(output, alloc))
+}
+
 /// Compiles the script, and runs nothing.
 fn check_script(alloc: Global, script: Script<'_>) -> Result<Told, AllocError>
-    ensures { IfOk result (λ t. ScriptTells (script_of script) (told_of t) Check) }
+    ensures { IfOk result (λ t. ScriptTells (script_of script.entry) (told_of t) Check) }
 {
-    match compile(alloc, script.text) {
-        Ok(_) => Ok(answer(Vec::from_slice(alloc, b"ok\n")?, alloc)),
-        Err(error) => refused(alloc, script, &error),
-    }
+    let _compiled = match compile(alloc, script.text) {
+        Ok(compiled) => compiled,
+        Err(error) => {
+            let told = refused(alloc, script, &error)?;
+            return Ok(told);
+        }
+    };
+    let told = accepted(alloc)?;
+    Ok(told)
 }
 
 /// Does with the script what is wanted.
 fn use_script(alloc: Global, script: Script<'_>, wanted: Use) -> Result<Told, AllocError>
-    ensures { IfOk result (λ t. ScriptTells (script_of script) (told_of t) wanted) }
+    ensures { IfOk result (λ t. ScriptTells (script_of script.entry) (told_of t) wanted) }
 {
     match wanted {
         Use::Check => check_script(alloc, script),
@@ -106,7 +130,7 @@ fn play_stream<R: Read>(
     wanted: Use,
     file: Option<&str>,
 ) -> Result<Told, AllocError>
-    ensures { IfOk result (λ t. IfSome (R.remaining reader.old) (λ input. StreamTells (record { text = take 1048577 input; file = text_in file }) wanted (told_of t))) }
+    ensures { IfOk result (λ t. IfSome (R.remaining reader.old) (λ input. StreamTells (record { text = take 1048577 input; file = text_in file.entry }) wanted (told_of t))) }
 {
     match read_bytes(alloc, reader) {
         Ok(bytes) => {

@@ -1,0 +1,22 @@
+-- What a reader gave of its known bytes, and what holds of an answer carried over.
+use Rattle.std.proofs.Common.{◌≡◌, ℕ, List, [], ◌++◌, take, Option, Some, None, Result, Ok, Err, IfOk, ap, ◌∙◌, subst}
+use Rattle.std.specs.Option.{IfSome, option_map}
+
+-- a front of them, read to its end into an empty list
+taken : (o : Option (List ℕ)) (k n : ℕ) (old new : List ℕ) → old ≡ [] → k ≡ n → IfSome (option_map (take k) o) (λ xs. new ≡ old ++ xs) → IfSome o (λ input. new ≡ take n input)
+taken None k n old new e q h = tt
+taken (Some xs) k n old new e q h = h ∙ ap (λ l. l ++ take k xs) e ∙ ap (λ i. take i xs) q
+
+-- the same of a reader that is lent
+pub taken_by : {B : Type 0} (a b : B) (f : B → Option (List ℕ)) (k n : ℕ) (old new : List ℕ) → a ≡ b → old ≡ [] → k ≡ n → IfSome (option_map (take k) (f a)) (λ xs. new ≡ old ++ xs) → IfSome (f b) (λ input. new ≡ take n input)
+taken_by a b f k n old new is e q h = taken (f b) k n old new e q (subst (λ r. IfSome (option_map (take k) (f r)) (λ xs. new ≡ old ++ xs)) is h)
+
+-- what follows from what holds of a value, if there is one
+pub some_maps : {A : Type 0} (o : Option A) (P Q : A → Type 0) → ((x : A) → P x → Q x) → IfSome o P → IfSome o Q
+some_maps None P Q f h = tt
+some_maps (Some x) P Q f h = f x h
+
+-- what follows from what holds of an answer, if it is one
+pub ok_maps : {A E : Type 0} (r : Result A E) (P Q : A → Type 0) → ((x : A) → P x → Q x) → IfOk r P → IfOk r Q
+ok_maps (Ok x) P Q f h = f x h
+ok_maps (Err e) P Q f h = tt
