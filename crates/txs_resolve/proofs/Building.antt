@@ -18,8 +18,9 @@ use Rattle.txs_resolve.specs.declared.error.Stop.{Stop}
 use Rattle.txs_resolve.specs.declared.error.Stop.TheVariants.{Refused, Memory}
 use Rattle.txs_resolve.specs.declared.nodes.Head.{Head}
 use Rattle.txs_resolve.specs.declared.nodes.Spot.{Spot}
-use Rattle.txs_resolve.specs.Expressions.{Answer, Bound, ByHead, below, bound_name, callee_of, choice_node, choices_of, dosync_of, flag, head_of, in_room, is_chain, logic_node, may_hide, named, named_all, named_alter, named_binding, named_bindings, named_body, named_chain, named_cond, named_deref, named_if, named_list, named_logic, named_pairs, named_when, of_head, operation_of, pair_node, sequence_of, some_room, spot_mark, are_pairs, is_symbol}
+use Rattle.txs_resolve.specs.Expressions.{Answer, Bound, ByHead, below, bound_name, callee_of, choice_node, choices_of, dosync_of, flag, head_of, in_room, is_chain, logic_node, may_hide, named, named_all, named_alter, named_binding, named_bindings, named_body, named_chain, named_cond, named_deref, named_if, named_list, named_logic, named_pairs, named_when, of_head, operation_of, pair_node, sequence_of, some_room, spot_at, spot_mark, are_pairs, is_symbol}
 use Rattle.txs_resolve.specs.Expressions as spec
+use Rattle.txs_resolve.specs.Choices.{pair_with}
 use Rattle.txs_resolve.specs.Given.{Gives, GivesBound, IsWithin, BindsName}
 use Rattle.txs_resolve.specs.Answers.{◌>>=◌, refuse}
 use Rattle.txs_names.specs.Scope.{Scope, with_local, with_locals}
@@ -172,6 +173,10 @@ module _ (scope : Scope) (room : ℕ) (fs : List Form) (i : ℕ) (ns : List Node
 
 -- ---- chains
 
+after_pair : {A B C : Type 0} (a : Answer A) (f : A → B) (g : B → Answer C) → (a >>= λ x. g (f x)) ≡ ((a >>= λ x. Ok (f x)) >>= g)
+after_pair (Err e) f g = refl
+after_pair (Ok x) f g = refl
+
 pub chain_first : (op : Op) (scope : Scope) (s : Spot) (fs : List Form) (d : Form) → 2 ≤ length fs → named_chain op scope s (plain fs) ≡ (named scope (s.room - (length fs - 1)) true (tree (get_or fs 0 d)) >>= λ total. named_pairs op scope s total (plain (drop 1 fs)))
 chain_first op scope s [] d le = absurd (omega (arith, le))
 chain_first op scope s (a ∷ []) d le = absurd (omega (arith, le))
@@ -187,15 +192,19 @@ module _ (op : Op) (scope : Scope) (s : Spot) (fs : List Form) (i : ℕ) (d : Fo
       ap (named_pairs op scope s total) (plain_at fs i d lt)
       ∙ ap (λ (k : ℕ). named scope (s.room - k) true (tree (get_or fs i d)) >>= λ term. named_pairs op scope s (pair_node op total term (mark_of s.span (flag true s.wanted rest))) rest) count
 
-  pub pairs_step : (term : Tree) → named scope (s.room - (length fs - i)) true (tree (get_or fs i d)) ≡ Ok term → named_pairs op scope s total (plain (drop i fs)) ≡ named_pairs op scope s (pair_node op total term (mark_of s.span (flag true s.wanted (plain (drop (i + 1) fs))))) (plain (drop (i + 1) fs))
-  pairs_step term e =
-      let rest = plain (drop (i + 1) fs) in
-      pairs_at ∙ ap (λ (o : Answer Tree). o >>= λ term. named_pairs op scope s (pair_node op total term (mark_of s.span (flag true s.wanted rest))) rest) e
+  abbrev pub pair_here : Answer Tree
+  pair_here = pair_with op (spot_at (s.room - (length fs - i)) s.span (flag true s.wanted (plain (drop (i + 1) fs)))) total (named scope (s.room - (length fs - i)) true (tree (get_or fs i d)))
 
-  pub pairs_stop : (x : ResolveError) → named scope (s.room - (length fs - i)) true (tree (get_or fs i d)) ≡ Err x → named_pairs op scope s total (plain (drop i fs)) ≡ Err x
-  pairs_stop x e =
+  pairs_here : named_pairs op scope s total (plain (drop i fs)) ≡ (pair_here >>= λ t. named_pairs op scope s t (plain (drop (i + 1) fs)))
+  pairs_here =
       let rest = plain (drop (i + 1) fs) in
-      pairs_at ∙ ap (λ (o : Answer Tree). o >>= λ term. named_pairs op scope s (pair_node op total term (mark_of s.span (flag true s.wanted rest))) rest) e
+      pairs_at ∙ after_pair (named scope (s.room - (length fs - i)) true (tree (get_or fs i d))) (λ term. pair_node op total term (mark_of s.span (flag true s.wanted rest))) (λ t. named_pairs op scope s t rest)
+
+  pub pairs_step : (t : Tree) → pair_here ≡ Ok t → named_pairs op scope s total (plain (drop i fs)) ≡ named_pairs op scope s t (plain (drop (i + 1) fs))
+  pairs_step t e = pairs_here ∙ ap (λ (o : Answer Tree). o >>= λ t. named_pairs op scope s t (plain (drop (i + 1) fs))) e
+
+  pub pairs_stop : (x : ResolveError) → pair_here ≡ Err x → named_pairs op scope s total (plain (drop i fs)) ≡ Err x
+  pairs_stop x e = pairs_here ∙ ap (λ (o : Answer Tree). o >>= λ t. named_pairs op scope s t (plain (drop (i + 1) fs))) e
 
 -- ---- scopes
 

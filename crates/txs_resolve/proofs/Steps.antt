@@ -8,7 +8,7 @@ use Rattle.txs_reader.proofs.Trees.{tree-Group}
 use Rattle.txs_reader.specs.Tree.{tree, first, parts, place, Trees as Forms}
 use Rattle.txs_tree.specs.Tree.{Tree, Trees, Const, Do, Deref, Dosync, Alter, If, Let, more}
 use Rattle.txs_tree.specs.Tree.{none as no_trees}
-use Rattle.txs_resolve.specs.Choices.{both, choice_of, hidden_choice, hidden_of}
+use Rattle.txs_resolve.specs.Choices.{both, choice_of, hidden_choice, hidden_of, made_of}
 use Rattle.txs_value.specs.declared.value.Value.TheVariants.{Nil}
 use Rattle.txs_resolve.specs.declared.error.ResolveError.{ResolveError}
 use Rattle.txs_resolve.specs.declared.error.ResolveErrorKind.TheVariants.{BadForm, TooMany}
@@ -17,7 +17,7 @@ use Rattle.txs_resolve.specs.declared.nodes.Spot.{Spot}
 use Rattle.txs_value.specs.declared.op.Op.{Op}
 use Rattle.txs_resolve.specs.declared.nodes.Sequence.{Sequence}
 use Rattle.txs_resolve.specs.declared.nodes.Sequence.TheVariants as sequence
-use Rattle.txs_resolve.specs.Expressions.{Answer, Bound, ByHead, below, callee_of, choice_node, choices_of, dosync_of, head_of, in_room, logic_node, may_hide, named, named_all, named_alter, named_binding, named_bindings, named_body, named_chain, named_cond, named_deref, named_if, named_list, named_logic, named_when, is_chain, is_zero, of_head, operation_of, room_for, spot_at, sequence_node, sequence_of, spot_mark, at_most_one, are_pairs, binding_node}
+use Rattle.txs_resolve.specs.Expressions.{Answer, Bound, ByHead, below, callee_of, choice_node, choices_of, dosync_of, head_of, in_room, logic_node, may_hide, named, named_all, named_alter, named_binding, named_bindings, named_body, named_chain, named_cond, named_deref, named_if, named_list, named_logic, named_when, is_chain, is_zero, of_head, operation_of, room_for, some_room, spot_at, sequence_node, sequence_of, spot_mark, at_most_one, are_pairs, binding_node}
 use Rattle.txs_resolve.specs.Answers.{◌>>=◌, refuse}
 use Rattle.txs_names.specs.Scope.{Scope, with_local}
 use Rattle.txs_resolve.proofs.Building.{plain, parts_plain, roomy, roomless}
@@ -51,6 +51,26 @@ three_third a b c f x y e p q r = ap (λ o. three o b c f) p ∙ ap (λ o. three
 pub three_ok : {A B C D : Type 0} (a : Answer A) (b : Answer B) (c : Answer C) (f : A → B → C → D) (x : A) (y : B) (z : C) → a ≡ Ok x → b ≡ Ok y → c ≡ Ok z → three a b c f ≡ Ok (f x y z)
 three_ok a b c f x y z p q r = ap (λ o. three o b c f) p ∙ ap (λ o. three (Ok x) o c f) q ∙ ap (λ o. three (Ok x) (Ok y) o f) r
 
+-- ---- room
+
+pub room_bind : {A B : Type 0} (s : Spot) (a : Answer A) (f : A → Answer B) → in_room s (a >>= f) ≡ (in_room s a >>= f)
+room_bind {A = A} {B = B} s a f = some s.room where
+  some : (n : ℕ) → some_room {A = B} n (refuse TooMany s.span) (a >>= f) ≡ (some_room {A = A} n (refuse TooMany s.span) a >>= f)
+  some zero = refl
+  some (suc n) = refl
+
+pub room_two : {A B D : Type 0} (s : Spot) (a : Answer A) (b : Answer B) (f : A → B → D) → in_room s (two a b f) ≡ two (in_room s a) (in_room s b) f
+room_two {A = A} {B = B} {D = D} s a b f = some s.room where
+  some : (n : ℕ) → some_room {A = D} n (refuse TooMany s.span) (two a b f) ≡ two (some_room {A = A} n (refuse TooMany s.span) a) (some_room {A = B} n (refuse TooMany s.span) b) f
+  some zero = refl
+  some (suc n) = refl
+
+pub room_three : {A B C D : Type 0} (s : Spot) (a : Answer A) (b : Answer B) (c : Answer C) (f : A → B → C → D) → in_room s (three a b c f) ≡ three (in_room s a) b (in_room s c) f
+room_three {A = A} {B = B} {C = C} {D = D} s a b c f = some s.room where
+  some : (n : ℕ) → some_room {A = D} n (refuse TooMany s.span) (three a b c f) ≡ three (some_room {A = A} n (refuse TooMany s.span) a) b (some_room {A = C} n (refuse TooMany s.span) c) f
+  some zero = refl
+  some (suc n) = refl
+
 -- ---- choices
 
 grouped : {A B C D : Type 0} (a : Answer A) (b : Answer B) (c : Answer C) (f : A → B → C → D) → three a b c f ≡ (a >>= λ x. both b c >>= λ p. Ok (f x p.0 p.1))
@@ -59,34 +79,34 @@ grouped (Ok x) (Err e) c f = refl
 grouped (Ok x) (Ok y) (Err e) f = refl
 grouped (Ok x) (Ok y) (Ok z) f = refl
 
--- a test, as the body that it is alone
-pub test_is : (scope : Scope) (s i : Spot) (t : Form) (ts : List Form) → i ≡ spot_at (s.room - 1) s.span true → ts ≡ t ∷ [] → named_body scope i (plain ts) ≡ named scope (s.room - 1) true (tree t)
-test_is scope s i t ts p q = ap (λ (x : Spot). named_body scope x (plain ts)) p ∙ ap (λ l. named_body scope (spot_at (s.room - 1) s.span true) (plain l)) q
-
-pub both_first : {A B : Type 0} (a : Answer A) (b : Answer B) (e : ResolveError) → a ≡ Err e → both a b ≡ Err e
-both_first a b e p = ap (λ o. both o b) p
-
-pub both_second : {A B : Type 0} (a : Answer A) (b : Answer B) (x : A) (e : ResolveError) → a ≡ Ok x → b ≡ Err e → both a b ≡ Err e
-both_second a b x e p q = ap (λ o. both o b) p ∙ ap (both (Ok x)) q
-
-pub both_ok : {A B : Type 0} (a : Answer A) (b : Answer B) (x : A) (y : B) → a ≡ Ok x → b ≡ Ok y → both a b ≡ Ok (x, y)
-both_ok a b x y p q = ap (λ o. both o b) p ∙ ap (both (Ok x)) q
-
 module _ (turned : Bool) (s : Spot) (test : Answer Tree) (branches : Answer (Tree × Tree)) where
   abbrev choice_whole : Answer Tree → Answer (Tree × Tree) → Answer Tree
   choice_whole t b = t >>= λ x. b >>= λ y. Ok (choice_node turned x y.0 y.1 (spot_mark s))
 
-  pub choice_roomless : s.room ≡ 0 → choice_of turned s test branches ≡ refuse TooMany s.span
-  choice_roomless room = roomless s (choice_whole test branches) room
+  choice_parts : choice_of turned s test branches ≡ choice_whole (in_room s test) (in_room s branches)
+  choice_parts = room_two s test branches (λ x (y : Tree × Tree). choice_node turned x y.0 y.1 (spot_mark s))
 
-  pub choice_no_first : (s.room ≡ 0 → ⊥) → (e : ResolveError) → test ≡ Err e → choice_of turned s test branches ≡ Err e
-  choice_no_first some e p = roomy s (choice_whole test branches) some ∙ ap (λ o. choice_whole o branches) p
+  pub choice_no_first : (e : ResolveError) → in_room s test ≡ Err e → choice_of turned s test branches ≡ Err e
+  choice_no_first e p = choice_parts ∙ ap (λ o. choice_whole o (in_room s branches)) p
 
-  pub choice_no_second : (s.room ≡ 0 → ⊥) → (x : Tree) (e : ResolveError) → test ≡ Ok x → branches ≡ Err e → choice_of turned s test branches ≡ Err e
-  choice_no_second some x e p q = roomy s (choice_whole test branches) some ∙ ap (λ o. choice_whole o branches) p ∙ ap (choice_whole (Ok x)) q
+  pub choice_no_second : (x : Tree) (e : ResolveError) → in_room s test ≡ Ok x → in_room s branches ≡ Err e → choice_of turned s test branches ≡ Err e
+  choice_no_second x e p q = choice_parts ∙ ap (λ o. choice_whole o (in_room s branches)) p ∙ ap (choice_whole (Ok x)) q
 
-  pub choice_made : (s.room ≡ 0 → ⊥) → (x : Tree) (y : Tree × Tree) → test ≡ Ok x → branches ≡ Ok y → choice_of turned s test branches ≡ Ok (choice_node turned x y.0 y.1 (spot_mark s))
-  choice_made some x y p q = roomy s (choice_whole test branches) some ∙ ap (λ o. choice_whole o branches) p ∙ ap (choice_whole (Ok x)) q
+  pub choice_made : (x : Tree) (y : Tree × Tree) → in_room s test ≡ Ok x → in_room s branches ≡ Ok y → choice_of turned s test branches ≡ Ok (choice_node turned x y.0 y.1 (spot_mark s))
+  choice_made x y p q = choice_parts ∙ ap (λ o. choice_whole o (in_room s branches)) p ∙ ap (choice_whole (Ok x)) q
+
+module _ {A B : Type 0} (s : Spot) (a : Answer A) (b : Answer B) where
+  both_parts : in_room s (both a b) ≡ both (in_room s a) (in_room s b)
+  both_parts = room_two s a b (λ x y. (x, y))
+
+  pub both_first : (e : ResolveError) → in_room s a ≡ Err e → in_room s (both a b) ≡ Err e
+  both_first e p = both_parts ∙ ap (λ o. both o (in_room s b)) p
+
+  pub both_second : (x : A) (e : ResolveError) → in_room s a ≡ Ok x → in_room s b ≡ Err e → in_room s (both a b) ≡ Err e
+  both_second x e p q = both_parts ∙ ap (λ o. both o (in_room s b)) p ∙ ap (both (Ok x)) q
+
+  pub both_ok : (x : A) (y : B) → in_room s a ≡ Ok x → in_room s b ≡ Ok y → in_room s (both a b) ≡ Ok (x, y)
+  both_ok x y p q = both_parts ∙ ap (λ o. both o (in_room s b)) p ∙ ap (both (Ok x)) q
 
 -- ---- if
 
@@ -168,14 +188,13 @@ module _ (is_or : Bool) (scope : Scope) (s : Spot) (args rest : List Form) (v : 
   pub logic_cons : (length rest ≡ 0 → ⊥) → named_logic is_or scope s (plain args) ≡ in_room s (logic_choice (may_hide scope s))
   logic_cons some = ap (λ l. named_logic is_or scope s (plain l)) is ∙ logic_step is_or scope s v rest some
 
-  pub logic_roomless : (length rest ≡ 0 → ⊥) → s.room ≡ 0 → named_logic is_or scope s (plain args) ≡ refuse TooMany s.span
-  logic_roomless some room = logic_cons some ∙ roomless s (logic_choice (may_hide scope s)) room
-
-  pub logic_hidden : (ones : List Form) → ones ≡ v ∷ [] → (length rest ≡ 0 → ⊥) → (s.room ≡ 0 → ⊥) → named_logic is_or scope s (plain args) ≡ logic_of s (named_all scope (s.room - 1) true true (plain ones)) (hidden_of is_or scope s (named_logic is_or (with_local [] scope) (below 2 s) (plain rest)))
-  logic_hidden ones is_one some room =
-      logic_cons some ∙ roomy s (logic_choice (may_hide scope s)) room
-      ∙ logic_grouped is_or (length scope.locals) s (may_hide scope s) (named scope (s.room - 1) true (tree v)) (named_logic is_or (with_local [] scope) (below 2 s) (plain rest))
-      ∙ ap (λ l. logic_of s (named_all scope (s.room - 1) true true (plain l)) (hidden_of is_or scope s (named_logic is_or (with_local [] scope) (below 2 s) (plain rest)))) (sym is_one)
+  pub logic_hidden : (ones : List Form) → ones ≡ v ∷ [] → (length rest ≡ 0 → ⊥) → named_logic is_or scope s (plain args) ≡ logic_of s (in_room s (named_all scope (s.room - 1) true true (plain ones))) (hidden_of is_or scope s (named_logic is_or (with_local [] scope) (below 2 s) (plain rest)))
+  logic_hidden ones is_one some =
+      let behind = hidden_of is_or scope s (named_logic is_or (with_local [] scope) (below 2 s) (plain rest)) in
+      logic_cons some
+      ∙ ap (in_room s) (logic_grouped is_or (length scope.locals) s (may_hide scope s) (named scope (s.room - 1) true (tree v)) (named_logic is_or (with_local [] scope) (below 2 s) (plain rest)))
+      ∙ ap (λ l. in_room s (logic_of s (named_all scope (s.room - 1) true true (plain l)) behind)) (sym is_one)
+      ∙ room_bind s (named_all scope (s.room - 1) true true (plain ones)) (λ vs. behind >>= λ c. Ok (Let vs c (spot_mark s)))
 
 module _ (is_or : Bool) (scope : Scope) (s : Spot) (made : Answer Tree) where
   abbrev hides : Bool → Answer Tree → Answer Tree
@@ -192,12 +211,10 @@ module _ (is_or : Bool) (scope : Scope) (s : Spot) (made : Answer Tree) where
 
 -- ---- deref, alter
 
-pub deref_parts : (scope : Scope) (s i : Spot) (args : List Form) → i ≡ spot_at (s.room - 1) s.span true → length args ≡ 1 → named_deref scope s (plain args) ≡ in_room s (named_body scope i (plain args) >>= λ cell. Ok (Deref cell (spot_mark s)))
-deref_parts scope s i args p one = alone args one ∙ ap (λ (x : Spot). in_room s (named_body scope x (plain args) >>= λ cell. Ok (Deref cell (spot_mark s)))) (sym p) where
-  alone : (l : List Form) → length l ≡ 1 → named_deref scope s (plain l) ≡ in_room s (named_body scope (spot_at (s.room - 1) s.span true) (plain l) >>= λ cell. Ok (Deref cell (spot_mark s)))
-  alone [] one = absurd (omega (arith, one))
-  alone (a ∷ []) one = refl
-  alone (a ∷ b ∷ l) one = absurd (omega (arith, one))
+pub deref_parts : (scope : Scope) (s : Spot) (args : List Form) → length args ≡ 1 → named_deref scope s (plain args) ≡ in_room s (named_body scope (spot_at (s.room - 1) s.span true) (plain args) >>= λ cell. Ok (Deref cell (spot_mark s)))
+deref_parts scope s [] one = absurd (omega (arith, one))
+deref_parts scope s (a ∷ []) one = refl
+deref_parts scope s (a ∷ b ∷ args) one = absurd (omega (arith, one))
 
 pub deref_other : (scope : Scope) (s : Spot) (args : List Form) → (length args ≡ 1 → ⊥) → named_deref scope s (plain args) ≡ refuse BadForm s.span
 deref_other scope s [] other = refl
@@ -211,23 +228,20 @@ module _ (scope : Scope) (s : Spot) (args parts rest : List Form) (r f : Form) (
   alter_cons : named_alter scope s (plain args) ≡ in_room s alter_whole
   alter_cons = ap (λ l. named_alter scope s (plain l)) (is ∙ ap (λ (l : List Form). r ∷ l) is_too)
 
-  pub alter_parts : (s.room ≡ 0 → ⊥) → named_alter scope s (plain args) ≡ alter_whole
-  alter_parts room = alter_cons ∙ roomy s alter_whole room
+  alter_parts : named_alter scope s (plain args) ≡ three (in_room s (named scope (s.room - 1) true (tree r))) (callee_of scope s (tree f)) (in_room s (named_all scope (s.room - 1) true true (plain rest))) (λ x y z. Alter x y z (spot_mark s))
+  alter_parts = alter_cons ∙ room_three s (named scope (s.room - 1) true (tree r)) (callee_of scope s (tree f)) (named_all scope (s.room - 1) true true (plain rest)) (λ x y z. Alter x y z (spot_mark s))
 
-  pub alter_roomless : s.room ≡ 0 → named_alter scope s (plain args) ≡ refuse TooMany s.span
-  alter_roomless room = alter_cons ∙ roomless s alter_whole room
+  pub alter_no_first : (e : ResolveError) → in_room s (named scope (s.room - 1) true (tree r)) ≡ Err e → named_alter scope s (plain args) ≡ Err e
+  alter_no_first e p = alter_parts ∙ three_first (in_room s (named scope (s.room - 1) true (tree r))) (callee_of scope s (tree f)) (in_room s (named_all scope (s.room - 1) true true (plain rest))) (λ x y z. Alter x y z (spot_mark s)) e p
 
-  pub alter_no_first : (some : s.room ≡ 0 → ⊥) (e : ResolveError) → named scope (s.room - 1) true (tree r) ≡ Err e → named_alter scope s (plain args) ≡ Err e
-  alter_no_first some e p = alter_parts some ∙ three_first (named scope (s.room - 1) true (tree r)) (callee_of scope s (tree f)) (named_all scope (s.room - 1) true true (plain rest)) (λ x y z. Alter x y z (spot_mark s)) e p
+  pub alter_no_second : (x : Tree) (e : ResolveError) → in_room s (named scope (s.room - 1) true (tree r)) ≡ Ok x → callee_of scope s (tree f) ≡ Err e → named_alter scope s (plain args) ≡ Err e
+  alter_no_second x e p1 q1 = alter_parts ∙ three_second (in_room s (named scope (s.room - 1) true (tree r))) (callee_of scope s (tree f)) (in_room s (named_all scope (s.room - 1) true true (plain rest))) (λ x y z. Alter x y z (spot_mark s)) x e p1 q1
 
-  pub alter_no_second : (some : s.room ≡ 0 → ⊥) (x : Tree) (e : ResolveError) → named scope (s.room - 1) true (tree r) ≡ Ok x → callee_of scope s (tree f) ≡ Err e → named_alter scope s (plain args) ≡ Err e
-  alter_no_second some x e p1 q1 = alter_parts some ∙ three_second (named scope (s.room - 1) true (tree r)) (callee_of scope s (tree f)) (named_all scope (s.room - 1) true true (plain rest)) (λ x y z. Alter x y z (spot_mark s)) x e p1 q1
+  pub alter_no_third : (x : Tree) (y : Callee) (e : ResolveError) → in_room s (named scope (s.room - 1) true (tree r)) ≡ Ok x → callee_of scope s (tree f) ≡ Ok y → in_room s (named_all scope (s.room - 1) true true (plain rest)) ≡ Err e → named_alter scope s (plain args) ≡ Err e
+  alter_no_third x y e p1 q1 r1 = alter_parts ∙ three_third (in_room s (named scope (s.room - 1) true (tree r))) (callee_of scope s (tree f)) (in_room s (named_all scope (s.room - 1) true true (plain rest))) (λ x y z. Alter x y z (spot_mark s)) x y e p1 q1 r1
 
-  pub alter_no_third : (some : s.room ≡ 0 → ⊥) (x : Tree) (y : Callee) (e : ResolveError) → named scope (s.room - 1) true (tree r) ≡ Ok x → callee_of scope s (tree f) ≡ Ok y → named_all scope (s.room - 1) true true (plain rest) ≡ Err e → named_alter scope s (plain args) ≡ Err e
-  alter_no_third some x y e p1 q1 r1 = alter_parts some ∙ three_third (named scope (s.room - 1) true (tree r)) (callee_of scope s (tree f)) (named_all scope (s.room - 1) true true (plain rest)) (λ x y z. Alter x y z (spot_mark s)) x y e p1 q1 r1
-
-  pub alter_made : (some : s.room ≡ 0 → ⊥) (x : Tree) (y : Callee) (z : Trees) → named scope (s.room - 1) true (tree r) ≡ Ok x → callee_of scope s (tree f) ≡ Ok y → named_all scope (s.room - 1) true true (plain rest) ≡ Ok z → named_alter scope s (plain args) ≡ Ok (Alter x y z (spot_mark s))
-  alter_made some x y z p1 q1 r1 = alter_parts some ∙ three_ok (named scope (s.room - 1) true (tree r)) (callee_of scope s (tree f)) (named_all scope (s.room - 1) true true (plain rest)) (λ x y z. Alter x y z (spot_mark s)) x y z p1 q1 r1
+  pub alter_made : (x : Tree) (y : Callee) (z : Trees) → in_room s (named scope (s.room - 1) true (tree r)) ≡ Ok x → callee_of scope s (tree f) ≡ Ok y → in_room s (named_all scope (s.room - 1) true true (plain rest)) ≡ Ok z → named_alter scope s (plain args) ≡ Ok (Alter x y z (spot_mark s))
+  alter_made x y z p1 q1 r1 = alter_parts ∙ three_ok (in_room s (named scope (s.room - 1) true (tree r))) (callee_of scope s (tree f)) (in_room s (named_all scope (s.room - 1) true true (plain rest))) (λ x y z. Alter x y z (spot_mark s)) x y z p1 q1 r1
 
 -- ---- let, loop
 
@@ -277,25 +291,6 @@ body_several scope s (f ∷ g ∷ fs) le =
 
 -- ---- lists
 
--- what a list with this head is
-abbrev pub made_of : Scope → Spot → Forms → ByHead
-made_of scope s args = record {
-  applied = λ op. operation_of op s (parts args) (named_chain op scope s args) (named_all scope (s.room - 1) true true args);
-  called = λ n. sequence_of (sequence.Call n) s (named_all scope (s.room - 1) true true args);
-  branches = λ turned. named_if turned scope s args;
-  block = named_body scope s args;
-  bindings = λ is_loop. named_binding is_loop scope s args;
-  turn = sequence_of sequence.Recur s (named_all scope (s.room - 1) true true args);
-  guarded = λ turned. named_when turned scope s args;
-  logic = λ is_or. named_logic is_or scope s args;
-  choices = choices_of s (parts args) (named_cond scope s args);
-  line = sequence_of sequence.Println s (named_all scope (s.room - 1) true true args);
-  transaction = dosync_of s (named_body scope (below 1 s) args);
-  reading = named_deref scope s args;
-  change = named_alter scope s args;
-  misplaced = refuse BadForm s.span;
-}
-
 module _ (scope : Scope) (s : Spot) (forms args : List Form) (f : Form) (is : forms ≡ f ∷ args) where
   pub list_head : (h : Head) → head_of scope s (tree f) ≡ Ok h → named_list scope s (plain forms) ≡ of_head h (made_of scope s (plain args))
   list_head h p = ap (λ l. named_list scope s (plain l)) is ∙ ap (λ (o : Answer Head). o >>= λ h. of_head h (made_of scope s (plain args))) p
@@ -305,33 +300,40 @@ module _ (scope : Scope) (s : Spot) (forms args : List Form) (f : Form) (is : fo
 
 -- ---- rows of nodes, transactions
 
-module _ (s : Spot) (some : s.room ≡ 0 → ⊥) where
-  pub sequence_no : (k : Sequence) (items : Answer Trees) (e : ResolveError) → items ≡ Err e → sequence_of k s items ≡ Err e
-  sequence_no k items e p = roomy s (items >>= λ nodes. Ok (sequence_node k nodes (spot_mark s))) some ∙ ap (λ (o : Answer Trees). o >>= λ nodes. Ok (sequence_node k nodes (spot_mark s))) p
+module _ (s : Spot) where
+  module _ (k : Sequence) (items : Answer Trees) where
+    abbrev rowed : Answer Trees → Answer Tree
+    rowed o = o >>= λ nodes. Ok (sequence_node k nodes (spot_mark s))
 
-  pub sequence_made : (k : Sequence) (items : Answer Trees) (ts : Trees) → items ≡ Ok ts → sequence_of k s items ≡ Ok (sequence_node k ts (spot_mark s))
-  sequence_made k items ts p = roomy s (items >>= λ nodes. Ok (sequence_node k nodes (spot_mark s))) some ∙ ap (λ (o : Answer Trees). o >>= λ nodes. Ok (sequence_node k nodes (spot_mark s))) p
+    pub sequence_no : (e : ResolveError) → in_room s items ≡ Err e → sequence_of k s items ≡ Err e
+    sequence_no e p = room_bind s items (λ nodes. Ok (sequence_node k nodes (spot_mark s))) ∙ ap rowed p
 
-  pub dosync_no : (made : Answer Tree) (e : ResolveError) → made ≡ Err e → dosync_of s made ≡ Err e
-  dosync_no made e p = roomy s (made >>= λ body. Ok (Dosync body (spot_mark s))) some ∙ ap (λ (o : Answer Tree). o >>= λ body. Ok (Dosync body (spot_mark s))) p
+    pub sequence_made : (ts : Trees) → in_room s items ≡ Ok ts → sequence_of k s items ≡ Ok (sequence_node k ts (spot_mark s))
+    sequence_made ts p = room_bind s items (λ nodes. Ok (sequence_node k nodes (spot_mark s))) ∙ ap rowed p
 
-  pub dosync_made : (made : Answer Tree) (t : Tree) → made ≡ Ok t → dosync_of s made ≡ Ok (Dosync t (spot_mark s))
-  dosync_made made t p = roomy s (made >>= λ body. Ok (Dosync body (spot_mark s))) some ∙ ap (λ (o : Answer Tree). o >>= λ body. Ok (Dosync body (spot_mark s))) p
+  abbrev transacted : Answer Tree → Answer Tree
+  transacted o = o >>= λ body. Ok (Dosync body (spot_mark s))
 
-  pub do_no : (items : Answer Trees) (e : ResolveError) → items ≡ Err e → in_room s (do_of s items) ≡ Err e
-  do_no items e p = roomy s (do_of s items) some ∙ ap (do_of s) p
+  pub dosync_no : (made : Answer Tree) (e : ResolveError) → in_room s made ≡ Err e → dosync_of s made ≡ Err e
+  dosync_no made e p = room_bind s made (λ body. Ok (Dosync body (spot_mark s))) ∙ ap transacted p
 
-  pub do_made : (items : Answer Trees) (ts : Trees) → items ≡ Ok ts → in_room s (do_of s items) ≡ Ok (Do ts (spot_mark s))
-  do_made items ts p = roomy s (do_of s items) some ∙ ap (do_of s) p
+  pub dosync_made : (made : Answer Tree) (t : Tree) → in_room s made ≡ Ok t → dosync_of s made ≡ Ok (Dosync t (spot_mark s))
+  dosync_made made t p = room_bind s made (λ body. Ok (Dosync body (spot_mark s))) ∙ ap transacted p
+
+  pub do_no : (items : Answer Trees) (e : ResolveError) → in_room s items ≡ Err e → in_room s (do_of s items) ≡ Err e
+  do_no items e p = room_bind s items (λ nodes. Ok (Do nodes (spot_mark s))) ∙ ap (do_of s) p
+
+  pub do_made : (items : Answer Trees) (ts : Trees) → in_room s items ≡ Ok ts → in_room s (do_of s items) ≡ Ok (Do ts (spot_mark s))
+  do_made items ts p = room_bind s items (λ nodes. Ok (Do nodes (spot_mark s))) ∙ ap (do_of s) p
 
   abbrev pub deref_of : Answer Tree → Answer Tree
   deref_of o = o >>= λ cell. Ok (Deref cell (spot_mark s))
 
-  pub deref_no : (made : Answer Tree) (e : ResolveError) → made ≡ Err e → in_room s (deref_of made) ≡ Err e
-  deref_no made e p = roomy s (deref_of made) some ∙ ap deref_of p
+  pub deref_no : (made : Answer Tree) (e : ResolveError) → in_room s made ≡ Err e → in_room s (deref_of made) ≡ Err e
+  deref_no made e p = room_bind s made (λ cell. Ok (Deref cell (spot_mark s))) ∙ ap deref_of p
 
-  pub deref_made : (made : Answer Tree) (t : Tree) → made ≡ Ok t → in_room s (deref_of made) ≡ Ok (Deref t (spot_mark s))
-  deref_made made t p = roomy s (deref_of made) some ∙ ap deref_of p
+  pub deref_made : (made : Answer Tree) (t : Tree) → in_room s made ≡ Ok t → in_room s (deref_of made) ≡ Ok (Deref t (spot_mark s))
+  deref_made made t p = room_bind s made (λ cell. Ok (Deref cell (spot_mark s))) ∙ ap deref_of p
 
 -- ---- operations
 
@@ -367,11 +369,6 @@ module _ (scope : Scope) (s : Spot) (args : List Form) where
 
   pub choices_counted : choices_of s (parts (plain args)) (named_cond scope s (plain args)) ≡ choices_of s (length args) (named_cond scope s (plain args))
   choices_counted = ap (λ (n : ℕ). choices_of s n (named_cond scope s (plain args))) (parts_plain args)
-
-pub deref_roomless : (scope : Scope) (s : Spot) (args : List Form) → length args ≡ 1 → s.room ≡ 0 → named_deref scope s (plain args) ≡ refuse TooMany s.span
-deref_roomless scope s [] one room = absurd (omega (arith, one))
-deref_roomless scope s (a ∷ []) one room = roomless s (named scope (s.room - 1) true (tree a) >>= λ cell. Ok (Deref cell (spot_mark s))) room
-deref_roomless scope s (a ∷ b ∷ args) one room = absurd (omega (arith, one))
 
 -- ---- groups
 

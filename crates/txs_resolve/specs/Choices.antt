@@ -1,17 +1,19 @@
 -- Choices, as they are put together of their parts.
 use Rattle.std.specs.Prelude.{ℕ, ◌-◌, Bool, true, false, length, Result, Ok, Err, if◌then◌else◌}
 use Rattle.txs_value.specs.declared.value.Value.TheVariants.{Nil as NilValue}
-use Rattle.txs_reader.specs.Tree.{Trees as Forms}
+use Rattle.txs_reader.specs.Tree.{Trees as Forms, parts}
 use Rattle.txs_tree.specs.Tree.{Tree, Const, Local}
 use Rattle.txs_tree.specs.View.{mark_of, tree_of}
 use Rattle.txs_names.specs.Scope.{Scope}
-use Rattle.txs_resolve.specs.declared.error.ResolveErrorKind.TheVariants.{TooMany}
+use Rattle.txs_resolve.specs.declared.error.ResolveErrorKind.TheVariants.{BadForm, TooMany}
 use Rattle.txs_resolve.specs.declared.nodes.Branches.{Branches}
 use Rattle.txs_resolve.specs.declared.nodes.Part.{Part}
 use Rattle.txs_resolve.specs.declared.nodes.Part.TheVariants.{Body, Choices, Nil}
 use Rattle.txs_resolve.specs.declared.nodes.Spot.{Spot}
 use Rattle.txs_resolve.specs.Answers.{◌>>=◌, refuse}
-use Rattle.txs_resolve.specs.Expressions.{Answer, choice_node, in_room, may_hide, named_body, named_cond, spot_mark}
+use Rattle.txs_resolve.specs.Expressions.{Answer, ByHead, below, choice_node, choices_of, dosync_of, in_room, may_hide, named_all, named_alter, named_binding, named_body, named_chain, named_cond, named_deref, named_if, named_logic, named_when, operation_of, pair_node, sequence_of, spot_mark}
+use Rattle.txs_resolve.specs.declared.nodes.Sequence.TheVariants as sequence
+use Rattle.txs_value.specs.declared.op.Op.{Op}
 
 -- the node of forms that are a body, the tests and branches of a `cond`, or nothing, which is nil
 abbrev pub part_of : Part → Scope → Spot → Forms → Answer Tree
@@ -39,3 +41,26 @@ hidden_choice is_or i rest s = choice_node is_or (Local i (mark_of s.span true))
 abbrev pub hidden_of : Bool → Scope → Spot → Answer Tree → Answer Tree
 hidden_of is_or scope s made =
     if may_hide scope s then (made >>= λ rest. Ok (hidden_choice is_or (length scope.locals) rest s)) else refuse TooMany s.span
+
+-- the pair of what is resolved so far and one more argument
+abbrev pub pair_with : Op → Spot → Tree → Answer Tree → Answer Tree
+pair_with op s total made = made >>= λ term. Ok (pair_node op total term (spot_mark s))
+
+-- what is made of a list with these parts, by what stands at its head
+abbrev pub made_of : Scope → Spot → Forms → ByHead
+made_of scope s args = record {
+  applied = λ op. operation_of op s (parts args) (named_chain op scope s args) (named_all scope (s.room - 1) true true args);
+  called = λ n. sequence_of (sequence.Call n) s (named_all scope (s.room - 1) true true args);
+  branches = λ turned. named_if turned scope s args;
+  block = named_body scope s args;
+  bindings = λ is_loop. named_binding is_loop scope s args;
+  turn = sequence_of sequence.Recur s (named_all scope (s.room - 1) true true args);
+  guarded = λ turned. named_when turned scope s args;
+  logic = λ is_or. named_logic is_or scope s args;
+  choices = choices_of s (parts args) (named_cond scope s args);
+  line = sequence_of sequence.Println s (named_all scope (s.room - 1) true true args);
+  transaction = dosync_of s (named_body scope (below 1 s) args);
+  reading = named_deref scope s args;
+  change = named_alter scope s args;
+  misplaced = refuse BadForm s.span;
+}

@@ -1,9 +1,9 @@
 //! Expressions: forms to nodes.
 
 ghost use Rattle.std.specs.Prelude.{◌≡◌, ◌<◌, ◌≤◌, ◌-◌, true, [], length, OnOk};
-ghost use Rattle.txs_resolve.specs.Expressions.{named, named_list, named_chain, named_if, named_when, named_cond, named_logic, named_deref, named_alter, named_binding, named_bindings, named_body, named_all, operation_of, sequence_of, choices_of, dosync_of, below, room_for};
+ghost use Rattle.txs_resolve.specs.Expressions.{named, named_list, named_chain, named_if, named_when, named_cond, named_logic, named_deref, named_alter, named_binding, named_bindings, named_body, named_all, in_room, operation_of, sequence_of, spot_at, choices_of, dosync_of, of_form, below, room_for};
 ghost use Rattle.txs_resolve.specs.Given.{Gives, GivesBound, IsWithin};
-ghost use Rattle.txs_resolve.specs.Choices.{branch_trees, both, choice_of, hidden_of, part_of};
+ghost use Rattle.txs_resolve.specs.Choices.{branch_trees, both, choice_of, hidden_of, made_of, pair_with, part_of};
 ghost use Rattle.txs_names.specs.Scope.{with_local};
 ghost use Rattle.txs_reader.specs.Tree.{tree, trees, trees_of};
 ghost use Rattle.txs_tree.specs.View.{tree_of, trees_of as nodes_tree};
@@ -86,22 +86,40 @@ fn list<'a>(
         Head::Called(Callee::Function(number)) => {
             sequence(alloc, scope, spot, Sequence::Call(number), args)
         }
-        Head::Form(FormName::If) => either(alloc, scope, spot, false, args),
-        Head::Form(FormName::IfNot) => either(alloc, scope, spot, true, args),
-        Head::Form(FormName::Do) => body(alloc, scope, spot, args),
-        Head::Form(FormName::Let) => binding(alloc, scope, spot, false, args),
-        Head::Form(FormName::Loop) => binding(alloc, scope, spot, true, args),
-        Head::Form(FormName::Recur) => sequence(alloc, scope, spot, Sequence::Recur, args),
-        Head::Form(FormName::When) => guarded(alloc, scope, spot, false, args),
-        Head::Form(FormName::WhenNot) => guarded(alloc, scope, spot, true, args),
-        Head::Form(FormName::And) => logic(alloc, scope, spot, false, args),
-        Head::Form(FormName::Or) => logic(alloc, scope, spot, true, args),
-        Head::Form(FormName::Cond) => choices(alloc, scope, spot, args),
-        Head::Form(FormName::Println) => sequence(alloc, scope, spot, Sequence::Println, args),
-        Head::Form(FormName::Dosync) => dosync(alloc, scope, spot, args),
-        Head::Form(FormName::Deref) => deref(alloc, scope, spot, args),
-        Head::Form(FormName::Alter) => alter(alloc, scope, spot, args),
-        Head::Form(_) => Err(refused(ResolveErrorKind::BadForm, spot.span)),
+        Head::Form(name) => form(alloc, scope, spot, name, args),
+    }
+}
+
+/// The node of a list at whose head the name of a form stands.
+#[cycle(resolve)]
+fn form<'a>(
+    alloc: Global,
+    scope: &mut Scope<'a>,
+    spot: Spot,
+    name: FormName,
+    args: &'a [Form],
+) -> Result<Node, Stop>
+    requires { spot.room ≤ 1000 }
+    ensures node { Gives tree_of result (of_form name (made_of scope.old spot (trees_of (trees args.now)))) }
+    ensures kept { OnOk result (scope.new ≡ scope.old) }
+{
+    match name {
+        FormName::If => either(alloc, scope, spot, false, args),
+        FormName::IfNot => either(alloc, scope, spot, true, args),
+        FormName::Do => body(alloc, scope, spot, args),
+        FormName::Let => binding(alloc, scope, spot, false, args),
+        FormName::Loop => binding(alloc, scope, spot, true, args),
+        FormName::Recur => sequence(alloc, scope, spot, Sequence::Recur, args),
+        FormName::When => guarded(alloc, scope, spot, false, args),
+        FormName::WhenNot => guarded(alloc, scope, spot, true, args),
+        FormName::And => logic(alloc, scope, spot, false, args),
+        FormName::Or => logic(alloc, scope, spot, true, args),
+        FormName::Cond => choices(alloc, scope, spot, args),
+        FormName::Println => sequence(alloc, scope, spot, Sequence::Println, args),
+        FormName::Dosync => dosync(alloc, scope, spot, args),
+        FormName::Deref => deref(alloc, scope, spot, args),
+        FormName::Alter => alter(alloc, scope, spot, args),
+        _ => Err(refused(ResolveErrorKind::BadForm, spot.span)),
     }
 }
 
@@ -118,10 +136,7 @@ fn sequence<'a>(
     ensures node { Gives tree_of result (sequence_of kind spot (named_all scope.old (spot.room - 1) true true (trees_of (trees forms.now)))) }
     ensures kept { OnOk result (scope.new ≡ scope.old) }
 {
-    if spot.room == 0 {
-        return Err(refused(ResolveErrorKind::TooMany, spot.span));
-    }
-    let nodes = all(alloc, scope, spot.room - 1, true, true, forms)?;
+    let nodes = all(alloc, scope, spot, true, true, forms)?;
     Ok(sequence_node(kind, nodes, spot))
 }
 
@@ -167,11 +182,36 @@ fn chain<'a>(
     let mut total = expression(alloc, scope, room, true, &args[0])?;
     for i in 1..args.len() {
         let room = spot.room.saturating_sub(args.len() - i);
-        let term = expression(alloc, scope, room, true, &args[i])?;
         let wanted = flag_at(true, spot.wanted, args, i);
-        total = pair_of(alloc, op, total, term, spot.span, wanted)?;
+        let span = spot.span;
+        total = pair(
+            alloc,
+            scope,
+            Spot { room, span, wanted },
+            op,
+            total,
+            &args[i],
+        )?;
     }
     Ok(total)
+}
+
+/// The node of an operation on what is resolved so far and on one more argument.
+#[cycle(resolve)]
+fn pair<'a>(
+    alloc: Global,
+    scope: &mut Scope<'a>,
+    spot: Spot,
+    op: Op,
+    total: Node,
+    term: &'a Form,
+) -> Result<Node, Stop>
+    requires { spot.room ≤ 1000 }
+    ensures node { Gives tree_of result (pair_with op spot (tree_of total) (named scope.old spot.room true (tree term.now))) }
+    ensures kept { OnOk result (scope.new ≡ scope.old) }
+{
+    let term = expression(alloc, scope, spot.room, true, term)?;
+    Ok(pair_of(alloc, op, total, term, spot)?)
 }
 
 /// The node of a part of a form.
@@ -194,20 +234,24 @@ fn part<'a>(
     }
 }
 
-/// The node of a part of a form, where another node stands over it.
+/// The node of a part of a form, one level below it.
 #[cycle(resolve)]
 fn boxed<'a>(
     alloc: Global,
     scope: &mut Scope<'a>,
     spot: Spot,
+    wanted: bool,
     kind: Part,
     forms: &'a [Form],
 ) -> Result<Box<Node>, Stop>
     requires { spot.room ≤ 1000 }
-    ensures node { Gives (λ b. tree_of b.value) result (part_of kind scope.old spot (trees_of (trees forms.now))) }
+    ensures node { Gives (λ b. tree_of b.value) result (in_room spot (part_of kind scope.old (spot_at (spot.room - 1) spot.span wanted) (trees_of (trees forms.now)))) }
     ensures kept { OnOk result (scope.new ≡ scope.old) }
 {
-    let node = part(alloc, scope, spot, kind, forms)?;
+    if spot.room == 0 {
+        return Err(refused(ResolveErrorKind::TooMany, spot.span));
+    }
+    let node = part(alloc, scope, spot.inner(wanted), kind, forms)?;
     Ok(Box::new(alloc, node)?)
 }
 
@@ -222,11 +266,11 @@ fn branches<'a>(
     rest: &'a [Form],
 ) -> Result<Branches, Stop>
     requires { spot.room ≤ 1000 }
-    ensures nodes { Gives branch_trees result (both (named_body scope.old spot (trees_of (trees one.now))) (part_of part scope.old spot (trees_of (trees rest.now)))) }
+    ensures nodes { Gives branch_trees result (in_room spot (both (named_body scope.old (below 1 spot) (trees_of (trees one.now))) (part_of part scope.old (below 1 spot) (trees_of (trees rest.now))))) }
     ensures kept { OnOk result (scope.new ≡ scope.old) }
 {
-    let one = boxed(alloc, scope, spot, Part::Body, one)?;
-    let other = boxed(alloc, scope, spot, part, rest)?;
+    let one = boxed(alloc, scope, spot, spot.wanted, Part::Body, one)?;
+    let other = boxed(alloc, scope, spot, spot.wanted, part, rest)?;
     Ok(Branches { one, other })
 }
 
@@ -247,11 +291,8 @@ fn choice<'a>(
         (both (named_body scope.old (below 1 spot) (trees_of (trees one.now))) (part_of part scope.old (below 1 spot) (trees_of (trees rest.now))))) }
     ensures kept { OnOk result (scope.new ≡ scope.old) }
 {
-    if spot.room == 0 {
-        return Err(refused(ResolveErrorKind::TooMany, spot.span));
-    }
-    let test = boxed(alloc, scope, spot.inner(), Part::Body, from_ref(test))?;
-    let branches = branches(alloc, scope, spot.below(1), one, part, rest)?;
+    let test = boxed(alloc, scope, spot, true, Part::Body, from_ref(test))?;
+    let branches = branches(alloc, scope, spot, one, part, rest)?;
     Ok(choice_node(turned, test, branches, spot))
 }
 
@@ -375,10 +416,7 @@ fn logic<'a>(
     if rest.len() == 0 {
         return expression(alloc, scope, spot.room, spot.wanted, value);
     }
-    if spot.room == 0 {
-        return Err(refused(ResolveErrorKind::TooMany, spot.span));
-    }
-    let values = all(alloc, scope, spot.room - 1, true, true, from_ref(value))?;
+    let values = all(alloc, scope, spot, true, true, from_ref(value))?;
     let choice = hidden(alloc, scope, spot, is_or, rest)?;
     Ok(binding_node(false, values, choice, spot))
 }
@@ -418,10 +456,7 @@ fn dosync<'a>(
     ensures node { Gives tree_of result (dosync_of spot (named_body scope.old (below 1 spot) (trees_of (trees args.now)))) }
     ensures kept { OnOk result (scope.new ≡ scope.old) }
 {
-    if spot.room == 0 {
-        return Err(refused(ResolveErrorKind::TooMany, spot.span));
-    }
-    let inner = boxed(alloc, scope, spot.below(1), Part::Body, args)?;
+    let inner = boxed(alloc, scope, spot, spot.wanted, Part::Body, args)?;
     Ok(spot.node(NodeKind::Dosync(inner)))
 }
 
@@ -440,10 +475,7 @@ fn deref<'a>(
     if args.len() != 1 {
         return Err(refused(ResolveErrorKind::BadForm, spot.span));
     }
-    if spot.room == 0 {
-        return Err(refused(ResolveErrorKind::TooMany, spot.span));
-    }
-    let cell = boxed(alloc, scope, spot.inner(), Part::Body, args)?;
+    let cell = boxed(alloc, scope, spot, true, Part::Body, args)?;
     Ok(spot.node(NodeKind::Deref(cell)))
 }
 
@@ -465,12 +497,9 @@ fn alter<'a>(
     let Some((function, further)) = parts.split_first() else {
         return Err(refused(ResolveErrorKind::BadForm, spot.span));
     };
-    if spot.room == 0 {
-        return Err(refused(ResolveErrorKind::TooMany, spot.span));
-    }
-    let cell = boxed(alloc, scope, spot.inner(), Part::Body, from_ref(cell))?;
+    let cell = boxed(alloc, scope, spot, true, Part::Body, from_ref(cell))?;
     let called = callee(scope, spot, function)?;
-    let nodes = all(alloc, scope, spot.room - 1, true, true, further)?;
+    let nodes = all(alloc, scope, spot, true, true, further)?;
     Ok(spot.node(NodeKind::Alter(cell, called, nodes)))
 }
 
@@ -498,7 +527,7 @@ fn binding<'a>(
     }
     let outer = scope.len();
     let values = bindings(alloc, scope, spot.room - 1, pairs)?;
-    let inner = boxed(alloc, scope, spot.below(1), Part::Body, forms)?;
+    let inner = boxed(alloc, scope, spot, spot.wanted, Part::Body, forms)?;
     scope.truncate(outer);
     Ok(binding_node(is_loop, values, inner, spot))
 }
@@ -546,32 +575,38 @@ pub fn body<'a>(
         [] => constant(Value::Nil, spot),
         [form] => expression(alloc, scope, spot.room, spot.wanted, form),
         _ => {
-            if spot.room == 0 {
-                return Err(refused(ResolveErrorKind::TooMany, spot.span));
-            }
-            let items = all(alloc, scope, spot.room - 1, false, spot.wanted, forms)?;
+            let items = all(alloc, scope, spot, false, spot.wanted, forms)?;
             Ok(spot.node(NodeKind::Do(items)))
         }
     }
 }
 
-/// The nodes of forms, of which the last has a flag of its own.
+/// The nodes of forms one level below this spot, of which the last has a flag of its own.
 #[cycle(resolve)]
 fn all<'a>(
     alloc: Global,
     scope: &mut Scope<'a>,
-    room: usize,
+    spot: Spot,
     inner: bool,
     last: bool,
     forms: &'a [Form],
 ) -> Result<Vec<Node>, Stop>
-    requires { room ≤ 1000 }
-    ensures nodes { Gives (λ v. nodes_tree v.items) result (named_all scope.old room inner last (trees_of (trees forms.now))) }
+    requires { spot.room ≤ 1000 }
+    ensures nodes { Gives (λ v. nodes_tree v.items) result (in_room spot (named_all scope.old (spot.room - 1) inner last (trees_of (trees forms.now)))) }
     ensures kept { OnOk result (scope.new ≡ scope.old) }
 {
+    if spot.room == 0 {
+        return Err(refused(ResolveErrorKind::TooMany, spot.span));
+    }
     let mut nodes = Vec::new(alloc);
     for (i, form) in forms.iter().enumerate() {
-        let node = expression(alloc, scope, room, flag_at(inner, last, forms, i), form)?;
+        let node = expression(
+            alloc,
+            scope,
+            spot.room - 1,
+            flag_at(inner, last, forms, i),
+            form,
+        )?;
         nodes.push(node)?;
     }
     Ok(nodes)

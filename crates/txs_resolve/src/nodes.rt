@@ -43,15 +43,15 @@ impl Spot {
         }
     }
 
-    /// One level further down, where the result is wanted.
-    pub fn inner(self) -> Spot
+    /// One level further down.
+    pub fn inner(self, wanted: bool) -> Spot
         requires { 1 ≤ self.room }
-        ensures { result ≡ spot_at (self.room - 1) self.span true }
+        ensures { result ≡ spot_at (self.room - 1) self.span wanted }
     {
         Spot {
             room: self.room - 1,
             span: self.span,
-            wanted: true,
+            wanted,
         }
     }
 
@@ -304,22 +304,11 @@ pub fn binding_node(is_loop: bool, values: Vec<Node>, body: Box<Node>, spot: Spo
 }
 
 /// The operation on two nodes.
-pub fn pair_of(
-    alloc: Global,
-    op: Op,
-    a: Node,
-    b: Node,
-    span: Span,
-    wanted: bool,
-) -> Result<Node, AllocError>
-    ensures { IfOk result (λ n. tree_of n ≡ pair_node op (tree_of a) (tree_of b) (mark_of span wanted)) }
+pub fn pair_of(alloc: Global, op: Op, a: Node, b: Node, spot: Spot) -> Result<Node, AllocError>
+    ensures { IfOk result (λ n. tree_of n ≡ pair_node op (tree_of a) (tree_of b) (spot_mark spot)) }
 {
     let args = vec![in alloc; a, b]?;
-    Ok(Node {
-        kind: NodeKind::Core(op, args),
-        span,
-        wanted,
-    })
+    Ok(spot.node(NodeKind::Core(op, args)))
 }
 
 /// Whether the operation folds any number of arguments from the left.

@@ -12,13 +12,13 @@ use Rattle.txs_resolve.specs.declared.nodes.Head.TheVariants.{Form as AForm, Cal
 use Rattle.txs_resolve.specs.declared.nodes.Sequence.TheVariants as sequence
 use Rattle.txs_resolve.specs.declared.nodes.Spot.{Spot}
 use Rattle.txs_value.specs.declared.op.Callee.TheVariants.{Core as CoreOp}
-use Rattle.txs_resolve.specs.Expressions.{Answer, Bound, below, choices_of, may_hide, bound_name, callee_of, choice_node, flag, head_of, logic_node, named, named_all, named_body, named_bindings, named_chain, named_cond, named_deref, named_if, named_logic, binding_node, named_pairs, pair_node, sequence_node, sequence_of, spot_mark}
+use Rattle.txs_resolve.specs.Expressions.{Answer, Bound, below, choices_of, may_hide, bound_name, callee_of, choice_node, flag, head_of, logic_node, named, named_all, named_body, named_bindings, named_chain, named_cond, named_deref, named_if, named_logic, binding_node, named_pairs, pair_node, sequence_node, sequence_of, spot_mark, in_room, of_form, spot_at}
 use Rattle.txs_resolve.specs.Given.{Gives, IsWithin}
 use Rattle.txs_resolve.specs.Answers.{◌>>=◌}
 use Rattle.txs_names.specs.Scope.{Scope, with_local}
 use Rattle.txs_resolve.proofs.Building.{plain, all_after, bound_after, failed, failed_let, failed_bound, tail_most, roomy, roomless, all_step, all_stop, all_end, bindings_step, bindings_unvalued, bindings_unbound, bindings_odd, bindings_end, failed_name, chain_first, pairs_step, pairs_stop, within_push}
-use Rattle.txs_resolve.proofs.Steps.{if_many, if_choice, cond_choice, when_choice, test_is, both_first, both_second, both_ok, choice_roomless, choice_no_first, choice_no_second, choice_made, two_first, two_second, two_ok, logic_alone, logic_roomless, logic_hidden, hidden_full, hidden_no, hidden_made, deref_parts, deref_other, deref_no, deref_made, alter_roomless, alter_no_first, alter_no_second, alter_no_third, alter_made, binding_odd, binding_roomless, binding_parts, body_one, body_several, do_of, do_no, do_made, deref_roomless, choices_odd, choices_even, operation_counted, choices_counted, group_round, group_square, list_head, list_headless, made_of, sequence_no, sequence_made, dosync_no, dosync_made, operation_plain, operation_low, operation_chain}
-use Rattle.txs_resolve.specs.Choices.{branch_trees, both, choice_of, hidden_choice, hidden_of, part_of}
+use Rattle.txs_resolve.proofs.Steps.{if_many, if_choice, cond_choice, when_choice, both_first, both_second, both_ok, choice_no_first, choice_no_second, choice_made, two_first, two_second, two_ok, logic_alone, logic_hidden, hidden_full, hidden_no, hidden_made, deref_parts, deref_other, deref_no, deref_made, alter_no_first, alter_no_second, alter_no_third, alter_made, binding_odd, binding_roomless, binding_parts, body_one, body_several, do_of, do_no, do_made, choices_odd, choices_even, operation_counted, choices_counted, group_round, group_square, list_head, list_headless, sequence_no, sequence_made, dosync_no, dosync_made, operation_plain, operation_low, operation_chain}
+use Rattle.txs_resolve.specs.Choices.{branch_trees, both, choice_of, hidden_choice, hidden_of, made_of, pair_with, part_of}
 use Rattle.txs_resolve.proofs.NodeTrees.{do_tree, if_tree, deref_tree, dosync_tree, alter_tree}
 use Rattle.txs_resolve.proofs.expression.+resolve.Goals as goal
 
@@ -28,11 +28,11 @@ pub sequence-returns-in_err-nodes-clause-node : goal.sequence-returns-in_err-nod
 sequence-returns-in_err-nodes-clause-node t c =
     let p = err_from_is_err_and c.from_residual.result c.from_residual.ensures.1 in
     rw (p.1, p.2) (failed (λ (v : Vec Node Global). trees_of v.items) tree_of _ _ _ c.in_err-nodes.ensures.nodes (λ e no.
-    sequence_no c.args.spot c.if-spot-eq0.false c.args.kind (named_all c.args.scope.now (c.args.spot.room - 1) true true (plain c.args.forms.now)) e no))
+    sequence_no c.args.spot c.args.kind (named_all c.args.scope.now (c.args.spot.room - 1) true true (plain c.args.forms.now)) e no))
 
 pub sequence-returns-clause-node : goal.sequence-returns-clause-node
 sequence-returns-clause-node t c =
-    sequence_made c.args.spot c.if-spot-eq0.false c.args.kind (named_all c.args.scope.now (c.args.spot.room - 1) true true (plain c.args.forms.now)) (trees_of c.in_ok-nodes.nodes.items) c.in_ok-nodes.ensures.nodes
+    sequence_made c.args.spot c.args.kind (named_all c.args.scope.now (c.args.spot.room - 1) true true (plain c.args.forms.now)) (trees_of c.in_ok-nodes.nodes.items) c.in_ok-nodes.ensures.nodes
     ∙ ap (λ (x : Tree). Ok x) (sym c.sequence_node.ensures)
 
 -- ---- transactions and reads
@@ -40,13 +40,11 @@ sequence-returns-clause-node t c =
 pub dosync-returns-in_err-inner-clause-node : goal.dosync-returns-in_err-inner-clause-node
 dosync-returns-in_err-inner-clause-node t c =
     let p = err_from_is_err_and c.from_residual.result c.from_residual.ensures.1 in
-    rw (p.1, p.2) (failed (λ (b : Box Node Global). tree_of b.value) tree_of _ _ _ c.in_err-inner.ensures.node (λ e no.
-    dosync_no c.args.spot c.if-spot-eq0.false (named_body c.args.scope.now (below 1 c.args.spot) (plain c.args.args.now)) e (ap (λ (s : Spot). named_body c.args.scope.now s (plain c.args.args.now)) (sym c.below.ensures) ∙ no)))
+    rw (p.1, p.2) (failed (λ (b : Box Node Global). tree_of b.value) tree_of _ _ _ c.in_err-inner.ensures.node (λ e no. dosync_no c.args.spot (named_body c.args.scope.now (below 1 c.args.spot) (plain c.args.args.now)) e no))
 
 pub dosync-returns-clause-node : goal.dosync-returns-clause-node
 dosync-returns-clause-node t c =
-    dosync_made c.args.spot c.if-spot-eq0.false (named_body c.args.scope.now (below 1 c.args.spot) (plain c.args.args.now)) (tree_of c.in_ok-inner.inner.value)
-    (ap (λ (s : Spot). named_body c.args.scope.now s (plain c.args.args.now)) (sym c.below.ensures) ∙ c.in_ok-inner.ensures.node)
+    dosync_made c.args.spot (named_body c.args.scope.now (below 1 c.args.spot) (plain c.args.args.now)) (tree_of c.in_ok-inner.inner.value) c.in_ok-inner.ensures.node
     ∙ ap (λ (x : Tree). Ok x) (sym (ap tree_of c.node.ensures ∙ dosync_tree c.in_ok-inner.inner (spot_mark c.args.spot)))
 
 pub deref-returns-then-args-ne1-clause-node : goal.deref-returns-then-args-ne1-clause-node
@@ -58,52 +56,60 @@ pub deref-returns-in_err-cell-clause-node : goal.deref-returns-in_err-cell-claus
 deref-returns-in_err-cell-clause-node t c =
     let p = err_from_is_err_and c.from_residual.result c.from_residual.ensures.1 in
     rw (p.1, p.2) (failed (λ (b : Box Node Global). tree_of b.value) tree_of _ _ _ c.in_err-cell.ensures.node (λ e no.
-    deref_parts c.args.scope.now c.args.spot c.inner.result c.args.args.now c.inner.ensures c.if-args-ne1.false ∙ deref_no c.args.spot c.if-spot-eq0.false (named_body c.args.scope.now c.inner.result (plain c.args.args.now)) e no))
+    deref_parts c.args.scope.now c.args.spot c.args.args.now c.if-args-ne1.false ∙ deref_no c.args.spot (named_body c.args.scope.now (spot_at (c.args.spot.room - 1) c.args.spot.span true) (plain c.args.args.now)) e no))
 
 pub deref-returns-clause-node : goal.deref-returns-clause-node
 deref-returns-clause-node t c =
-    deref_parts c.args.scope.now c.args.spot c.inner.result c.args.args.now c.inner.ensures c.if-args-ne1.false
-    ∙ deref_made c.args.spot c.if-spot-eq0.false (named_body c.args.scope.now c.inner.result (plain c.args.args.now)) (tree_of c.in_ok-cell.cell.value) c.in_ok-cell.ensures.node
+    deref_parts c.args.scope.now c.args.spot c.args.args.now c.if-args-ne1.false
+    ∙ deref_made c.args.spot (named_body c.args.scope.now (spot_at (c.args.spot.room - 1) c.args.spot.span true) (plain c.args.args.now)) (tree_of c.in_ok-cell.cell.value) c.in_ok-cell.ensures.node
     ∙ ap (λ (x : Tree). Ok x) (sym (ap tree_of c.node.ensures ∙ deref_tree c.in_ok-cell.cell (spot_mark c.args.spot)))
 
 -- ---- choices
 
+pub boxed-returns-then-spot-eq0-clause-node : goal.boxed-returns-then-spot-eq0-clause-node
+boxed-returns-then-spot-eq0-clause-node t c =
+    subst (λ st. Gives (λ (b : Box Node Global). tree_of b.value) (Err st) (in_room c.args.spot (part_of c.args.kind c.args.scope.now (spot_at (c.args.spot.room - 1) c.args.spot.span c.args.wanted) (plain c.args.forms.now)))) (sym c.refused.ensures) (roomless c.args.spot (part_of c.args.kind c.args.scope.now (spot_at (c.args.spot.room - 1) c.args.spot.span c.args.wanted) (plain c.args.forms.now)) c.if-spot-eq0.true)
+
+pub boxed-returns-in_err-node-clause-node : goal.boxed-returns-in_err-node-clause-node
+boxed-returns-in_err-node-clause-node t c =
+    let p = err_from_is_err_and c.from_residual.result c.from_residual.ensures.1 in
+    rw (p.1, p.2) (failed tree_of (λ (b : Box Node Global). tree_of b.value) _ _ _ c.in_err-node.ensures.node (λ e no. roomy c.args.spot (part_of c.args.kind c.args.scope.now (spot_at (c.args.spot.room - 1) c.args.spot.span c.args.wanted) (plain c.args.forms.now)) c.if-spot-eq0.false ∙ ap (λ (i : Spot). part_of c.args.kind c.args.scope.now i (plain c.args.forms.now)) (sym c.inner.ensures) ∙ no))
+
+pub boxed-returns-clause-node : goal.boxed-returns-clause-node
+boxed-returns-clause-node t c =
+    roomy c.args.spot (part_of c.args.kind c.args.scope.now (spot_at (c.args.spot.room - 1) c.args.spot.span c.args.wanted) (plain c.args.forms.now)) c.if-spot-eq0.false ∙ ap (λ (i : Spot). part_of c.args.kind c.args.scope.now i (plain c.args.forms.now)) (sym c.inner.ensures) ∙ c.in_ok-node.ensures.node
+    ∙ ap (λ (n : Node). Ok (tree_of n)) (sym c.in_ok-new.ensures.ok)
+
 pub branches-returns-in_err-one-clause-nodes : goal.branches-returns-in_err-one-clause-nodes
 branches-returns-in_err-one-clause-nodes t c =
     let p = err_from_is_err_and c.from_residual.result c.from_residual.ensures.1 in
-    rw (p.1, p.2) (failed (λ (b : Box Node Global). tree_of b.value) branch_trees _ _ _ c.in_err-one.ensures.node (λ e no.
-    both_first (named_body c.args.scope.now c.args.spot (plain c.args.one.now)) (part_of c.args.part c.args.scope.now c.args.spot (plain c.args.rest.now)) e no))
+    rw (p.1, p.2) (failed (λ (b : Box Node Global). tree_of b.value) branch_trees _ _ _ c.in_err-one.ensures.node (λ e no. both_first c.args.spot (named_body c.args.scope.now (below 1 c.args.spot) (plain c.args.one.now)) (part_of c.args.part c.args.scope.now (below 1 c.args.spot) (plain c.args.rest.now)) e no))
 
 pub branches-returns-in_err-other-clause-nodes : goal.branches-returns-in_err-other-clause-nodes
 branches-returns-in_err-other-clause-nodes t c =
     let p = err_from_is_err_and c.from_residual-in_err-other.result c.from_residual-in_err-other.ensures.1 in
     rw (p.1, p.2) (failed (λ (b : Box Node Global). tree_of b.value) branch_trees _ _ _ c.in_err-other.ensures.node (λ e no.
-    both_second (named_body c.args.scope.now c.args.spot (plain c.args.one.now)) (part_of c.args.part c.args.scope.now c.args.spot (plain c.args.rest.now)) (tree_of c.in_ok-one.one.value) e c.in_ok-one.ensures.node (ap (λ (s : Scope). part_of c.args.part s c.args.spot (plain c.args.rest.now)) (sym c.in_ok-one.ensures.kept) ∙ no)))
+    both_second c.args.spot (named_body c.args.scope.now (below 1 c.args.spot) (plain c.args.one.now)) (part_of c.args.part c.args.scope.now (below 1 c.args.spot) (plain c.args.rest.now)) (tree_of c.in_ok-one.one.value) e c.in_ok-one.ensures.node (ap (λ (s : Scope). in_room c.args.spot (part_of c.args.part s (below 1 c.args.spot) (plain c.args.rest.now))) (sym c.in_ok-one.ensures.kept) ∙ no)))
 
 pub branches-returns-clause-nodes : goal.branches-returns-clause-nodes
 branches-returns-clause-nodes t c =
-    both_ok (named_body c.args.scope.now c.args.spot (plain c.args.one.now)) (part_of c.args.part c.args.scope.now c.args.spot (plain c.args.rest.now)) (tree_of c.in_ok-one.one.value) (tree_of c.in_ok-other.other.value) c.in_ok-one.ensures.node (ap (λ (s : Scope). part_of c.args.part s c.args.spot (plain c.args.rest.now)) (sym c.in_ok-one.ensures.kept) ∙ c.in_ok-other.ensures.node)
-
-pub choice-returns-then-spot-eq0-clause-node : goal.choice-returns-then-spot-eq0-clause-node
-choice-returns-then-spot-eq0-clause-node t c =
-    subst (λ st. Gives tree_of (Err st) (choice_of c.args.turned c.args.spot (named c.args.scope.now (c.args.spot.room - 1) true (tree c.args.test.now)) (both (named_body c.args.scope.now (below 1 c.args.spot) (plain c.args.one.now)) (part_of c.args.part c.args.scope.now (below 1 c.args.spot) (plain c.args.rest.now))))) (sym c.refused.ensures)
-    (choice_roomless c.args.turned c.args.spot (named c.args.scope.now (c.args.spot.room - 1) true (tree c.args.test.now)) (both (named_body c.args.scope.now (below 1 c.args.spot) (plain c.args.one.now)) (part_of c.args.part c.args.scope.now (below 1 c.args.spot) (plain c.args.rest.now))) c.if-spot-eq0.true)
+    both_ok c.args.spot (named_body c.args.scope.now (below 1 c.args.spot) (plain c.args.one.now)) (part_of c.args.part c.args.scope.now (below 1 c.args.spot) (plain c.args.rest.now)) (tree_of c.in_ok-one.one.value) (tree_of c.in_ok-other.other.value) c.in_ok-one.ensures.node (ap (λ (s : Scope). in_room c.args.spot (part_of c.args.part s (below 1 c.args.spot) (plain c.args.rest.now))) (sym c.in_ok-one.ensures.kept) ∙ c.in_ok-other.ensures.node)
 
 pub choice-returns-in_err-test-clause-node : goal.choice-returns-in_err-test-clause-node
 choice-returns-in_err-test-clause-node t c =
     let p = err_from_is_err_and c.from_residual.result c.from_residual.ensures.1 in
     rw (p.1, p.2) (failed (λ (b : Box Node Global). tree_of b.value) tree_of _ _ _ c.in_err-test.ensures.node (λ e no.
-    choice_no_first c.args.turned c.args.spot (named c.args.scope.now (c.args.spot.room - 1) true (tree c.args.test.now)) (both (named_body c.args.scope.now (below 1 c.args.spot) (plain c.args.one.now)) (part_of c.args.part c.args.scope.now (below 1 c.args.spot) (plain c.args.rest.now))) c.if-spot-eq0.false e (sym (test_is c.args.scope.now c.args.spot c.inner.result c.args.test.now c.from_ref.result.now c.inner.ensures c.from_ref.ensures.value) ∙ no)))
+    choice_no_first c.args.turned c.args.spot (named c.args.scope.now (c.args.spot.room - 1) true (tree c.args.test.now)) (both (named_body c.args.scope.now (below 1 c.args.spot) (plain c.args.one.now)) (part_of c.args.part c.args.scope.now (below 1 c.args.spot) (plain c.args.rest.now))) e (ap (λ l. in_room c.args.spot (named_body c.args.scope.now (spot_at (c.args.spot.room - 1) c.args.spot.span true) (plain l))) (sym c.from_ref.ensures.value) ∙ no)))
 
 pub choice-returns-in_err-branches-clause-node : goal.choice-returns-in_err-branches-clause-node
 choice-returns-in_err-branches-clause-node t c =
     let p = err_from_is_err_and c.from_residual-in_err-branches.result c.from_residual-in_err-branches.ensures.1 in
     rw (p.1, p.2) (failed branch_trees tree_of _ _ _ c.in_err-branches.ensures.nodes (λ e no.
-    choice_no_second c.args.turned c.args.spot (named c.args.scope.now (c.args.spot.room - 1) true (tree c.args.test.now)) (both (named_body c.args.scope.now (below 1 c.args.spot) (plain c.args.one.now)) (part_of c.args.part c.args.scope.now (below 1 c.args.spot) (plain c.args.rest.now))) c.if-spot-eq0.false (tree_of c.in_ok-test.test.value) e (sym (test_is c.args.scope.now c.args.spot c.inner.result c.args.test.now c.from_ref.result.now c.inner.ensures c.from_ref.ensures.value) ∙ c.in_ok-test.ensures.node) (ap (λ (s : Scope). both (named_body s (below 1 c.args.spot) (plain c.args.one.now)) (part_of c.args.part s (below 1 c.args.spot) (plain c.args.rest.now))) (sym c.in_ok-test.ensures.kept) ∙ ap (λ (x : Spot). both (named_body c.boxed.new.scope x (plain c.args.one.now)) (part_of c.args.part c.boxed.new.scope x (plain c.args.rest.now))) (sym c.below.ensures) ∙ no)))
+    choice_no_second c.args.turned c.args.spot (named c.args.scope.now (c.args.spot.room - 1) true (tree c.args.test.now)) (both (named_body c.args.scope.now (below 1 c.args.spot) (plain c.args.one.now)) (part_of c.args.part c.args.scope.now (below 1 c.args.spot) (plain c.args.rest.now))) (tree_of c.in_ok-test.test.value) e (ap (λ l. in_room c.args.spot (named_body c.args.scope.now (spot_at (c.args.spot.room - 1) c.args.spot.span true) (plain l))) (sym c.from_ref.ensures.value) ∙ c.in_ok-test.ensures.node) (ap (λ (s : Scope). in_room c.args.spot (both (named_body s (below 1 c.args.spot) (plain c.args.one.now)) (part_of c.args.part s (below 1 c.args.spot) (plain c.args.rest.now)))) (sym c.in_ok-test.ensures.kept) ∙ no)))
 
 pub choice-returns-clause-node : goal.choice-returns-clause-node
 choice-returns-clause-node t c =
-    choice_made c.args.turned c.args.spot (named c.args.scope.now (c.args.spot.room - 1) true (tree c.args.test.now)) (both (named_body c.args.scope.now (below 1 c.args.spot) (plain c.args.one.now)) (part_of c.args.part c.args.scope.now (below 1 c.args.spot) (plain c.args.rest.now))) c.if-spot-eq0.false (tree_of c.in_ok-test.test.value) (branch_trees c.in_ok-branches.branches) (sym (test_is c.args.scope.now c.args.spot c.inner.result c.args.test.now c.from_ref.result.now c.inner.ensures c.from_ref.ensures.value) ∙ c.in_ok-test.ensures.node) (ap (λ (s : Scope). both (named_body s (below 1 c.args.spot) (plain c.args.one.now)) (part_of c.args.part s (below 1 c.args.spot) (plain c.args.rest.now))) (sym c.in_ok-test.ensures.kept) ∙ ap (λ (x : Spot). both (named_body c.boxed.new.scope x (plain c.args.one.now)) (part_of c.args.part c.boxed.new.scope x (plain c.args.rest.now))) (sym c.below.ensures) ∙ c.in_ok-branches.ensures.nodes)
+    choice_made c.args.turned c.args.spot (named c.args.scope.now (c.args.spot.room - 1) true (tree c.args.test.now)) (both (named_body c.args.scope.now (below 1 c.args.spot) (plain c.args.one.now)) (part_of c.args.part c.args.scope.now (below 1 c.args.spot) (plain c.args.rest.now))) (tree_of c.in_ok-test.test.value) (branch_trees c.in_ok-branches.branches) (ap (λ l. in_room c.args.spot (named_body c.args.scope.now (spot_at (c.args.spot.room - 1) c.args.spot.span true) (plain l))) (sym c.from_ref.ensures.value) ∙ c.in_ok-test.ensures.node) (ap (λ (s : Scope). in_room c.args.spot (both (named_body s (below 1 c.args.spot) (plain c.args.one.now)) (part_of c.args.part s (below 1 c.args.spot) (plain c.args.rest.now)))) (sym c.in_ok-test.ensures.kept) ∙ c.in_ok-branches.ensures.nodes)
     ∙ ap (λ (x : Tree). Ok x) (sym c.choice_node.ensures)
 
 pub either-returns-then-rest-gt1-clause-node : goal.either-returns-then-rest-gt1-clause-node
@@ -135,54 +141,70 @@ pub alter-returns-in_err-cell-clause-node : goal.alter-returns-in_err-cell-claus
 alter-returns-in_err-cell-clause-node t c =
     let p = err_from_is_err_and c.from_residual.result c.from_residual.ensures.1 in
     rw (p.1, p.2) (failed (λ (b : Box Node Global). tree_of b.value) tree_of _ _ _ c.in_err-cell.ensures.node (λ e no.
-    alter_no_first c.args.scope.now c.args.spot c.args.args.now c.in-Some.parts.now c.in-Some-split_first.further.now c.in-Some.cell.now c.in-Some-split_first.function.now c.in-Some.ensures.cases.0 c.in-Some-split_first.ensures.cases.0 c.if-spot-eq0.false e (sym (test_is c.args.scope.now c.args.spot c.inner.result c.in-Some.cell.now c.from_ref.result.now c.inner.ensures c.from_ref.ensures.value) ∙ no)))
+    alter_no_first c.args.scope.now c.args.spot c.args.args.now c.in-Some.parts.now c.in-Some-split_first.further.now c.in-Some.cell.now c.in-Some-split_first.function.now c.in-Some.ensures.cases.0 c.in-Some-split_first.ensures.cases.0 e (ap (λ l. in_room c.args.spot (named_body c.args.scope.now (spot_at (c.args.spot.room - 1) c.args.spot.span true) (plain l))) (sym c.from_ref.ensures.value) ∙ no)))
 
 pub alter-returns-in_err-called-clause-node : goal.alter-returns-in_err-called-clause-node
 alter-returns-in_err-called-clause-node t c =
     let p = err_from_is_err_and c.from_residual-in_err-called.result c.from_residual-in_err-called.ensures.1 in
     rw (p.1, p.2) (failed (λ c. c) tree_of _ _ _ c.in_err-called.ensures (λ e no.
-    alter_no_second c.args.scope.now c.args.spot c.args.args.now c.in-Some.parts.now c.in-Some-split_first.further.now c.in-Some.cell.now c.in-Some-split_first.function.now c.in-Some.ensures.cases.0 c.in-Some-split_first.ensures.cases.0 c.if-spot-eq0.false (tree_of c.in_ok-cell.cell.value) e (sym (test_is c.args.scope.now c.args.spot c.inner.result c.in-Some.cell.now c.from_ref.result.now c.inner.ensures c.from_ref.ensures.value) ∙ c.in_ok-cell.ensures.node) (ap (λ (s : Scope). callee_of s c.args.spot (tree c.in-Some-split_first.function.now)) (sym c.in_ok-cell.ensures.kept) ∙ no)))
+    alter_no_second c.args.scope.now c.args.spot c.args.args.now c.in-Some.parts.now c.in-Some-split_first.further.now c.in-Some.cell.now c.in-Some-split_first.function.now c.in-Some.ensures.cases.0 c.in-Some-split_first.ensures.cases.0 (tree_of c.in_ok-cell.cell.value) e (ap (λ l. in_room c.args.spot (named_body c.args.scope.now (spot_at (c.args.spot.room - 1) c.args.spot.span true) (plain l))) (sym c.from_ref.ensures.value) ∙ c.in_ok-cell.ensures.node) (ap (λ (s : Scope). callee_of s c.args.spot (tree c.in-Some-split_first.function.now)) (sym c.in_ok-cell.ensures.kept) ∙ no)))
 
 pub alter-returns-in_err-nodes-clause-node : goal.alter-returns-in_err-nodes-clause-node
 alter-returns-in_err-nodes-clause-node t c =
     let p = err_from_is_err_and c.from_residual-in_err-nodes.result c.from_residual-in_err-nodes.ensures.1 in
     rw (p.1, p.2) (failed (λ (v : Vec Node Global). trees_of v.items) tree_of _ _ _ c.in_err-nodes.ensures.nodes (λ e no.
-    alter_no_third c.args.scope.now c.args.spot c.args.args.now c.in-Some.parts.now c.in-Some-split_first.further.now c.in-Some.cell.now c.in-Some-split_first.function.now c.in-Some.ensures.cases.0 c.in-Some-split_first.ensures.cases.0 c.if-spot-eq0.false (tree_of c.in_ok-cell.cell.value) c.in_ok-called.called e (sym (test_is c.args.scope.now c.args.spot c.inner.result c.in-Some.cell.now c.from_ref.result.now c.inner.ensures c.from_ref.ensures.value) ∙ c.in_ok-cell.ensures.node) (ap (λ (s : Scope). callee_of s c.args.spot (tree c.in-Some-split_first.function.now)) (sym c.in_ok-cell.ensures.kept) ∙ c.in_ok-called.ensures) (ap (λ (s : Scope). named_all s (c.args.spot.room - 1) true true (plain c.in-Some-split_first.further.now)) (sym c.in_ok-cell.ensures.kept) ∙ no)))
+    alter_no_third c.args.scope.now c.args.spot c.args.args.now c.in-Some.parts.now c.in-Some-split_first.further.now c.in-Some.cell.now c.in-Some-split_first.function.now c.in-Some.ensures.cases.0 c.in-Some-split_first.ensures.cases.0 (tree_of c.in_ok-cell.cell.value) c.in_ok-called.called e (ap (λ l. in_room c.args.spot (named_body c.args.scope.now (spot_at (c.args.spot.room - 1) c.args.spot.span true) (plain l))) (sym c.from_ref.ensures.value) ∙ c.in_ok-cell.ensures.node) (ap (λ (s : Scope). callee_of s c.args.spot (tree c.in-Some-split_first.function.now)) (sym c.in_ok-cell.ensures.kept) ∙ c.in_ok-called.ensures) (ap (λ (s : Scope). in_room c.args.spot (named_all s (c.args.spot.room - 1) true true (plain c.in-Some-split_first.further.now))) (sym c.in_ok-cell.ensures.kept) ∙ no)))
 
 pub alter-returns-clause-node : goal.alter-returns-clause-node
 alter-returns-clause-node t c =
-    alter_made c.args.scope.now c.args.spot c.args.args.now c.in-Some.parts.now c.in-Some-split_first.further.now c.in-Some.cell.now c.in-Some-split_first.function.now c.in-Some.ensures.cases.0 c.in-Some-split_first.ensures.cases.0 c.if-spot-eq0.false (tree_of c.in_ok-cell.cell.value) c.in_ok-called.called (trees_of c.in_ok-nodes.nodes.items) (sym (test_is c.args.scope.now c.args.spot c.inner.result c.in-Some.cell.now c.from_ref.result.now c.inner.ensures c.from_ref.ensures.value) ∙ c.in_ok-cell.ensures.node) (ap (λ (s : Scope). callee_of s c.args.spot (tree c.in-Some-split_first.function.now)) (sym c.in_ok-cell.ensures.kept) ∙ c.in_ok-called.ensures) (ap (λ (s : Scope). named_all s (c.args.spot.room - 1) true true (plain c.in-Some-split_first.further.now)) (sym c.in_ok-cell.ensures.kept) ∙ c.in_ok-nodes.ensures.nodes)
+    alter_made c.args.scope.now c.args.spot c.args.args.now c.in-Some.parts.now c.in-Some-split_first.further.now c.in-Some.cell.now c.in-Some-split_first.function.now c.in-Some.ensures.cases.0 c.in-Some-split_first.ensures.cases.0 (tree_of c.in_ok-cell.cell.value) c.in_ok-called.called (trees_of c.in_ok-nodes.nodes.items) (ap (λ l. in_room c.args.spot (named_body c.args.scope.now (spot_at (c.args.spot.room - 1) c.args.spot.span true) (plain l))) (sym c.from_ref.ensures.value) ∙ c.in_ok-cell.ensures.node) (ap (λ (s : Scope). callee_of s c.args.spot (tree c.in-Some-split_first.function.now)) (sym c.in_ok-cell.ensures.kept) ∙ c.in_ok-called.ensures) (ap (λ (s : Scope). in_room c.args.spot (named_all s (c.args.spot.room - 1) true true (plain c.in-Some-split_first.further.now))) (sym c.in_ok-cell.ensures.kept) ∙ c.in_ok-nodes.ensures.nodes)
     ∙ ap (λ (x : Tree). Ok x) (sym (ap tree_of c.node.ensures ∙ alter_tree c.in_ok-cell.cell c.in_ok-called.called c.in_ok-nodes.nodes (spot_mark c.args.spot)))
 
 -- ---- forms one after the other
+
+pub all-returns-then-spot-eq0-clause-nodes : goal.all-returns-then-spot-eq0-clause-nodes
+all-returns-then-spot-eq0-clause-nodes t c =
+    subst (λ st. Gives (λ (v : Vec Node Global). trees_of v.items) (Err st) (in_room c.args.spot (named_all c.args.scope.now (c.args.spot.room - 1) c.args.inner c.args.last (plain c.args.forms.now)))) (sym c.refused.ensures) (roomless c.args.spot (named_all c.args.scope.now (c.args.spot.room - 1) c.args.inner c.args.last (plain c.args.forms.now)) c.if-spot-eq0.true)
+
+pub all-returns-in_err-node-clause-nodes : goal.all-returns-in_err-node-clause-nodes
+all-returns-in_err-node-clause-nodes t c =
+    let fs = c.args.forms.now in
+    let i = c.loop-i.i in
+    let d = c.index-forms-i.result in
+    let room = c.args.spot.room - 1 in
+    let w = flag c.args.inner c.args.last (plain (drop (i + 1) fs)) in
+    let p = err_from_is_err_and c.from_residual.result c.from_residual.ensures.1 in
+    rw (p.1, p.2) (failed tree_of (λ (v : Vec Node Global). trees_of v.items) _ _ _ c.in_err-node.ensures.node (λ e no.
+    roomy c.args.spot (named_all c.args.scope.now (c.args.spot.room - 1) c.args.inner c.args.last (plain c.args.forms.now)) c.if-spot-eq0.false ∙ c.loop-i.invariant.same
+    ∙ all_stop c.args.scope.now room c.args.inner c.args.last fs i d c.loop-i.nodes.items e c.loop-i-test.true
+    (ap (λ (f : Form). named c.args.scope.now room w (tree f)) (sym c.index-forms-i.is)
+    ∙ ap (λ (b : Bool). named c.args.scope.now room b (tree d)) (sym c.flag_at.ensures)
+    ∙ ap (λ (s : Scope). named s room c.flag_at.result (tree d)) (sym c.loop-i.invariant.kept)
+    ∙ no)))
 
 pub all-loop-i-preserved : goal.all-loop-i-preserved
 all-loop-i-preserved t c =
     let fs = c.args.forms.now in
     let i = c.loop-i.i in
     let d = c.index-forms-i.result in
-    let value : named c.args.scope.now c.args.room (flag c.args.inner c.args.last (plain (drop (i + 1) fs))) (tree (get_or fs i d)) ≡ Ok (tree_of c.in_ok-node.node) =
-    ap (λ f. named c.args.scope.now c.args.room (flag c.args.inner c.args.last (plain (drop (i + 1) fs))) (tree f)) (sym c.index-forms-i.is)
-    ∙ ap (λ w. named c.args.scope.now c.args.room w (tree d)) (sym c.flag_at.ensures)
-    ∙ ap (λ s. named s c.args.room c.flag_at.result (tree d)) (sym c.loop-i.invariant.kept)
-    ∙ c.in_ok-node.ensures.node in
+    let room = c.args.spot.room - 1 in
+    let w = flag c.args.inner c.args.last (plain (drop (i + 1) fs)) in
     record {
       same =
           c.loop-i.invariant.same
-          ∙ all_step c.args.scope.now c.args.room c.args.inner c.args.last fs i d c.in_ok-node.node c.loop-i.nodes.items c.loop-i-test.true value
-          ∙ ap (λ ns. all_after ns (named_all c.args.scope.now c.args.room c.args.inner c.args.last (plain (drop (i + 1) fs)))) (sym c.in_ok-push.ensures.items);
+          ∙ all_step c.args.scope.now room c.args.inner c.args.last fs i d c.in_ok-node.node c.loop-i.nodes.items c.loop-i-test.true
+          (ap (λ (f : Form). named c.args.scope.now room w (tree f)) (sym c.index-forms-i.is)
+          ∙ ap (λ (b : Bool). named c.args.scope.now room b (tree d)) (sym c.flag_at.ensures)
+          ∙ ap (λ (s : Scope). named s room c.flag_at.result (tree d)) (sym c.loop-i.invariant.kept)
+          ∙ c.in_ok-node.ensures.node)
+          ∙ ap (λ (ns : List Node). all_after ns (named_all c.args.scope.now room c.args.inner c.args.last (plain (drop (i + 1) fs)))) (sym c.in_ok-push.ensures.items);
       kept = c.in_ok-node.ensures.kept ∙ c.loop-i.invariant.kept;
     }
 
 pub all-returns-clause-nodes : goal.all-returns-clause-nodes
 all-returns-clause-nodes t c =
-    c.loop-i.invariant.same
-    ∙ all_end c.args.scope.now c.args.room c.args.inner c.args.last c.args.forms.now c.loop-i.i c.loop-i.nodes.items c.loop-i-test.false
-
-pub deref-returns-then-spot-eq0-clause-node : goal.deref-returns-then-spot-eq0-clause-node
-deref-returns-then-spot-eq0-clause-node t c =
-    subst (λ st. Gives tree_of (Err st) (named_deref c.args.scope.now c.args.spot (plain c.args.args.now))) (sym c.refused-then-spot-eq0.ensures)
-    (deref_roomless c.args.scope.now c.args.spot c.args.args.now c.if-args-ne1.false c.if-spot-eq0.true)
+    roomy c.args.spot (named_all c.args.scope.now (c.args.spot.room - 1) c.args.inner c.args.last (plain c.args.forms.now)) c.if-spot-eq0.false ∙ c.loop-i.invariant.same
+    ∙ all_end c.args.scope.now (c.args.spot.room - 1) c.args.inner c.args.last c.args.forms.now c.loop-i.i c.loop-i.nodes.items c.loop-i-test.false
 
 -- ---- let, loop
 
@@ -209,7 +231,7 @@ binding-returns-in_err-inner-clause-node t c =
     e
     ∙ ap (λ (o : Answer Bound). o >>= λ bound. named_body bound.scope (below 1 c.args.spot) (plain c.in-Some-Group-Square-default-default-default.forms.now) >>= λ node. Ok (binding_node c.args.is_loop bound.values node (spot_mark c.args.spot))) c.in_ok-values.ensures.values
     ∙ ap (λ (o : Answer Tree). o >>= λ node. Ok (binding_node c.args.is_loop (trees_of c.in_ok-values.values.items) node (spot_mark c.args.spot)))
-    (ap (λ (x : Spot). named_body c.bindings.new.scope x (plain c.in-Some-Group-Square-default-default-default.forms.now)) (sym c.below.ensures) ∙ no)))
+    (sym (roomy c.args.spot (named_body c.bindings.new.scope (below 1 c.args.spot) (plain c.in-Some-Group-Square-default-default-default.forms.now)) c.if-spot-eq0.false) ∙ no)))
 
 pub binding-returns-clause-node : goal.binding-returns-clause-node
 binding-returns-clause-node t c =
@@ -221,7 +243,7 @@ binding-returns-clause-node t c =
     e
     ∙ ap (λ (o : Answer Bound). o >>= λ bound. named_body bound.scope (below 1 c.args.spot) (plain c.in-Some-Group-Square-default-default-default.forms.now) >>= λ node. Ok (binding_node c.args.is_loop bound.values node (spot_mark c.args.spot))) c.in_ok-values.ensures.values
     ∙ ap (λ (o : Answer Tree). o >>= λ node. Ok (binding_node c.args.is_loop (trees_of c.in_ok-values.values.items) node (spot_mark c.args.spot)))
-    (ap (λ (x : Spot). named_body c.bindings.new.scope x (plain c.in-Some-Group-Square-default-default-default.forms.now)) (sym c.below.ensures) ∙ c.in_ok-inner.ensures.node)
+    (sym (roomy c.args.spot (named_body c.bindings.new.scope (below 1 c.args.spot) (plain c.in-Some-Group-Square-default-default-default.forms.now)) c.if-spot-eq0.false) ∙ c.in_ok-inner.ensures.node)
     ∙ ap (λ (x : Tree). Ok x) (sym c.binding_node.ensures)
 
 pub bindings-returns-in_err-value-clause-values : goal.bindings-returns-in_err-value-clause-values
@@ -270,23 +292,17 @@ body-returns-in-len1-clause-node t c =
     (sym (body_one c.args.scope.now c.args.spot c.args.forms.now c.form-item.result (omega (arith, c.in-len1.len_at_least, c.in-len1.len_below)) ∙ ap (λ f. named c.args.scope.now c.args.spot.room c.args.spot.wanted (tree f)) (sym c.form-item.is)))
     c.expression.ensures.node
 
-pub body-returns-then-spot-eq0-clause-node : goal.body-returns-then-spot-eq0-clause-node
-body-returns-then-spot-eq0-clause-node t c =
-    subst (λ st. Gives tree_of (Err st) (named_body c.args.scope.now c.args.spot (plain c.args.forms.now))) (sym c.refused.ensures)
-    (body_several c.args.scope.now c.args.spot c.args.forms.now (omega (arith, c.in_default.len_at_least))
-    ∙ roomless c.args.spot (do_of c.args.spot (named_all c.args.scope.now (c.args.spot.room - 1) false c.args.spot.wanted (plain c.args.forms.now))) c.if-spot-eq0.true)
-
 pub body-returns-in_err-items-in_default-clause-node : goal.body-returns-in_err-items-in_default-clause-node
 body-returns-in_err-items-in_default-clause-node t c =
     let p = err_from_is_err_and c.from_residual.result c.from_residual.ensures.1 in
     rw (p.1, p.2) (failed (λ (v : Vec Node Global). trees_of v.items) tree_of _ _ _ c.in_err-items-in_default.ensures.nodes (λ e no.
     body_several c.args.scope.now c.args.spot c.args.forms.now (omega (arith, c.in_default.len_at_least))
-    ∙ do_no c.args.spot c.if-spot-eq0.false (named_all c.args.scope.now (c.args.spot.room - 1) false c.args.spot.wanted (plain c.args.forms.now)) e no))
+    ∙ do_no c.args.spot (named_all c.args.scope.now (c.args.spot.room - 1) false c.args.spot.wanted (plain c.args.forms.now)) e no))
 
 pub body-returns-in_ok-items-in_default-clause-node : goal.body-returns-in_ok-items-in_default-clause-node
 body-returns-in_ok-items-in_default-clause-node t c =
     body_several c.args.scope.now c.args.spot c.args.forms.now (omega (arith, c.in_default.len_at_least))
-    ∙ do_made c.args.spot c.if-spot-eq0.false (named_all c.args.scope.now (c.args.spot.room - 1) false c.args.spot.wanted (plain c.args.forms.now)) (trees_of c.in_ok-items-in_default.items.items) c.in_ok-items-in_default.ensures.nodes
+    ∙ do_made c.args.spot (named_all c.args.scope.now (c.args.spot.room - 1) false c.args.spot.wanted (plain c.args.forms.now)) (trees_of c.in_ok-items-in_default.items.items) c.in_ok-items-in_default.ensures.nodes
     ∙ ap (λ (x : Tree). Ok x) (sym (ap tree_of c.node.ensures ∙ do_tree c.in_ok-items-in_default.items (spot_mark c.args.spot)))
 
 -- ---- chains
@@ -315,34 +331,48 @@ chain-loop-i-init t c =
       kept = c.in_ok-total.ensures.kept;
     }
 
-pub chain-returns-in_err-term-clause-node : goal.chain-returns-in_err-term-clause-node
-chain-returns-in_err-term-clause-node t c =
-    let p = err_from_is_err_and c.from_residual-in_err-term.result c.from_residual-in_err-term.ensures.1 in
+pub pair-returns-in_err-term-clause-node : goal.pair-returns-in_err-term-clause-node
+pair-returns-in_err-term-clause-node t c =
+    let p = err_from_is_err_and c.from_residual.result c.from_residual.ensures.1 in
+    rw (p.1, p.2) (failed tree_of tree_of _ _ _ c.in_err-term.ensures.node (λ e no. ap (pair_with c.args.op c.args.spot (tree_of c.args.total)) no))
+
+pub pair-returns-clause-node : goal.pair-returns-clause-node
+pair-returns-clause-node t c =
+    ap (pair_with c.args.op c.args.spot (tree_of c.args.total)) c.in_ok-term.ensures.node
+    ∙ ap (λ (x : Tree). Ok x) (sym c.in_ok-pair_of.ensures)
+
+pub chain-returns-in_err-total-2-clause-node : goal.chain-returns-in_err-total-2-clause-node
+chain-returns-in_err-total-2-clause-node t c =
+    let p = err_from_is_err_and c.from_residual-in_err-total-2.result c.from_residual-in_err-total-2.ensures.1 in
     let room = c.args.spot.room - (length c.args.args.now - c.loop-i.i) in
-    rw (p.1, p.2) (failed tree_of tree_of _ _ _ c.in_err-term.ensures.node (λ e no.
+    let low = c.saturating_sub-room-in-loop-i.result in
+    let w = flag true c.args.spot.wanted (plain (drop (c.loop-i.i + 1) c.args.args.now)) in
+    let total = tree_of c.loop-i.total in
+    rw (p.1, p.2) (failed tree_of tree_of _ _ _ c.in_err-total-2.ensures.node (λ e no.
     c.loop-i.invariant.same
-    ∙ pairs_stop c.args.op c.args.scope.now c.args.spot c.args.args.now c.loop-i.i c.index-args-i.result (tree_of c.loop-i.total) (omega arith) e
-    (ap (λ f. named c.args.scope.now room true (tree f)) (sym c.index-args-i.is)
-    ∙ ap (λ (k : ℕ). named c.args.scope.now k true (tree c.index-args-i.result)) (sym c.saturating_sub-room-in-loop-i.ensures)
-    ∙ ap (λ (s : Scope). named s c.saturating_sub-room-in-loop-i.result true (tree c.index-args-i.result)) (sym c.loop-i.invariant.kept)
+    ∙ pairs_stop c.args.op c.args.scope.now c.args.spot c.args.args.now c.loop-i.i c.index-args-i.result total (omega arith) e
+    (ap (λ (f : Form). pair_with c.args.op (spot_at room c.args.spot.span w) total (named c.args.scope.now room true (tree f))) (sym c.index-args-i.is)
+    ∙ ap (λ (k : ℕ). pair_with c.args.op (spot_at k c.args.spot.span w) total (named c.args.scope.now k true (tree c.index-args-i.result))) (sym c.saturating_sub-room-in-loop-i.ensures)
+    ∙ ap (λ (b : Bool). pair_with c.args.op (spot_at low c.args.spot.span b) total (named c.args.scope.now low true (tree c.index-args-i.result))) (sym c.flag_at-wanted.ensures)
+    ∙ ap (λ (s : Scope). pair_with c.args.op (spot_at low c.args.spot.span c.flag_at-wanted.result) total (named s low true (tree c.index-args-i.result))) (sym c.loop-i.invariant.kept)
     ∙ no)))
 
 pub chain-loop-i-preserved : goal.chain-loop-i-preserved
 chain-loop-i-preserved t c =
     let room = c.args.spot.room - (length c.args.args.now - c.loop-i.i) in
-    let rest = plain (drop (c.loop-i.i + 1) c.args.args.now) in
-    let total : pair_node c.args.op (tree_of c.loop-i.total) (tree_of c.in_ok-term.term) (mark_of c.args.spot.span (flag true c.args.spot.wanted rest)) ≡ tree_of c.in_ok-total-2.total =
-    sym (c.in_ok-total-2.ensures ∙ ap (λ w. pair_node c.args.op (tree_of c.loop-i.total) (tree_of c.in_ok-term.term) (mark_of c.args.spot.span w)) c.flag_at-wanted.ensures) in
+    let low = c.saturating_sub-room-in-loop-i.result in
+    let w = flag true c.args.spot.wanted (plain (drop (c.loop-i.i + 1) c.args.args.now)) in
+    let total = tree_of c.loop-i.total in
     record {
       same =
           c.loop-i.invariant.same
-          ∙ pairs_step c.args.op c.args.scope.now c.args.spot c.args.args.now c.loop-i.i c.index-args-i.result (tree_of c.loop-i.total) (omega arith) (tree_of c.in_ok-term.term)
-          (ap (λ f. named c.args.scope.now room true (tree f)) (sym c.index-args-i.is)
-          ∙ ap (λ (k : ℕ). named c.args.scope.now k true (tree c.index-args-i.result)) (sym c.saturating_sub-room-in-loop-i.ensures)
-          ∙ ap (λ (s : Scope). named s c.saturating_sub-room-in-loop-i.result true (tree c.index-args-i.result)) (sym c.loop-i.invariant.kept)
-          ∙ c.in_ok-term.ensures.node)
-          ∙ ap (λ (n : Tree). named_pairs c.args.op c.args.scope.now c.args.spot n rest) total;
-      kept = c.in_ok-term.ensures.kept ∙ c.loop-i.invariant.kept;
+          ∙ pairs_step c.args.op c.args.scope.now c.args.spot c.args.args.now c.loop-i.i c.index-args-i.result total (omega arith) (tree_of c.in_ok-total-2.total)
+          (ap (λ (f : Form). pair_with c.args.op (spot_at room c.args.spot.span w) total (named c.args.scope.now room true (tree f))) (sym c.index-args-i.is)
+          ∙ ap (λ (k : ℕ). pair_with c.args.op (spot_at k c.args.spot.span w) total (named c.args.scope.now k true (tree c.index-args-i.result))) (sym c.saturating_sub-room-in-loop-i.ensures)
+          ∙ ap (λ (b : Bool). pair_with c.args.op (spot_at low c.args.spot.span b) total (named c.args.scope.now low true (tree c.index-args-i.result))) (sym c.flag_at-wanted.ensures)
+          ∙ ap (λ (s : Scope). pair_with c.args.op (spot_at low c.args.spot.span c.flag_at-wanted.result) total (named s low true (tree c.index-args-i.result))) (sym c.loop-i.invariant.kept)
+          ∙ c.in_ok-total-2.ensures.node);
+      kept = c.in_ok-total-2.ensures.kept ∙ c.loop-i.invariant.kept;
     }
 
 -- ---- lists
@@ -356,11 +386,16 @@ list-returns-in-Called-Core-clause-node t c =
     ∙ operation_counted c.args.scope.now c.args.spot c.in-Some.args.now c.in-Called-Core.op))
     c.operation.ensures.node
 
-pub list-returns-in-Form-Cond-clause-node : goal.list-returns-in-Form-Cond-clause-node
-list-returns-in-Form-Cond-clause-node t c =
+pub list-returns-in-Form-clause-node : goal.list-returns-in-Form-clause-node
+list-returns-in-Form-clause-node t c =
+    subst (λ a. Gives tree_of c.form.result a)
+    (sym (list_head c.args.scope.now c.args.spot c.args.forms.now c.in-Some.args.now c.in-Some.first.now c.in-Some.ensures.cases.0 (AForm c.in-Form.name) (c.in_ok-op.ensures ∙ ap (λ h. Ok h) c.in-Form.is)))
+    c.form.ensures.node
+
+pub form-returns-in-Cond-clause-node : goal.form-returns-in-Cond-clause-node
+form-returns-in-Cond-clause-node t c =
     subst (λ a. Gives tree_of c.choices.result a)
-    (sym (list_head c.args.scope.now c.args.spot c.args.forms.now c.in-Some.args.now c.in-Some.first.now c.in-Some.ensures.cases.0 (AForm kind.Cond) (c.in_ok-op.ensures ∙ ap (λ h. Ok h) (c.in-Form-Cond.is ∙ ap (λ f. AForm f) c.in-Form-Cond.field-0-is))
-    ∙ choices_counted c.args.scope.now c.args.spot c.in-Some.args.now))
+    (sym (ap (λ f. of_form f (made_of c.args.scope.now c.args.spot (plain c.args.args.now))) c.in-Cond.is ∙ choices_counted c.args.scope.now c.args.spot c.args.args.now))
     c.choices.ensures.node
 
 pub choices-returns-clause-node : goal.choices-returns-clause-node
@@ -379,25 +414,21 @@ pub logic-returns-then-rest-eq0-clause-node : goal.logic-returns-then-rest-eq0-c
 logic-returns-then-rest-eq0-clause-node t c =
     subst (λ a. Gives tree_of c.expression.result a) (sym (logic_alone c.args.is_or c.args.scope.now c.args.spot c.args.args.now c.in-Some.rest.now c.in-Some.value.now c.in-Some.ensures.cases.0 c.if-rest-eq0.true)) c.expression.ensures.node
 
-pub logic-returns-then-spot-eq0-clause-node : goal.logic-returns-then-spot-eq0-clause-node
-logic-returns-then-spot-eq0-clause-node t c =
-    subst (λ st. Gives tree_of (Err st) (named_logic c.args.is_or c.args.scope.now c.args.spot (plain c.args.args.now))) (sym c.refused.ensures) (logic_roomless c.args.is_or c.args.scope.now c.args.spot c.args.args.now c.in-Some.rest.now c.in-Some.value.now c.in-Some.ensures.cases.0 c.if-rest-eq0.false c.if-spot-eq0.true)
-
 pub logic-returns-in_err-values-clause-node : goal.logic-returns-in_err-values-clause-node
 logic-returns-in_err-values-clause-node t c =
     let p = err_from_is_err_and c.from_residual.result c.from_residual.ensures.1 in
     rw (p.1, p.2) (failed (λ (v : Vec Node Global). trees_of v.items) tree_of _ _ _ c.in_err-values.ensures.nodes (λ e no.
-    logic_hidden c.args.is_or c.args.scope.now c.args.spot c.args.args.now c.in-Some.rest.now c.in-Some.value.now c.in-Some.ensures.cases.0 c.from_ref.result.now c.from_ref.ensures.value c.if-rest-eq0.false c.if-spot-eq0.false ∙ two_first (named_all c.args.scope.now (c.args.spot.room - 1) true true (plain c.from_ref.result.now)) (hidden_of c.args.is_or c.args.scope.now c.args.spot (named_logic c.args.is_or (with_local [] c.args.scope.now) (below 2 c.args.spot) (plain c.in-Some.rest.now))) (λ vs x. Let vs x (spot_mark c.args.spot)) e no))
+    logic_hidden c.args.is_or c.args.scope.now c.args.spot c.args.args.now c.in-Some.rest.now c.in-Some.value.now c.in-Some.ensures.cases.0 c.from_ref.result.now c.from_ref.ensures.value c.if-rest-eq0.false ∙ two_first (in_room c.args.spot (named_all c.args.scope.now (c.args.spot.room - 1) true true (plain c.from_ref.result.now))) (hidden_of c.args.is_or c.args.scope.now c.args.spot (named_logic c.args.is_or (with_local [] c.args.scope.now) (below 2 c.args.spot) (plain c.in-Some.rest.now))) (λ vs x. Let vs x (spot_mark c.args.spot)) e no))
 
 pub logic-returns-in_err-choice-clause-node : goal.logic-returns-in_err-choice-clause-node
 logic-returns-in_err-choice-clause-node t c =
     let p = err_from_is_err_and c.from_residual-in_err-choice.result c.from_residual-in_err-choice.ensures.1 in
     rw (p.1, p.2) (failed (λ (b : Box Node Global). tree_of b.value) tree_of _ _ _ c.in_err-choice.ensures.node (λ e no.
-    logic_hidden c.args.is_or c.args.scope.now c.args.spot c.args.args.now c.in-Some.rest.now c.in-Some.value.now c.in-Some.ensures.cases.0 c.from_ref.result.now c.from_ref.ensures.value c.if-rest-eq0.false c.if-spot-eq0.false ∙ two_second (named_all c.args.scope.now (c.args.spot.room - 1) true true (plain c.from_ref.result.now)) (hidden_of c.args.is_or c.args.scope.now c.args.spot (named_logic c.args.is_or (with_local [] c.args.scope.now) (below 2 c.args.spot) (plain c.in-Some.rest.now))) (λ vs x. Let vs x (spot_mark c.args.spot)) (trees_of c.in_ok-values.values.items) e c.in_ok-values.ensures.nodes (ap (λ (z : Scope). hidden_of c.args.is_or z c.args.spot (named_logic c.args.is_or (with_local [] z) (below 2 c.args.spot) (plain c.in-Some.rest.now))) (sym c.in_ok-values.ensures.kept) ∙ no)))
+    logic_hidden c.args.is_or c.args.scope.now c.args.spot c.args.args.now c.in-Some.rest.now c.in-Some.value.now c.in-Some.ensures.cases.0 c.from_ref.result.now c.from_ref.ensures.value c.if-rest-eq0.false ∙ two_second (in_room c.args.spot (named_all c.args.scope.now (c.args.spot.room - 1) true true (plain c.from_ref.result.now))) (hidden_of c.args.is_or c.args.scope.now c.args.spot (named_logic c.args.is_or (with_local [] c.args.scope.now) (below 2 c.args.spot) (plain c.in-Some.rest.now))) (λ vs x. Let vs x (spot_mark c.args.spot)) (trees_of c.in_ok-values.values.items) e c.in_ok-values.ensures.nodes (ap (λ (z : Scope). hidden_of c.args.is_or z c.args.spot (named_logic c.args.is_or (with_local [] z) (below 2 c.args.spot) (plain c.in-Some.rest.now))) (sym c.in_ok-values.ensures.kept) ∙ no)))
 
 pub logic-returns-clause-node : goal.logic-returns-clause-node
 logic-returns-clause-node t c =
-    logic_hidden c.args.is_or c.args.scope.now c.args.spot c.args.args.now c.in-Some.rest.now c.in-Some.value.now c.in-Some.ensures.cases.0 c.from_ref.result.now c.from_ref.ensures.value c.if-rest-eq0.false c.if-spot-eq0.false ∙ two_ok (named_all c.args.scope.now (c.args.spot.room - 1) true true (plain c.from_ref.result.now)) (hidden_of c.args.is_or c.args.scope.now c.args.spot (named_logic c.args.is_or (with_local [] c.args.scope.now) (below 2 c.args.spot) (plain c.in-Some.rest.now))) (λ vs x. Let vs x (spot_mark c.args.spot)) (trees_of c.in_ok-values.values.items) (tree_of c.in_ok-choice.choice.value) c.in_ok-values.ensures.nodes (ap (λ (z : Scope). hidden_of c.args.is_or z c.args.spot (named_logic c.args.is_or (with_local [] z) (below 2 c.args.spot) (plain c.in-Some.rest.now))) (sym c.in_ok-values.ensures.kept) ∙ c.in_ok-choice.ensures.node)
+    logic_hidden c.args.is_or c.args.scope.now c.args.spot c.args.args.now c.in-Some.rest.now c.in-Some.value.now c.in-Some.ensures.cases.0 c.from_ref.result.now c.from_ref.ensures.value c.if-rest-eq0.false ∙ two_ok (in_room c.args.spot (named_all c.args.scope.now (c.args.spot.room - 1) true true (plain c.from_ref.result.now))) (hidden_of c.args.is_or c.args.scope.now c.args.spot (named_logic c.args.is_or (with_local [] c.args.scope.now) (below 2 c.args.spot) (plain c.in-Some.rest.now))) (λ vs x. Let vs x (spot_mark c.args.spot)) (trees_of c.in_ok-values.values.items) (tree_of c.in_ok-choice.choice.value) c.in_ok-values.ensures.nodes (ap (λ (z : Scope). hidden_of c.args.is_or z c.args.spot (named_logic c.args.is_or (with_local [] z) (below 2 c.args.spot) (plain c.in-Some.rest.now))) (sym c.in_ok-values.ensures.kept) ∙ c.in_ok-choice.ensures.node)
     ∙ ap (λ (x : Tree). Ok x) (sym c.binding_node.ensures)
 
 pub hidden-returns-then-not-may_hide-clause-node : goal.hidden-returns-then-not-may_hide-clause-node

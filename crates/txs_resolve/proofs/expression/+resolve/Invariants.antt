@@ -10,7 +10,7 @@ use Rattle.txs_resolve.proofs.expression.+resolve.Given as goal
 
 abbrev pub invariant-all-loop-i : goal.invariant-all-loop-i
 invariant-all-loop-i l = record {
-  same : named_all l.fn.scope l.room l.inner l.last (trees_of (trees l.forms)) ≡ all_after l.nodes.items (named_all l.fn.scope l.room l.inner l.last (trees_of (trees (drop l.i l.forms))));
+  same : named_all l.fn.scope (l.spot.room - 1) l.inner l.last (trees_of (trees l.forms)) ≡ all_after l.nodes.items (named_all l.fn.scope (l.spot.room - 1) l.inner l.last (trees_of (trees (drop l.i l.forms))));
   kept : l.scope ≡ l.fn.scope;
 }
 
@@ -33,6 +33,12 @@ invariant-chain-loop-i l = record {
 -- a list is handed on without its head, and its parts two at a time, so the functions are ranked among one another
 abbrev pub decreases-list : goal.decreases-list
 decreases-list l = 16384 * goal.size-list l + 12000
+
+abbrev pub decreases-form : goal.decreases-form
+decreases-form l = 16384 * goal.size-form l + 11000
+
+abbrev pub decreases-pair : goal.decreases-pair
+decreases-pair l = 16384 * the_size l.term.now + 1
 
 abbrev pub decreases-choices : goal.decreases-choices
 decreases-choices l = 16384 * goal.size-choices l + 10000
@@ -62,10 +68,10 @@ abbrev pub decreases-choice : goal.decreases-choice
 decreases-choice l = 16384 * max (the_size l.test.now) (max (most the_size l.one.now) (most the_size l.rest.now)) + 19 + 8 * l.spot.room
 
 abbrev pub decreases-branches : goal.decreases-branches
-decreases-branches l = 16384 * max (most the_size l.one.now) (most the_size l.rest.now) + 23 + 8 * l.spot.room
+decreases-branches l = 16384 * max (most the_size l.one.now) (most the_size l.rest.now) + 15 + 8 * l.spot.room
 
 abbrev pub decreases-boxed : goal.decreases-boxed
-decreases-boxed l = 16384 * goal.size-boxed l + 22 + 8 * l.spot.room
+decreases-boxed l = 16384 * goal.size-boxed l + 14 + 8 * l.spot.room
 
 abbrev pub decreases-part : goal.decreases-part
 decreases-part l = 16384 * goal.size-part l + 21 + 8 * l.spot.room
