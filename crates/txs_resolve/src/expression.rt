@@ -11,8 +11,8 @@ ghost use Rattle.txs_tree.specs.View.{tree_of, trees_of as nodes_tree};
 use crate::error::{ResolveErrorKind, Stop, refused};
 use crate::nodes::{
     Branches, Head, Part, Sequence, Spot, are_pairs, bindable, binding_node, callee, choice_node,
-    constant, empty_logic, flag_at, head_of, hidden_choice, is_chain, keyword, may_hide, pair_of,
-    sequence_node, symbol, text,
+    constant, empty_logic, flag_at, head_of, hidden_choice, in_box, is_chain, keyword, may_hide,
+    pair_of, sequence_node, symbol, text,
 };
 use std::alloc::Global;
 use std::slice::from_ref;
@@ -211,7 +211,7 @@ fn pair<'a>(
     ensures kept { OnOk result (scope.new ≡ scope.old) }
 {
     let term = expression(alloc, scope, spot.room, true, term)?;
-    Ok(pair_of(alloc, op, total, term, spot)?)
+    pair_of(alloc, op, total, term, spot)
 }
 
 /// The node of a part of a form.
@@ -252,7 +252,7 @@ fn boxed<'a>(
         return Err(refused(ResolveErrorKind::TooMany, spot.span));
     }
     let node = part(alloc, scope, spot.inner(wanted), kind, forms)?;
-    Ok(Box::new(alloc, node)?)
+    in_box(alloc, node)
 }
 
 /// The branches of a choice, of which the first is a body.
@@ -441,7 +441,7 @@ fn hidden<'a>(
     scope.push(&[])?;
     let other = logic(alloc, scope, spot.below(2), is_or, rest)?;
     scope.truncate(local);
-    Ok(hidden_choice(alloc, is_or, local as u8, other, spot)?)
+    hidden_choice(alloc, is_or, local as u8, other, spot)
 }
 
 /// The node of a `dosync`.

@@ -13,7 +13,7 @@ ghost use Rattle.txs_tree.specs.View.{tree_of, trees_of as nodes_tree, mark_of};
 
 use crate::error::{ResolveErrorKind, Stop, refused};
 use crate::literal::{key_value, text_value};
-use std::alloc::{AllocError, Global};
+use std::alloc::Global;
 use txs_names::{Definition, FormName, Found, Scope, may_bind};
 use txs_reader::Form;
 use txs_tree::{Node, NodeKind};
@@ -248,38 +248,37 @@ pub fn choice_node(turned: bool, test: Box<Node>, branches: Branches, spot: Spot
     spot.node(NodeKind::If(test, one, other))
 }
 
-/// The node of the local of this number.
-fn local_node(alloc: Global, local: u8, spot: Spot) -> Result<Box<Node>, AllocError>
-    ensures { IfOk result (λ b. tree_of b.value ≡ Local local (spot_mark spot)) }
+/// A node in a box.
+pub fn in_box(alloc: Global, node: Node) -> Result<Box<Node>, Stop>
+    ensures { Gives (λ b. tree_of b.value) result (Ok (tree_of node)) }
 {
-    let node = spot.node(NodeKind::Local(local));
     Ok(Box::new(alloc, node)?)
 }
 
 /// The rest of an `and` or `or`, and the local that the value before it is bound to.
-fn hidden_branches(alloc: Global, local: u8, rest: Node, spot: Spot) -> Result<Branches, AllocError>
-    ensures { IfOk result (λ b. branch_trees b ≡ (tree_of rest, Local local (spot_mark spot))) }
+fn hidden_branches(alloc: Global, local: u8, rest: Node, spot: Spot) -> Result<Branches, Stop>
+    ensures { Gives branch_trees result (Ok (tree_of rest, Local local (spot_mark spot))) }
 {
-    let one = Box::new(alloc, rest)?;
-    let other = local_node(alloc, local, spot)?;
+    let one = in_box(alloc, rest)?;
+    let other = in_box(alloc, spot.node(NodeKind::Local(local)))?;
     Ok(Branches { one, other })
 }
 
-/// `and`, or `or`, of a value that is bound to the local of this number, and of the rest.
+/// What `and`, or `or`, chooses by the value that is bound to the local of this number: the rest, or that value.
 pub fn hidden_choice(
     alloc: Global,
     is_or: bool,
     local: u8,
     rest: Node,
     spot: Spot,
-) -> Result<Box<Node>, AllocError>
-    ensures { IfOk result (λ b. tree_of b.value ≡ hidden_choice is_or local (tree_of rest) spot) }
+) -> Result<Box<Node>, Stop>
+    ensures { Gives (λ b. tree_of b.value) result (Ok (hidden_choice is_or local (tree_of rest) spot)) }
 {
     let branches = hidden_branches(alloc, local, rest, spot)?;
     let wanted = true;
-    let test = local_node(alloc, local, Spot { wanted, ..spot })?;
-    let choice = choice_node(is_or, test, branches, spot);
-    Ok(Box::new(alloc, choice)?)
+    let test = Spot { wanted, ..spot }.node(NodeKind::Local(local));
+    let test = in_box(alloc, test)?;
+    in_box(alloc, choice_node(is_or, test, branches, spot))
 }
 
 /// `(and)`, or `(or)`.
@@ -304,8 +303,8 @@ pub fn binding_node(is_loop: bool, values: Vec<Node>, body: Box<Node>, spot: Spo
 }
 
 /// The operation on two nodes.
-pub fn pair_of(alloc: Global, op: Op, a: Node, b: Node, spot: Spot) -> Result<Node, AllocError>
-    ensures { IfOk result (λ n. tree_of n ≡ pair_node op (tree_of a) (tree_of b) (spot_mark spot)) }
+pub fn pair_of(alloc: Global, op: Op, a: Node, b: Node, spot: Spot) -> Result<Node, Stop>
+    ensures { Gives tree_of result (Ok (pair_node op (tree_of a) (tree_of b) (spot_mark spot))) }
 {
     let args = vec![in alloc; a, b]?;
     Ok(spot.node(NodeKind::Core(op, args)))

@@ -1,8 +1,8 @@
 //! A script's forms to the program that they are.
 
-ghost use Rattle.std.specs.Prelude.{◌≡◌, ◌≢◌, ◌⊎◌, Ok, IfOk, IfErr};
-ghost use Rattle.txs_resolve.specs.Given.{Gives};
-ghost use Rattle.txs_resolve.specs.Names.{Resolves, ResolveStops, no_memory, behind_namespace, nothing, steps};
+ghost use Rattle.std.specs.Prelude.{◌≡◌, ◌≢◌, ◌⊎◌, IfOk, IfErr, OnOk};
+ghost use Rattle.txs_resolve.specs.Given.{Leaves};
+ghost use Rattle.txs_resolve.specs.Names.{Resolves, ResolveStops, no_memory, behind_namespace, steps};
 ghost use Rattle.txs_resolve.specs.Scripts.{state_of, IsScript};
 ghost use Rattle.txs_resolve.specs.declared.error.ResolveErrorKind.TheVariants.{Memory};
 ghost use Rattle.txs_reader.specs.Tree.{trees};
@@ -11,7 +11,6 @@ ghost use Rattle.txs_tree.specs.View.{program_of};
 use crate::error::{ResolveError, ResolveErrorKind, Stop};
 use crate::script::{Script, is_namespace, step};
 use std::alloc::Global;
-use txs_names::Scope;
 use txs_reader::Form;
 use txs_tree::Raw;
 use txs_value::Span;
@@ -26,23 +25,16 @@ fn behind_namespace(forms: &[Form]) -> &[Form]
     }
 }
 
-/// What all top-level forms define.
-fn script<'a>(alloc: Global, forms: &'a [Form]) -> Result<Script<'a>, Stop>
-    ensures state { Gives state_of result (steps nothing (trees forms.now)) }
-    ensures next { IfOk result IsScript }
+/// Defines what all top-level forms define.
+fn steps<'a>(alloc: Global, script: &mut Script<'a>, forms: &'a [Form]) -> Result<(), Stop>
+    requires { IsScript script.old }
+    ensures state { Leaves result (state_of script.new) (steps (state_of script.old) (trees forms.now)) }
+    ensures next { OnOk result (IsScript script.new) }
 {
-    let mut script = Script {
-        scope: Scope::new(alloc),
-        cells: Vec::new(alloc),
-        functions: Vec::new(alloc),
-        threads: Vec::new(alloc),
-        levels: Vec::new(alloc),
-        defs: 0,
-    };
     for form in forms {
-        step(alloc, &mut script, form)?;
+        step(alloc, script, form)?;
     }
-    Ok(script)
+    Ok(())
 }
 
 /// The program that the forms of a script are: an optional `(ns name)`, and then definitions of constants and
@@ -61,8 +53,9 @@ pub fn resolve(alloc: Global, forms: &[Form]) -> Result<Raw, ResolveError>
     ensures err { IfErr result (λ e. e.kind ≢ Memory → ResolveStops (trees forms.now) e) }
     ensures told { IfErr result (λ e. (e ≡ no_memory) ⊎ ResolveStops (trees forms.now) e) }
 {
-    match script(alloc, behind_namespace(forms)) {
-        Ok(script) => Ok(Raw::new(script.cells, script.functions, script.threads)),
+    let mut script = Script::new(alloc);
+    match steps(alloc, &mut script, behind_namespace(forms)) {
+        Ok(()) => Ok(Raw::new(script.cells, script.functions, script.threads)),
         Err(Stop::Refused(error)) => Err(error),
         Err(Stop::Memory) => Err(ResolveError {
             kind: ResolveErrorKind::Memory,

@@ -2,7 +2,7 @@
 
 ghost use Rattle.std.specs.Prelude.{◌≡◌, ◌<◌, ◌≤◌, [], length, Some, None, OnOk, Ok, IfOk};
 ghost use Rattle.txs_resolve.specs.Given.{Gives, GivesLocals, Leaves};
-ghost use Rattle.txs_resolve.specs.Names.{new_name, new_ref, form_at, only_literal, ref_of, defining_of, named_form, define, untold, written, function, future, parameter, parameters, are_symbols, step, with_constant, with_ref, with_function, names_space, is_namespace};
+ghost use Rattle.txs_resolve.specs.Names.{nothing, new_name, new_ref, form_at, only_literal, ref_of, defining_of, named_form, define, untold, written, function, future, parameter, parameters, are_symbols, step, with_constant, with_definition, with_ref, with_function, names_space, is_namespace};
 ghost use Rattle.txs_resolve.specs.Expressions.{is_symbol};
 ghost use Rattle.txs_names.specs.declared.names.FormName.TheVariants.{Ns, Ref};
 ghost use Rattle.txs_names.specs.Scope.{definition_of, with_locals};
@@ -52,6 +52,23 @@ pub struct Script<'a> {
     pub threads: Vec<Thread>,
     pub levels: Vec<u16>,
     pub defs: usize,
+}
+
+impl<'a> Script<'a> {
+    /// Before the first form nothing is defined.
+    pub fn new(alloc: Global) -> Script<'a>
+        ensures state { state_of result ≡ nothing }
+        ensures idle { IsScript result }
+    {
+        Script {
+            scope: Scope::new(alloc),
+            cells: Vec::new(alloc),
+            functions: Vec::new(alloc),
+            threads: Vec::new(alloc),
+            levels: Vec::new(alloc),
+            defs: 0,
+        }
+    }
 }
 
 /// A function as it is written: its name and where it stands, its parameters and its body.
@@ -173,6 +190,25 @@ fn with_ref<'a>(script: &mut Script<'a>, name: &'a Name, value: Value) -> Result
     Ok(())
 }
 
+/// A constant or a ref is defined.
+fn with_definition<'a>(
+    is_ref: bool,
+    script: &mut Script<'a>,
+    name: &'a Name,
+    value: Value,
+) -> Result<(), Stop>
+    requires script { IsScript script.old }
+    requires new { definition_of name.now script.old.scope.defined ≡ None }
+    requires room { script.old.defs < 1000 }
+    ensures state { Leaves result (state_of script.new) (Ok (with_definition is_ref (state_of script.old) name.now value)) }
+    ensures next { OnOk result (IsScript script.new) }
+{
+    if is_ref {
+        return with_ref(script, name, value);
+    }
+    with_constant(script, name, value)
+}
+
 /// The name and the form in `(def name form)` with these parts.
 fn named_form(parts: &[Form]) -> Option<(&Name, Span, &Form)>
     ensures { name_and_form result ≡ named_form (trees_of (trees parts.now)) }
@@ -209,10 +245,7 @@ fn define<'a>(
     }
     let value = literal(alloc, MAX_DEPTH, what)?;
     let name = new_name(&script.scope, name, at)?;
-    if is_ref {
-        return with_ref(script, name, value);
-    }
-    with_constant(script, name, value)
+    with_definition(is_ref, script, name, value)
 }
 
 /// The forms without a text in front of them.

@@ -77,8 +77,8 @@ boxed-returns-in_err-node-clause-node t c =
 
 pub boxed-returns-clause-node : goal.boxed-returns-clause-node
 boxed-returns-clause-node t c =
-    roomy c.args.spot (part_of c.args.kind c.args.scope.now (spot_at (c.args.spot.room - 1) c.args.spot.span c.args.wanted) (plain c.args.forms.now)) c.if-spot-eq0.false ∙ ap (λ (i : Spot). part_of c.args.kind c.args.scope.now i (plain c.args.forms.now)) (sym c.inner.ensures) ∙ c.in_ok-node.ensures.node
-    ∙ ap (λ (n : Node). Ok (tree_of n)) (sym c.in_ok-new.ensures.ok)
+    subst (λ a. Gives (λ (b : Box Node Global). tree_of b.value) c.in_box.result a)
+    (sym (roomy c.args.spot (part_of c.args.kind c.args.scope.now (spot_at (c.args.spot.room - 1) c.args.spot.span c.args.wanted) (plain c.args.forms.now)) c.if-spot-eq0.false ∙ ap (λ (i : Spot). part_of c.args.kind c.args.scope.now i (plain c.args.forms.now)) (sym c.inner.ensures) ∙ c.in_ok-node.ensures.node)) c.in_box.ensures
 
 pub branches-returns-in_err-one-clause-nodes : goal.branches-returns-in_err-one-clause-nodes
 branches-returns-in_err-one-clause-nodes t c =
@@ -338,8 +338,8 @@ pair-returns-in_err-term-clause-node t c =
 
 pub pair-returns-clause-node : goal.pair-returns-clause-node
 pair-returns-clause-node t c =
-    ap (pair_with c.args.op c.args.spot (tree_of c.args.total)) c.in_ok-term.ensures.node
-    ∙ ap (λ (x : Tree). Ok x) (sym c.in_ok-pair_of.ensures)
+    subst (λ a. Gives tree_of c.pair_of.result a)
+    (sym (ap (pair_with c.args.op c.args.spot (tree_of c.args.total)) c.in_ok-term.ensures.node)) c.pair_of.ensures
 
 pub chain-returns-in_err-total-2-clause-node : goal.chain-returns-in_err-total-2-clause-node
 chain-returns-in_err-total-2-clause-node t c =
@@ -444,9 +444,9 @@ hidden-returns-in_err-other-clause-node t c =
 
 pub hidden-returns-clause-node : goal.hidden-returns-clause-node
 hidden-returns-clause-node t c =
-    hidden_made c.args.is_or c.args.scope.now c.args.spot (named_logic c.args.is_or (with_local [] c.args.scope.now) (below 2 c.args.spot) (plain c.args.rest.now)) (sym c.if-not-may_hide.ensures) (tree_of c.in_ok-other.other) (ap (λ (z : Scope). named_logic c.args.is_or z (below 2 c.args.spot) (plain c.args.rest.now)) (sym c.in_ok-push.ensures) ∙ ap (λ (z : Spot). named_logic c.args.is_or c.push.new.self z (plain c.args.rest.now)) (sym c.below.ensures) ∙ c.in_ok-other.ensures.node)
-    ∙ ap (λ (i : ℕ). Ok (hidden_choice c.args.is_or i (tree_of c.in_ok-other.other) c.args.spot)) (sym c.len-local.ensures)
-    ∙ ap (λ (x : Tree). Ok x) (sym c.in_ok-hidden_choice.ensures)
+    subst (λ a. Gives (λ (b : Box Node Global). tree_of b.value) c.hidden_choice.result a)
+    (sym (hidden_made c.args.is_or c.args.scope.now c.args.spot (named_logic c.args.is_or (with_local [] c.args.scope.now) (below 2 c.args.spot) (plain c.args.rest.now)) (sym c.if-not-may_hide.ensures) (tree_of c.in_ok-other.other) (ap (λ (z : Scope). named_logic c.args.is_or z (below 2 c.args.spot) (plain c.args.rest.now)) (sym c.in_ok-push.ensures) ∙ ap (λ (z : Spot). named_logic c.args.is_or c.push.new.self z (plain c.args.rest.now)) (sym c.below.ensures) ∙ c.in_ok-other.ensures.node)
+    ∙ ap (λ (i : ℕ). Ok (hidden_choice c.args.is_or i (tree_of c.in_ok-other.other) c.args.spot)) (sym c.len-local.ensures))) c.hidden_choice.ensures
 
 -- ---- groups
 
