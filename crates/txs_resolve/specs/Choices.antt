@@ -1,5 +1,6 @@
 -- Choices, as they are put together of their parts.
 use Rattle.std.specs.Prelude.{ℕ, ◌-◌, Bool, true, false, length, Result, Ok, Err, if◌then◌else◌}
+use Rattle.txs_value.specs.declared.value.Value.{Value}
 use Rattle.txs_value.specs.declared.value.Value.TheVariants.{Nil as NilValue}
 use Rattle.txs_reader.specs.Tree.{Trees as Forms, parts}
 use Rattle.txs_tree.specs.Tree.{Tree, Const, Local}
@@ -20,6 +21,10 @@ abbrev pub part_of : Part → Scope → Spot → Forms → Answer Tree
 part_of Body scope s forms = named_body scope s forms
 part_of Choices scope s forms = named_cond scope s forms
 part_of Nil scope s forms = Ok (Const NilValue (spot_mark s))
+
+-- the constant of a literal, once it has a value, if there is room for it
+abbrev pub constant_of : Spot → Answer Value → Answer Tree
+constant_of s made = made >>= λ v. in_room s (Ok (Const v (spot_mark s)))
 
 -- one answer and then another
 abbrev pub both : {A B : Type 0} → Answer A → Answer B → Answer (A × B)

@@ -11,8 +11,8 @@ ghost use Rattle.txs_tree.specs.View.{tree_of, trees_of as nodes_tree};
 use crate::error::{ResolveErrorKind, Stop, refused};
 use crate::nodes::{
     Branches, Head, Part, Sequence, Spot, are_pairs, bindable, binding_node, callee, choice_node,
-    constant, empty_logic, flag_at, head_of, hidden_choice, in_box, is_chain, keyword, may_hide,
-    pair_of, sequence_node, symbol, text,
+    constant, empty_logic, flag_at, head_of, hidden_choice, in_box, is_chain, may_hide, pair_of,
+    quoted, sequence_node, symbol,
 };
 use std::alloc::Global;
 use std::slice::from_ref;
@@ -48,11 +48,11 @@ pub fn expression<'a>(
     let span = form.span();
     let spot = Spot { room, span, wanted };
     match form {
-        Form::Nil(_) => constant(Value::Nil, spot),
-        Form::Truth(b, _) => constant(Value::Truth(*b), spot),
-        Form::Number(n, _) => constant(Value::Int(*n), spot),
-        Form::Text(bytes, _) => text(bytes, spot),
-        Form::Keyword(name, _) => keyword(name, spot),
+        Form::Nil(_) => quoted(alloc, form, spot),
+        Form::Truth(_, _) => quoted(alloc, form, spot),
+        Form::Number(_, _) => quoted(alloc, form, spot),
+        Form::Text(_, _) => quoted(alloc, form, spot),
+        Form::Keyword(_, _) => quoted(alloc, form, spot),
         Form::Symbol(name, _) => symbol(scope, name, spot),
         Form::Group(Bracket::Round, forms, _) => {
             let room = room_for(room, forms.len());
@@ -210,8 +210,14 @@ fn pair<'a>(
     ensures node { Gives tree_of result (pair_with op spot (tree_of total) (named scope.old spot.room true (tree term.now))) }
     ensures kept { OnOk result (scope.new ≡ scope.old) }
 {
-    let term = expression(alloc, scope, spot.room, true, term)?;
-    pair_of(alloc, op, total, term, spot)
+    match expression(alloc, scope, spot.room, true, term) {
+        Ok(term) => pair_of(alloc, op, total, term, spot),
+        Err(stop) => {
+            // A call, as `?` would drop each kind of node in a place of its own, which is long to prove.
+            drop(total);
+            Err(stop)
+        }
+    }
 }
 
 /// The node of a part of a form.

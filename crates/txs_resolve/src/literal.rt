@@ -1,17 +1,16 @@
 //! Literals: forms to values.
 
-ghost use Rattle.std.specs.Prelude.{◌≡◌, ◌≤◌, length, IfOk, Ok};
+ghost use Rattle.std.specs.Prelude.{◌≡◌, ◌≤◌, length, IfOk};
 ghost use Rattle.txs_resolve.specs.Given.{Gives};
 ghost use Rattle.txs_resolve.specs.Literals.{is_literal, are_literals, literal, literals};
 ghost use Rattle.txs_reader.specs.Tree.{tree, trees, trees_of};
 ghost use Rattle.txs_value.specs.PlainValue.{depth, row_depth, plain_row};
 ghost use Rattle.txs_value.specs.View.{plain_of, plains_of};
-ghost use Rattle.txs_value.specs.declared.value.Value.TheVariants.{Text as TextValue, Key as KeyValue};
 
 use crate::error::{ResolveErrorKind, Stop, refused};
 use std::alloc::Global;
 use txs_reader::{Bracket, Form};
-use txs_value::{Items, Name, Text, Value};
+use txs_value::{Items, Value};
 
 /// How many parts a vector may have.
 const MAX_PARTS: usize = 65_535;
@@ -42,20 +41,6 @@ fn are_literals(forms: &[Form]) -> bool
     true
 }
 
-/// The same text as a value.
-pub fn text_value(text: &Text) -> Result<Value, Stop>
-    ensures { Gives (λ v. v) result (Ok (TextValue text.now)) }
-{
-    Ok(Value::Text(text.share()?))
-}
-
-/// The keyword of this name.
-pub fn key_value(name: &Name) -> Result<Value, Stop>
-    ensures { Gives (λ v. v) result (Ok (KeyValue name.now)) }
-{
-    Ok(Value::Key(name.share()?))
-}
-
 /// The value of a literal whose vectors may have so many levels.
 #[cycle(literal)]
 pub fn literal(alloc: Global, room: usize, form: &Form) -> Result<Value, Stop>
@@ -67,8 +52,8 @@ pub fn literal(alloc: Global, room: usize, form: &Form) -> Result<Value, Stop>
         Form::Nil(_) => Ok(Value::Nil),
         Form::Truth(b, _) => Ok(Value::Truth(*b)),
         Form::Number(n, _) => Ok(Value::Int(*n)),
-        Form::Text(text, _) => text_value(text),
-        Form::Keyword(name, _) => key_value(name),
+        Form::Text(text, _) => Ok(Value::Text(text.share()?)),
+        Form::Keyword(name, _) => Ok(Value::Key(name.share()?)),
         Form::Group(Bracket::Square, forms, span) => {
             if room == 0 || forms.len() > MAX_PARTS {
                 return Err(refused(ResolveErrorKind::TooMany, *span));

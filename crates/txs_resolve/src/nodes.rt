@@ -1,23 +1,23 @@
 //! Nodes of what is resolved, and what names are where they stand.
 
 ghost use Rattle.std.specs.Prelude.{◌≡◌, ◌<◌, ◌≤◌, ◌+◌, ◌-◌, ◌&&◌, nat_lt, true, length, drop, Ok, IfOk};
-ghost use Rattle.txs_resolve.specs.Expressions.{below, spot_at, spot_mark, symbol_node, ref_id, in_room, callee_at, callee_of, head_at, head_of, is_symbol, flag, sequence_node, choice_node, empty_logic, binding_node, pair_node, folds, is_chain, bound_name, are_pairs, may_hide};
+ghost use Rattle.txs_resolve.specs.Expressions.{below, spot_at, spot_mark, symbol_node, in_room, callee_at, callee_of, head_at, head_of, is_symbol, flag, sequence_node, choice_node, empty_logic, binding_node, pair_node, folds, is_chain, bound_name, are_pairs, may_hide};
 ghost use Rattle.txs_resolve.specs.Given.{Gives, BindsName};
-ghost use Rattle.txs_resolve.specs.Choices.{branch_trees, hidden_choice};
+ghost use Rattle.txs_resolve.specs.Choices.{constant_of, hidden_choice};
 ghost use Rattle.txs_names.specs.Scope.{meaning};
 ghost use Rattle.txs_names.specs.Viewed.{meant};
 ghost use Rattle.txs_tree.specs.Tree.{Const, Local};
-ghost use Rattle.txs_value.specs.declared.value.Value.TheVariants.{Cell as CellValue, Text as TextValue, Key as KeyValue};
 ghost use Rattle.txs_reader.specs.Tree.{tree, trees, trees_of};
-ghost use Rattle.txs_tree.specs.View.{tree_of, trees_of as nodes_tree, mark_of};
+ghost use Rattle.txs_tree.specs.View.{tree_of, trees_of as nodes_tree};
+ghost use Rattle.txs_resolve.specs.Literals.{literal};
 
 use crate::error::{ResolveErrorKind, Stop, refused};
-use crate::literal::{key_value, text_value};
+use crate::literal::literal;
 use std::alloc::Global;
 use txs_names::{Definition, FormName, Found, Scope, may_bind};
 use txs_reader::Form;
 use txs_tree::{Node, NodeKind};
-use txs_value::{Callee, CellId, CellKind, Name, Op, Span, Text, Value, copy_value};
+use txs_value::{Callee, CellId, CellKind, Name, Op, Span, Value, copy_value};
 
 /// How many locals may be in scope.
 pub const MAX_LOCALS: usize = 200;
@@ -105,8 +105,12 @@ pub fn symbol(scope: &Scope<'_>, name: &Name, spot: Spot) -> Result<Node, Stop>
 {
     match scope.lookup(name) {
         Found::Local(number) => local(number, spot),
-        Found::Defined(Definition::Constant(value)) => copied(value, spot),
-        Found::Defined(Definition::Cell(number)) => constant(ref_value(*number), spot),
+        Found::Defined(Definition::Constant(value)) => constant(copy_value(value)?, spot),
+        Found::Defined(Definition::Cell(number)) => {
+            let kind = CellKind::Ref;
+            let number = *number;
+            constant(Value::Cell(CellId { kind, number }), spot)
+        }
         Found::Unknown => Err(refused(ResolveErrorKind::UnknownName, spot.span)),
         _ => Err(refused(ResolveErrorKind::BadForm, spot.span)),
     }
@@ -122,23 +126,6 @@ fn local(number: u8, spot: Spot) -> Result<Node, Stop>
     Ok(spot.node(NodeKind::Local(number)))
 }
 
-/// The ref of this number.
-fn ref_value(number: u16) -> Value
-    ensures { result ≡ CellValue (ref_id number) }
-{
-    Value::Cell(CellId {
-        kind: CellKind::Ref,
-        number,
-    })
-}
-
-/// The node of a copy of a constant.
-fn copied(value: &Value, spot: Spot) -> Result<Node, Stop>
-    ensures { Gives tree_of result (in_room spot (Ok (Const value.now (spot_mark spot)))) }
-{
-    constant(copy_value(value)?, spot)
-}
-
 /// The node of a constant.
 pub fn constant(value: Value, spot: Spot) -> Result<Node, Stop>
     ensures { Gives tree_of result (in_room spot (Ok (Const value (spot_mark spot)))) }
@@ -149,18 +136,12 @@ pub fn constant(value: Value, spot: Spot) -> Result<Node, Stop>
     Ok(spot.node(NodeKind::Const(value)))
 }
 
-/// The node of a text.
-pub fn text(text: &Text, spot: Spot) -> Result<Node, Stop>
-    ensures { Gives tree_of result (in_room spot (Ok (Const (TextValue text.now) (spot_mark spot)))) }
+/// The node of a literal without parts.
+pub fn quoted(alloc: Global, form: &Form, spot: Spot) -> Result<Node, Stop>
+    ensures { Gives tree_of result (constant_of spot (literal 0 (tree form.now))) }
 {
-    constant(text_value(text)?, spot)
-}
-
-/// The node of a keyword.
-pub fn keyword(name: &Name, spot: Spot) -> Result<Node, Stop>
-    ensures { Gives tree_of result (in_room spot (Ok (Const (KeyValue name.now) (spot_mark spot)))) }
-{
-    constant(key_value(name)?, spot)
+    let value = literal(alloc, 0, form)?;
+    constant(value, spot)
 }
 
 /// What a name is in the place of a function, for a form at this spot.
@@ -255,15 +236,6 @@ pub fn in_box(alloc: Global, node: Node) -> Result<Box<Node>, Stop>
     Ok(Box::new(alloc, node)?)
 }
 
-/// The rest of an `and` or `or`, and the local that the value before it is bound to.
-fn hidden_branches(alloc: Global, local: u8, rest: Node, spot: Spot) -> Result<Branches, Stop>
-    ensures { Gives branch_trees result (Ok (tree_of rest, Local local (spot_mark spot))) }
-{
-    let one = in_box(alloc, rest)?;
-    let other = in_box(alloc, spot.node(NodeKind::Local(local)))?;
-    Ok(Branches { one, other })
-}
-
 /// What `and`, or `or`, chooses by the value that is bound to the local of this number: the rest, or that value.
 pub fn hidden_choice(
     alloc: Global,
@@ -274,10 +246,12 @@ pub fn hidden_choice(
 ) -> Result<Box<Node>, Stop>
     ensures { Gives (λ b. tree_of b.value) result (Ok (hidden_choice is_or local (tree_of rest) spot)) }
 {
-    let branches = hidden_branches(alloc, local, rest, spot)?;
+    let one = in_box(alloc, rest)?;
+    let other = in_box(alloc, spot.node(NodeKind::Local(local)))?;
     let wanted = true;
     let test = Spot { wanted, ..spot }.node(NodeKind::Local(local));
     let test = in_box(alloc, test)?;
+    let branches = Branches { one, other };
     in_box(alloc, choice_node(is_or, test, branches, spot))
 }
 

@@ -56,10 +56,17 @@ pub fn resolve(alloc: Global, forms: &[Form]) -> Result<Raw, ResolveError>
     let mut script = Script::new(alloc);
     match steps(alloc, &mut script, behind_namespace(forms)) {
         Ok(()) => Ok(Raw::new(script.cells, script.functions, script.threads)),
-        Err(Stop::Refused(error)) => Err(error),
-        Err(Stop::Memory) => Err(ResolveError {
-            kind: ResolveErrorKind::Memory,
-            at: Span { from: 0, to: 0 },
-        }),
+        Err(Stop::Refused(error)) => {
+            // A call, as each part of the script would else be dropped in a place of its own.
+            drop(script);
+            Err(error)
+        }
+        Err(Stop::Memory) => {
+            drop(script);
+            Err(ResolveError {
+                kind: ResolveErrorKind::Memory,
+                at: Span { from: 0, to: 0 },
+            })
+        }
     }
 }

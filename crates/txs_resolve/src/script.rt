@@ -2,7 +2,7 @@
 
 ghost use Rattle.std.specs.Prelude.{◌≡◌, ◌<◌, ◌≤◌, [], length, Some, None, OnOk, Ok, IfOk};
 ghost use Rattle.txs_resolve.specs.Given.{Gives, GivesLocals, Leaves};
-ghost use Rattle.txs_resolve.specs.Names.{nothing, new_name, new_ref, form_at, only_literal, ref_of, defining_of, named_form, define, untold, written, function, future, parameter, parameters, are_symbols, step, with_constant, with_definition, with_ref, with_function, names_space, is_namespace};
+ghost use Rattle.txs_resolve.specs.Names.{nothing, new_name, form_at, only_literal, ref_of, defining_of, named_form, define, untold, written, function, future, parameter, parameters, are_symbols, step, with_constant, with_definition, with_ref, with_function, names_space, is_namespace};
 ghost use Rattle.txs_resolve.specs.Expressions.{is_symbol};
 ghost use Rattle.txs_names.specs.declared.names.FormName.TheVariants.{Ns, Ref};
 ghost use Rattle.txs_names.specs.Scope.{definition_of, with_locals};
@@ -162,18 +162,6 @@ fn with_constant<'a>(script: &mut Script<'a>, name: &'a Name, value: Value) -> R
     Ok(())
 }
 
-/// The cell of a ref of this name, which opens with this value.
-fn new_ref(name: &Name, value: Value) -> Result<CellDefinition, Stop>
-    ensures { Gives (λ c. c) result (Ok (new_ref name.now value)) }
-{
-    let name = name.share()?;
-    Ok(CellDefinition {
-        kind: CellKind::Ref,
-        name,
-        opening: value,
-    })
-}
-
 /// A ref is defined, which opens with this value.
 fn with_ref<'a>(script: &mut Script<'a>, name: &'a Name, value: Value) -> Result<(), Stop>
     requires script { IsScript script.old }
@@ -183,7 +171,11 @@ fn with_ref<'a>(script: &mut Script<'a>, name: &'a Name, value: Value) -> Result
     ensures next { OnOk result (IsScript script.new) }
 {
     let number = script.cells.len() as u16;
-    let cell = new_ref(name, value)?;
+    let cell = CellDefinition {
+        kind: CellKind::Ref,
+        name: name.share()?,
+        opening: value,
+    };
     script.cells.push(cell)?;
     script.scope.define(name, Definition::Cell(number))?;
     script.defs += 1;

@@ -331,15 +331,16 @@ chain-loop-i-init t c =
       kept = c.in_ok-total.ensures.kept;
     }
 
-pub pair-returns-in_err-term-clause-node : goal.pair-returns-in_err-term-clause-node
-pair-returns-in_err-term-clause-node t c =
-    let p = err_from_is_err_and c.from_residual.result c.from_residual.ensures.1 in
-    rw (p.1, p.2) (failed tree_of tree_of _ _ _ c.in_err-term.ensures.node (λ e no. ap (pair_with c.args.op c.args.spot (tree_of c.args.total)) no))
+pub pair-returns-in-Err-clause-node : goal.pair-returns-in-Err-clause-node
+pair-returns-in-Err-clause-node t c =
+    failed tree_of tree_of c.in-Err.stop (named c.args.scope.now c.args.spot.room true (tree c.args.term.now)) (pair_with c.args.op c.args.spot (tree_of c.args.total) (named c.args.scope.now c.args.spot.room true (tree c.args.term.now)))
+    (subst (λ r. Gives tree_of r (named c.args.scope.now c.args.spot.room true (tree c.args.term.now))) c.in-Err.is c.expression.ensures.node)
+    (λ e no. ap (pair_with c.args.op c.args.spot (tree_of c.args.total)) no)
 
-pub pair-returns-clause-node : goal.pair-returns-clause-node
-pair-returns-clause-node t c =
+pub pair-returns-in-Ok-clause-node : goal.pair-returns-in-Ok-clause-node
+pair-returns-in-Ok-clause-node t c =
     subst (λ a. Gives tree_of c.pair_of.result a)
-    (sym (ap (pair_with c.args.op c.args.spot (tree_of c.args.total)) c.in_ok-term.ensures.node)) c.pair_of.ensures
+    (sym (ap (pair_with c.args.op c.args.spot (tree_of c.args.total)) (subst (λ r. Gives tree_of r (named c.args.scope.now c.args.spot.room true (tree c.args.term.now))) c.in-Ok.is c.expression.ensures.node))) c.pair_of.ensures
 
 pub chain-returns-in_err-total-2-clause-node : goal.chain-returns-in_err-total-2-clause-node
 chain-returns-in_err-total-2-clause-node t c =
