@@ -132,12 +132,7 @@ fn write_place(line: &mut Vec<u8>, at: Span) -> Result<(), AllocError>
 }
 
 /// The line of a refusal.
-fn refusal_line(
-    alloc: Global,
-    number: u8,
-    name: &str,
-    at: Span,
-) -> Result<Vec<u8>, AllocError>
+fn refusal_line(alloc: Global, number: u8, name: &str, at: Span) -> Result<Vec<u8>, AllocError>
     ensures { IfOk result (λ line. line.items ≡ refusal_line number name.now at) }
 {
     let mut line = Vec::new(alloc);
@@ -200,11 +195,7 @@ fn refusal(
 }
 
 /// What is told of a script that isn't compiled, but for why it isn't.
-fn of_error(
-    alloc: Global,
-    script: Script<'_>,
-    error: &CompileError,
-) -> Result<Told, AllocError>
+fn of_error(alloc: Global, script: Script<'_>, error: &CompileError) -> Result<Told, AllocError>
     ensures output { IfOk result (λ t. t.output.items ≡ []) }
     ensures errors { IfOk result (λ t. IsLesson (script_of script.entry) (refused_line error.now) (refused_place error.now) t.errors.items) }
     ensures status { IfOk result (λ t. t.status ≡ 1) }
@@ -227,11 +218,7 @@ fn of_error(
 }
 
 /// What is told of a script that isn't compiled, whatever is wanted of it.
-pub fn refused(
-    alloc: Global,
-    script: Script<'_>,
-    error: &CompileError,
-) -> Result<Told, AllocError>
+pub fn refused(alloc: Global, script: Script<'_>, error: &CompileError) -> Result<Told, AllocError>
     requires { IsRefusal script.text.now error.now }
     ensures { IfOk result (λ t. (wanted : AnyUse) → ScriptTells (script_of script.entry) (told_of t) wanted) }
 {
@@ -283,12 +270,7 @@ pub fn nothing(alloc: Global) -> Told
 }
 
 /// What is told of a thread that ended so, but for what it printed.
-fn of_end(
-    alloc: Global,
-    script: Script<'_>,
-    k: u16,
-    outcome: Outcome,
-) -> Result<Told, AllocError>
+fn of_end(alloc: Global, script: Script<'_>, k: u16, outcome: Outcome) -> Result<Told, AllocError>
     ensures output { IfOk result (λ t. t.output.items ≡ []) }
     ensures errors { IfOk result (λ t. IsLesson (script_of script.entry) (end_line k outcome) (end_place outcome) t.errors.items) }
     ensures status { IfOk result (λ t. t.status ≡ status_of outcome) }
@@ -304,12 +286,7 @@ fn of_end(
 }
 
 /// What is told of a thread that has run.
-pub fn of_thread(
-    alloc: Global,
-    script: Script<'_>,
-    k: u16,
-    ran: Ran,
-) -> Result<Told, AllocError>
+pub fn of_thread(alloc: Global, script: Script<'_>, k: u16, ran: Ran) -> Result<Told, AllocError>
     ensures output { IfOk result (λ t. t.output.items ≡ ran.printed.items) }
     ensures errors { IfOk result (λ t. IsLesson (script_of script.entry) (end_line k ran.outcome) (end_place ran.outcome) t.errors.items) }
     ensures status { IfOk result (λ t. t.status ≡ status_of ran.outcome) }
