@@ -1,6 +1,6 @@
 //! The names in scope, and what a name stands for.
 
-ghost use Rattle.std.specs.Prelude.{◌≡◌, [], ◌∷◌, ◌<◌, ◌-◌, ◌+◌, ◌++◌, drop, length, map, reverse, Some, None, OnOk, IfSome};
+ghost use Rattle.std.specs.Prelude.{◌≡◌, [], ◌∷◌, ◌<◌, ◌-◌, ◌+◌, ◌++◌, drop, length, map, reverse, Some, None, MatchResult, IfSome};
 ghost use Rattle.txs_names.specs.Scope.{Scope as AScope, with_local, with_locals, number_in, local_number, definition_of, is_current, meaning};
 ghost use Rattle.txs_names.specs.Viewed.{entries_of, lent, meant};
 
@@ -102,9 +102,12 @@ impl<'a> Scope<'a> {
     }
 
     /// Binds the name of a local, which is nearer than the others.
+    ///
+    /// # Errors
+    /// Where there was no memory for it: the scope is as before.
     pub fn push(&mut self, name: &'a [u8]) -> Result<(), AllocError>
         requires { length self.old.locals < 200 }
-        ensures { OnOk result (self.new ≡ with_local name.now self.old) }
+        ensures { MatchResult result (λ _. self.new ≡ with_local name.now self.old) (λ _. self.new ≡ self.old) }
     {
         self.locals.push(name)?;
         Ok(())
@@ -133,9 +136,12 @@ impl<'a> Scope<'a> {
     }
 
     /// Defines a name that isn't defined yet.
+    ///
+    /// # Errors
+    /// Where there was no memory for it: the scope is as before.
     pub fn define(&mut self, name: &'a Name, what: Definition) -> Result<(), AllocError>
         requires new { definition_of name.now self.old.defined ≡ None }
-        ensures { OnOk result (self.new ≡ record { locals = self.old.locals; defined = self.old.defined ++ (record { name = name.now; what = what }) ∷ []; current = self.old.current }) }
+        ensures { MatchResult result (λ _. self.new ≡ record { locals = self.old.locals; defined = self.old.defined ++ (record { name = name.now; what = what }) ∷ []; current = self.old.current }) (λ _. self.new ≡ self.old) }
     {
         self.defined.insert(name.as_bytes(), what)?;
         Ok(())
