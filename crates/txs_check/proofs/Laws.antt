@@ -71,11 +71,9 @@ fine_sound p s h =
     let y = few (room 200000 bs) in
     let both_fine = order_accepted ks p.functions p.threads (first x y h) in
     record {
+      scoped = s;
       functions = functions_sound [] p.functions s.functions both_fine.0;
       threads = threads_sound ks p.threads s.threads both_fine.1;
-      few_cells = s.few_cells;
-      few_functions = s.few_functions;
-      few_threads = s.few_threads;
       few_nodes = subst (λ n. n ≤ 200000) (total_order p.functions p.threads) (few_room 200000 bs (second x y h));
     }
 

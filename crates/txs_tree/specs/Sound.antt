@@ -6,6 +6,7 @@ use Rattle.txs_value.specs.declared.op.Op.{Op}
 use Rattle.txs_value.specs.declared.op.Callee.{Callee}
 use Rattle.txs_value.specs.declared.op.Callee.TheVariants.{Core as CoreOp, Function}
 use Rattle.txs_tree.specs.Known.{Known, known_of, known, levels}
+use Rattle.txs_tree.specs.Scoped.{Scoped}
 use Rattle.txs_tree.specs.Tree.{Tree, Const, Local, If, Do, Let, Loop, Recur, Core, Call, VectorOf, Println, Dosync, Deref, Alter, Trees, none, more, count, PlainFunction, PlainThread, PlainProgram, ThreadSource}
 
 -- where a node stands: in a function, which may be called inside transactions and outside; in a thread outside every
@@ -151,13 +152,11 @@ abbrev pub nodes_of_all : List PlainThread → ℕ
 nodes_of_all [] = 0
 nodes_of_all (t ∷ ts) = nodes t.body + nodes_of_all ts
 
--- a program that the checks accept
+-- a program that the checks accept: one of which names are resolved, whose bodies are sound, and which has not too many nodes
 pub record Sound (p : PlainProgram) : Type 0 where
+  pub scoped : Scoped p
   pub functions : SoundFunctions [] p.functions
   pub threads : SoundThreads (known p.functions) p.threads
-  pub few_cells : length p.cells ≤ 1000
-  pub few_functions : length p.functions ≤ 1000
-  pub few_threads : length p.threads ≤ 64
   pub few_nodes : nodes_of_functions p.functions + nodes_of_all p.threads ≤ 200000
 
 -- one thread that the checks accept
