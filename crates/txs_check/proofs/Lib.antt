@@ -7,3 +7,4 @@ pub mod Lists
 pub mod Order
 pub mod Same
 pub mod Steps
+pub mod TrueRefusals

@@ -1,4 +1,5 @@
 pub mod Errors
+pub mod Faulty
 pub mod Order
 pub mod Refused
 pub mod Signatures

@@ -4,6 +4,7 @@ ghost use Rattle.std.specs.Prelude.{◌≡◌, ◌≢◌, ◌⊎◌, ◌↔◌, 
 ghost use Rattle.txs_tree.specs.Scoped.{Scoped};
 ghost use Rattle.txs_tree.specs.Sound.{Sound};
 ghost use Rattle.txs_tree.specs.Tree.{PlainFunction, PlainProgram, PlainThread};
+ghost use Rattle.txs_check.specs.Faulty.{IsTrueOf};
 ghost use Rattle.txs_check.specs.Order.{Ascend, functions_in, futures_in};
 ghost use Rattle.txs_check.specs.Refused.{CheckStops, fine, function_body, in_order, refusal, thread_body};
 ghost use Rattle.txs_check.specs.declared.error.CheckError.{CheckError};
@@ -28,4 +29,10 @@ pub fn bodies_in_script_order()
     ensures functions { (fs : List PlainFunction) (ts : List PlainThread) → functions_in (in_order fs ts) ≡ map function_body fs }
     ensures futures { (fs : List PlainFunction) (ts : List PlainThread) → futures_in (in_order fs ts) ≡ map thread_body ts }
     ensures ascend { (fs : List PlainFunction) (ts : List PlainThread) → Ascend (map function_body fs) → Ascend (map thread_body ts) → Ascend (in_order fs ts) }
+{}
+
+/// Each refusal is true of the program: a form that stands at its place has that fault where it stands, or
+/// with the body at its place the program has too many nodes.
+pub fn refusals_are_true()
+    ensures { (p : PlainProgram) (e : CheckError) → CheckStops p e → IsTrueOf p e }
 {}

@@ -1,0 +1,132 @@
+-- What a refusal says of a program: a form that stands in it has that fault, or its forms are too many.
+use Rattle.std.specs.Prelude.{◌≡◌, ◌<◌, ◌+◌, ℕ, suc, Bool, true, false, nat_eq, List, [], ◌∷◌, ◌++◌, Some}
+use Rattle.txs_operations.specs.Core.{takes}
+use Rattle.txs_value.specs.Places.{nth}
+use Rattle.txs_value.specs.declared.fault.Span.{Span}
+use Rattle.txs_value.specs.declared.op.Op.{Op}
+use Rattle.txs_value.specs.declared.op.Callee.{Callee}
+use Rattle.txs_value.specs.declared.op.Callee.TheVariants.{Core as CoreOp, Function}
+use Rattle.txs_tree.specs.Known.{Known, is_pure, known}
+use Rattle.txs_tree.specs.Sound.{nodes}
+use Rattle.txs_tree.specs.Tree.{Tree, Mark, Const, Local, If, Do, Let, Loop, Recur, Core, Call, VectorOf, Println, Dosync, Deref, Alter, Trees, none, more, count, PlainProgram}
+use Rattle.txs_check.specs.Refused.{inner, across, accepts, Body, in_order}
+use Rattle.txs_check.specs.declared.error.CheckError.{CheckError}
+use Rattle.txs_check.specs.declared.error.CheckErrorKind.{CheckErrorKind}
+use Rattle.txs_check.specs.declared.error.CheckErrorKind.TheVariants.{RecurNotTail, RecurCount, RecurAcrossDosync, Arity, NotPure, InsideOnly, OutsideOnly, CodeTooLarge}
+use Rattle.txs_check.specs.declared.place.Target.{Target}
+use Rattle.txs_check.specs.declared.place.Target.TheVariants.{Nowhere, Across, Nearest}
+use Rattle.txs_check.specs.declared.place.Zone.{Zone}
+use Rattle.txs_check.specs.declared.place.Zone.TheVariants.{InFuture, InDosync}
+
+-- where a form stands in the script
+abbrev pub place_of : Tree → Span
+place_of (Const v m) = m.span
+place_of (Local i m) = m.span
+place_of (If c a b m) = m.span
+place_of (Do items m) = m.span
+place_of (Let values body m) = m.span
+place_of (Loop values body m) = m.span
+place_of (Recur values m) = m.span
+place_of (Core op args m) = m.span
+place_of (Call f args m) = m.span
+place_of (VectorOf items m) = m.span
+place_of (Println args m) = m.span
+place_of (Dosync body m) = m.span
+place_of (Deref cell m) = m.span
+place_of (Alter cell callee args m) = m.span
+
+-- ---- where forms stand
+
+-- it is one of these
+pub data IsAmong (form : Tree) : Trees → Type 0 where
+  is_first : (rest : Trees) → IsAmong form (more form rest)
+  is_later : (e : Tree) (rest : Trees) → IsAmong form rest → IsAmong form (more e rest)
+
+-- it is the last of these
+pub data IsLast (form : Tree) : Trees → Type 0 where
+  is_only : IsLast form (more form none)
+  is_behind : (e : Tree) (rest : Trees) → IsLast form rest → IsLast form (more e rest)
+
+-- it is one of these, and others stand behind it
+pub data IsBefore (form : Tree) : Trees → Type 0 where
+  is_now : (e : Tree) (rest : Trees) → IsBefore form (more form (more e rest))
+  is_then : (e : Tree) (rest : Trees) → IsBefore form rest → IsBefore form (more e rest)
+
+-- A form stands in another one, or is that one: in which zone, and what a recur meets there, by where the other one stands.
+-- Only the branches of a choice, the last form of a block and the body of a `let` are in tail position where the whole is; a loop
+-- is the target of its body, and a `dosync` is a barrier.
+pub data Stands (zone : Zone) (target : Target) (form : Tree) : Zone → Target → Tree → Type 0 where
+  as_whole : Stands zone target form zone target form
+  in_test : (z : Zone) (t : Target) (c a b : Tree) (m : Mark) → Stands zone target form z (inner t) c → Stands zone target form z t (If c a b m)
+  in_first : (z : Zone) (t : Target) (c a b : Tree) (m : Mark) → Stands zone target form z t a → Stands zone target form z t (If c a b m)
+  in_second : (z : Zone) (t : Target) (c a b : Tree) (m : Mark) → Stands zone target form z t b → Stands zone target form z t (If c a b m)
+  in_block : (z : Zone) (t : Target) (items : Trees) (m : Mark) (e : Tree) → IsBefore e items → Stands zone target form z (inner t) e → Stands zone target form z t (Do items m)
+  in_last : (z : Zone) (t : Target) (items : Trees) (m : Mark) (e : Tree) → IsLast e items → Stands zone target form z t e → Stands zone target form z t (Do items m)
+  in_bound : (z : Zone) (t : Target) (values : Trees) (body : Tree) (m : Mark) (e : Tree) → IsAmong e values → Stands zone target form z (inner t) e → Stands zone target form z t (Let values body m)
+  in_let : (z : Zone) (t : Target) (values : Trees) (body : Tree) (m : Mark) → Stands zone target form z t body → Stands zone target form z t (Let values body m)
+  in_start : (z : Zone) (t : Target) (values : Trees) (body : Tree) (m : Mark) (e : Tree) → IsAmong e values → Stands zone target form z (inner t) e → Stands zone target form z t (Loop values body m)
+  in_loop : (z : Zone) (t : Target) (values : Trees) (body : Tree) (m : Mark) → Stands zone target form z (Nearest (count values) true) body → Stands zone target form z t (Loop values body m)
+  in_recur : (z : Zone) (t : Target) (values : Trees) (m : Mark) (e : Tree) → IsAmong e values → Stands zone target form z (inner t) e → Stands zone target form z t (Recur values m)
+  in_operation : (z : Zone) (t : Target) (op : Op) (args : Trees) (m : Mark) (e : Tree) → IsAmong e args → Stands zone target form z (inner t) e → Stands zone target form z t (Core op args m)
+  in_call : (z : Zone) (t : Target) (f : ℕ) (args : Trees) (m : Mark) (e : Tree) → IsAmong e args → Stands zone target form z (inner t) e → Stands zone target form z t (Call f args m)
+  in_vector : (z : Zone) (t : Target) (items : Trees) (m : Mark) (e : Tree) → IsAmong e items → Stands zone target form z (inner t) e → Stands zone target form z t (VectorOf items m)
+  in_line : (z : Zone) (t : Target) (args : Trees) (m : Mark) (e : Tree) → IsAmong e args → Stands zone target form z (inner t) e → Stands zone target form z t (Println args m)
+  in_transaction : (z : Zone) (t : Target) (body : Tree) (m : Mark) → Stands zone target form InDosync (across t) body → Stands zone target form z t (Dosync body m)
+  in_read : (z : Zone) (t : Target) (cell : Tree) (m : Mark) → Stands zone target form z (inner t) cell → Stands zone target form z t (Deref cell m)
+  in_cell : (z : Zone) (t : Target) (cell : Tree) (callee : Callee) (args : Trees) (m : Mark) → Stands zone target form z (inner t) cell → Stands zone target form z t (Alter cell callee args m)
+  in_further : (z : Zone) (t : Target) (cell : Tree) (callee : Callee) (args : Trees) (m : Mark) (e : Tree) → IsAmong e args → Stands zone target form z (inner t) e → Stands zone target form z t (Alter cell callee args m)
+
+-- ---- which fault a form has
+
+-- whether a callee takes so many arguments
+abbrev pub callee_takes : List Known → Callee → ℕ → Bool
+callee_takes ks (CoreOp op) n = takes op n
+callee_takes ks (Function f) n = accepts (nth ks f) n
+
+-- A form has the fault of this kind where it stands in this zone, with this target of recur, among these functions.
+pub data HasFault (ks : List Known) (zone : Zone) (target : Target) : CheckErrorKind → Tree → Type 0 where
+  -- a recur without loop or function around it, or outside its tail position, or with a dosync between
+  recurs_nowhere : (values : Trees) (m : Mark) → target ≡ Nowhere → HasFault ks zone target RecurNotTail (Recur values m)
+  recurs_before_end : (values : Trees) (m : Mark) (k : ℕ) → target ≡ Nearest k false → HasFault ks zone target RecurNotTail (Recur values m)
+  recurs_across : (values : Trees) (m : Mark) → target ≡ Across → HasFault ks zone target RecurAcrossDosync (Recur values m)
+  -- a recur of another number of values than its target has
+  recurs_with_others : (values : Trees) (m : Mark) (k : ℕ) (tail : Bool) → target ≡ Nearest k tail → nat_eq k (count values) ≡ false → HasFault ks zone target RecurCount (Recur values m)
+  -- a number of arguments that isn't taken
+  operates_on_others : (op : Op) (args : Trees) (m : Mark) → takes op (count args) ≡ false → HasFault ks zone target Arity (Core op args m)
+  calls_with_others : (f : ℕ) (args : Trees) (m : Mark) → accepts (nth ks f) (count args) ≡ false → HasFault ks zone target Arity (Call f args m)
+  alters_with_others : (cell : Tree) (callee : Callee) (args : Trees) (m : Mark) → callee_takes ks callee (suc (count args)) ≡ false → HasFault ks zone target Arity (Alter cell callee args m)
+  -- a function that isn't pure, where a form on a cell calls it
+  alters_impurely : (cell : Tree) (f : ℕ) (args : Trees) (m : Mark) → is_pure (nth ks f) ≡ false → HasFault ks zone target NotPure (Alter cell (Function f) args m)
+  -- what is for transactions alone, in a future outside them
+  calls_outside : (f : ℕ) (args : Trees) (m : Mark) (k : Known) → zone ≡ InFuture → nth ks f ≡ Some k → k.inside ≡ true → HasFault ks zone target InsideOnly (Call f args m)
+  alters_outside : (cell : Tree) (callee : Callee) (args : Trees) (m : Mark) → zone ≡ InFuture → HasFault ks zone target InsideOnly (Alter cell callee args m)
+  -- what is for outside alone, in a transaction
+  calls_inside : (f : ℕ) (args : Trees) (m : Mark) (k : Known) → zone ≡ InDosync → nth ks f ≡ Some k → k.outside ≡ true → HasFault ks zone target OutsideOnly (Call f args m)
+  prints_inside : (args : Trees) (m : Mark) → zone ≡ InDosync → HasFault ks zone target OutsideOnly (Println args m)
+
+-- a form that stands in this one, which stands so, has the fault, and the refusal's place
+pub record FaultIn (ks : List Known) (zone : Zone) (target : Target) (tree : Tree) (e : CheckError) : Type 0 where
+  pub form_zone : Zone
+  pub form_target : Target
+  pub form : Tree
+  pub stands : Stands form_zone form_target form zone target tree
+  pub fault : HasFault ks form_zone form_target e.kind form
+  pub place : e.at ≡ place_of form
+
+-- ---- a program
+
+-- a body is one of these
+pub data IsBody (b : Body) : List Body → Type 0 where
+  body_first : (bs : List Body) → IsBody b (b ∷ bs)
+  body_later : (c : Body) (bs : List Body) → IsBody b bs → IsBody b (c ∷ bs)
+
+-- how many nodes these bodies have together
+abbrev pub all_nodes : List Body → ℕ
+all_nodes [] = 0
+all_nodes (b ∷ bs) = nodes b.tree + all_nodes bs
+
+-- The refusal is true of the program: a form of one of its bodies has that fault and that place; or with the body of that
+-- place its bodies have more than 200,000 nodes.
+pub data IsTrueOf (p : PlainProgram) (e : CheckError) : Type 0 where
+  of_form : (b : Body) → IsBody b (in_order p.functions p.threads) → FaultIn (known p.functions) b.zone b.target b.tree e → IsTrueOf p e
+  of_size : (before : List Body) (b : Body) (behind : List Body) → in_order p.functions p.threads ≡ before ++ b ∷ behind → 200000 < all_nodes before + nodes b.tree → e.kind ≡ CodeTooLarge → e.at ≡ b.span → IsTrueOf p e
