@@ -1,6 +1,7 @@
 -- What a refusal says of a program: a form that stands in it has that fault, or its forms are too many.
 use Rattle.std.specs.Prelude.{◌≡◌, ◌<◌, ◌+◌, ℕ, suc, Bool, true, false, nat_eq, List, [], ◌∷◌, ◌++◌, Some}
 use Rattle.txs_operations.specs.Core.{takes}
+use Rattle.txs_value.specs.Limits.{most_nodes}
 use Rattle.txs_value.specs.Places.{nth}
 use Rattle.txs_value.specs.declared.fault.Span.{Span}
 use Rattle.txs_value.specs.declared.op.Op.{Op}
@@ -129,4 +130,4 @@ all_nodes (b ∷ bs) = nodes b.tree + all_nodes bs
 -- place its bodies have more than 200,000 nodes.
 pub data IsTrueOf (p : PlainProgram) (e : CheckError) : Type 0 where
   of_form : (b : Body) → IsBody b (in_order p.functions p.threads) → FaultIn (known p.functions) b.zone b.target b.tree e → IsTrueOf p e
-  of_size : (before : List Body) (b : Body) (behind : List Body) → in_order p.functions p.threads ≡ before ++ b ∷ behind → 200000 < all_nodes before + nodes b.tree → e.kind ≡ CodeTooLarge → e.at ≡ b.span → IsTrueOf p e
+  of_size : (before : List Body) (b : Body) (behind : List Body) → in_order p.functions p.threads ≡ before ++ b ∷ behind → most_nodes < all_nodes before + nodes b.tree → e.kind ≡ CodeTooLarge → e.at ≡ b.span → IsTrueOf p e

@@ -1,6 +1,7 @@
 -- Which programs the checks refuse, and with what: the first refusal in source order.
 use Rattle.std.specs.Prelude.{◌≡◌, ℕ, suc, Bool, true, false, not, ◌-◌, nat_lt, nat_le, nat_eq, if◌then◌else◌, List, [], ◌∷◌, ◌++◌, map, take, drop, Option, Some, None, Result, Ok, Err}
 use Rattle.txs_operations.specs.Core.{takes}
+use Rattle.txs_value.specs.Limits.{most_nodes}
 use Rattle.txs_value.specs.Places.{nth}
 use Rattle.txs_value.specs.declared.fault.Span.{Span}
 use Rattle.txs_value.specs.declared.op.Op.{Op}
@@ -210,7 +211,7 @@ few (Err e) = Err e
 abbrev pub refusal : PlainProgram → Checked
 refusal p =
     let bodies = in_order p.functions p.threads in
-    checked_bodies (known p.functions) bodies >> few (room 200000 bodies)
+    checked_bodies (known p.functions) bodies >> few (room most_nodes bodies)
 
 -- the checks refuse the program so
 abbrev pub CheckStops : PlainProgram → CheckError → Type 0

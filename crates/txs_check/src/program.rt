@@ -13,9 +13,7 @@ use crate::error::CheckError;
 use crate::law::sound_where_nothing_refuses;
 use std::alloc::Global;
 use txs_tree::{Program, Raw};
-
-/// The nodes that a program has at most.
-const MAX_NODES: u32 = 200_000;
+use txs_value::limits::MOST_NODES;
 
 /// Whether nothing of the program is refused: then it is sound.
 fn check_raw(alloc: Global, raw: &Raw) -> Result<(), CheckError>
@@ -27,7 +25,7 @@ fn check_raw(alloc: Global, raw: &Raw) -> Result<(), CheckError>
     let threads = raw.threads();
     let signatures = signatures_of(alloc, functions)?;
     check_bodies(signatures.as_slice(), functions, threads)?;
-    room_after_all(MAX_NODES, functions, threads)?;
+    room_after_all(MOST_NODES, functions, threads)?;
     sound_where_nothing_refuses();
     Ok(())
 }

@@ -1,5 +1,6 @@
 -- What an emitter has made so far, and what it makes of a tree.
 use Rattle.std.specs.Prelude.{◌≡◌, ℕ, zero, suc, ◌+◌, ◌≤◌, max, Bool, true, false, List, [], ◌∷◌, ◌++◌, length, Option, Some, None, slice_set}
+use Rattle.txs_value.specs.Limits.{most_locals, most_parameters}
 use Rattle.txs_value.specs.declared.fault.Span.{Span}
 use Rattle.txs_value.specs.declared.op.Callee.{Callee}
 use Rattle.txs_value.specs.declared.op.Callee.TheVariants.{Core as CoreOp, Function}
@@ -29,11 +30,11 @@ emission e = record { instrs = e.instrs.items; spans = e.spans.items; constants 
 -- the locals of the nearest loop or function, from base on, are among those that there are
 abbrev pub IsWithin : ℕ → Option ℕ → ℕ → Type 0
 IsWithin base None d = Unit {0}
-IsWithin base (Some n) d = (base + n ≤ d) × (d ≤ 200)
+IsWithin base (Some n) d = (base + n ≤ d) × (d ≤ most_locals)
 
 -- what holds of functions that are known: they take few arguments, and pure ones are for transactions and for outside
 abbrev pub AreLawful : List Known → Type 0
-AreLawful ks = (f : ℕ) (k : Known) → nth ks f ≡ Some k → (k.parameters ≤ 20) × (k.pure ≡ true → (k.inside ≡ false) × (k.outside ≡ false))
+AreLawful ks = (f : ℕ) (k : Known) → nth ks f ≡ Some k → (k.parameters ≤ most_parameters) × (k.pure ≡ true → (k.inside ≡ false) × (k.outside ≡ false))
 
 -- where a tree stands: the functions that are defined, and its zone
 pub record Place : Type 0 where

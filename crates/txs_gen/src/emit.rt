@@ -5,6 +5,7 @@ ghost use Rattle.txs_tree.specs.Sound.{nodes, nodes_in};
 ghost use Rattle.txs_tree.specs.Tree.{count};
 ghost use Rattle.txs_tree.specs.View.{tree_of, trees_of};
 ghost use Rattle.txs_gen.specs.Emission.{emission, emits, emits_all, emits_do, emits_let, emits_if, emits_loop, emits_dosync, emits_alter, emits_recur, IsWithin, IsPlaced, IsPlacedAll, IsPlacedDo, IsPlacedLet, with_call, with_constant, with_instr, with_locals, with_pop, with_room, with_set, with_stores};
+ghost use Rattle.txs_value.specs.Limits.{most_items, most_locals, most_nodes};
 
 use std::alloc::AllocError;
 use txs_code::Instr;
@@ -44,7 +45,7 @@ impl Emitter {
 
     /// A push of a constant, with an entry of its own.
     fn constant(&mut self, value: &Value, span: Span) -> Result<(), AllocError>
-        requires { length self.old.constants.items < 200000 }
+        requires { length self.old.constants.items < most_nodes }
         ensures { OnOk result (emission self.new ≡ with_instr (Instr.Const (length self.old.constants.items)) span (with_constant value.now (emission self.old))) }
     {
         let number = self.constants.len() as u32;
@@ -54,7 +55,7 @@ impl Emitter {
 
     /// A store into a local.
     fn store(&mut self, local: u8, span: Span) -> Result<(), AllocError>
-        requires { local < 200 }
+        requires { local < most_locals }
         ensures { OnOk result (emission self.new ≡ with_instr (Instr.Store local) span (with_locals (local + 1) (emission self.old))) }
     {
         self.locals = self.locals.max(local + 1);
@@ -123,9 +124,9 @@ impl Emitter {
 #[cycle(emit)]
 pub fn emit(to: &mut Emitter, node: &Node, at: Around) -> Result<(), AllocError>
     requires part { IsPlaced at.depth at.base (tree_of node.now) }
-    requires few_constants { length to.old.constants.items + nodes (tree_of node.now) ≤ 200000 }
+    requires few_constants { length to.old.constants.items + nodes (tree_of node.now) ≤ most_nodes }
     requires few_instrs { length to.old.instrs.items + 3 * nodes (tree_of node.now) ≤ 600000 }
-    requires low { at.height + nodes (tree_of node.now) ≤ 200000 }
+    requires low { at.height + nodes (tree_of node.now) ≤ most_nodes }
     ensures { OnOk result (emission to.new ≡ emits (tree_of node.now) at (emission to.old)) }
 {
     match &node.kind {
@@ -179,9 +180,9 @@ pub fn emit(to: &mut Emitter, node: &Node, at: Around) -> Result<(), AllocError>
 #[cycle(emit)]
 fn emit_all(to: &mut Emitter, args: &[Node], at: Around) -> Result<(), AllocError>
     requires part { IsPlacedAll at.depth (trees_of args.now) }
-    requires few_constants { length to.old.constants.items + nodes_in (trees_of args.now) ≤ 200000 }
+    requires few_constants { length to.old.constants.items + nodes_in (trees_of args.now) ≤ most_nodes }
     requires few_instrs { length to.old.instrs.items + 3 * nodes_in (trees_of args.now) ≤ 600000 }
-    requires low { at.height + nodes_in (trees_of args.now) ≤ 200000 }
+    requires low { at.height + nodes_in (trees_of args.now) ≤ most_nodes }
     ensures { OnOk result (emission to.new ≡ emits_all (trees_of args.now) at (emission to.old)) }
 {
     let mut height = at.height;
@@ -196,9 +197,9 @@ fn emit_all(to: &mut Emitter, args: &[Node], at: Around) -> Result<(), AllocErro
 #[cycle(emit)]
 fn emit_do(to: &mut Emitter, items: &[Node], span: Span, at: Around) -> Result<(), AllocError>
     requires part { IsPlacedDo at.depth at.base (trees_of items.now) }
-    requires few_constants { length to.old.constants.items + nodes_in (trees_of items.now) ≤ 200000 }
+    requires few_constants { length to.old.constants.items + nodes_in (trees_of items.now) ≤ most_nodes }
     requires few_instrs { length to.old.instrs.items + 3 * nodes_in (trees_of items.now) ≤ 600000 }
-    requires low { at.height + nodes_in (trees_of items.now) ≤ 200000 }
+    requires low { at.height + nodes_in (trees_of items.now) ≤ most_nodes }
     ensures { OnOk result (emission to.new ≡ emits_do (trees_of items.now) span at (emission to.old)) }
 {
     let mut left = items.len();
@@ -214,9 +215,9 @@ fn emit_do(to: &mut Emitter, items: &[Node], span: Span, at: Around) -> Result<(
 #[cycle(emit)]
 fn emit_let(to: &mut Emitter, values: &[Node], span: Span, at: Around) -> Result<u8, AllocError>
     requires part { IsPlacedLet at.depth (trees_of values.now) }
-    requires few_constants { length to.old.constants.items + nodes_in (trees_of values.now) ≤ 200000 }
+    requires few_constants { length to.old.constants.items + nodes_in (trees_of values.now) ≤ most_nodes }
     requires few_instrs { length to.old.instrs.items + 3 * nodes_in (trees_of values.now) ≤ 600000 }
-    requires low { at.height + nodes_in (trees_of values.now) ≤ 200000 }
+    requires low { at.height + nodes_in (trees_of values.now) ≤ most_nodes }
     ensures locals { IfOk result (λ depth. depth ≡ at.depth + count (trees_of values.now)) }
     ensures code { OnOk result (emission to.new ≡ emits_let (trees_of values.now) span at (emission to.old)) }
 {
@@ -242,9 +243,9 @@ fn emit_if(
     requires test { IsPlaced at.depth at.base (tree_of test.now) }
     requires first { IsPlaced at.depth at.base (tree_of first.now) }
     requires second { IsPlaced at.depth at.base (tree_of second.now) }
-    requires few_constants { length to.old.constants.items + (nodes (tree_of test.now) + (nodes (tree_of first.now) + nodes (tree_of second.now))) < 200000 }
+    requires few_constants { length to.old.constants.items + (nodes (tree_of test.now) + (nodes (tree_of first.now) + nodes (tree_of second.now))) < most_nodes }
     requires few_instrs { length to.old.instrs.items + 3 * (nodes (tree_of test.now) + (nodes (tree_of first.now) + nodes (tree_of second.now))) < 599998 }
-    requires low { at.height + (nodes (tree_of test.now) + (nodes (tree_of first.now) + nodes (tree_of second.now))) < 200000 }
+    requires low { at.height + (nodes (tree_of test.now) + (nodes (tree_of first.now) + nodes (tree_of second.now))) < most_nodes }
     ensures { OnOk result (emission to.new ≡ emits_if (tree_of test.now) (tree_of first.now) (tree_of second.now) span at (emission to.old)) }
 {
     emit(to, test, at)?;
@@ -270,9 +271,9 @@ fn emit_loop(
 ) -> Result<(), AllocError>
     requires part { IsPlacedLet at.depth (trees_of values.now) }
     requires body { IsPlaced (at.depth + count (trees_of values.now)) at.depth (tree_of body.now) }
-    requires few_constants { length to.old.constants.items + (nodes_in (trees_of values.now) + nodes (tree_of body.now)) < 200000 }
+    requires few_constants { length to.old.constants.items + (nodes_in (trees_of values.now) + nodes (tree_of body.now)) < most_nodes }
     requires few_instrs { length to.old.instrs.items + 3 * (nodes_in (trees_of values.now) + nodes (tree_of body.now)) < 599998 }
-    requires low { at.height + (nodes_in (trees_of values.now) + nodes (tree_of body.now)) < 200000 }
+    requires low { at.height + (nodes_in (trees_of values.now) + nodes (tree_of body.now)) < most_nodes }
     ensures { OnOk result (emission to.new ≡ emits_loop (trees_of values.now) (tree_of body.now) span at (emission to.old)) }
 {
     let depth = emit_let(to, values, span, at)?;
@@ -290,9 +291,9 @@ fn emit_loop(
 fn emit_recur(to: &mut Emitter, values: &[Node], span: Span, at: Around) -> Result<(), AllocError>
     requires part { IsPlacedAll at.depth (trees_of values.now) }
     requires within { IsWithin at.base (Some (count (trees_of values.now))) at.depth }
-    requires few_constants { length to.old.constants.items + nodes_in (trees_of values.now) < 200000 }
+    requires few_constants { length to.old.constants.items + nodes_in (trees_of values.now) < most_nodes }
     requires few_instrs { length to.old.instrs.items + 3 * nodes_in (trees_of values.now) < 599998 }
-    requires low { at.height + nodes_in (trees_of values.now) < 200000 }
+    requires low { at.height + nodes_in (trees_of values.now) < most_nodes }
     ensures { OnOk result (emission to.new ≡ emits_recur (trees_of values.now) span at (emission to.old)) }
 {
     emit_all(to, values, at)?;
@@ -305,9 +306,9 @@ fn emit_recur(to: &mut Emitter, values: &[Node], span: Span, at: Around) -> Resu
 #[cycle(emit)]
 fn emit_dosync(to: &mut Emitter, body: &Node, span: Span, at: Around) -> Result<(), AllocError>
     requires part { IsPlaced at.depth at.base (tree_of body.now) }
-    requires few_constants { length to.old.constants.items + nodes (tree_of body.now) < 200000 }
+    requires few_constants { length to.old.constants.items + nodes (tree_of body.now) < most_nodes }
     requires few_instrs { length to.old.instrs.items + 3 * nodes (tree_of body.now) < 599998 }
-    requires low { at.height + nodes (tree_of body.now) < 200000 }
+    requires low { at.height + nodes (tree_of body.now) < most_nodes }
     ensures { OnOk result (emission to.new ≡ emits_dosync (tree_of body.now) span at (emission to.old)) }
 {
     to.put(Instr::TxBegin, span)?;
@@ -327,11 +328,11 @@ fn emit_alter(
     at: Around,
 ) -> Result<(), AllocError>
     requires cell { IsPlaced at.depth at.base (tree_of cell.now) }
-    requires few_args { count (trees_of args.now) < 65535 }
+    requires few_args { count (trees_of args.now) < most_items }
     requires part { IsPlacedAll at.depth (trees_of args.now) }
-    requires few_constants { length to.old.constants.items + (nodes (tree_of cell.now) + nodes_in (trees_of args.now)) < 200000 }
+    requires few_constants { length to.old.constants.items + (nodes (tree_of cell.now) + nodes_in (trees_of args.now)) < most_nodes }
     requires few_instrs { length to.old.instrs.items + 3 * (nodes (tree_of cell.now) + nodes_in (trees_of args.now)) < 599998 }
-    requires low { at.height + (nodes (tree_of cell.now) + nodes_in (trees_of args.now)) < 200000 }
+    requires low { at.height + (nodes (tree_of cell.now) + nodes_in (trees_of args.now)) < most_nodes }
     ensures { OnOk result (emission to.new ≡ emits_alter (tree_of cell.now) callee (trees_of args.now) span at (emission to.old)) }
 {
     let count = args.len() as u16;

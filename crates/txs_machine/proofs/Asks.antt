@@ -14,7 +14,8 @@ use Rattle.txs_value.specs.declared.value.Value.{Value}
 use Rattle.txs_code.specs.ActorState.{ActorState}
 use Rattle.txs_code.specs.Machine.{ThreadCode, Configuration, configuration, Turned, Ended, Failed, Asking, Unfinished, Stuck, turn}
 use Rattle.txs_world.specs.Book as world
-use Rattle.txs_world.specs.Book.{value_or, changed, after, written, has_cell, has_ref, has_refs, ascend_from, may_name, most_events}
+use Rattle.txs_world.specs.Book.{value_or, changed, after, written, has_cell, has_ref, has_refs, ascend_from, may_name}
+use Rattle.txs_value.specs.Limits.{most_events}
 use Rattle.txs_world.specs.Store.{Served, event_of, disturbed, looks, commits, serve, is_lawful}
 use Rattle.txs_world.specs.declared.cell.StoreCell.{StoreCell}
 use Rattle.txs_machine.specs.Invariant.{RunInvariant}

@@ -36,7 +36,8 @@ use Rattle.txs_actor.specs.declared.state.Transaction.TheVariants.{Outside, Rest
 use Rattle.txs_machine.specs.Laws.{TurnsAreStaged, ServedAskFits, IsExchanged}
 use Rattle.txs_code.specs.Opening.{given}
 use Rattle.txs_machine.specs.Stages.{Stage, Idle, AsksIn, stage_after, stage_of, phase_of, ToldBy, IsStaged, StagedFrom}
-use Rattle.txs_world.specs.Book.{opening, after, written, most_events}
+use Rattle.txs_world.specs.Book.{opening, after, written}
+use Rattle.txs_value.specs.Limits.{most_events}
 use Rattle.txs_world.specs.Store as world
 use Rattle.txs_world.specs.Store.{PlainStore, store_with, Served, serve, disturbed}
 use Rattle.txs_machine.specs.RunOver.{IsIn, IsOwn, RunOver, ExplainsEnd, IsExplained}

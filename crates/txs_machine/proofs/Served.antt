@@ -15,7 +15,8 @@ use Rattle.txs_value.specs.declared.value.CellId.{CellId}
 use Rattle.txs_value.proofs.SameLemmas.{and_both, numbers, number-itself}
 use Rattle.txs_follows.specs.RepliesFit.{Out, In}
 use Rattle.txs_follows.specs.RepliesFitTo.{RepliesFitTo, ReplyFitsTo, OneMoreFits}
-use Rattle.txs_world.specs.Book.{after, written, all_before, may_name, most_events}
+use Rattle.txs_world.specs.Book.{after, written, all_before, may_name}
+use Rattle.txs_value.specs.Limits.{most_events}
 use Rattle.txs_world.specs.History.{before, past_of, history_of}
 use Rattle.txs_world.specs.Laws.{WorldsStay, HistoryGrows}
 use Rattle.txs_world.specs.Store.{Served, served, event_of, disturbed, looks, commits, serve}

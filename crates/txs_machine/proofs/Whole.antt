@@ -12,7 +12,7 @@ use Rattle.txs_follows.specs.FollowsAll.{source_of}
 use Rattle.txs_follows.specs.RepliesFit.{Out, Explained, Consumed}
 use Rattle.txs_follows.specs.RepliesFitTo.{FittingToFits}
 use Rattle.txs_world.specs.Book as world
-use Rattle.txs_world.specs.Book.{most_events}
+use Rattle.txs_value.specs.Limits.{most_events}
 use Rattle.txs_world.specs.declared.cell.StoreCell.{StoreCell}
 use Rattle.txs_world.specs.History.{history_of}
 use Rattle.txs_machine.specs.Explains.{outcome_at, ActorExplained, RunExplained, code_or_none, code_of, ProgramExplained}

@@ -15,7 +15,8 @@ use Rattle.txs_code.specs.PlainCode.{PlainCode}
 use Rattle.txs_follows.specs.Follows.{Follows}
 use Rattle.txs_follows.specs.RepliesFit.{Explained}
 use Rattle.txs_actor.specs.PlainActor.{PlainActor, HasRun, MayAnswer, Stops, answered, unanswered, configuration_of, code_of, stating, standing, stands_at}
-use Rattle.txs_world.specs.Book.{most_events, opening}
+use Rattle.txs_world.specs.Book.{opening}
+use Rattle.txs_value.specs.Limits.{most_events}
 use Rattle.txs_world.specs.Store.{is_lawful}
 use Rattle.txs_world.specs.declared.cell.StoreCell.{StoreCell}
 use Rattle.txs_world.specs.History.{history_of}

@@ -3,6 +3,7 @@
 ghost use Rattle.std.specs.Prelude.{◌≡◌, [], ◌∷◌, ◌<◌, ◌-◌, ◌+◌, ◌++◌, drop, length, map, reverse, Some, None, MatchResult, IfSome};
 ghost use Rattle.txs_names.specs.Scope.{Scope as AScope, with_local, with_locals, number_in, local_number, definition_of, is_current, meaning};
 ghost use Rattle.txs_names.specs.Viewed.{entries_of, lent, meant};
+ghost use Rattle.txs_value.specs.Limits.{most_locals};
 
 use crate::names::{FormName, form_of, has_dot, operation_of};
 use indexmap::IndexMap;
@@ -56,6 +57,7 @@ impl<'a> Model for Scope<'a> {
     ghost use Rattle.txs_names.specs.Scope.{Scope as AScope};
     ghost use Rattle.txs_names.specs.Viewed.{entries_of, name_of};
     ghost use Rattle.txs_value.specs.contracts.value.Value as value;
+    ghost use Rattle.txs_value.specs.Limits.{most_locals};
 
     ghost Value = { AScope };
 
@@ -63,7 +65,7 @@ impl<'a> Model for Scope<'a> {
 
     ghost view = { λ s. record { locals = reverse (map (λ n. n.now) s.locals.items); defined = entries_of s.defined.entries; current = name_of s.current } };
 
-    ghost invariant = { λ s. length s.locals.items ≤ 200 };
+    ghost invariant = { λ s. length s.locals.items ≤ most_locals };
 }
 
 /// The number of the last of these names that is this one: they are numbered from 0.
@@ -106,7 +108,7 @@ impl<'a> Scope<'a> {
     /// # Errors
     /// Where there was no memory for it: the scope is as before.
     pub fn push(&mut self, name: &'a [u8]) -> Result<(), AllocError>
-        requires { length self.old.locals < 200 }
+        requires { length self.old.locals < most_locals }
         ensures { MatchResult result (λ _. self.new ≡ with_local name.now self.old) (λ _. self.new ≡ self.old) }
     {
         self.locals.push(name)?;

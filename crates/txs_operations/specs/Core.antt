@@ -2,6 +2,7 @@
 use Rattle.std.specs.Prelude.{◌≡◌, ℕ, zero, suc, ◌+◌, ◌^◌, ℤ, pos, negsuc, ◌+ℤ◌, ◌-ℤ◌, ◌*ℤ◌, neg_ℤ, ◌-◌, int_div, int_rem, int_lt, int_le, not, Bool, true, false, nat_lt, nat_le, ◌==◌, if◌then◌else◌, List, [], ◌∷◌, ◌++◌, length, drop, take, slice_get, slice_index_or, Option, Some, None, Result, Ok, Err, ⊤}
 use Rattle.std.specs.Int.{int_rem_euclid, int_max, int_min}
 use Rattle.std.specs.Ordering.{int_eq}
+use Rattle.txs_value.specs.Limits.{most_items, most_depth}
 use Rattle.txs_value.specs.PlainValue.{PlainValue, nil, depth, row_depth, plain_row}
 use Rattle.txs_value.specs.Same.{same_plain}
 use Rattle.txs_value.specs.View.{plain_of, plains_of, value_of}
@@ -174,7 +175,7 @@ nth_of a b = do
 
 -- one more item at the end
 abbrev pub added : List PlainValue → PlainValue → Answer
-added ds d = if nat_le 65535 (length ds) then Err TooLong else (if nat_le 32 (depth d) then Err TooDeep else Ok (Vector (ds ++ d ∷ [])))
+added ds d = if nat_le most_items (length ds) then Err TooLong else (if nat_le most_depth (depth d) then Err TooDeep else Ok (Vector (ds ++ d ∷ [])))
 
 -- `conj`: a vector with one more item
 abbrev pub conj_of : Value → Value → Answer
@@ -189,7 +190,7 @@ place_in ds (pos n) = if nat_le n (length ds) then Ok n else Err IndexOut
 
 -- an item in the place of another, or one more at the end
 abbrev pub replaced : List PlainValue → ℕ → PlainValue → Answer
-replaced ds n d = if nat_le 65535 n then Err TooLong else (if nat_le 32 (depth d) then Err TooDeep else Ok (Vector (take n ds ++ d ∷ drop (n + 1) ds)))
+replaced ds n d = if nat_le most_items n then Err TooLong else (if nat_le most_depth (depth d) then Err TooDeep else Ok (Vector (take n ds ++ d ∷ drop (n + 1) ds)))
 
 -- `assoc`: the vector is tested first, then the index, then where it points
 abbrev pub assoc_of : Value → Value → Value → Answer
@@ -221,7 +222,7 @@ pop_of a = do
 
 -- the vector of these values
 abbrev pub vector_of : List Value → Answer
-vector_of vs = if nat_lt 65535 (length vs) then Err TooLong else (if nat_le 32 (row_depth (plain_row (plains_of vs))) then Err TooDeep else Ok (Vector (plains_of vs)))
+vector_of vs = if nat_lt most_items (length vs) then Err TooLong else (if nat_le most_depth (row_depth (plain_row (plains_of vs))) then Err TooDeep else Ok (Vector (plains_of vs)))
 
 -- ---- the table
 

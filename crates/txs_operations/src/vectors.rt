@@ -3,11 +3,13 @@
 
 ghost use Rattle.std.specs.Prelude.{◌≡◌, ◌↔◌, ◌<◌, ◌≤◌, ◌+◌, ◌++◌, ◌∷◌, length, take, drop, IsTrue, IfOk, MatchResult, Ok, Err};
 ghost use Rattle.txs_operations.specs.Core.{Answers, items_of, nth_of, count_of, conj_of, assoc_of, peek_of, pop_of, place_in, vector_of};
+ghost use Rattle.txs_value.specs.Limits.{most_items};
 ghost use Rattle.txs_value.specs.PlainValue.{depth, row_depth, plain_row};
 ghost use Rattle.txs_value.specs.View.{plain_of, plains_of};
 
 use crate::numbers::number;
 use std::alloc::{AllocError, Global};
+use txs_value::limits::{MOST_DEPTH, MOST_ITEMS};
 use txs_value::{FaultKind, Items, Stop, Value, copy_value};
 
 /// The items of the vector that a value is.
@@ -104,10 +106,10 @@ pub(crate) fn conj_owned(alloc: Global, vector: Value, item: Value) -> Result<Va
     let Value::Vector(items) = vector else {
         return Err(Stop::Fault(FaultKind::NotAVector));
     };
-    if items.len() >= 65_535 {
+    if items.len() >= MOST_ITEMS {
         return Err(Stop::Fault(FaultKind::TooLong));
     }
-    if !is_within(&item, 31) {
+    if !is_within(&item, MOST_DEPTH - 1) {
         return Err(Stop::Fault(FaultKind::TooDeep));
     }
     Ok(Value::Vector(items.conj(alloc, item)?))
@@ -139,7 +141,7 @@ fn place_in(items: &Items, index: i64) -> Result<usize, FaultKind>
 /// Puts an item in the place of another, or behind the last.
 fn put_at(alloc: Global, items: Items, place: usize, item: Value) -> Result<Items, AllocError>
     requires there { place ≤ length items }
-    requires room { place < 65535 }
+    requires room { place < most_items }
     requires shallow { depth (plain_of item) ≤ 31 }
     ensures { IfOk result (λ v. v ≡ take place items ++ plain_of item ∷ drop (place + 1) items) }
 {
@@ -163,10 +165,10 @@ pub(crate) fn assoc_owned(
     };
     let index = number(index)?;
     let place = place_in(&items, index)?;
-    if place >= 65_535 {
+    if place >= MOST_ITEMS {
         return Err(Stop::Fault(FaultKind::TooLong));
     }
-    if !is_within(&item, 31) {
+    if !is_within(&item, MOST_DEPTH - 1) {
         return Err(Stop::Fault(FaultKind::TooDeep));
     }
     Ok(Value::Vector(put_at(alloc, items, place, item)?))
@@ -207,10 +209,10 @@ pub(crate) fn assoc(
 pub fn make_vector(alloc: Global, items: Vec<Value>) -> Result<Value, Stop>
     ensures { Answers result (vector_of items.items) }
 {
-    if items.len() > 65_535 {
+    if items.len() > MOST_ITEMS {
         return Err(Stop::Fault(FaultKind::TooLong));
     }
-    if !are_within(items.as_slice(), 31) {
+    if !are_within(items.as_slice(), MOST_DEPTH - 1) {
         return Err(Stop::Fault(FaultKind::TooDeep));
     }
     Ok(Value::Vector(Items::from_vec(alloc, items)?))

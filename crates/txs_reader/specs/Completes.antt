@@ -2,6 +2,7 @@
 use Rattle.std.specs.Prelude.{◌≡◌, ◌≤◌, ◌+◌, ◌++◌, ◌∷◌, ℕ, [], List, length, flat_map}
 use Rattle.txs_reader.specs.Tree.{Tree, height, IsNarrow}
 use Rattle.txs_reader.specs.Script.{Piece, Splits, tokens, spelled, Open, begun, WithinLimits, IsFull}
+use Rattle.txs_value.specs.Limits.{most_nesting}
 
 -- The bytes up to the rest are what is held and one form more, to which a `@` may stand open.
 pub record Completes (bytes : List ℕ) (open_forms : List Open) (forms : List Tree) (t : Tree) (rest : List ℕ) : Type 0 where
@@ -9,6 +10,6 @@ pub record Completes (bytes : List ℕ) (open_forms : List Open) (forms : List T
   pub splits : Splits bytes pieces rest
   pub spells : tokens 0 pieces ≡ flat_map begun open_forms ++ flat_map spelled (forms ++ t ∷ [])
   pub limits : WithinLimits 0 open_forms forms
-  pub deep : length open_forms + height t ≤ 100
+  pub deep : length open_forms + height t ≤ most_nesting
   pub narrow : IsNarrow t
   pub room : ¬ IsFull open_forms forms

@@ -2,6 +2,7 @@
 use Rattle.std.specs.Prelude.{ℕ, ◌≡◌, ◌<◌, ◌≤◌, ◌+◌, ◌-◌, ◌&&◌, ◌==◌, if◌then◌else◌, Bool, true, false, not, Option, None, Some, List, [], ◌∷◌, ◌++◌, Ok, Err, length, drop, flat_map, bytes_eq, IsUtf8}
 use Rattle.std.specs.List.{list_all, AllByRecursion}
 use Rattle.std.specs.Str.{IsValidUpTo}
+use Rattle.txs_value.specs.Limits.{most_items, most_text, most_script, most_nesting}
 use Rattle.txs_value.specs.declared.fault.Span.{Span}
 use Rattle.txs_reader.specs.declared.form.Bracket.{Bracket}
 use Rattle.txs_reader.specs.declared.form.Bracket.TheVariants.{Round, Square}
@@ -55,7 +56,7 @@ IsPiece (White b) = is_white b ≡ true
 IsPiece (Comment c) = list_all (λ b. not (is_line_end b)) c ≡ true
 IsPiece (Opening b) = Unit {0}
 IsPiece (Closing b) = Unit {0}
-IsPiece (Quoted ps) = AllByRecursion IsPart ps × (length (flat_map part_value ps) ≤ 65535)
+IsPiece (Quoted ps) = AllByRecursion IsPart ps × (length (flat_map part_value ps) ≤ most_text)
 IsPiece (Word w x) = IsWord w × (meaning w ≡ Ok x)
 
 -- The piece ends where this text follows: no two words touch, and a comment goes up to the end of its line.
@@ -144,7 +145,7 @@ begun o = flat_map spelled o.before ++ record { sign = opens o.bracket; span = b
 
 -- at this level each form is narrow, and none nests too deep
 abbrev pub FitAt : ℕ → List Tree → Type 0
-FitAt level forms = (level + height_of_all forms ≤ 100) × AllByRecursion IsNarrow forms
+FitAt level forms = (level + height_of_all forms ≤ most_nesting) × AllByRecursion IsNarrow forms
 
 -- how many forms are whole behind an opening, and how many begun
 abbrev pub whole : List Open → List Tree → ℕ
@@ -159,7 +160,7 @@ begun_behind (o ∷ os) = 1
 -- a bracket holds at most 65,535 parts; behind the sign `@` no form is whole, since its first one ends it
 abbrev pub MayHold : Option Bracket → ℕ → ℕ → Type 0
 MayHold None done more = done ≡ 0
-MayHold (Some b) done more = done + more ≤ 65535
+MayHold (Some b) done more = done + more ≤ most_items
 
 -- at this level and below, all fits
 abbrev pub WithinLimits : ℕ → List Open → List Tree → Type 0
@@ -175,7 +176,7 @@ pub record Holds (bytes : List ℕ) (open_forms : List Open) (forms : List Tree)
 
 -- A script is a text of at most 1,048,576 bytes: white space, comments and these forms.
 pub record Reads (bytes : List ℕ) (forms : List Tree) : Type 0 where
-  pub short : length bytes ≤ 1048576
+  pub short : length bytes ≤ most_script
   pub utf8 : IsUtf8 bytes
   pub holds : Holds bytes [] forms []
 
@@ -202,7 +203,7 @@ EndsWithDeref (o ∷ p ∷ os) = EndsWithDeref (p ∷ os)
 -- a bracket with all the parts that it may have
 abbrev pub HasAll : Option Bracket → ℕ → Type 0
 HasAll None parts = ⊥
-HasAll (Some b) parts = 65535 ≤ parts
+HasAll (Some b) parts = most_items ≤ parts
 
 -- the innermost opening is such a bracket
 abbrev pub IsFull : List Open → List Tree → Type 0
@@ -217,7 +218,7 @@ pub data RefusesText (ps : List Part) (rest : List ℕ) (at : ℕ) (kind : ReadE
   -- a backslash that begins no escape
   at_backslash : (more : List ℕ) → rest ≡ 92 ∷ more → kind ≡ BadEscape → span ≡ between (at + 1 + length (flat_map part_text ps)) (at + 1 + length (flat_map part_text ps) + 1) → RefusesText ps rest at kind span
   -- a text of too many bytes
-  at_quote : (more : List ℕ) → rest ≡ 34 ∷ more → 65535 < length (flat_map part_value ps) → kind ≡ TooLarge → span ≡ between at (at + length (written (Quoted ps))) → RefusesText ps rest at kind span
+  at_quote : (more : List ℕ) → rest ≡ 34 ∷ more → most_text < length (flat_map part_value ps) → kind ≡ TooLarge → span ≡ between at (at + length (written (Quoted ps))) → RefusesText ps rest at kind span
 
 -- With these openings, what stands at this offset is refused so.
 pub data Refuses (os : List Open) (forms : List Tree) (rest : List ℕ) (at : ℕ) (kind : ReadErrorKind) (span : Span) : Type 0 where
@@ -228,7 +229,7 @@ pub data Refuses (os : List Open) (forms : List Tree) (rest : List ℕ) (at : �
   -- whatever would begin one part too many
   at_full : (b : ℕ) (more : List ℕ) → rest ≡ b ∷ more → begins_part b ≡ true → IsFull os forms → kind ≡ TooLarge → span ≡ between at (at + 1) → Refuses os forms rest at kind span
   -- an opening inside a hundred others
-  at_opening : (b : Option Bracket) (more : List ℕ) → rest ≡ opening_byte b ∷ more → 100 ≤ length os → ¬ IsFull os forms → kind ≡ TooDeep → span ≡ between at (at + 1) → Refuses os forms rest at kind span
+  at_opening : (b : Option Bracket) (more : List ℕ) → rest ≡ opening_byte b ∷ more → most_nesting ≤ length os → ¬ IsFull os forms → kind ≡ TooDeep → span ≡ between at (at + 1) → Refuses os forms rest at kind span
   -- a byte that is left out
   at_byte : (b : ℕ) (more : List ℕ) → rest ≡ b ∷ more → is_left_out_byte b ≡ true → ¬ IsFull os forms → kind ≡ LeftOut → span ≡ between at (at + 1) → Refuses os forms rest at kind span
   -- a text that is refused
@@ -246,6 +247,6 @@ pub record StopsWithin (bytes : List ℕ) (kind : ReadErrorKind) (span : Span) :
 
 -- The bytes are too many, else no UTF-8, else refused somewhere.
 pub data ReadStops (bytes : List ℕ) (kind : ReadErrorKind) (span : Span) : Type 0 where
-  too_long : 1048576 < length bytes → kind ≡ TooLarge → span ≡ between 1048576 1048577 → ReadStops bytes kind span
-  no_text : (n : ℕ) → length bytes ≤ 1048576 → IsValidUpTo bytes n → kind ≡ NotUtf8 → span ≡ between n (n + 1) → ReadStops bytes kind span
-  within : length bytes ≤ 1048576 → IsUtf8 bytes → StopsWithin bytes kind span → ReadStops bytes kind span
+  too_long : most_script < length bytes → kind ≡ TooLarge → span ≡ between most_script (most_script + 1) → ReadStops bytes kind span
+  no_text : (n : ℕ) → length bytes ≤ most_script → IsValidUpTo bytes n → kind ≡ NotUtf8 → span ≡ between n (n + 1) → ReadStops bytes kind span
+  within : length bytes ≤ most_script → IsUtf8 bytes → StopsWithin bytes kind span → ReadStops bytes kind span

@@ -1,5 +1,6 @@
 -- What a form is, without where it lies in memory.
 use Rattle.std.specs.Prelude.{ℕ, suc, ◌≤◌, max, codes, List, [], ◌∷◌, map, ℤ, Bool}
+use Rattle.txs_value.specs.Limits.{most_items}
 use Rattle.txs_value.specs.declared.fault.Span.{Span}
 use Rattle.txs_reader.specs.declared.form.Bracket.{Bracket}
 use Rattle.txs_reader.specs.declared.form.Form.{Form, fold-Form}
@@ -78,7 +79,7 @@ parts (first t ts) = suc (parts ts)
 abbrev mutual
   pub IsNarrow : Tree → Type 0
   IsNarrow (leaf x span) = Unit {0}
-  IsNarrow (group b ts span) = (parts ts ≤ 65535) × AreNarrow ts
+  IsNarrow (group b ts span) = (parts ts ≤ most_items) × AreNarrow ts
 
   -- each of these is narrow
   pub AreNarrow : Trees → Type 0

@@ -9,10 +9,8 @@ ghost use Rattle.txs_reader.specs.Tree.{tree};
 use crate::form::{Bracket, Form};
 use crate::open_form::OpenForm;
 use std::alloc::{AllocError, Global};
+use txs_value::limits::MOST_ITEMS;
 use txs_value::{Name, Span};
-
-/// How many parts a list or vector may have.
-const MAX_PARTS: usize = 65_535;
 
 /// What has been read: the openings, and all whole forms in one row, first those before the outermost
 /// opening, then those between it and the next, and so on. So a list takes memory only where it closes,
@@ -52,7 +50,7 @@ fn has_all(opening: Option<Bracket>, parts: usize) -> bool
     ensures { IsTrue result ↔ HasAll opening parts }
 {
     match opening {
-        Some(_) => parts >= MAX_PARTS,
+        Some(_) => parts >= MOST_ITEMS,
         None => false,
     }
 }

@@ -15,16 +15,8 @@ use crate::open_forms::OpenForms;
 use crate::quoted::{Quoted, read_quoted};
 use crate::word::form_of;
 use std::alloc::Global;
+use txs_value::limits::{MOST_NESTING, MOST_SCRIPT, MOST_TEXT};
 use txs_value::{Span, Text};
-
-/// How many bytes a script may have.
-const MAX_SCRIPT: usize = 1_048_576;
-
-/// How many bytes a text may have.
-const MAX_TEXT: usize = 65_535;
-
-/// How deep brackets and `@` may nest.
-const MAX_DEPTH: usize = 100;
 
 /// Reads an opening bracket, or a `@`.
 fn open(
@@ -42,7 +34,7 @@ fn open(
     ensures ok { IfOk result (λ next. Reached script.now state.new next) }
     ensures err { IfErr result (λ e. IsRefusal script.now e) }
 {
-    if state.open.len() >= MAX_DEPTH {
+    if state.open.len() >= MOST_NESTING {
         return Err(ReadError {
             kind: ReadErrorKind::TooDeep,
             at: span_of(at, at + 1),
@@ -112,7 +104,7 @@ fn text(alloc: Global, state: &mut OpenForms, script: &str, at: usize) -> Result
 {
     let Quoted { text, end } = read_quoted(alloc, script, at)?;
     let span = span_of(at, end + 1);
-    if text.len() > MAX_TEXT {
+    if text.len() > MOST_TEXT {
         return Err(ReadError {
             kind: ReadErrorKind::TooLarge,
             at: span,
@@ -218,10 +210,10 @@ pub fn read_script(alloc: Global, bytes: &[u8]) -> Result<Vec<Form>, ReadError>
     ensures stops { IfErr result (λ e. e.kind ≢ Memory → ReadStops bytes.now e.kind e.at) }
     ensures memory { IfErr result (λ e. e.kind ≡ Memory → e.at ≡ between 0 0) }
 {
-    if bytes.len() > MAX_SCRIPT {
+    if bytes.len() > MOST_SCRIPT {
         return Err(ReadError {
             kind: ReadErrorKind::TooLarge,
-            at: span_of(MAX_SCRIPT, MAX_SCRIPT + 1),
+            at: span_of(MOST_SCRIPT, MOST_SCRIPT + 1),
         });
     }
     match str::from_utf8(bytes) {

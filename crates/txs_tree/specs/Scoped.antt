@@ -1,5 +1,6 @@
 -- Which programs the resolution of names gives: each local and function that is named is there, and the limits are kept.
 use Rattle.std.specs.Prelude.{◌<◌, ◌≤◌, ◌+◌, ℕ, List, [], ◌∷◌, ◌++◌, length}
+use Rattle.txs_value.specs.Limits.{most_items, most_locals, most_threads, most_parameters, most_levels, most_definitions}
 use Rattle.txs_value.specs.declared.op.Callee.{Callee}
 use Rattle.txs_value.specs.declared.op.Callee.TheVariants.{Core as CoreOp, Function}
 use Rattle.txs_tree.specs.Known.{Known, known_of, known, levels}
@@ -21,14 +22,14 @@ abbrev mutual
   ScopedTree ks d (Let values body m) = ScopedLet ks d values × ScopedTree ks (d + count values) body
   ScopedTree ks d (Loop values body m) = ScopedLet ks d values × ScopedTree ks (d + count values) body
   ScopedTree ks d (Recur values m) = ScopedAll ks d values
-  ScopedTree ks d (Core op args m) = (count args ≤ 65535) × ScopedAll ks d args
+  ScopedTree ks d (Core op args m) = (count args ≤ most_items) × ScopedAll ks d args
   ScopedTree ks d (Call f args m) = (f < length ks) × ScopedAll ks d args
-  ScopedTree ks d (VectorOf items m) = (count items ≤ 65535) × ScopedAll ks d items
-  ScopedTree ks d (Println args m) = (count args ≤ 65535) × ScopedAll ks d args
+  ScopedTree ks d (VectorOf items m) = (count items ≤ most_items) × ScopedAll ks d items
+  ScopedTree ks d (Println args m) = (count args ≤ most_items) × ScopedAll ks d args
   ScopedTree ks d (Dosync body m) = ScopedTree ks d body
   ScopedTree ks d (Deref cell m) = ScopedTree ks d cell
   ScopedTree ks d (Alter cell callee args m) =
-      ScopedTree ks d cell × ScopedCallee ks callee × (count args < 65535) × ScopedAll ks d args
+      ScopedTree ks d cell × ScopedCallee ks callee × (count args < most_items) × ScopedAll ks d args
 
   -- each of these with the same locals
   pub ScopedAll : List Known → ℕ → Trees → Type 0
@@ -37,12 +38,12 @@ abbrev mutual
 
   -- each value sees the locals before it; at most 200 are live at once
   pub ScopedLet : List Known → ℕ → Trees → Type 0
-  ScopedLet ks d none = d ≤ 200
+  ScopedLet ks d none = d ≤ most_locals
   ScopedLet ks d (more e rest) = ScopedTree ks d e × ScopedLet ks (d + 1) rest
 
 -- a function's body sees its parameters, and the functions before it
 abbrev pub ScopedFunction : List Known → PlainFunction → Type 0
-ScopedFunction ks f = (f.parameters ≤ 20) × ScopedTree ks f.parameters f.body × (levels ks f.body ≤ 1000)
+ScopedFunction ks f = (f.parameters ≤ most_parameters) × ScopedTree ks f.parameters f.body × (levels ks f.body ≤ most_levels)
 
 -- functions in order, each of which sees those before it alone
 abbrev pub ScopedFunctions : List Known → List PlainFunction → Type 0
@@ -51,7 +52,7 @@ ScopedFunctions ks (f ∷ fs) = ScopedFunction ks f × ScopedFunctions (ks ++ kn
 
 -- a thread's body has no locals yet, and sees all functions
 abbrev pub ScopedThread : List Known → PlainThread → Type 0
-ScopedThread ks t = ScopedTree ks 0 t.body × (levels ks t.body ≤ 1000)
+ScopedThread ks t = ScopedTree ks 0 t.body × (levels ks t.body ≤ most_levels)
 
 -- each of these threads
 abbrev pub ScopedThreads : List Known → List PlainThread → Type 0
@@ -62,6 +63,6 @@ ScopedThreads ks (t ∷ ts) = ScopedThread ks t × ScopedThreads ks ts
 pub record Scoped (p : PlainProgram) : Type 0 where
   pub functions : ScopedFunctions [] p.functions
   pub threads : ScopedThreads (known p.functions) p.threads
-  pub few_cells : length p.cells ≤ 1000
-  pub few_functions : length p.functions ≤ 1000
-  pub few_threads : length p.threads ≤ 64
+  pub few_cells : length p.cells ≤ most_definitions
+  pub few_functions : length p.functions ≤ most_definitions
+  pub few_threads : length p.threads ≤ most_threads

@@ -1,6 +1,7 @@
 -- Which programs are sound: those that the checks accept.
 use Rattle.std.specs.Prelude.{◌≡◌, ◌<◌, ◌≤◌, ◌+◌, ℕ, suc, true, false, List, [], ◌∷◌, ◌++◌, length, Option, Some, None}
 use Rattle.txs_operations.specs.Core.{takes}
+use Rattle.txs_value.specs.Limits.{most_items, most_locals, most_parameters, most_levels, most_nodes}
 use Rattle.txs_value.specs.Places.{nth}
 use Rattle.txs_value.specs.declared.op.Op.{Op}
 use Rattle.txs_value.specs.declared.op.Callee.{Callee}
@@ -34,7 +35,7 @@ MayCall in_dosync k = k.outside ≡ false
 
 -- an operation takes so many arguments, and an instruction can name as many
 abbrev pub TakesFew : Op → ℕ → Type 0
-TakesFew op n = (takes op n ≡ true) × (n ≤ 65535)
+TakesFew op n = (takes op n ≡ true) × (n ≤ most_items)
 
 -- a function that is defined before takes so many arguments, and may be called here
 pub record SoundCall (ks : List Known) (zone : Zone) (f n : ℕ) : Type 0 where
@@ -70,9 +71,9 @@ abbrev mutual
   SoundTree ks zone d tail (Recur values m) = (tail ≡ Some (count values)) × SoundAll ks zone d values
   SoundTree ks zone d tail (Core op args m) = TakesFew op (count args) × SoundAll ks zone d args
   SoundTree ks zone d tail (Call f args m) = SoundCall ks zone f (count args) × SoundAll ks zone d args
-  SoundTree ks zone d tail (VectorOf items m) = (count items ≤ 65535) × SoundAll ks zone d items
+  SoundTree ks zone d tail (VectorOf items m) = (count items ≤ most_items) × SoundAll ks zone d items
   -- printing is for outside
-  SoundTree ks zone d tail (Println args m) = MayLeave zone × (count args ≤ 65535) × SoundAll ks zone d args
+  SoundTree ks zone d tail (Println args m) = MayLeave zone × (count args ≤ most_items) × SoundAll ks zone d args
   -- a barrier for recur; an inner one joins
   SoundTree ks zone d tail (Dosync body m) = SoundTree ks in_dosync d None body
   SoundTree ks zone d tail (Deref cell m) = SoundTree ks zone d None cell
@@ -87,7 +88,7 @@ abbrev mutual
 
   -- each value sees the locals before it
   pub SoundLet : List Known → Zone → ℕ → Trees → Type 0
-  SoundLet ks zone d none = d ≤ 200
+  SoundLet ks zone d none = d ≤ most_locals
   SoundLet ks zone d (more e rest) = SoundTree ks zone d None e × SoundLet ks zone (d + 1) rest
 
   -- the last one is in tail position
@@ -126,7 +127,7 @@ abbrev mutual
 
 -- a function's body: its parameters are its first locals, and it is a target of recur
 abbrev pub SoundFunction : List Known → PlainFunction → Type 0
-SoundFunction ks f = (f.parameters ≤ 20) × SoundTree ks in_function f.parameters (Some f.parameters) f.body × (levels ks f.body ≤ 1000)
+SoundFunction ks f = (f.parameters ≤ most_parameters) × SoundTree ks in_function f.parameters (Some f.parameters) f.body × (levels ks f.body ≤ most_levels)
 
 -- each function calls those before it alone
 abbrev pub SoundFunctions : List Known → List PlainFunction → Type 0
@@ -135,7 +136,7 @@ SoundFunctions ks (f ∷ fs) = SoundFunction ks f × SoundFunctions (ks ++ known
 
 -- a thread's body: outside every transaction, with no locals yet
 abbrev pub SoundThread : List Known → PlainThread → Type 0
-SoundThread ks t = SoundTree ks in_thread 0 None t.body × (levels ks t.body ≤ 1000)
+SoundThread ks t = SoundTree ks in_thread 0 None t.body × (levels ks t.body ≤ most_levels)
 
 -- each of these threads
 abbrev pub SoundThreads : List Known → List PlainThread → Type 0
@@ -157,7 +158,7 @@ pub record Sound (p : PlainProgram) : Type 0 where
   pub scoped : Scoped p
   pub functions : SoundFunctions [] p.functions
   pub threads : SoundThreads (known p.functions) p.threads
-  pub few_nodes : nodes_of_functions p.functions + nodes_of_all p.threads ≤ 200000
+  pub few_nodes : nodes_of_functions p.functions + nodes_of_all p.threads ≤ most_nodes
 
 -- one thread that the checks accept
 pub record SoundSource (p : ThreadSource) : Type 0 where

@@ -3,6 +3,7 @@
 //! equality, and `write_text` appends the printed text.
 #![tactic(auto)]
 
+pub mod action;
 mod body;
 mod branch;
 pub mod cell;
@@ -11,6 +12,7 @@ pub mod equal;
 pub mod fault;
 mod items;
 mod leaf;
+pub mod limits;
 pub mod listed;
 pub mod op;
 pub mod print;
@@ -18,6 +20,7 @@ mod root;
 mod rows;
 pub mod value;
 
+pub use action::{Action, copy_action};
 pub use cell::CellDefinition;
 pub use copy::{copy_value, copy_values};
 pub use equal::same;

@@ -1,6 +1,7 @@
 //! Rows that several vectors may share: changed in place while they have one owner, else in a copy.
 ghost use Rattle.std.specs.Prelude.{◌≡◌, ◌<◌, ◌≤◌, ◌+◌, ◌++◌, ◌∷◌, length, take, drop, IfOk, OnOk, Some};
 ghost use Rattle.std.specs.List.{slice_get};
+ghost use Rattle.txs_value.specs.Limits.{most_items};
 ghost use Rattle.txs_value.specs.View.{plain_of};
 
 use crate::value::{Leaf, Root, Rows, Value};
@@ -62,7 +63,7 @@ impl Root {
     /// One more leaf at the end. After an error leaves may be gone.
     pub(crate) fn push(&mut self, alloc: Global, leaf: Leaf) -> Result<(), AllocError>
         requires full { length leaf ≡ 32 }
-        requires room { length self.old < 65536 }
+        requires room { length self.old < most_items + 1 }
         ensures { OnOk result (self.new ≡ self.old ++ leaf) }
     {
         if let Some(rows) = Arc::get_mut(&mut self.shared) {

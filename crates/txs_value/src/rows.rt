@@ -1,6 +1,7 @@
 //! What a long vector's owners share: full branches, and full leaves behind them.
 ghost use Rattle.std.specs.Prelude.{◌≡◌, ◌<◌, ◌≤◌, ◌+◌, ◌++◌, ◌∷◌, length, take, drop, IfOk, OnOk, OnErr, Some};
 ghost use Rattle.std.specs.List.{slice_get};
+ghost use Rattle.txs_value.specs.Limits.{most_items};
 ghost use Rattle.txs_value.specs.View.{plain_of};
 
 use crate::branch::{copy_leaves, put_in, value_in};
@@ -81,7 +82,7 @@ impl Rows {
     /// One more leaf at the end. After an error leaves may be gone.
     pub(crate) fn push(&mut self, alloc: Global, leaf: Leaf) -> Result<(), AllocError>
         requires full { length leaf ≡ 32 }
-        requires room { length self.old < 65536 }
+        requires room { length self.old < most_items + 1 }
         ensures { OnOk result (self.new ≡ self.old ++ leaf) }
     {
         if self.leaves.len() < 32 {

@@ -13,7 +13,8 @@ use Rattle.txs_asks.specs.declared.event.EventKind.TheVariants.{Read, Commit, Re
 use Rattle.txs_value.specs.declared.value.CellId.{CellId}
 use Rattle.txs_value.specs.declared.value.CellKind.TheVariants.{Ref}
 use Rattle.txs_value.specs.declared.value.Value.{Value}
-use Rattle.txs_world.specs.Book.{same_kind, is_of_kind, opening, value_or, changed, after, is_there, writes_to, written, most_events, has_cell, has_ref, has_refs, LegalKind, Guarded}
+use Rattle.txs_world.specs.Book.{same_kind, is_of_kind, opening, value_or, changed, after, is_there, writes_to, written, has_cell, has_ref, has_refs, LegalKind, Guarded}
+use Rattle.txs_value.specs.Limits.{most_events}
 use Rattle.txs_world.specs.Kept.{slot_of, no_slot, IsSlot, StandsAt, open_slots, put_all, all_below, WritesNothing, IsKept}
 use Rattle.txs_world.specs.Store.{PlainStore, store_with, event_of, looks}
 use Rattle.txs_world.specs.declared.cell.StoreCell.{StoreCell}

@@ -11,7 +11,8 @@ use Rattle.txs_asks.specs.declared.event.Event.{Event}
 use Rattle.txs_asks.specs.declared.event.EventKind.{EventKind}
 use Rattle.txs_asks.specs.declared.event.EventKind.TheVariants.{Read, Commit, Retry, Fail}
 use Rattle.txs_value.specs.declared.value.CellId.{CellId}
-use Rattle.txs_world.specs.Book.{has_ref, has_refs, ascend_from, may_name, written, most_events, LegalKind, Untouched, Guarded, Legal, Undisturbed}
+use Rattle.txs_world.specs.Book.{has_ref, has_refs, ascend_from, may_name, written, LegalKind, Untouched, Guarded, Legal, Undisturbed}
+use Rattle.txs_value.specs.Limits.{most_events}
 use Rattle.txs_world.specs.Store.{is_lawful, event_of, adds, served, disturbed, looks, commits, serve}
 use Rattle.txs_world.specs.declared.cell.StoreCell.{StoreCell}
 use Rattle.txs_world.proofs.Growth.{each_more}

@@ -1,6 +1,7 @@
 -- The book of what actors did to the store, and the refs after its first events.
 use Rattle.std.specs.Prelude.{◌≡◌, ◌≤◌, ℕ, zero, suc, Bool, true, false, not, ◌&&◌, ◌||◌, ◌==◌, nat_le, List, [], ◌∷◌, ◌++◌, length, Option, Some, None}
 use Rattle.txs_asks.specs.Ask.{Writes, buffered}
+use Rattle.txs_value.specs.Limits.{most_events}
 use Rattle.txs_value.specs.Cells.{World}
 use Rattle.txs_value.specs.Places.{nth}
 use Rattle.txs_asks.specs.declared.event.Event.{Event}
@@ -93,10 +94,6 @@ written k zero (e ∷ es) = writes_to e.kind k || written k zero es
 written k (suc p) (e ∷ es) = written k p es
 
 -- ---- legal books
-
--- a book has at most so many events
-unfoldable pub most_events : ℕ
-most_events = 1000000
 
 -- whether every event of the actor stands before place p
 abbrev pub all_before : ℕ → ℕ → List Event → Bool

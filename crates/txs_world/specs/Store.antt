@@ -11,7 +11,8 @@ use Rattle.txs_asks.specs.declared.event.Event.{Event}
 use Rattle.txs_asks.specs.declared.event.EventKind.{EventKind}
 use Rattle.txs_asks.specs.declared.event.EventKind.TheVariants.{Read, Commit, Retry, Fail}
 use Rattle.txs_value.specs.declared.value.CellId.{CellId}
-use Rattle.txs_world.specs.Book.{has_cell, has_ref, has_refs, ascend_from, may_name, after, written, most_events}
+use Rattle.txs_world.specs.Book.{has_cell, has_ref, has_refs, ascend_from, may_name, after, written}
+use Rattle.txs_value.specs.Limits.{most_events}
 use Rattle.txs_world.specs.declared.cell.StoreCell.{StoreCell}
 
 -- a store as contracts see it: its cells as they opened, and its book

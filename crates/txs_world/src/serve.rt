@@ -1,7 +1,8 @@
 //! What the store answers.
 
 ghost use Rattle.std.specs.Prelude.{◌≡◌, ◌≤◌, ◌<◌, ◌++◌, ◌∷◌, [], ◌↔◌, length, true, IsTrue, IfOk, OnOk, OnErr};
-ghost use Rattle.txs_world.specs.Book.{has_cell, has_ref, has_refs, ascend_from, may_name, opening, after, written, most_events, LegalKind, Guarded};
+ghost use Rattle.txs_world.specs.Book.{has_cell, has_ref, has_refs, ascend_from, may_name, opening, after, written, LegalKind, Guarded};
+ghost use Rattle.txs_value.specs.Limits.{most_events};
 ghost use Rattle.txs_world.specs.Kept.{WritesNothing};
 ghost use Rattle.txs_world.specs.Store.{store_with, is_lawful, event_of, adds, disturbed, looks, commits, serve, Answers};
 ghost use Rattle.txs_asks.specs.declared.ask.Reply.TheVariants as reply;
@@ -11,10 +12,8 @@ use crate::slot::{make_room, put_all};
 use crate::store::Store;
 use std::alloc::AllocError;
 use txs_asks::{Ask, Event, EventKind, Reply, copy_writes};
+use txs_value::limits::MOST_EVENTS;
 use txs_value::{CellId, Listed, Value, copy_value};
-
-/// A book has at most so many events.
-const MOST_EVENTS: usize = 1_000_000;
 
 impl Store {
     /// Answers an ask of an actor, as a whole. The reply is `Full` exactly where the book has as many
@@ -34,7 +33,7 @@ impl Store {
     }
 
     /// How many events there are.
-    #[tactic(auto, unfolding(crate::specs::Book::most_events))]
+    #[tactic(auto, unfolding(txs_value::specs::Limits::most_events))]
     fn read_point(&self) -> u32
         ensures { result ≡ length self.now.book }
     {
@@ -42,7 +41,7 @@ impl Store {
     }
 
     /// Whether there is no room for one more event.
-    #[tactic(auto, unfolding(crate::specs::Book::most_events))]
+    #[tactic(auto, unfolding(txs_value::specs::Limits::most_events))]
     fn is_full(&self) -> bool
         ensures { IsTrue result ↔ (most_events ≤ length self.now.book) }
     {

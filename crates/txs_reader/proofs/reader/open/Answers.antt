@@ -11,8 +11,8 @@ returns-clause-ok c =
     let few : length (opens old) < 100 = omega (arith, length-divided old.open.items (trees old.forms.items)) in
     rw (c.in_ok-open.ensures.open, c.in_ok-open.ensures.forms) (step_open c.args.script.now (opens old) (inner old) c.args.at c.args.bracket c.requires.reached c.requires.inside c.requires.byte few c.requires.room)
 
-pub returns-then-len-ge-MAX_DEPTH-clause-err : goal.returns-then-len-ge-MAX_DEPTH-clause-err
-returns-then-len-ge-MAX_DEPTH-clause-err c =
+pub returns-then-len-ge-MOST_NESTING-clause-err : goal.returns-then-len-ge-MOST_NESTING-clause-err
+returns-then-len-ge-MOST_NESTING-clause-err c =
     let old = c.args.state.now in
     let many : 100 ≤ length (opens old) = omega (arith, length-divided old.open.items (trees old.forms.items)) in
     rw c.span_of.ensures (stop_deep c.args.script.now (opens old) (inner old) c.args.at c.args.bracket c.requires.reached c.requires.inside c.requires.byte many c.requires.room)

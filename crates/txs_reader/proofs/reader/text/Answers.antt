@@ -12,8 +12,8 @@ returns-in_err-text-clause-err c =
     let p = err_from_is_err_and c.from_residual.result c.from_residual.ensures.1 in
     rw (p.1, p.2) (stop_text_as c.args.script.now (opens old) (inner old) c.args.at _ _ c.requires.reached c.requires.inside c.requires.room c.in_err-text.ensures.err)
 
-pub returns-then-len-gt-MAX_TEXT-clause-err : goal.returns-then-len-gt-MAX_TEXT-clause-err
-returns-then-len-gt-MAX_TEXT-clause-err c =
+pub returns-then-len-gt-MOST_TEXT-clause-err : goal.returns-then-len-gt-MOST_TEXT-clause-err
+returns-then-len-gt-MOST_TEXT-clause-err c =
     let old = c.args.state.now in
     let ok = c.in_ok-text.ensures.ok in
     rw c.span_of-span.ensures (stop_text c.args.script.now (opens old) (inner old) c.args.at _ _ c.requires.reached c.requires.inside c.requires.room (text_too_long c.args.script.now c.args.at _ _ ok.0 ok.2 ok.1 (omega (arith, c.len.ensures))))

@@ -1,5 +1,6 @@
 use Rattle.std.proofs.Common.{◌<◌, ap, sym, subst, arith, length, length-append, [], ◌∷◌}
-use Rattle.txs_world.specs.Book.{most_events, LegalKind}
+use Rattle.txs_world.specs.Book.{LegalKind}
+use Rattle.txs_value.specs.Limits.{most_events}
 use Rattle.txs_world.specs.Store.{PlainStore, event_of}
 use Rattle.txs_world.proofs.Kept.{fits_place, pushed}
 use Rattle.txs_world.proofs.store.Store.push.Goals as goal

@@ -1,6 +1,7 @@
 use Rattle.std.proofs.Common.{◌≡◌, ◌<◌, ap, sym, ◌∙◌, subst, arith, length, length-append, [], ◌∷◌, ◌++◌, true}
 use Rattle.txs_asks.specs.declared.event.EventKind.TheVariants.{Commit}
-use Rattle.txs_world.specs.Book.{most_events, LegalKind, Guarded}
+use Rattle.txs_world.specs.Book.{LegalKind, Guarded}
+use Rattle.txs_value.specs.Limits.{most_events}
 use Rattle.txs_world.specs.Kept.{all_below, put_all}
 use Rattle.txs_world.specs.Store.{PlainStore, event_of}
 use Rattle.txs_world.proofs.Kept.{fits_place, committed, refs_below}

@@ -1,0 +1,32 @@
+//! Actions: what `send` puts into an agent's mailbox.
+
+ghost use Rattle.std.specs.Prelude.{◌≡◌, IfOk};
+
+use crate::copy::copy_values;
+use crate::fault::Span;
+use crate::listed::Listed;
+use crate::op::Callee;
+use crate::value::{CellId, Value};
+use std::alloc::{AllocError, Global};
+
+/// An action that waits for its agent: what is called on the agent's state and these further arguments, and where the `send`
+/// stands in the script.
+#[derive(Drop)]
+pub struct Action {
+    pub agent: CellId,
+    pub callee: Callee,
+    pub args: Listed<Value>,
+    pub span: Span,
+}
+
+/// The same action in memory of its own; what its values hold is shared. An error where there is no memory for the list.
+pub fn copy_action(alloc: Global, action: &Action) -> Result<Action, AllocError>
+    ensures { IfOk result (λ c. c ≡ action.now) }
+{
+    Ok(Action {
+        agent: action.agent,
+        callee: action.callee,
+        args: copy_values(alloc, &action.args)?,
+        span: action.span,
+    })
+}
