@@ -1,12 +1,11 @@
 //! The program that runs scripts: `txs run [FILE]` and `txs check [FILE]`.
 #![tactic(auto)]
 
-use std::alloc::AllocError;
 use std::fs::File;
 use std::io::{ErrorKind, Read};
 use std::process::ExitCode;
 use std::{env, io};
-use txs_play::play;
+use txs_play::play_words;
 use txs_words::{Words, parse_words};
 
 /// The reader of a file that can't be opened.
@@ -29,29 +28,33 @@ fn args_of(rt: &HostRuntime) -> io::Result<Vec<String>> {
 }
 
 /// The file that the words name, if they name one.
-fn file_of(rt: &HostRuntime, args: &[String]) -> Result<Option<String>, AllocError> {
-    match parse_words(rt.alloc(), args)? {
-        Words::Check { file, .. } | Words::Run { file, .. } => Ok(file),
-        Words::Shown(_) | Words::Faulty(_) => Ok(None),
+fn file_of(words: &Words) -> Option<&str> {
+    match words {
+        Words::Check { file, .. } | Words::Run { file, .. } => match file {
+            Some(name) => Some(name.as_str()),
+            None => None,
+        },
+        Words::Shown(_) | Words::Faulty(_) => None,
     }
 }
 
-/// Plays the program on the file or on standard input.
-fn play_on(rt: &HostRuntime, args: &[String]) -> Result<u8, AllocError> {
+/// Plays the words on their file or on standard input.
+fn play_on(rt: &HostRuntime, words: &Words) -> u8 {
     let alloc = rt.alloc();
     let mut writer = io::writer(rt);
     let mut faults = rt.stderr();
-    let Some(name) = file_of(rt, args)? else {
-        return Ok(play(alloc, args, &mut rt.stdin(), &mut writer, &mut faults));
+    let Some(name) = file_of(words) else {
+        return play_words(alloc, words, &mut rt.stdin(), &mut writer, &mut faults);
     };
-    match File::open(rt, name.as_str()) {
-        Ok(mut file) => Ok(play(alloc, args, &mut file, &mut writer, &mut faults)),
-        Err(_) => Ok(play(alloc, args, &mut Unreadable, &mut writer, &mut faults)),
+    match File::open(rt, name) {
+        Ok(mut file) => play_words(alloc, words, &mut file, &mut writer, &mut faults),
+        Err(_) => play_words(alloc, words, &mut Unreadable, &mut writer, &mut faults),
     }
 }
 
 fn main(rt: HostRuntime) -> io::Result<ExitCode> {
     let args = args_of(&rt)?;
-    let status = play_on(&rt, args.as_slice())?;
+    let words = parse_words(rt.alloc(), args.as_slice())?;
+    let status = play_on(&rt, &words);
     Ok(ExitCode::from(status))
 }

@@ -1,4 +1,1 @@
-pub mod CellLines
-pub mod Explained
-pub mod Lent
-pub mod Told
+pub mod Telling

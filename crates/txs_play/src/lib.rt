@@ -1,12 +1,7 @@
 //! The program over any streams: `play` takes the words of the command line and a script, and writes what
-//! a run, a check or a refusal tells.
+//! a run, a check or a refusal tells, or the text of help or of a usage fault.
 #![tactic(auto)]
 
-mod advice;
-pub mod cells;
-pub mod explain;
 pub mod program;
-pub mod streams;
-pub mod told;
 
-pub use program::play;
+pub use program::{play, play_words};

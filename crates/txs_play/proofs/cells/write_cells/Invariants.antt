@@ -1,6 +1,0 @@
-use Rattle.std.proofs.Common.{◌≡◌, ◌++◌, drop}
-use Rattle.txs_play.specs.CellLines.{cell_lines, newest}
-use Rattle.txs_play.proofs.cells.write_cells.Given as goal
-
-abbrev pub invariant-loop-i : goal.invariant-loop-i
-invariant-loop-i l = l.output.items ++ cell_lines (newest l.store) l.i (drop l.i l.cells) ≡ l.fn.output.items ++ cell_lines (newest l.store) 0 l.cells

@@ -1,7 +1,0 @@
-use Rattle.std.proofs.Common.{◌≡◌, ◌++◌, ap, ◌∙◌, Some, None}
-use Rattle.txs_play.specs.Lent.{text_in}
-use Rattle.txs_play.specs.Told.{lesson_of}
-use Rattle.txs_play.proofs.told.failed.Goals as goal
-
-pub returns-clause-errors : goal.returns-clause-errors
-returns-clause-errors c = record { advice = text_in c.args.advice; is = c.in_ok-told.ensures.errors ∙ ap (λ l. l ++ lesson_of (text_in c.args.script.file) c.args.script.text.now (Some c.args.fault.span) (text_in c.args.advice)) c.in_ok-line.ensures }

@@ -1,5 +1,0 @@
-use Rattle.txs_play.specs.Told.{of_refused}
-use Rattle.txs_play.proofs.told.refused.Goals as goal
-
-pub returns : goal.returns
-returns c = λ wanted. of_refused wanted c.args.error.now c.requires c.in_ok-told.ensures.output c.in_ok-told.ensures.errors c.in_ok-told.ensures.status

@@ -1,0 +1,26 @@
+-- What the program tells for its words.
+use Rattle.std.specs.Prelude.{◌≡◌, ℕ, Bool, true, false, List, [], codes, string_bytes, Option, Some, None}
+use Rattle.std.proofs.Common.{String, Global}
+use Rattle.txs_tell.specs.Told.{Told, Tells}
+use Rattle.txs_tell.specs.declared.told.Use.TheVariants as wanted
+use Rattle.txs_words.specs.declared.words.Words.{Words}
+use Rattle.txs_words.specs.declared.words.Words.TheVariants.{Check, Run, Shown, Faulty}
+
+-- the name under which lines are explained, where they are: that of the file, or "-" for the standard input
+abbrev pub explained_as : Bool → Option (String Global) → Option (List ℕ)
+explained_as false file = None
+explained_as true None = Some (codes "-")
+explained_as true (Some name) = Some (string_bytes name)
+
+-- What is told for words, where the input begins so: what is told of that script, or a text of the words themselves, which is
+-- help (status 0) or a usage fault (status 2).
+abbrev pub WordsTell : List ℕ → Words → Told → Type 0
+WordsTell input (Check file explain) t = Tells (record { text = input; file = explained_as explain file }) wanted.Check t
+WordsTell input (Run file steps cells explain) t = Tells (record { text = input; file = explained_as explain file }) (wanted.Run steps cells) t
+WordsTell input (Shown text) t = t ≡ record { output = string_bytes text; errors = []; status = 0 }
+WordsTell input (Faulty text) t = t ≡ record { output = []; errors = string_bytes text; status = 2 }
+
+-- What the program tells: what is told for its words, whichever they are, or that there was no memory for them.
+pub data ArgsTell (input : List ℕ) (t : Told) : Type 0 where
+  of_words : (words : Words) (told : WordsTell input words t) → ArgsTell input t
+  of_memory : (output : t.output ≡ []) (errors : t.errors ≡ codes "out of memory\n") (status : t.status ≡ 4) → ArgsTell input t

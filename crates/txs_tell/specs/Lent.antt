@@ -1,0 +1,19 @@
+-- What is lent to the program's parts, as plain data.
+use Rattle.std.specs.Prelude.{ℕ, List, Option, Some, None}
+use Rattle.std.specs.Borrow.{Bor}
+use Rattle.txs_tell.specs.Told.{Script, Told}
+use Rattle.txs_tell.specs.declared.explain.Script as lent
+use Rattle.txs_tell.specs.declared.told.Told as owned
+
+-- a text that is lent, if one is
+abbrev pub text_in : Option (Bor (List ℕ)) → Option (List ℕ)
+text_in None = None
+text_in (Some text) = Some text.now
+
+-- a script that is lent
+abbrev pub script_of : lent.Script → Script
+script_of s = record { text = s.text.now; file = text_in s.file }
+
+-- what is told, as plain data
+abbrev pub told_of : owned.Told → Told
+told_of t = record { output = t.output.items; errors = t.errors.items; status = t.status }

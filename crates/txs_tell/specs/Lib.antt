@@ -1,0 +1,4 @@
+pub mod CellLines
+pub mod Explained
+pub mod Lent
+pub mod Told

@@ -1,0 +1,65 @@
+//! What stands behind a line on the standard error where it is explained: the place in the script, the line
+//! of the script with carets below it, and what to do.
+
+ghost use Rattle.std.specs.Prelude.{◌≡◌, ◌++◌, OnOk};
+ghost use Rattle.txs_tell.specs.Explained.{place_line, shown, explained};
+
+use itoa::Buffer;
+use std::alloc::AllocError;
+use txs_position::{position, write_pointed};
+use txs_value::Span;
+
+/// A script of which lines on the standard error tell.
+#[derive(Clone, Copy)]
+pub struct Script<'a> {
+    pub text: &'a [u8],
+    /// The name of its file where the lines are to be explained.
+    pub file: Option<&'a str>,
+}
+
+impl<'a> Script<'a> {
+    /// Whether a list begins in this place, and no token.
+    pub fn has_list_at(self, at: Span) -> bool {
+        self.text.get(at.from as usize) == Some(&b'(')
+    }
+}
+
+/// Appends the line that names a place: the file, the line and the column, both from 1.
+fn write_place(out: &mut Vec<u8>, file: &str, text: &[u8], offset: usize) -> Result<(), AllocError>
+    ensures { OnOk result (out.new.items ≡ out.old.items ++ place_line file.now text.now offset) }
+{
+    let place = position(text, offset);
+    let mut buffer = Buffer::new();
+    out.extend_from_slice(file.as_bytes())?;
+    out.push(b':')?;
+    out.extend_from_slice(buffer.format(place.line).as_bytes())?;
+    out.push(b':')?;
+    out.extend_from_slice(buffer.format(place.column).as_bytes())?;
+    Ok(out.push(b'\n')?)
+}
+
+/// Appends the lines that show a place.
+fn write_shown(out: &mut Vec<u8>, file: &str, text: &[u8], at: Span) -> Result<(), AllocError>
+    ensures { OnOk result (out.new.items ≡ out.old.items ++ shown file.now text.now at) }
+{
+    write_place(out, file, text, at.from as usize)?;
+    write_pointed(text, at.from as usize, at.to as usize, out)
+}
+
+/// Appends what explains a line: a place of the script, if the line has one, as the file's name, line and
+/// column, and below it the line of the script with carets under what is there; and then what to do.
+pub fn write_explained(
+    out: &mut Vec<u8>,
+    file: &str,
+    text: &[u8],
+    at: Option<Span>,
+    advice: &str,
+) -> Result<(), AllocError>
+    ensures { OnOk result (out.new.items ≡ out.old.items ++ explained file.now text.now at advice.now) }
+{
+    if let Some(at) = at {
+        write_shown(out, file, text, at)?;
+    }
+    out.extend_from_slice(advice.as_bytes())?;
+    Ok(out.push(b'\n')?)
+}

@@ -1,0 +1,14 @@
+//! What the program tells of a script, over any streams: the script is read, compiled and run, and what comes of it stands in
+//! lines on two streams and in a status.
+#![tactic(auto)]
+
+mod advice;
+pub mod cells;
+pub mod explain;
+pub mod play;
+pub mod script;
+pub mod streams;
+pub mod told;
+
+pub use play::{play_script, write_told};
+pub use told::Use;

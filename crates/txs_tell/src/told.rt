@@ -1,0 +1,297 @@
+//! What the program tells of a script: its lines on both streams, and its status.
+
+ghost use Rattle.std.specs.Prelude.{◌≡◌, ◌++◌, [], codes, decimal, Some, None, IfOk, OnOk};
+ghost use Rattle.txs_compile.specs.Compiled.{IsRefusal};
+ghost use Rattle.txs_tell.specs.Told.{ScriptTells, IsLesson, at_place, lesson_of, refusal_line, refused_line, refused_place, failed_line, stopped_line, end_line, end_place, status_of};
+ghost use Rattle.txs_tell.specs.Lent.{text_in, script_of, told_of};
+ghost use Rattle.txs_tell.specs.declared.told.Use.{Use as AnyUse};
+
+use crate::advice::{of_check, of_outcome, of_read, of_resolve};
+use crate::explain::{Script, write_explained};
+use itoa::Buffer;
+use std::alloc::{AllocError, Global};
+use txs_asks::Outcome;
+use txs_compile::CompileError;
+use txs_machine::Ran;
+use txs_value::{Fault, Span};
+
+/// What the program tells: its standard output and error, and its status.
+#[derive(Drop)]
+pub struct Told {
+    pub output: Vec<u8>,
+    pub errors: Vec<u8>,
+    pub status: u8,
+}
+
+/// What is done with a script.
+#[derive(Clone, Copy)]
+pub enum Use {
+    /// It is compiled, and nothing runs.
+    Check,
+    /// It runs for so many steps at most, with its cells told or not.
+    Run { steps: u64, cells: bool },
+}
+
+/// All threads ended.
+pub const DONE: u8 = 0;
+
+/// The script was refused.
+const REFUSED: u8 = 1;
+
+/// The words can't be used, or a stream couldn't be read or written.
+pub const UNUSABLE: u8 = 2;
+
+/// A thread failed.
+const FAILED: u8 = 3;
+
+/// Steps or memory didn't suffice.
+pub const SPENT: u8 = 4;
+
+/// A text on the standard output alone.
+pub fn answer(output: Vec<u8>, alloc: Global) -> Told
+    ensures output { result.output.items ≡ output.items }
+    ensures errors { result.errors.items ≡ [] }
+    ensures status { result.status ≡ 0 }
+{
+    Told {
+        output,
+        errors: Vec::new(alloc),
+        status: DONE,
+    }
+}
+
+/// A line on the standard error alone.
+pub fn complaint(alloc: Global, status: u8, line: &str) -> Result<Told, AllocError>
+    ensures output { IfOk result (λ t. t.output.items ≡ []) }
+    ensures errors { IfOk result (λ t. t.errors.items ≡ line.now ++ codes "\n") }
+    ensures status { IfOk result (λ t. t.status ≡ status) }
+{
+    let mut errors = Vec::new(alloc);
+    errors.extend_from_slice(line.as_bytes())?;
+    errors.push(b'\n')?;
+    Ok(Told {
+        output: Vec::new(alloc),
+        errors,
+        status,
+    })
+}
+
+/// Appends what explains a line, where a file is named and there is a sentence.
+fn explain(
+    errors: &mut Vec<u8>,
+    script: Script<'_>,
+    at: Option<Span>,
+    advice: Option<&str>,
+) -> Result<(), AllocError>
+    ensures { OnOk result (errors.new.items ≡ errors.old.items ++ lesson_of (text_in script.entry.file) script.entry.text.now at (text_in advice.entry)) }
+{
+    match (script.file, advice) {
+        (Some(file), Some(advice)) => write_explained(errors, file, script.text, at, advice),
+        _ => Ok(()),
+    }
+}
+
+/// A line on the standard error alone, and behind it what explains it, where that is wanted.
+fn lesson(
+    alloc: Global,
+    script: Script<'_>,
+    status: u8,
+    mut line: Vec<u8>,
+    at: Option<Span>,
+    advice: Option<&str>,
+) -> Result<Told, AllocError>
+    ensures output { IfOk result (λ t. t.output.items ≡ []) }
+    ensures errors { IfOk result (λ t. t.errors.items ≡ line.items ++ lesson_of (text_in script.entry.file) script.entry.text.now at (text_in advice.entry)) }
+    ensures status { IfOk result (λ t. t.status ≡ status) }
+{
+    explain(&mut line, script, at, advice)?;
+    Ok(Told {
+        output: Vec::new(alloc),
+        errors: line,
+        status,
+    })
+}
+
+/// Appends a number.
+fn write_number(line: &mut Vec<u8>, number: u32) -> Result<(), AllocError>
+    ensures { OnOk result (line.new.items ≡ line.old.items ++ decimal number) }
+{
+    let mut buffer = Buffer::new();
+    line.extend_from_slice(buffer.format(number).as_bytes())
+}
+
+/// Appends where a line ends with a place.
+fn write_place(line: &mut Vec<u8>, at: Span) -> Result<(), AllocError>
+    ensures { OnOk result (line.new.items ≡ line.old.items ++ at_place at) }
+{
+    line.extend_from_slice(b" at ")?;
+    write_number(line, at.from)?;
+    line.extend_from_slice(b"..")?;
+    write_number(line, at.to)?;
+    Ok(line.push(b'\n')?)
+}
+
+/// The line of a refusal.
+fn refusal_line(alloc: Global, number: u8, name: &str, at: Span) -> Result<Vec<u8>, AllocError>
+    ensures { IfOk result (λ line. line.items ≡ refusal_line number name.now at) }
+{
+    let mut line = Vec::new(alloc);
+    line.extend_from_slice(b"refused ")?;
+    write_number(&mut line, u32::from(number))?;
+    line.push(b' ')?;
+    line.extend_from_slice(name.as_bytes())?;
+    write_place(&mut line, at)?;
+    Ok(line)
+}
+
+/// The beginning of a thread's line.
+fn thread_line(alloc: Global, k: u16) -> Result<Vec<u8>, AllocError>
+    ensures { IfOk result (λ line. line.items ≡ codes "thread " ++ decimal k) }
+{
+    let mut line = Vec::new(alloc);
+    line.extend_from_slice(b"thread ")?;
+    write_number(&mut line, u32::from(k))?;
+    Ok(line)
+}
+
+/// The line of a thread that failed.
+fn failed_line(alloc: Global, k: u16, fault: Fault) -> Result<Vec<u8>, AllocError>
+    ensures { IfOk result (λ line. line.items ≡ failed_line k fault) }
+{
+    let mut line = thread_line(alloc, k)?;
+    line.extend_from_slice(b" failed: ")?;
+    line.extend_from_slice(fault.kind.name().as_bytes())?;
+    write_place(&mut line, fault.span)?;
+    Ok(line)
+}
+
+/// The line of a thread that was stopped.
+fn stopped_line(alloc: Global, k: u16, why: &[u8]) -> Result<Vec<u8>, AllocError>
+    ensures { IfOk result (λ line. line.items ≡ stopped_line k why.now) }
+{
+    let mut line = thread_line(alloc, k)?;
+    line.extend_from_slice(b" stopped: ")?;
+    line.extend_from_slice(why)?;
+    line.push(b'\n')?;
+    Ok(line)
+}
+
+/// What is told of a refused script.
+fn refusal(
+    alloc: Global,
+    script: Script<'_>,
+    number: u8,
+    name: &str,
+    at: Span,
+    advice: Option<&str>,
+) -> Result<Told, AllocError>
+    ensures output { IfOk result (λ t. t.output.items ≡ []) }
+    ensures errors { IfOk result (λ t. IsLesson (script_of script.entry) (refusal_line number name.now at) (Some at) t.errors.items) }
+    ensures status { IfOk result (λ t. t.status ≡ 1) }
+{
+    let line = refusal_line(alloc, number, name, at)?;
+    let told = lesson(alloc, script, REFUSED, line, Some(at), advice)?;
+    Ok(told)
+}
+
+/// What is told of a script that isn't compiled, but for why it isn't.
+fn of_error(alloc: Global, script: Script<'_>, error: &CompileError) -> Result<Told, AllocError>
+    ensures output { IfOk result (λ t. t.output.items ≡ []) }
+    ensures errors { IfOk result (λ t. IsLesson (script_of script.entry) (refused_line error.now) (refused_place error.now) t.errors.items) }
+    ensures status { IfOk result (λ t. t.status ≡ 1) }
+{
+    match error {
+        CompileError::Read(e) => {
+            let advice = of_read(e.kind, script.has_list_at(e.at));
+            refusal(alloc, script, e.kind.number(), e.kind.name(), e.at, advice)
+        }
+        CompileError::Resolve(e) => {
+            let advice = of_resolve(e.kind);
+            refusal(alloc, script, e.kind.number(), e.kind.name(), e.at, advice)
+        }
+        CompileError::Check(e) => {
+            let advice = of_check(e.kind);
+            refusal(alloc, script, e.kind.number(), e.kind.name(), e.at, advice)
+        }
+        CompileError::Memory => Err(AllocError),
+    }
+}
+
+/// What is told of a script that isn't compiled, whatever is wanted of it.
+pub fn refused(alloc: Global, script: Script<'_>, error: &CompileError) -> Result<Told, AllocError>
+    requires { IsRefusal script.text.now error.now }
+    ensures { IfOk result (λ t. (wanted : AnyUse) → ScriptTells (script_of script.entry) (told_of t) wanted) }
+{
+    let told = of_error(alloc, script, error)?;
+    Ok(told)
+}
+
+/// What is told of a thread that failed.
+fn failed(
+    alloc: Global,
+    script: Script<'_>,
+    k: u16,
+    fault: Fault,
+    advice: Option<&str>,
+) -> Result<Told, AllocError>
+    ensures output { IfOk result (λ t. t.output.items ≡ []) }
+    ensures errors { IfOk result (λ t. IsLesson (script_of script.entry) (failed_line k fault) (Some fault.span) t.errors.items) }
+    ensures status { IfOk result (λ t. t.status ≡ 3) }
+{
+    let line = failed_line(alloc, k, fault)?;
+    let told = lesson(alloc, script, FAILED, line, Some(fault.span), advice)?;
+    Ok(told)
+}
+
+/// What is told of a thread that was stopped.
+fn stopped(
+    alloc: Global,
+    script: Script<'_>,
+    k: u16,
+    why: &[u8],
+    advice: Option<&str>,
+) -> Result<Told, AllocError>
+    ensures output { IfOk result (λ t. t.output.items ≡ []) }
+    ensures errors { IfOk result (λ t. IsLesson (script_of script.entry) (stopped_line k why.now) None t.errors.items) }
+    ensures status { IfOk result (λ t. t.status ≡ 4) }
+{
+    let line = stopped_line(alloc, k, why)?;
+    let told = lesson(alloc, script, SPENT, line, None, advice)?;
+    Ok(told)
+}
+
+/// Nothing on either stream.
+pub fn nothing(alloc: Global) -> Told
+    ensures output { result.output.items ≡ [] }
+    ensures errors { result.errors.items ≡ [] }
+    ensures status { result.status ≡ 0 }
+{
+    answer(Vec::new(alloc), alloc)
+}
+
+/// What is told of a thread that ended so, but for what it printed.
+fn of_end(alloc: Global, script: Script<'_>, k: u16, outcome: Outcome) -> Result<Told, AllocError>
+    ensures output { IfOk result (λ t. t.output.items ≡ []) }
+    ensures errors { IfOk result (λ t. IsLesson (script_of script.entry) (end_line k outcome) (end_place outcome) t.errors.items) }
+    ensures status { IfOk result (λ t. t.status ≡ status_of outcome) }
+{
+    let advice = of_outcome(outcome);
+    match outcome {
+        Outcome::Done => Ok(nothing(alloc)),
+        Outcome::Failed(fault) => failed(alloc, script, k, fault, advice),
+        Outcome::StepsSpent => stopped(alloc, script, k, b"StepsSpent", advice),
+        Outcome::JournalFull => stopped(alloc, script, k, b"JournalFull", advice),
+        Outcome::Memory => stopped(alloc, script, k, b"Memory", advice),
+    }
+}
+
+/// What is told of a thread that has run.
+pub fn of_thread(alloc: Global, script: Script<'_>, k: u16, ran: Ran) -> Result<Told, AllocError>
+    ensures output { IfOk result (λ t. t.output.items ≡ ran.printed.items) }
+    ensures errors { IfOk result (λ t. IsLesson (script_of script.entry) (end_line k ran.outcome) (end_place ran.outcome) t.errors.items) }
+    ensures status { IfOk result (λ t. t.status ≡ status_of ran.outcome) }
+{
+    let mut told = of_end(alloc, script, k, ran.outcome)?;
+    told.output = ran.printed;
+    Ok(told)
+}
