@@ -7,8 +7,8 @@ use txs_asks::{Ask, Event, EventKind, Reply, copy_ask, copy_event, copy_reply, c
 use txs_operations::{apply, apply_owned, make_vector, takes};
 use txs_value::value::is_name;
 use txs_value::{
-    CellId, CellKind, FaultKind, Listed, Name, Op, Stop, Text, Value, copy_value, copy_values,
-    same, write_line, write_text,
+    Action, Callee, CellId, CellKind, FaultKind, Listed, Name, Op, Span, Stop, Text, Value,
+    copy_action, copy_value, copy_values, same, write_line, write_text,
 };
 
 // Each line is a call and its answer: a value as it prints, a fault, or `arity` where the operation
@@ -510,6 +510,23 @@ fn copies_what_is_told(alloc: Global, cell: CellId) -> Result<bool, Fail> {
     )
 }
 
+// Whether the copy of an action of one argument is one.
+fn copies_an_action(alloc: Global, agent: CellId) -> Result<bool, Fail> {
+    let action = Action {
+        agent,
+        callee: Callee::Core(Op::Conj),
+        args: Listed::from_vec(vec![in alloc; nested(alloc, 1)?]?),
+        span: Span { from: 3, to: 9 },
+    };
+    let copy = copy_action(alloc, &action)?;
+    Ok(
+        copy.agent.number == agent.number
+            && copy.callee == Callee::Core(Op::Conj)
+            && copy.args.as_slice().len() == 1
+            && copy.span.to == 9,
+    )
+}
+
 #[test]
 fn copies(rt: HostRuntime) -> Result<(), Fail> {
     let alloc = rt.alloc();
@@ -521,6 +538,7 @@ fn copies(rt: HostRuntime) -> Result<(), Fail> {
     assert!(rt; copies_values(alloc, all)?);
     assert!(rt; copies_a_commit(alloc, cell)?);
     assert!(rt; copies_what_is_told(alloc, cell)?);
+    assert!(rt; copies_an_action(alloc, cell)?);
     Ok(())
 }
 

@@ -1,0 +1,4 @@
+pub mod Frames
+pub mod Laws
+pub mod Owns
+pub mod Places

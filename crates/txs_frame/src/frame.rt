@@ -1,0 +1,250 @@
+//! The frame of a transaction.
+
+ghost use Rattle.std.specs.Prelude.{◌≡◌, ◌||◌, ◌++◌, ◌∷◌, [], option_copied, is_some, IfOk, OnOk, OnErr};
+ghost use Rattle.txs_asks.specs.Ask.{buffered};
+ghost use Rattle.txs_frame.specs.Frame.{Work, no_work, is_set, is_commuted, set_ref, ensure_ref, commute_ref, hold_send, commuted, set_writes, SetAnswers};
+ghost use Rattle.txs_frame.specs.Kept.{cells_by, writes_by, was_set, only_commuted};
+ghost use Rattle.txs_value.specs.declared.value.CellKind.TheVariants.{Ref as a_ref};
+ghost use Rattle.txs_frame.specs.declared.frame.SetError.TheVariants.{Memory as no_memory};
+
+use crate::own::{How, Own, find, how_at, put, was_commuted, with_commute};
+use std::alloc::{AllocError, Global};
+use std::marker::Model;
+use thiserror::Error;
+use txs_value::{Action, Callee, CellId, CellKind, Listed, Value, copy_value};
+
+/// A commute that is kept: its ref, what it calls, and the arguments behind the ref's value.
+#[derive(Drop)]
+pub struct Commute {
+    pub cell: CellId,
+    pub callee: Callee,
+    pub args: Listed<Value>,
+}
+
+/// Why a ref isn't set.
+#[derive(Clone, Copy, Debug, Error)]
+pub enum SetError {
+    /// The transaction commuted the ref.
+    #[error("set after commute")]
+    SetAfterCommute,
+    /// There was no memory.
+    #[error("out of memory")]
+    Memory,
+}
+
+impl From<AllocError> for SetError {
+    ghost from_gives = { λ _ e. e ≡ no_memory };
+
+    fn from(_e: AllocError) -> SetError {
+        SetError::Memory
+    }
+}
+
+/// What a transaction has done so far.
+#[derive(Drop)]
+pub struct TxFrame {
+    alloc: Global,
+    own: Vec<Own>,
+    ensured: Vec<CellId>,
+    commutes: Vec<Commute>,
+    sends: Vec<Action>,
+}
+
+impl Model for TxFrame {
+    ghost use Rattle.std.specs.Coded.{codes};
+    ghost use Rattle.txs_value.specs.contracts.value.Value as value;
+    ghost use Rattle.txs_frame.specs.Frame.{Work};
+
+    ghost Value = { Work };
+
+    ghost coded = { Prim.hlevel (codes, value.the_row.coded) };
+
+    ghost use Rattle.txs_frame.specs.Kept.{work_of, IsKept};
+
+    ghost view = { λ f. work_of f.own.items f.ensured.items f.commutes.items f.sends.items };
+
+    ghost invariant = { λ f. IsKept f.own.items f.ensured.items f.commutes.items };
+}
+
+impl TxFrame {
+    /// The frame of a transaction that has done nothing.
+    pub fn new(alloc: Global) -> TxFrame
+        ensures { result ≡ no_work }
+    {
+        TxFrame {
+            alloc,
+            own: Vec::new(alloc),
+            ensured: Vec::new(alloc),
+            commutes: Vec::new(alloc),
+            sends: Vec::new(alloc),
+        }
+    }
+
+    /// The transaction's own value of the ref with this number: it has one exactly where it set or
+    /// commuted the ref.
+    pub fn value(&self, number: u16) -> Option<&Value>
+        ensures value { option_copied result ≡ buffered self.now.values number }
+        ensures own { is_some result ≡ (is_set self.now number || is_commuted self.now number) }
+    {
+        match find(self.own.as_slice(), number) {
+            Ok(i) => Some(&self.own[i].value),
+            Err(_) => None,
+        }
+    }
+
+    /// Sets a ref. It is refused where the transaction commuted the ref. After an error the frame is as
+    /// before, and the value is gone.
+    pub fn set(&mut self, cell: CellId, value: Value) -> Result<(), SetError>
+        requires { cell.kind ≡ a_ref }
+        ensures { SetAnswers (set_ref cell value self.old) self.old result self.new }
+    {
+        let place = find(self.own.as_slice(), cell.number);
+        let own = Own {
+            number: cell.number,
+            value,
+            how: How::Set,
+        };
+        if was_commuted(how_at(self.own.as_slice(), place)) {
+            return Err(SetError::SetAfterCommute);
+        }
+        put(&mut self.own, place, own)?;
+        Ok(())
+    }
+
+    /// Keeps a commute of a ref, with the value that the transaction has of it from now on. After an error
+    /// the frame is as before, and the arguments and the value are gone.
+    pub fn commute(
+        &mut self,
+        cell: CellId,
+        callee: Callee,
+        args: Listed<Value>,
+        value: Value,
+    ) -> Result<(), AllocError>
+        requires { cell.kind ≡ a_ref }
+        ensures kept { OnOk result (self.new ≡ commute_ref cell callee args value self.old) }
+        ensures same { OnErr result (self.new ≡ self.old) }
+    {
+        let place = find(self.own.as_slice(), cell.number);
+        let own = Own {
+            number: cell.number,
+            value,
+            how: with_commute(how_at(self.own.as_slice(), place)),
+        };
+        self.commutes.reserve(1)?;
+        put(&mut self.own, place, own)?;
+        self.commutes.push_reserved(Commute { cell, callee, args });
+        Ok(())
+    }
+
+    /// Ensures a ref, once. After an error the frame is as before.
+    pub fn ensure(&mut self, cell: CellId) -> Result<(), AllocError>
+        ensures kept { OnOk result (self.new ≡ ensure_ref cell self.old) }
+        ensures same { OnErr result (self.new ≡ self.old) }
+    {
+        match self
+            .ensured
+            .binary_search_by_key(&cell.number, |c| c.number)
+        {
+            Ok(_) => Ok(()),
+            Err(i) => {
+                self.ensured.insert(i, cell)?;
+                Ok(())
+            }
+        }
+    }
+
+    /// Holds a send until the transaction commits. After an error the frame is as before, and the action is
+    /// gone.
+    pub fn hold_send(&mut self, action: Action) -> Result<(), AllocError>
+        ensures kept { OnOk result (self.new ≡ hold_send action self.old) }
+        ensures same { OnErr result (self.new ≡ self.old) }
+    {
+        self.sends.push(action)?;
+        Ok(())
+    }
+
+    /// The frame is as a new one, and keeps its memory.
+    pub fn reset(&mut self)
+        ensures { self.new ≡ no_work }
+    {
+        self.own.clear();
+        self.ensured.clear();
+        self.commutes.clear();
+        self.sends.clear();
+    }
+
+    /// The refs that were commuted and not set, by ascending number.
+    pub fn commuted(&self) -> Result<Vec<CellId>, AllocError>
+        ensures { IfOk result (λ cells. cells.items ≡ commuted self.now) }
+    {
+        let mut cells = Vec::new(self.alloc);
+        for own in &self.own {
+            push_commuted(&mut cells, own)?;
+        }
+        Ok(cells)
+    }
+
+    /// The refs that were set with their values, which the frame goes on sharing, by ascending number.
+    pub fn writes(&self) -> Result<Vec<(CellId, Value)>, AllocError>
+        ensures { IfOk result (λ writes. writes.items ≡ set_writes self.now) }
+    {
+        let mut writes = Vec::new(self.alloc);
+        for own in &self.own {
+            push_set(&mut writes, own)?;
+        }
+        Ok(writes)
+    }
+
+    /// The refs that were ensured, by ascending number.
+    pub fn ensured(&self) -> &[CellId]
+        ensures { result.now ≡ self.now.ensures }
+    {
+        self.ensured.as_slice()
+    }
+
+    /// The commutes, in the order in which they were done.
+    pub fn commutes(&self) -> &[Commute]
+        ensures { result.now ≡ self.now.commutes }
+    {
+        self.commutes.as_slice()
+    }
+
+    /// The sends that are held, in the order in which they were done.
+    pub fn sends(&self) -> &[Action]
+        ensures { result.now ≡ self.now.sends }
+    {
+        self.sends.as_slice()
+    }
+}
+
+/// The ref with this number.
+fn ref_cell(number: u16) -> CellId
+    ensures { result ≡ record { kind = a_ref; number = number } }
+{
+    CellId {
+        kind: CellKind::Ref,
+        number,
+    }
+}
+
+/// Adds the ref if it was commuted and not set.
+fn push_commuted(cells: &mut Vec<CellId>, own: &Own) -> Result<(), AllocError>
+    ensures { OnOk result (cells.new.items ≡ cells.old.items ++ cells_by only_commuted (own.now ∷ [])) }
+{
+    match own.how {
+        How::Commuted => cells.push(ref_cell(own.number))?,
+        How::Set | How::Both => {}
+    }
+    Ok(())
+}
+
+/// Adds the ref with its value if it was set.
+fn push_set(writes: &mut Vec<(CellId, Value)>, own: &Own) -> Result<(), AllocError>
+    ensures { OnOk result (writes.new.items ≡ writes.old.items ++ writes_by was_set (own.now ∷ [])) }
+{
+    match own.how {
+        How::Set | How::Both => writes.push((ref_cell(own.number), copy_value(&own.value)?))?,
+        How::Commuted => {}
+    }
+    Ok(())
+}
