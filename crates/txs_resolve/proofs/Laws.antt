@@ -1,5 +1,5 @@
 -- Forms are one program, or they are refused for one reason.
-use Rattle.std.proofs.Common.{◌≡◌, ◌⊎◌, inl, inr, List, Result, Ok, Err, refl, sym, ap, ◌∙◌, subst}
+use Rattle.std.proofs.Common.{◌≡◌, ◌⊎◌, inl, inr, List, Ok, Err, refl, sym, ap, ◌∙◌, subst}
 use Rattle.txs_reader.specs.Tree.{Tree as Form}
 use Rattle.txs_tree.specs.Tree.{PlainProgram}
 use Rattle.txs_resolve.specs.Expressions.{Answer}

@@ -1,5 +1,5 @@
 -- The number at a place of a list of levels.
-use Rattle.std.proofs.Common.{◌≡◌, ◌<◌, ◌≤◌, ℕ, zero, suc, false, true, nat_lt, List, [], ◌∷◌, length, map, max, slice_index_or, refl, sym, ap, ◌∙◌, arith}
+use Rattle.std.proofs.Common.{◌≡◌, ◌<◌, ◌≤◌, ℕ, zero, suc, false, true, nat_lt, List, [], ◌∷◌, length, map, slice_index_or, refl, sym, ap, ◌∙◌, arith}
 use Rattle.std.proofs.lemmas.Bool.Decides.{nat_tests}
 use Rattle.txs_value.specs.Places.{nth}
 use Rattle.txs_value.specs.declared.op.Callee.{Callee}

@@ -1,10 +1,14 @@
 pub mod Building
+pub mod Fillings
+pub mod HiddenLocals
 pub mod Laws
 pub mod LevelLists
 pub mod Literals
 pub mod NodeTrees
-pub mod Parts
+pub mod TopLevel
 pub mod ScopedScripts
 pub mod Scoping
-pub mod Steps
+pub mod Singles
+pub mod Stops
+pub mod Tables
 pub mod Tops

@@ -14,7 +14,8 @@ use Rattle.txs_resolve.specs.declared.error.ResolveErrorKind.TheVariants.{TooMan
 use Rattle.txs_resolve.specs.Expressions.{Answer}
 use Rattle.txs_resolve.specs.Literals.{literal, literals}
 use Rattle.txs_resolve.specs.Answers.{◌>>=◌, refuse}
-use Rattle.txs_resolve.proofs.Building.{plain, plain_at, parts_plain}
+use Rattle.txs_resolve.specs.Parts.{plain}
+use Rattle.txs_resolve.proofs.Building.{plain_at, parts_plain}
 
 -- these values, and then those of the rest
 abbrev pub values_after : List Value → Answer (List Value) → Answer (List Value)

@@ -1,6 +1,6 @@
 -- What a script defines is scoped, form by form.
-use Rattle.std.proofs.Common.{◌≡◌, ◌<◌, ◌≤◌, ◌+◌, ℕ, zero, suc, max, Bool, true, false, nat_lt, if◌then◌else◌, List, [], ◌∷◌, ◌++◌, length, Option, Some, None, Result, Ok, Err, refl, sym, ap, ◌∙◌, subst, append_assoc, length-append, arith}
-use Rattle.txs_value.specs.Operations.{op_name}
+use Rattle.std.proofs.Common.{◌≡◌, ◌<◌, ◌≤◌, ◌+◌, ℕ, zero, suc, Bool, true, false, nat_lt, if◌then◌else◌, List, [], ◌∷◌, ◌++◌, length, Option, Some, None, Ok, Err, refl, sym, ap, subst, length-append, arith}
+use Rattle.txs_value.specs.Limits.{most_depth, most_levels}
 use Rattle.txs_value.specs.Places.{nth}
 use Rattle.txs_value.specs.declared.cell.CellDefinition.{CellDefinition}
 use Rattle.txs_value.specs.declared.fault.Span.{Span}
@@ -8,24 +8,25 @@ use Rattle.txs_value.specs.declared.op.Callee.{Callee}
 use Rattle.txs_value.specs.declared.op.Callee.TheVariants.{Core as CoreOp, Function as TheFunction}
 use Rattle.txs_value.specs.declared.value.Value.{Value}
 use Rattle.txs_reader.specs.declared.form.Bracket.TheVariants.{Round, Square}
-use Rattle.txs_reader.specs.Tree.{Tree as Form, Trees as Forms, Leaf, leaf, group, first, number, symbol, nil, truth, text, keyword}
+use Rattle.txs_reader.specs.Tree.{Tree as Form, Trees as Forms, leaf, group, first, number, symbol, nil, truth, text, keyword}
 use Rattle.txs_reader.specs.Tree.{none as no_forms}
 use Rattle.txs_tree.specs.Known.{Known, callee_levels, levels, levels_in, levels_of, known, known_from, known_of}
 use Rattle.txs_tree.specs.Scoped.{Scoped, ScopedCallee, ScopedTree, ScopedAll, ScopedLet, ScopedFunction, ScopedFunctions, ScopedThread, ScopedThreads}
 use Rattle.txs_tree.specs.Tree.{Tree, Trees, Const, Local, If, Do, Let, Loop, Recur, Core, Call, VectorOf, Println, Dosync, Deref, Alter, none, more, count, PlainFunction, PlainThread, PlainProgram}
 use Rattle.txs_tree.proofs.Callable.{length-known}
-use Rattle.txs_resolve.specs.declared.error.ResolveErrorKind.TheVariants.{Redefined, BadForm, TooMany}
+use Rattle.txs_resolve.specs.declared.error.ResolveErrorKind.TheVariants.{BadForm, TooMany}
 use Rattle.txs_names.specs.declared.names.FormName.{FormName}
 use Rattle.txs_names.specs.declared.names.FormName.TheVariants as kind
 use Rattle.txs_names.specs.declared.scope.Definition.{Definition}
 use Rattle.txs_names.specs.declared.scope.Definition.TheVariants.{Constant, Cell as ACell, Function as AFunction}
-use Rattle.txs_resolve.specs.Expressions.{Answer, spot_at, named_body}
-use Rattle.txs_resolve.specs.Literals.{literal, literal_levels}
-use Rattle.txs_resolve.specs.Names.{max_levels, State, nothing, program, new_name, form_at, Defining, defining_of, new_ref, with_constant, with_ref, with_definition, defined_as_one, NamedForm, named_form, defined_at, define, parameter, parameters, Written, written, with_function, function, with_thread, future, top_level, step, steps, behind_namespace, named_script, Resolves}
+use Rattle.txs_resolve.specs.Expansions.{body, form_at}
+use Rattle.txs_resolve.specs.Expressions.{Answer, named}
+use Rattle.txs_resolve.specs.Literals.{literal}
+use Rattle.txs_resolve.specs.Names.{State, nothing, program, new_name, Defining, defining_of, new_ref, with_constant, with_ref, with_definition, defined_as_one, NamedForm, named_form, defined_at, define, parameter, parameters, Written, written, with_function, function, with_thread, future, top_level, step, steps, behind_namespace, named_script, Resolves}
 use Rattle.txs_resolve.specs.Answers.{◌>>=◌, refuse}
 use Rattle.txs_names.specs.Scope.{Scope, Entry, may_bind}
 use Rattle.txs_resolve.specs.Scripts.{IsKnown, AreKnown, ScopedState}
-use Rattle.txs_resolve.proofs.Scoping.{Every, then_every, one_every, two_every, if_every, is_less, Placed, body_named}
+use Rattle.txs_resolve.proofs.Scoping.{Every, then_every, one_every, two_every, if_every, is_less, Placed, form_named}
 
 -- ---- where more functions are known
 
@@ -194,7 +195,7 @@ definition_scoped true s name v h lt = ref_scoped s name v h lt
 defined_scoped : (s : State) (name : List ℕ) (at span : Span) (o : Option Defining) → ScopedState s → Every ScopedState (defined_as_one s name at span o)
 defined_scoped s name at span None h = tt
 defined_scoped s name at span (Some d) h =
-    let v = literal literal_levels d.value in
+    let v = literal most_depth d.value in
     let n = new_name s.defined name at in
     if_every ScopedState (nat_lt s.defs 1000) (v >>= λ x. n >>= λ y. Ok (with_definition d.is_ref s y x)) (record { kind = TooMany; at = span })
     (λ lt. two_every Anything Anything ScopedState v n (λ x y. with_definition d.is_ref s y x) (anything v) (anything n) (λ x y p q. definition_scoped d.is_ref s y x h (is_less s.defs 1000 lt)))
@@ -258,17 +259,16 @@ pub function_scoped : (s : State) (span : Span) (o : Option Written) → ScopedS
 function_scoped s span None h = tt
 function_scoped s span (Some w) h =
     let ks = known s.functions in
-    let at = spot_at max_levels span true in
     if_every ScopedState (nat_lt (length s.functions) 1000)
-    (new_name s.defined w.name w.at >>= λ name. parameters [] w.parameters >>= λ locals. named_body (inside s name locals) at w.body >>= λ body. Ok (with_function s name (length locals) body span))
+    (new_name s.defined w.name w.at >>= λ name. parameters [] w.parameters >>= λ locals. named most_levels (inside s name locals) true (body w.body span) >>= λ node. Ok (with_function s name (length locals) node span))
     (record { kind = TooMany; at = span })
     (λ lt. then_every Anything ScopedState (new_name s.defined w.name w.at)
-    (λ name. parameters [] w.parameters >>= λ locals. named_body (inside s name locals) at w.body >>= λ body. Ok (with_function s name (length locals) body span))
+    (λ name. parameters [] w.parameters >>= λ locals. named most_levels (inside s name locals) true (body w.body span) >>= λ node. Ok (with_function s name (length locals) node span))
     (anything (new_name s.defined w.name w.at))
-    (λ name p. then_every Few ScopedState (parameters [] w.parameters) (λ locals. named_body (inside s name locals) at w.body >>= λ body. Ok (with_function s name (length locals) body span))
+    (λ name p. then_every Few ScopedState (parameters [] w.parameters) (λ locals. named most_levels (inside s name locals) true (body w.body span) >>= λ node. Ok (with_function s name (length locals) node span))
     (parameters_few w.parameters [] (omega arith))
-    (λ locals few. one_every (Placed ks (length locals) 1000) ScopedState (named_body (inside s name locals) at w.body) (λ body. with_function s name (length locals) body span)
-    (body_named ks w.body (inside s name locals) at (record { known = h.known; few = omega (arith, few) }))
+    (λ locals few. one_every (Placed ks (length locals) 1000) ScopedState (named most_levels (inside s name locals) true (body w.body span)) (λ node. with_function s name (length locals) node span)
+    (form_named ks most_levels (inside s name locals) true (body w.body span) (record { known = h.known; few = omega (arith, few) }))
     (λ body q. function_more s name (length locals) body span h (is_less (length s.functions) 1000 lt) few q))))
 
 pub thread_more : (s : State) (body : Tree) (span : Span) → ScopedState s → length s.threads < 64 → Placed (known s.functions) 0 1000 body → ScopedState (with_thread s body span)
@@ -284,13 +284,12 @@ thread_more s body span h lt p =
       few_threads = omega (arith, lt, length-append s.threads (t ∷ []));
     }
 
-pub future_scoped : (s : State) (span : Span) (body : Forms) → ScopedState s → Every ScopedState (future s span body)
-future_scoped s span body h =
+pub future_scoped : (s : State) (span : Span) (forms : Forms) → ScopedState s → Every ScopedState (future s span forms)
+future_scoped s span forms h =
     let ks = known s.functions in
-    let at = spot_at max_levels span false in
-    if_every ScopedState (nat_lt (length s.threads) 64) (named_body (outside s) at body >>= λ node. Ok (with_thread s node span)) (record { kind = TooMany; at = span })
-    (λ lt. one_every (Placed ks 0 1000) ScopedState (named_body (outside s) at body) (λ node. with_thread s node span)
-    (body_named ks body (outside s) at (record { known = h.known; few = omega arith }))
+    if_every ScopedState (nat_lt (length s.threads) 64) (named most_levels (outside s) false (body forms span) >>= λ node. Ok (with_thread s node span)) (record { kind = TooMany; at = span })
+    (λ lt. one_every (Placed ks 0 1000) ScopedState (named most_levels (outside s) false (body forms span)) (λ node. with_thread s node span)
+    (form_named ks most_levels (outside s) false (body forms span) (record { known = h.known; few = omega arith }))
     (λ node p. thread_more s node span h (is_less (length s.threads) 64 lt) p))
 
 top_scoped : (o : Option FormName) (s : State) (span : Span) (parts : Forms) → ScopedState s → Every ScopedState (top_level o s span parts)

@@ -1,5 +1,5 @@
 -- Functions and threads, by what a script has defined before them.
-use Rattle.std.proofs.Common.{◌≡◌, ◌<◌, ◌≤◌, ℕ, suc, Bool, true, false, nat_lt, cond, List, [], ◌∷◌, ◌++◌, length, map, Option, Some, None, Result, Ok, Err, refl, sym, ap, ◌∙◌, subst, length-append, arith}
+use Rattle.std.proofs.Common.{◌≡◌, ◌<◌, ◌≤◌, ℕ, suc, Bool, true, false, nat_lt, cond, List, [], ◌∷◌, ◌++◌, length, map, Option, Some, None, Ok, refl, sym, ap, ◌∙◌, subst, arith}
 use Rattle.std.proofs.lemmas.Bool.Decides.{nat_tests}
 use Rattle.std.proofs.lemmas.List.{map-append}
 use Rattle.txs_value.specs.declared.fault.Span.{Span}
@@ -13,18 +13,18 @@ use Rattle.txs_tree.proofs.Callable.{length-functions_of}
 use Rattle.txs_tree.specs.Known.{Known, known, known_of, levels}
 use Rattle.txs_resolve.specs.Depths.{depths}
 use Rattle.txs_names.specs.declared.scope.Definition.TheVariants.{Function as AFunction}
-use Rattle.txs_resolve.specs.declared.error.ResolveError.{ResolveError}
 use Rattle.txs_resolve.specs.declared.error.ResolveErrorKind.TheVariants.{TooMany}
 use Rattle.txs_resolve.specs.declared.script.Script.{Script}
-use Rattle.txs_resolve.specs.Expressions.{Answer, spot_at, named_body}
+use Rattle.txs_resolve.specs.Expansions.{body}
+use Rattle.txs_resolve.specs.Expressions.{Answer, named}
 use Rattle.txs_resolve.specs.Names.{State, with_thread, future, Written, new_name, parameters, with_function, function}
 use Rattle.txs_resolve.specs.Answers.{◌>>=◌, refuse}
 use Rattle.txs_names.specs.Scope.{Scope, Entry}
 use Rattle.txs_resolve.specs.Scripts.{state_of, IsScript}
-use Rattle.txs_resolve.proofs.Building.{plain}
+use Rattle.txs_resolve.specs.Parts.{plain}
 use Rattle.txs_resolve.proofs.LevelLists.{depths_levels}
 use Rattle.txs_resolve.proofs.ScopedScripts.{known_more}
-use Rattle.txs_resolve.proofs.Scoping.{Every, Placed, body_named}
+use Rattle.txs_resolve.proofs.Scoping.{Every, Placed, form_named}
 
 is_more : (m n : ℕ) → m < n → nat_lt m n ≡ true
 is_more m n h = grind (arith, nat_tests)
@@ -50,13 +50,13 @@ abbrev threaded : State → Span → Bool → Answer Tree → Answer State
 threaded s span b a = cond b (a >>= λ node. Ok (with_thread s node span)) (refuse TooMany span)
 
 abbrev body_in : Span → Bool → List Form → Scope → Answer Tree
-body_in span wanted forms scope = named_body scope (spot_at 1000 span wanted) (plain forms)
+body_in span wanted forms scope = named 1000 scope wanted (body (plain forms) span)
 
 module _ (s : Script) (span : Span) (forms : List Form) (h : IsScript s) where
   pub future_full : 64 ≤ length s.threads.items → future (state_of s) span (plain forms) ≡ refuse TooMany span
   future_full full = ap (λ b. threaded (state_of s) span b (body_in span false forms (record { locals = []; defined = s.scope.defined; current = None }))) (not_more (length (threads_of s.threads.items)) 64 (omega (arith, full, length-threads_of s.threads.items)))
 
-  pub future_as : length s.threads.items < 64 → (a : Answer Tree) → named_body s.scope (spot_at 1000 span false) (plain forms) ≡ a → future (state_of s) span (plain forms) ≡ (a >>= λ node. Ok (with_thread (state_of s) node span))
+  pub future_as : length s.threads.items < 64 → (a : Answer Tree) → named 1000 s.scope false (body (plain forms) span) ≡ a → future (state_of s) span (plain forms) ≡ (a >>= λ node. Ok (with_thread (state_of s) node span))
   future_as few a e =
       ap (λ b. threaded (state_of s) span b (body_in span false forms (record { locals = []; defined = s.scope.defined; current = None }))) (is_more (length (threads_of s.threads.items)) 64 (omega (arith, few, length-threads_of s.threads.items)))
       ∙ ap (λ (x : Answer Tree). x >>= λ node. Ok (with_thread (state_of s) node span)) (ap (body_in span false forms) (sym (at_rest s h)) ∙ e)
@@ -126,7 +126,7 @@ abbrev functioned : State → Span → Bool → Answer State → Answer State
 functioned s span b a = cond b a (refuse TooMany span)
 
 abbrev pub inner_body : State → Written → Span → List ℕ → List (List ℕ) → Answer Tree
-inner_body s w span name locals = named_body (record { locals = locals; defined = s.defined; current = Some name }) (spot_at 1000 span true) w.body
+inner_body s w span name locals = named 1000 (record { locals = locals; defined = s.defined; current = Some name }) true (body w.body span)
 
 abbrev with_body : State → Written → Span → List ℕ → List (List ℕ) → Answer State
 with_body s w span name locals = inner_body s w span name locals >>= λ body. Ok (with_function s name (length locals) body span)
@@ -146,9 +146,9 @@ module _ (s : Script) (w : Written) (span : Span) where
   pub function_named : length s.functions.items < 1000 → (a : Answer (List ℕ)) → new_name s.scope.defined w.name w.at ≡ a → function (state_of s) span (Some w) ≡ (a >>= with_parameters (state_of s) w span)
   function_named few a e = function_few few ∙ ap (λ (x : Answer (List ℕ)). x >>= with_parameters (state_of s) w span) e
 
-  module _ (few : length s.functions.items < 1000) (name : List ℕ) (named : new_name s.scope.defined w.name w.at ≡ Ok name) where
+  module _ (few : length s.functions.items < 1000) (name : List ℕ) (as_new : new_name s.scope.defined w.name w.at ≡ Ok name) where
     pub function_bound : (a : Answer (List (List ℕ))) → parameters [] w.parameters ≡ a → function (state_of s) span (Some w) ≡ (a >>= with_body (state_of s) w span name)
-    function_bound a e = function_named few (Ok name) named ∙ ap (λ (x : Answer (List (List ℕ))). x >>= with_body (state_of s) w span name) e
+    function_bound a e = function_named few (Ok name) as_new ∙ ap (λ (x : Answer (List (List ℕ))). x >>= with_body (state_of s) w span name) e
 
     pub function_bodied : (locals : List (List ℕ)) (a : Answer Tree) → parameters [] w.parameters ≡ Ok locals → inner_body (state_of s) w span name locals ≡ a
         → function (state_of s) span (Some w) ≡ (a >>= λ body. Ok (with_function (state_of s) name (length locals) body span))
@@ -159,4 +159,4 @@ pub body_placed : (s : Script) (w : Written) (span : Span) (name : List ℕ) (lo
     → inner_body (state_of s) w span name locals ≡ Ok t → Placed (known_in s) (length locals) 1000 t
 body_placed s w span name locals t h few e =
     let scope : Scope = record { locals = locals; defined = s.scope.defined; current = Some name } in
-    subst (Every (Placed (known_in s) (length locals) 1000)) e (body_named (known_in s) w.body scope (spot_at 1000 span true) (record { known = h.scoped.known; few = omega (arith, few) }))
+    subst (Every (Placed (known_in s) (length locals) 1000)) e (form_named (known_in s) 1000 scope true (body w.body span) (record { known = h.scoped.known; few = omega (arith, few) }))

@@ -1,5 +1,6 @@
 -- The tree of a form, or the first refusal met: forms are walked in source order, each before its parts.
-use Rattle.std.specs.Prelude.{ℕ, zero, suc, ◌-◌, ◌%◌, Bool, true, false, ◌&&◌, ◌==◌, nat_lt, List, [], ◌∷◌, length, Result, Ok, Err, if◌then◌else◌}
+use Rattle.std.specs.Prelude.{ℕ, zero, suc, ◌-◌, Bool, true, false, ◌&&◌, ◌||◌, nat_lt, List, length, Option, Some, None, Result, Ok, if◌then◌else◌}
+use Rattle.txs_value.specs.Limits.{most_items, most_locals}
 use Rattle.txs_value.specs.declared.fault.Span.{Span}
 use Rattle.txs_value.specs.declared.op.Op.{Op}
 use Rattle.txs_value.specs.declared.op.Op.TheVariants.{Add, Subtract, Multiply}
@@ -12,20 +13,18 @@ use Rattle.txs_value.specs.declared.value.Value.TheVariants.{Nil, Truth, Int, Te
 use Rattle.txs_reader.specs.declared.form.Bracket.TheVariants.{Round, Square}
 use Rattle.txs_reader.specs.Tree.{Tree as Form, Trees as Forms, Leaf, leaf, group, first, place, number, symbol, nil, truth, text, keyword, parts}
 use Rattle.txs_reader.specs.Tree.{none as no_forms}
-use Rattle.txs_tree.specs.Tree.{Tree, Trees, Mark, Const, Local, If, Do, Let, Loop, Recur, Core, Call, VectorOf, Println, Dosync, Deref, Alter, none, more}
+use Rattle.txs_tree.specs.Tree.{Tree, Trees, Mark, Const, Local, If, Do, Let, Loop, Recur, Core as CoreNode, Call, VectorOf, Println, Dosync, Deref, Alter, none, more}
 use Rattle.txs_tree.specs.View.{mark_of}
 use Rattle.txs_resolve.specs.declared.error.ResolveError.{ResolveError}
 use Rattle.txs_resolve.specs.declared.error.ResolveErrorKind.TheVariants.{UnknownName, BadForm, NotCallable, LocalCalled, SelfCall, TooMany}
 use Rattle.txs_names.specs.declared.names.FormName.{FormName}
 use Rattle.txs_names.specs.declared.names.FormName.TheVariants as kind
-use Rattle.txs_resolve.specs.declared.nodes.Head.{Head}
-use Rattle.txs_resolve.specs.declared.nodes.Head.TheVariants.{Form as AForm, Called}
 use Rattle.txs_resolve.specs.declared.nodes.Sequence.{Sequence}
 use Rattle.txs_resolve.specs.declared.nodes.Sequence.TheVariants as sequence
 use Rattle.txs_resolve.specs.declared.nodes.Spot.{Spot}
-use Rattle.txs_names.specs.declared.scope.Definition.{Definition}
 use Rattle.txs_names.specs.declared.scope.Definition.TheVariants.{Constant, Cell as ACell, Function as AFunction}
 use Rattle.txs_resolve.specs.Answers.{◌>>=◌, refuse}
+use Rattle.txs_resolve.specs.Expansions.{alone, body, expand_once, form_at}
 use Rattle.txs_names.specs.Scope.{Scope, with_local, may_bind, meaning, Meaning, a_form, dotted, a_local, the_current, defined_as, operation, unknown}
 
 -- an answer: what a form is, or why it is nothing
@@ -53,9 +52,9 @@ some_room (suc n) refusal next = next
 abbrev pub in_room : {A : Type 0} → Spot → Answer A → Answer A
 in_room s next = some_room s.room (refuse TooMany s.span) next
 
--- a list or vector of more parts than an instruction can count finds no room
-abbrev pub room_for : ℕ → ℕ → ℕ
-room_for room n = if nat_lt 65535 n then 0 else room
+-- what has more parts than an instruction can count is too much
+abbrev pub narrow : {A : Type 0} → ℕ → Spot → Answer A → Answer A
+narrow n s next = if nat_lt most_items n then refuse TooMany s.span else next
 
 -- ---- symbols and literals
 
@@ -103,59 +102,6 @@ abbrev pub callee_of : Scope → Spot → Form → Answer Callee
 callee_of scope s (leaf (symbol name) at) = callee_at (meaning name scope) s at
 callee_of scope s form = refuse NotCallable (place form)
 
--- the head of a list: the name of a form, or what is called
-abbrev pub head_at : Meaning → Spot → Span → Answer Head
-head_at (a_form f) s at = Ok (AForm f)
-head_at m s at = in_room s (callee_at m s at >>= λ c. Ok (Called c))
-
--- a list's head: a symbol by what its name stands for, and nothing else
-abbrev pub head_of : Scope → Spot → Form → Answer Head
-head_of scope s (leaf (symbol name) at) = head_at (meaning name scope) s at
-head_of scope s form = in_room s (refuse NotCallable (place form))
-
--- what is made of a list, by what stands at its head
-pub record ByHead : Type 0 where
-  pub applied : Op → Answer Tree
-  pub called : ℕ → Answer Tree
-  pub branches : Bool → Answer Tree
-  pub block : Answer Tree
-  pub bindings : Bool → Answer Tree
-  pub turn : Answer Tree
-  pub guarded : Bool → Answer Tree
-  pub logic : Bool → Answer Tree
-  pub choices : Answer Tree
-  pub line : Answer Tree
-  pub transaction : Answer Tree
-  pub reading : Answer Tree
-  pub change : Answer Tree
-  pub misplaced : Answer Tree
-
--- what is made of a list at whose head this form's name stands
-abbrev pub of_form : FormName → ByHead → Answer Tree
-of_form kind.If made = made.branches false
-of_form kind.IfNot made = made.branches true
-of_form kind.Do made = made.block
-of_form kind.Let made = made.bindings false
-of_form kind.Loop made = made.bindings true
-of_form kind.Recur made = made.turn
-of_form kind.When made = made.guarded false
-of_form kind.WhenNot made = made.guarded true
-of_form kind.And made = made.logic false
-of_form kind.Or made = made.logic true
-of_form kind.Cond made = made.choices
-of_form kind.Println made = made.line
-of_form kind.Dosync made = made.transaction
-of_form kind.Deref made = made.reading
-of_form kind.Alter made = made.change
--- a top-level form, and what trees have no node for
-of_form _ made = made.misplaced
-
--- what is made of a list with this head
-abbrev pub of_head : Head → ByHead → Answer Tree
-of_head (AForm f) made = of_form f made
-of_head (Called (CoreOp op)) made = made.applied op
-of_head (Called (TheFunction n)) made = made.called n
-
 -- ---- nodes of what is resolved
 
 -- the flag of an item, by what stands behind it
@@ -165,66 +111,49 @@ flag inner last (first e rest) = inner
 
 -- the node of these items
 abbrev pub sequence_node : Sequence → Trees → Mark → Tree
+sequence_node sequence.Do nodes m = Do nodes m
 sequence_node sequence.Recur nodes m = Recur nodes m
 sequence_node sequence.Println nodes m = Println nodes m
 sequence_node sequence.Vector nodes m = VectorOf nodes m
-sequence_node (sequence.Core op) nodes m = Core op nodes m
+sequence_node (sequence.Core op) nodes m = CoreNode op nodes m
 sequence_node (sequence.Call n) nodes m = Call n nodes m
 
--- the node of these items, once they are resolved, if there is room for it
-abbrev pub sequence_of : Sequence → Spot → Answer Trees → Answer Tree
-sequence_of k s items = in_room s (items >>= λ nodes. Ok (sequence_node k nodes (spot_mark s)))
+-- whether the result of each item is wanted; of a `do` it is that of the last alone, where its own is
+abbrev pub are_wanted : Sequence → Bool
+are_wanted sequence.Do = false
+are_wanted _ = true
 
 -- a choice by a test, which may be turned
 abbrev pub choice_node : Bool → Tree → Tree → Tree → Mark → Tree
 choice_node false test a b m = If test a b m
 choice_node true test a b m = If test b a m
 
--- `and` and `or` of a value that is bound to this local, and the rest
-abbrev pub logic_node : Bool → ℕ → Tree → Tree → Spot → Tree
-logic_node is_or i value rest s =
-    Let (more value none) (choice_node is_or (Local i (mark_of s.span true)) rest (Local i (spot_mark s)) (spot_mark s)) (spot_mark s)
-
--- `(and)` and `(or)`
-abbrev pub empty_logic : Bool → Value
-empty_logic false = Truth true
-empty_logic true = Nil
-
--- the values of a `let` or `loop`, and the names in scope behind them
-pub record Bound : Type 0 where
-  pub values : Trees
-  pub scope : Scope
-
 -- a `let`, or a `loop`
 abbrev pub binding_node : Bool → Trees → Tree → Mark → Tree
 binding_node false values body m = Let values body m
 binding_node true values body m = Loop values body m
 
--- an operation on two arguments
-abbrev pub pair_node : Op → Tree → Tree → Mark → Tree
-pair_node op a b mark = Core op (more a (more b none)) mark
+-- ---- special forms, and their parts in source order
 
--- the operations that fold any number of arguments from the left
-abbrev pub folds : Op → Bool
-folds Add = true
-folds Subtract = true
-folds Multiply = true
-folds _ = false
+-- a form that isn't read as another, with its parts
+pub data Special : Type 0 where
+  -- these forms in order
+  row : Sequence → Forms → Special
+  -- the cell that is read
+  reading : Form → Special
+  -- the body
+  transaction : Form → Special
+  -- whether the branches are turned, the test, and the two branches
+  choice : Bool → Form → Form → Form → Special
+  -- whether a recur comes back to it, names and values in turn, and the body that sees them
+  binding : Bool → Forms → Form → Special
+  -- the cell, what is called, and its further arguments
+  change : Form → Answer Callee → Forms → Special
 
--- whether an operation on so many arguments is the chain of its pairs
-abbrev pub is_chain : Op → ℕ → Bool
-is_chain op n = folds op && nat_lt 2 n
-
--- an operation on so many arguments: the chain of its pairs, which has room where the innermost pair has, or of the arguments
-abbrev pub operation_of : Op → Spot → ℕ → Answer Tree → Answer Trees → Answer Tree
-operation_of op s n chain items =
-    if is_chain op n then (if nat_lt s.room (n - 1) then refuse TooMany s.span else chain) else sequence_of (sequence.Core op) s items
-
--- the name that a form binds, where one more local may be in scope: there are at most 200
-abbrev pub bound_name : Scope → Form → Answer (List ℕ)
-bound_name scope (leaf (symbol name) at) =
-    if may_bind name then (if nat_lt (length scope.locals) 200 then Ok name else refuse TooMany at) else refuse BadForm at
-bound_name scope form = refuse BadForm (place form)
+-- what a form is when no more is to expand: one without parts, or a special form
+pub data Core : Type 0 where
+  whole : Leaf → Core
+  parted : Special → Core
 
 -- whether a form is a symbol
 abbrev pub is_symbol : Form → Bool
@@ -237,167 +166,145 @@ are_pairs no_forms = true
 are_pairs (first binder no_forms) = false
 are_pairs (first binder (first e rest)) = is_symbol binder && are_pairs rest
 
--- whether it is nought
-abbrev pub is_zero : ℕ → Bool
-is_zero zero = true
-is_zero (suc n) = false
+-- a `let` or `loop` with these names and values, and this body
+abbrev pub bound_in : Bool → Spot → Forms → Forms → Answer Core
+bound_in is_loop s pairs forms = if are_pairs pairs then Ok (parted (binding is_loop pairs (body forms s.span))) else refuse BadForm s.span
 
--- whether it is twice a number
-abbrev pub is_even : ℕ → Bool
-is_even n = is_zero (n % 2)
+-- a special form, by its name and its parts: a `when` without a test, a top-level form and what trees have no node for are none
+abbrev pub special : FormName → Scope → Spot → Forms → Answer Core
+special kind.If scope s (first c (first a no_forms)) = Ok (parted (choice false c a (leaf nil s.span)))
+special kind.If scope s (first c (first a (first b no_forms))) = Ok (parted (choice false c a b))
+special kind.IfNot scope s (first c (first a no_forms)) = Ok (parted (choice true c a (leaf nil s.span)))
+special kind.IfNot scope s (first c (first a (first b no_forms))) = Ok (parted (choice true c a b))
+special kind.Do scope s (first e rest) = Ok (parted (row sequence.Do (first e rest)))
+special kind.Let scope s (first (group Square pairs at) forms) = bound_in false s pairs forms
+special kind.Loop scope s (first (group Square pairs at) forms) = bound_in true s pairs forms
+special kind.Recur scope s args = Ok (parted (row sequence.Recur args))
+special kind.Println scope s args = Ok (parted (row sequence.Println args))
+special kind.Dosync scope s forms = Ok (parted (transaction (body forms s.span)))
+special kind.Deref scope s (first r no_forms) = Ok (parted (reading r))
+special kind.Alter scope s (first r (first f args)) = Ok (parted (change r (callee_of scope s f) args))
+special _ scope s _ = refuse BadForm s.span
 
--- at most one form
-abbrev pub at_most_one : Forms → Bool
-at_most_one no_forms = true
-at_most_one (first e no_forms) = true
-at_most_one (first e (first f rest)) = false
+-- the operations that fold any number of arguments from the left
+abbrev pub folds : Op → Bool
+folds Add = true
+folds Subtract = true
+folds Multiply = true
+folds _ = false
 
--- one more local may be in scope, and the choice and what it chooses find room, where a hidden local is bound
-abbrev pub may_hide : Scope → Spot → Bool
-may_hide scope s = nat_lt (length scope.locals) 200 && nat_lt 2 s.room
+-- whether an operation on so many arguments is the chain of its pairs
+abbrev pub is_chain : Op → ℕ → Bool
+is_chain op n = folds op && nat_lt 2 n
 
--- tests and branches in turn
-abbrev pub choices_of : Spot → ℕ → Answer Tree → Answer Tree
-choices_of s n made = if is_even n then made else refuse BadForm s.span
+-- these forms without the last
+abbrev pub all_but_last : Forms → Forms
+all_but_last no_forms = no_forms
+all_but_last (first e no_forms) = no_forms
+all_but_last (first e (first f rest)) = first e (all_but_last (first f rest))
 
--- the transaction of a body, if there is room for it
-abbrev pub dosync_of : Spot → Answer Tree → Answer Tree
-dosync_of s made = in_room s (made >>= λ body. Ok (Dosync body (spot_mark s)))
+-- the last of these forms
+abbrev pub last_of : Form → Forms → Form
+last_of e no_forms = e
+last_of e (first f rest) = last_of f rest
 
-abbrev mutual
-  -- the node of a form that may have so many levels; the truth value says whether its result is wanted
-  pub named : Scope → ℕ → Bool → Form → Answer Tree
-  named scope room wanted (leaf x at) = leaf_node scope x (spot_at room at wanted)
-  named scope room wanted (group Round forms at) = named_list scope (spot_at (room_for room (parts forms)) at wanted) forms
-  named scope room wanted (group Square forms at) =
-      sequence_of sequence.Vector (spot_at (room_for room (parts forms)) at wanted) (named_all scope (room_for room (parts forms) - 1) true true forms)
+-- what an operation is applied to: (+ a .. y z) is (+ (+ a .. y) z), also of - and *
+abbrev pub operands : Op → Form → Forms → Span → Forms
+operands op head args at =
+    if is_chain op (parts args) then first (group Round (first head (all_but_last args)) at) (first (last_of head args) no_forms) else args
 
-  -- a list, by what stands at its head
-  pub named_list : Scope → Spot → Forms → Answer Tree
-  named_list scope s no_forms = refuse BadForm s.span
-  named_list scope s (first h args) =
-      head_of scope s h >>= λ head. of_head head (record {
-        applied = λ op. operation_of op s (parts args) (named_chain op scope s args) (named_all scope (s.room - 1) true true args);
-        called = λ n. sequence_of (sequence.Call n) s (named_all scope (s.room - 1) true true args);
-        branches = λ turned. named_if turned scope s args;
-        block = named_body scope s args;
-        bindings = λ is_loop. named_binding is_loop scope s args;
-        turn = sequence_of sequence.Recur s (named_all scope (s.room - 1) true true args);
-        guarded = λ turned. named_when turned scope s args;
-        logic = λ is_or. named_logic is_or scope s args;
-        choices = choices_of s (parts args) (named_cond scope s args);
-        line = sequence_of sequence.Println s (named_all scope (s.room - 1) true true args);
-        transaction = dosync_of s (named_body scope (below 1 s) args);
-        reading = named_deref scope s args;
-        change = named_alter scope s args;
-        misplaced = refuse BadForm s.span;
-      })
+-- an operation or a function on its arguments
+abbrev pub applied : Callee → Form → Forms → Span → Core
+applied (CoreOp op) head args at = parted (row (sequence.Core op) (operands op head args at))
+applied (TheFunction n) head args at = parted (row (sequence.Call n) args)
 
-  -- two arguments or more, of which each pair is the first argument of the next
-  pub named_chain : Op → Scope → Spot → Forms → Answer Tree
-  named_chain op scope s (first a (first b rest)) =
-      named scope (s.room - suc (parts rest)) true a >>= λ total. named_pairs op scope s total (first b rest)
-  named_chain op scope s _ = refuse BadForm s.span
+-- a list, by the form whose name stands at its head, else by what is called
+abbrev pub list_core : Option FormName → Scope → Spot → Form → Forms → Answer Core
+list_core (Some f) scope s head args = special f scope s args
+list_core None scope s head args = in_room s (callee_of scope s head >>= λ callee. Ok (applied callee head args s.span))
 
-  -- the total so far, and each further argument as the second of a pair with it
-  pub named_pairs : Op → Scope → Spot → Tree → Forms → Answer Tree
-  named_pairs op scope s total no_forms = Ok total
-  named_pairs op scope s total (first e rest) =
-      named scope (s.room - suc (parts rest)) true e >>= λ term.
-      named_pairs op scope s (pair_node op total term (mark_of s.span (flag true s.wanted rest))) rest
+-- a form in which no more is to expand
+abbrev pub core_of : Scope → Spot → Form → Answer Core
+core_of scope s (leaf x at) = Ok (whole x)
+core_of scope s (group Square forms at) = Ok (parted (row sequence.Vector forms))
+core_of scope s (group Round no_forms at) = refuse BadForm s.span
+core_of scope s (group Round (first head args) at) = list_core (form_at head) scope s head args
 
-  -- a test, a branch, and another or none, which is nil: Clojure's special form `if`; of its macro `if-not` the branches are turned
-  pub named_if : Bool → Scope → Spot → Forms → Answer Tree
-  named_if turned scope s (first c (first a rest)) =
-      if at_most_one rest then in_room s (
-      named scope (s.room - 1) true c >>= λ test.
-      named scope (s.room - 1) s.wanted a >>= λ one.
-      named_body scope (below 1 s) rest >>= λ other.
-      Ok (choice_node turned test one other (spot_mark s)))
-      else refuse BadForm s.span
-  named_if turned scope s _ = refuse BadForm s.span
+-- ---- names: the tree of a special form, by the trees of its parts
 
-  -- a test and a body; the other branch is nil: Clojure's macros `when` and `when-not`
-  pub named_when : Bool → Scope → Spot → Forms → Answer Tree
-  named_when turned scope s no_forms = refuse BadForm s.span
-  named_when turned scope s (first c rest) =
-      in_room s (
-      named scope (s.room - 1) true c >>= λ test.
-      named_body scope (below 1 s) rest >>= λ body.
-      Ok (choice_node turned test body (Const Nil (spot_mark s)) (spot_mark s)))
+-- what the parts of a form are resolved by: their scope, and whether the result is wanted
+abbrev pub Resolver : Type 0
+Resolver = Scope → Bool → Form → Answer Tree
 
-  -- tests and branches in turn; without any it is nil: Clojure's macro `cond`
-  pub named_cond : Scope → Spot → Forms → Answer Tree
-  named_cond scope s no_forms = in_room s (Ok (Const Nil (spot_mark s)))
-  named_cond scope s (first c no_forms) = refuse BadForm s.span
-  named_cond scope s (first c (first e rest)) =
-      in_room s (
-      named scope (s.room - 1) true c >>= λ test.
-      named scope (s.room - 1) s.wanted e >>= λ one.
-      named_cond scope (below 1 s) rest >>= λ other.
-      Ok (If test one other (spot_mark s)))
+-- each form's node; the last one has a flag of its own
+abbrev pub named_all : Resolver → Scope → Bool → Bool → Forms → Answer Trees
+named_all deeper scope inner last no_forms = Ok none
+named_all deeper scope inner last (first e rest) =
+    deeper scope (flag inner last rest) e >>= λ node.
+    named_all deeper scope inner last rest >>= λ nodes.
+    Ok (more node nodes)
 
-  -- Clojure's macros `and` and `or`: each value but the last is bound to a hidden local, which no symbol stands for
-  pub named_logic : Bool → Scope → Spot → Forms → Answer Tree
-  named_logic is_or scope s no_forms = in_room s (Ok (Const (empty_logic is_or) (spot_mark s)))
-  named_logic is_or scope s (first e no_forms) = named scope s.room s.wanted e
-  named_logic is_or scope s (first e (first f rest)) =
-      in_room s (
-      named scope (s.room - 1) true e >>= λ value.
-      (if may_hide scope s then (
-      named_logic is_or (with_local [] scope) (below 2 s) (first f rest) >>= λ other.
-      Ok (logic_node is_or (length scope.locals) value other s))
-      else refuse TooMany s.span))
+-- the values of a `let` or `loop`, and the names in scope behind them
+pub record Bound : Type 0 where
+  pub values : Trees
+  pub scope : Scope
 
-  -- a cell
-  pub named_deref : Scope → Spot → Forms → Answer Tree
-  named_deref scope s (first r no_forms) = in_room s (named scope (s.room - 1) true r >>= λ cell. Ok (Deref cell (spot_mark s)))
-  named_deref scope s _ = refuse BadForm s.span
+-- the name that a form binds, where one more local may be in scope: there are at most 200
+abbrev pub bound_name : Scope → Form → Answer (List ℕ)
+bound_name scope (leaf (symbol name) at) =
+    if may_bind name then (if nat_lt (length scope.locals) most_locals then Ok name else refuse TooMany at) else refuse BadForm at
+bound_name scope form = refuse BadForm (place form)
 
-  -- a cell, what is called, and its further arguments
-  pub named_alter : Scope → Spot → Forms → Answer Tree
-  named_alter scope s (first r (first f args)) =
-      in_room s (
-      named scope (s.room - 1) true r >>= λ cell.
-      callee_of scope s f >>= λ callee.
-      named_all scope (s.room - 1) true true args >>= λ nodes.
-      Ok (Alter cell callee nodes (spot_mark s)))
-  named_alter scope s _ = refuse BadForm s.span
+-- names and values in turn, of which each value sees the names before it, and stands before its own
+abbrev pub named_bindings : Resolver → Scope → Forms → Answer Bound
+named_bindings deeper scope no_forms = Ok (record { values = none; scope = scope })
+named_bindings deeper scope (first binder no_forms) = refuse BadForm (place binder)
+named_bindings deeper scope (first binder (first e rest)) =
+    deeper scope true e >>= λ value.
+    bound_name scope binder >>= λ name.
+    named_bindings deeper (with_local name scope) rest >>= λ bound.
+    Ok (record { values = more value bound.values; scope = bound.scope })
 
-  -- the bindings, and a body that sees them: Clojure's special forms `let` and `loop`
-  pub named_binding : Bool → Scope → Spot → Forms → Answer Tree
-  named_binding is_loop scope s (first (group Square bindings at) body) =
-      if are_pairs bindings then in_room s (
-      named_bindings scope (s.room - 1) bindings >>= λ bound.
-      named_body bound.scope (below 1 s) body >>= λ node.
-      Ok (binding_node is_loop bound.values node (spot_mark s)))
-      else refuse BadForm s.span
-  named_binding is_loop scope s _ = refuse BadForm s.span
+-- the tree of a special form, whose parts stand one level below it
+abbrev pub put_together : Resolver → Scope → Spot → Special → Answer Tree
+put_together deeper scope s (row k forms) =
+    narrow (parts forms) s (named_all deeper scope (are_wanted k) (are_wanted k || s.wanted) forms) >>= λ nodes.
+    Ok (sequence_node k nodes (spot_mark s))
+put_together deeper scope s (reading r) =
+    deeper scope true r >>= λ cell.
+    Ok (Deref cell (spot_mark s))
+put_together deeper scope s (transaction forms) =
+    deeper scope s.wanted forms >>= λ node.
+    Ok (Dosync node (spot_mark s))
+-- what is written first is looked at first, also where the branches are turned
+put_together deeper scope s (choice turned c a b) =
+    deeper scope true c >>= λ test.
+    deeper scope s.wanted a >>= λ one.
+    deeper scope s.wanted b >>= λ other.
+    Ok (choice_node turned test one other (spot_mark s))
+put_together deeper scope s (binding is_loop pairs forms) =
+    named_bindings deeper scope pairs >>= λ bound.
+    deeper bound.scope s.wanted forms >>= λ node.
+    Ok (binding_node is_loop bound.values node (spot_mark s))
+put_together deeper scope s (change r called args) =
+    deeper scope true r >>= λ cell.
+    called >>= λ callee.
+    narrow (suc (parts args)) s (named_all deeper scope true true args) >>= λ nodes.
+    Ok (Alter cell callee nodes (spot_mark s))
 
-  -- names and values in turn, of which each value sees the names before it, and stands before its own
-  pub named_bindings : Scope → ℕ → Forms → Answer Bound
-  named_bindings scope room no_forms = Ok (record { values = none; scope = scope })
-  named_bindings scope room (first binder no_forms) = refuse BadForm (place binder)
-  named_bindings scope room (first binder (first e rest)) =
-      named scope room true e >>= λ value.
-      bound_name scope binder >>= λ name.
-      named_bindings (with_local name scope) room rest >>= λ bound.
-      Ok (record { values = more value bound.values; scope = bound.scope })
+-- the tree of a form in which no more is to expand; a special form finds room or is too much
+abbrev pub made : Resolver → Scope → Spot → Core → Answer Tree
+made deeper scope s (whole x) = leaf_node scope x s
+made deeper scope s (parted form) = in_room s (put_together deeper scope s form)
 
-  -- an empty body is nil, a body of one form is its node, and others are a do
-  pub named_body : Scope → Spot → Forms → Answer Tree
-  named_body scope s no_forms = in_room s (Ok (Const Nil (spot_mark s)))
-  named_body scope s (first e no_forms) = named scope s.room s.wanted e
-  named_body scope s (first e (first f rest)) =
-      in_room s (
-      named scope (s.room - 1) false e >>= λ node.
-      named_all scope (s.room - 1) false s.wanted (first f rest) >>= λ nodes.
-      Ok (Do (more node nodes) (spot_mark s)))
+-- the tree of a form that is no other's only part, at a spot with so much room
+abbrev pub resolved : Resolver → ℕ → Scope → Bool → Form → Answer Tree
+resolved deeper room scope wanted form =
+    let s = spot_at room (place form) wanted in
+    core_of scope s (expand_once form) >>= made deeper scope s
 
-  -- each form's node; the last one has a flag of its own
-  pub named_all : Scope → ℕ → Bool → Bool → Forms → Answer Trees
-  named_all scope room inner last no_forms = Ok none
-  named_all scope room inner last (first e rest) =
-      named scope room (flag inner last rest) e >>= λ node.
-      named_all scope room inner last rest >>= λ nodes.
-      Ok (more node nodes)
+-- the tree of a form that may have so many levels; the truth value says whether its result is wanted
+unfoldable pub named : ℕ → Scope → Bool → Form → Answer Tree
+-- nothing is asked below the last level
+named zero scope wanted form = resolved (λ _ _ e. refuse TooMany (place e)) 0 scope wanted (alone form)
+named (suc room) scope wanted form = resolved (named room) (suc room) scope wanted (alone form)

@@ -1,9 +1,10 @@
 pub mod Answers
-pub mod Choices
 pub mod Depths
+pub mod Expansions
 pub mod Expressions
 pub mod Given
 pub mod Literals
 pub mod Names
+pub mod Parts
 pub mod Reported
 pub mod Scripts

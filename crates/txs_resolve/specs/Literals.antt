@@ -1,5 +1,6 @@
 -- The values of literals.
-use Rattle.std.specs.Prelude.{ℕ, ◌-◌, Bool, true, false, ◌&&◌, ◌||◌, ◌==◌, nat_lt, List, [], ◌∷◌, Result, Ok, Err, if◌then◌else◌}
+use Rattle.std.specs.Prelude.{ℕ, ◌-◌, Bool, true, false, ◌&&◌, ◌||◌, ◌==◌, nat_lt, List, [], ◌∷◌, Ok, if◌then◌else◌}
+use Rattle.txs_value.specs.Limits.{most_items}
 use Rattle.txs_value.specs.declared.value.Value.{Value}
 use Rattle.txs_value.specs.declared.value.Value.TheVariants.{Vector}
 use Rattle.txs_value.specs.View.{plains_of}
@@ -7,7 +8,7 @@ use Rattle.txs_reader.specs.declared.form.Bracket.TheVariants.{Round, Square}
 use Rattle.txs_reader.specs.Tree.{Tree as Form, Trees as Forms, leaf, group, first, symbol, parts}
 use Rattle.txs_reader.specs.Tree.{none as no_forms}
 use Rattle.txs_resolve.specs.declared.error.ResolveErrorKind.TheVariants.{BadForm, TooMany}
-use Rattle.txs_resolve.specs.Expressions.{Answer, leaf_value, is_symbol}
+use Rattle.txs_resolve.specs.Expressions.{Answer, leaf_value}
 use Rattle.txs_resolve.specs.Answers.{◌>>=◌, refuse}
 
 -- a literal has no symbol and no list in it
@@ -30,13 +31,9 @@ abbrev mutual
   literal room (leaf x at) = Ok (leaf_value x)
   literal room (group Round forms at) = refuse BadForm at
   literal room (group Square forms at) =
-      if room == 0 || nat_lt 65535 (parts forms) then refuse TooMany at else (literals (room - 1) forms >>= λ vs. Ok (Vector (plains_of vs)))
+      if room == 0 || nat_lt most_items (parts forms) then refuse TooMany at else (literals (room - 1) forms >>= λ vs. Ok (Vector (plains_of vs)))
 
   -- the values of these, in order
   pub literals : ℕ → Forms → Answer (List Value)
   literals room no_forms = Ok []
   literals room (first e rest) = literal room e >>= λ v. literals room rest >>= λ vs. Ok (v ∷ vs)
-
--- how many levels the vectors of a literal may have
-abbrev pub literal_levels : ℕ
-literal_levels = 32

@@ -1,5 +1,6 @@
 -- Which program the forms of a script are, or the first refusal met.
-use Rattle.std.specs.Prelude.{◌≡◌, ℕ, suc, Bool, true, false, ◌&&◌, nat_lt, List, [], ◌∷◌, ◌++◌, length, Option, Some, None, Result, Ok, Err, if◌then◌else◌}
+use Rattle.std.specs.Prelude.{◌≡◌, ℕ, suc, Bool, true, false, ◌&&◌, nat_lt, List, [], ◌∷◌, ◌++◌, length, Option, Some, None, Ok, Err, if◌then◌else◌}
+use Rattle.txs_value.specs.Limits.{most_depth, most_levels, most_definitions, most_threads, most_parameters}
 use Rattle.txs_value.specs.Operations.{op_name}
 use Rattle.txs_value.specs.declared.fault.Span.{Span}
 use Rattle.txs_value.specs.declared.cell.CellDefinition.{CellDefinition}
@@ -15,14 +16,11 @@ use Rattle.txs_resolve.specs.declared.error.ResolveErrorKind.TheVariants.{Redefi
 use Rattle.txs_names.specs.declared.names.FormName.{FormName}
 use Rattle.txs_names.specs.declared.names.FormName.TheVariants as kind
 use Rattle.txs_names.specs.declared.scope.Definition.TheVariants.{Constant, Cell, Function}
-use Rattle.txs_resolve.specs.Expressions.{Answer, spot_at, is_symbol, named_body}
-use Rattle.txs_resolve.specs.Literals.{is_literal, literal, literal_levels}
+use Rattle.txs_resolve.specs.Expansions.{body, form_at}
+use Rattle.txs_resolve.specs.Expressions.{Answer, is_symbol, named}
+use Rattle.txs_resolve.specs.Literals.{is_literal, literal}
 use Rattle.txs_resolve.specs.Answers.{◌>>=◌, refuse}
-use Rattle.txs_names.specs.Scope.{Scope, Entry, definition_of, with_name, form_name, form_names, operations, may_bind, is_none}
-
--- the levels that a tree may have
-abbrev pub max_levels : ℕ
-max_levels = 1000
+use Rattle.txs_names.specs.Scope.{Entry, definition_of, with_name, operations, may_bind, is_none}
 
 -- what a script has defined so far: names; cells; functions; threads; and how often `def` stood
 pub record State : Type 0 where
@@ -39,11 +37,6 @@ nothing = record { defined = []; cells = []; functions = []; threads = []; defs 
 -- the program of what is defined
 abbrev pub program : State → PlainProgram
 program s = record { functions = s.functions; cells = s.cells; threads = s.threads }
-
--- the form that a list is, by the name at its head
-abbrev pub form_at : Form → Option FormName
-form_at (leaf (symbol name) at) = with_name form_name name form_names
-form_at _ = None
 
 -- ---- names that are defined
 
@@ -108,8 +101,8 @@ with_definition true s name v = with_ref s name v
 abbrev pub defined_as_one : State → List ℕ → Span → Span → Option Defining → Answer State
 defined_as_one s name at span None = refuse BadForm span
 defined_as_one s name at span (Some d) =
-    if nat_lt s.defs 1000 then (
-    literal literal_levels d.value >>= λ v.
+    if nat_lt s.defs most_definitions then (
+    literal most_depth d.value >>= λ v.
     new_name s.defined name at >>= λ n.
     Ok (with_definition d.is_ref s n v))
     else refuse TooMany span
@@ -138,7 +131,7 @@ define s span parts = defined_at s span (named_form parts)
 
 -- the name of a parameter after so many: there are at most 20
 abbrev pub parameter : ℕ → Form → Answer (List ℕ)
-parameter k (leaf (symbol name) at) = if may_bind name then (if nat_lt k 20 then Ok name else refuse TooMany at) else refuse BadForm at
+parameter k (leaf (symbol name) at) = if may_bind name then (if nat_lt k most_parameters then Ok name else refuse TooMany at) else refuse BadForm at
 parameter k form = refuse BadForm (place form)
 
 -- the names of parameters behind these, the last first
@@ -188,11 +181,11 @@ with_function s name n body span = record {
 abbrev pub function : State → Span → Option Written → Answer State
 function s span None = refuse BadForm span
 function s span (Some w) =
-    if nat_lt (length s.functions) 1000 then (
+    if nat_lt (length s.functions) most_definitions then (
     new_name s.defined w.name w.at >>= λ name.
     parameters [] w.parameters >>= λ locals.
-    named_body (record { locals = locals; defined = s.defined; current = Some name }) (spot_at max_levels span true) w.body >>= λ body.
-    Ok (with_function s name (length locals) body span))
+    named most_levels (record { locals = locals; defined = s.defined; current = Some name }) true (body w.body span) >>= λ node.
+    Ok (with_function s name (length locals) node span))
     else refuse TooMany span
 
 -- ---- threads
@@ -209,9 +202,9 @@ with_thread s body span = record {
 
 -- a thread; there are at most 64. The result of its body isn't wanted
 abbrev pub future : State → Span → Forms → Answer State
-future s span body =
-    if nat_lt (length s.threads) 64 then (
-    named_body (record { locals = []; defined = s.defined; current = None }) (spot_at max_levels span false) body >>= λ node.
+future s span forms =
+    if nat_lt (length s.threads) most_threads then (
+    named most_levels (record { locals = []; defined = s.defined; current = None }) false (body forms span) >>= λ node.
     Ok (with_thread s node span))
     else refuse TooMany span
 

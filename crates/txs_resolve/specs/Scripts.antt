@@ -2,10 +2,11 @@
 use Rattle.std.specs.Prelude.{◌≡◌, ◌≤◌, ℕ, Bool, List, [], ◌∷◌, length, map, Option, Some, None}
 use Rattle.std.specs.Borrow.{Bor}
 use Rattle.txs_reader.specs.declared.form.Form.{Form as AForm}
-use Rattle.txs_reader.specs.Tree.{tree, trees, trees_of, Trees as Forms}
+use Rattle.txs_reader.specs.Tree.{tree, trees, trees_of}
 use Rattle.txs_tree.specs.Known.{Known, known}
 use Rattle.txs_tree.specs.Scoped.{ScopedFunctions, ScopedThreads}
 use Rattle.txs_tree.specs.View.{functions_of, threads_of}
+use Rattle.txs_value.specs.Limits.{most_definitions, most_threads}
 use Rattle.txs_value.specs.Places.{nth}
 use Rattle.txs_value.specs.declared.fault.Span.{Span}
 use Rattle.txs_names.specs.declared.scope.Definition.{Definition}
@@ -13,7 +14,7 @@ use Rattle.txs_names.specs.declared.scope.Definition.TheVariants.{Constant, Cell
 use Rattle.txs_resolve.specs.declared.script.Script.{Script}
 use Rattle.txs_resolve.specs.declared.script.Signature.{Signature}
 use Rattle.txs_resolve.specs.Names.{State, Defining, Written, NamedForm}
-use Rattle.txs_names.specs.Scope.{Scope, Entry}
+use Rattle.txs_names.specs.Scope.{Entry}
 
 -- what a script has defined so far, as the resolver keeps it
 abbrev pub state_of : Script → State
@@ -42,9 +43,9 @@ pub record ScopedState (s : State) : Type 0 where
   pub threads : ScopedThreads (known s.functions) s.threads
   pub known : AreKnown (known s.functions) s.defined
   pub few_cells : length s.cells ≤ s.defs
-  pub few_defs : s.defs ≤ 1000
-  pub few_functions : length s.functions ≤ 1000
-  pub few_threads : length s.threads ≤ 64
+  pub few_defs : s.defs ≤ most_definitions
+  pub few_functions : length s.functions ≤ most_definitions
+  pub few_threads : length s.threads ≤ most_threads
 
 -- between two top-level forms no local is in scope, and the levels of the functions are known
 pub record IsScript (s : Script) : Type 0 where

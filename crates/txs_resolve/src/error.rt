@@ -85,10 +85,25 @@ pub enum Stop {
 }
 
 /// The refusal for this reason at this place.
+pub fn refusal(kind: ResolveErrorKind, at: Span) -> ResolveError
+    ensures { result ≡ record { kind = kind; at = at } }
+{
+    ResolveError { kind, at }
+}
+
+/// The stop for this reason at this place.
 pub fn refused(kind: ResolveErrorKind, at: Span) -> Stop
     ensures { result ≡ Refused (record { kind = kind; at = at }) }
 {
-    Stop::Refused(ResolveError { kind, at })
+    Stop::Refused(refusal(kind, at))
+}
+
+impl From<ResolveError> for Stop {
+    ghost from_gives = { λ error e. e ≡ Refused error };
+
+    fn from(error: ResolveError) -> Stop {
+        Stop::Refused(error)
+    }
 }
 
 impl From<AllocError> for Stop {

@@ -3,6 +3,7 @@
 ghost use Rattle.std.specs.Prelude.{◌≡◌, ◌≤◌};
 ghost use Rattle.txs_resolve.specs.Depths.{at_place, callee_depth, depths, depths_in};
 ghost use Rattle.txs_tree.specs.View.{tree_of, trees_of};
+ghost use Rattle.txs_value.specs.Limits.{most_levels};
 
 use txs_tree::{Node, NodeKind};
 use txs_value::Callee;
@@ -30,7 +31,7 @@ fn of_callee(known: &[u16], callee: Callee) -> usize
 /// How many nodes stand in one another at most, with those of the functions that are called, whose levels are known.
 #[cycle(levels)]
 pub fn levels(known: &[u16], node: &Node) -> usize
-    requires { depths known.now (tree_of node.now) ≤ 1000 }
+    requires { depths known.now (tree_of node.now) ≤ most_levels }
     ensures { result ≡ depths known.now (tree_of node.now) }
 {
     match &node.kind {
@@ -62,7 +63,7 @@ pub fn levels(known: &[u16], node: &Node) -> usize
 /// The most of them that one of the nodes has.
 #[cycle(levels)]
 fn most_levels(known: &[u16], nodes: &[Node]) -> usize
-    requires { depths_in known.now (trees_of nodes.now) ≤ 1000 }
+    requires { depths_in known.now (trees_of nodes.now) ≤ most_levels }
     ensures { result ≡ depths_in known.now (trees_of nodes.now) }
 {
     let mut most = 0;

@@ -10,6 +10,8 @@ pub mod law;
 mod levels;
 mod literal;
 mod nodes;
+mod parts;
+mod plans;
 pub mod resolver;
 mod script;
 

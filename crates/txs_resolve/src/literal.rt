@@ -4,16 +4,15 @@ ghost use Rattle.std.specs.Prelude.{◌≡◌, ◌≤◌, length, IfOk};
 ghost use Rattle.txs_resolve.specs.Given.{Gives};
 ghost use Rattle.txs_resolve.specs.Literals.{is_literal, are_literals, literal, literals};
 ghost use Rattle.txs_reader.specs.Tree.{tree, trees, trees_of};
+ghost use Rattle.txs_value.specs.Limits.{most_depth};
 ghost use Rattle.txs_value.specs.PlainValue.{depth, row_depth, plain_row};
 ghost use Rattle.txs_value.specs.View.{plain_of, plains_of};
 
 use crate::error::{ResolveErrorKind, Stop, refused};
 use std::alloc::Global;
 use txs_reader::{Bracket, Form};
+use txs_value::limits::MOST_ITEMS;
 use txs_value::{Items, Value};
-
-/// How many parts a vector may have.
-const MAX_PARTS: usize = 65_535;
 
 /// Whether there is no symbol and no list in the form.
 #[cycle(is_literal)]
@@ -44,7 +43,7 @@ fn are_literals(forms: &[Form]) -> bool
 /// The value of a literal whose vectors may have so many levels.
 #[cycle(literal)]
 pub fn literal(alloc: Global, room: usize, form: &Form) -> Result<Value, Stop>
-    requires { room ≤ 32 }
+    requires { room ≤ most_depth }
     ensures value { Gives (λ v. v) result (literal room (tree form.now)) }
     ensures depth { IfOk result (λ v. depth (plain_of v) ≤ room) }
 {
@@ -55,7 +54,7 @@ pub fn literal(alloc: Global, room: usize, form: &Form) -> Result<Value, Stop>
         Form::Text(text, _) => Ok(Value::Text(text.share()?)),
         Form::Keyword(name, _) => Ok(Value::Key(name.share()?)),
         Form::Group(Bracket::Square, forms, span) => {
-            if room == 0 || forms.len() > MAX_PARTS {
+            if room == 0 || forms.len() > MOST_ITEMS {
                 return Err(refused(ResolveErrorKind::TooMany, *span));
             }
             let items = literals(alloc, room - 1, forms)?;

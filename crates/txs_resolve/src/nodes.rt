@@ -1,26 +1,26 @@
 //! Nodes of what is resolved, and what names are where they stand.
 
-ghost use Rattle.std.specs.Prelude.{◌≡◌, ◌<◌, ◌≤◌, ◌+◌, ◌-◌, ◌&&◌, nat_lt, true, length, drop, Ok, IfOk};
-ghost use Rattle.txs_resolve.specs.Expressions.{below, spot_at, spot_mark, symbol_node, in_room, callee_at, callee_of, head_at, head_of, is_symbol, flag, sequence_node, choice_node, empty_logic, binding_node, pair_node, folds, is_chain, bound_name, are_pairs, may_hide};
-ghost use Rattle.txs_resolve.specs.Given.{Gives, BindsName};
-ghost use Rattle.txs_resolve.specs.Choices.{constant_of, hidden_choice};
+ghost use Rattle.std.specs.Prelude.{◌≡◌, ◌<◌, ◌≤◌, ◌+◌, ◌-◌, ◌||◌, [], ◌∷◌, ◌++◌, List, length, drop, Ok, IfOk, OnOk};
+ghost use Rattle.txs_resolve.specs.Expressions.{are_wanted, are_pairs, bound_name, callee_at, callee_of, choice_node, flag, folds, in_room, is_chain, is_symbol, leaf_node, binding_node, sequence_node, spot_at, spot_mark, symbol_node};
+ghost use Rattle.txs_resolve.specs.Given.{BindsName, Gives, Hides, Pushes};
+ghost use Rattle.txs_resolve.specs.Literals.{literal};
+ghost use Rattle.txs_resolve.specs.Parts.{constant_of, whole_leaf, IsMade, WholeFits};
 ghost use Rattle.txs_names.specs.Scope.{meaning};
 ghost use Rattle.txs_names.specs.Viewed.{meant};
-ghost use Rattle.txs_tree.specs.Tree.{Const, Local};
 ghost use Rattle.txs_reader.specs.Tree.{tree, trees, trees_of};
-ghost use Rattle.txs_tree.specs.View.{tree_of, trees_of as nodes_tree};
-ghost use Rattle.txs_resolve.specs.Literals.{literal};
+ghost use Rattle.txs_tree.specs.Tree.{Tree, Mark, Const, Local, Alter};
+ghost use Rattle.txs_tree.specs.declared.node.Node.{Node as ANode};
+ghost use Rattle.txs_tree.specs.View.{kind_tree, tree_of, trees_of as nodes_tree};
 
-use crate::error::{ResolveErrorKind, Stop, refused};
+use crate::error::{ResolveError, ResolveErrorKind, Stop, refusal, refused};
 use crate::literal::literal;
-use std::alloc::Global;
-use txs_names::{Definition, FormName, Found, Scope, may_bind};
+use crate::parts::{Special, Whole};
+use std::alloc::{AllocError, Global};
+use txs_names::{Definition, Found, Scope, may_bind};
 use txs_reader::Form;
 use txs_tree::{Node, NodeKind};
+use txs_value::limits::MOST_LOCALS;
 use txs_value::{Callee, CellId, CellKind, Name, Op, Span, Value, copy_value};
-
-/// How many locals may be in scope.
-pub const MAX_LOCALS: usize = 200;
 
 /// Where a node stands: how many levels it may have, its span, and whether its result is wanted.
 #[derive(Clone, Copy)]
@@ -31,18 +31,6 @@ pub struct Spot {
 }
 
 impl Spot {
-    /// So many levels further down.
-    pub fn below(self, levels: usize) -> Spot
-        requires { levels ≤ self.room }
-        ensures { result ≡ below levels self }
-    {
-        Spot {
-            room: self.room - levels,
-            span: self.span,
-            wanted: self.wanted,
-        }
-    }
-
     /// One level further down.
     pub fn inner(self, wanted: bool) -> Spot
         requires { 1 ≤ self.room }
@@ -52,6 +40,17 @@ impl Spot {
             room: self.room - 1,
             span: self.span,
             wanted,
+        }
+    }
+
+    /// The same for a form with this span.
+    pub fn at(self, span: Span) -> Spot
+        ensures { result ≡ spot_at self.room span self.wanted }
+    {
+        Spot {
+            room: self.room,
+            span,
+            wanted: self.wanted,
         }
     }
 
@@ -67,16 +66,10 @@ impl Spot {
     }
 }
 
-/// What stands at the head of a list: the name of a form, or what is called.
-#[derive(Clone, Copy)]
-pub enum Head {
-    Form(FormName),
-    Called(Callee),
-}
-
 /// The kinds of nodes that are made of a row of nodes alone.
 #[derive(Clone, Copy)]
 pub enum Sequence {
+    Do,
     Recur,
     Println,
     Vector,
@@ -84,23 +77,34 @@ pub enum Sequence {
     Call(u16),
 }
 
-/// What forms are to one node: a body, the tests and branches of a `cond`, or nothing, which is nil.
-#[derive(Clone, Copy)]
-pub enum Part {
-    Body,
-    Choices,
-    Nil,
+impl Sequence {
+    /// Whether the result of each item is wanted.
+    pub fn are_wanted(self) -> bool
+        ensures { result ≡ are_wanted self }
+    {
+        !matches!(self, Sequence::Do)
+    }
+
+    /// Whether the result of the last item is wanted, where that of the row is or isn't.
+    pub fn last_wanted(self, wanted: bool) -> bool
+        ensures { result ≡ (are_wanted self || wanted) }
+    {
+        match self {
+            Sequence::Do => wanted,
+            _ => true,
+        }
+    }
 }
 
 /// The branches of a choice.
 #[derive(Drop)]
-pub struct Branches {
-    pub one: Box<Node>,
-    pub other: Box<Node>,
+struct Branches {
+    one: Box<Node>,
+    other: Box<Node>,
 }
 
 /// The node of a symbol: a local, a constant or a cell.
-pub fn symbol(scope: &Scope<'_>, name: &Name, spot: Spot) -> Result<Node, Stop>
+fn symbol(scope: &Scope<'_>, name: &Name, spot: Spot) -> Result<Node, Stop>
     ensures { Gives tree_of result (symbol_node (meaning name.now scope.now) spot) }
 {
     match scope.lookup(name) {
@@ -127,7 +131,7 @@ fn local(number: u8, spot: Spot) -> Result<Node, Stop>
 }
 
 /// The node of a constant.
-pub fn constant(value: Value, spot: Spot) -> Result<Node, Stop>
+fn constant(value: Value, spot: Spot) -> Result<Node, Stop>
     ensures { Gives tree_of result (in_room spot (Ok (Const value (spot_mark spot)))) }
 {
     if spot.room == 0 {
@@ -137,151 +141,190 @@ pub fn constant(value: Value, spot: Spot) -> Result<Node, Stop>
 }
 
 /// The node of a literal without parts.
-pub fn quoted(alloc: Global, form: &Form, spot: Spot) -> Result<Node, Stop>
+fn quoted(alloc: Global, form: &Form, spot: Spot) -> Result<Node, Stop>
     ensures { Gives tree_of result (constant_of spot (literal 0 (tree form.now))) }
 {
     let value = literal(alloc, 0, form)?;
     constant(value, spot)
 }
 
+/// The node of a form without parts.
+fn whole_node(alloc: Global, scope: &Scope<'_>, spot: Spot, whole: Whole<'_>) -> Result<Node, Stop>
+    requires { WholeFits scope.now whole }
+    ensures { Gives tree_of result (leaf_node scope.now (whole_leaf whole.entry) spot) }
+{
+    match whole {
+        Whole::Name(name) => symbol(scope, name, spot),
+        Whole::Literal(form) => quoted(alloc, form, spot),
+        Whole::Nil => constant(Value::Nil, spot),
+        Whole::Truth => constant(Value::Truth(true), spot),
+        Whole::Hidden(number) => local(number, spot),
+    }
+}
+
+/// The node of a form without parts, behind these nodes.
+pub fn push_whole(
+    alloc: Global,
+    scope: &Scope<'_>,
+    nodes: &mut Vec<Node>,
+    spot: Spot,
+    whole: Whole<'_>,
+) -> Result<(), Stop>
+    requires { WholeFits scope.now whole }
+    ensures { Pushes result nodes.old.items nodes.new.items (leaf_node scope.now (whole_leaf whole.entry) spot) }
+{
+    let node = whole_node(alloc, scope, spot, whole)?;
+    nodes.push(node)?;
+    Ok(())
+}
+
 /// What a name is in the place of a function, for a form at this spot.
-fn callee_at(found: Found<'_>, spot: Spot, at: Span) -> Result<Callee, Stop>
-    ensures { Gives (λ c. c) result (callee_at (meant found.entry) spot at) }
+fn callee_at(found: Found<'_>, spot: Spot, at: Span) -> Result<Callee, ResolveError>
+    ensures { result ≡ callee_at (meant found.entry) spot at }
 {
     match found {
-        Found::Form(_) => Err(refused(ResolveErrorKind::NotCallable, at)),
-        Found::Dotted => Err(refused(ResolveErrorKind::BadForm, at)),
-        Found::Local(_) => Err(refused(ResolveErrorKind::LocalCalled, at)),
-        Found::Current => Err(refused(ResolveErrorKind::SelfCall, at)),
+        Found::Form(_) => Err(refusal(ResolveErrorKind::NotCallable, at)),
+        Found::Dotted => Err(refusal(ResolveErrorKind::BadForm, at)),
+        Found::Local(_) => Err(refusal(ResolveErrorKind::LocalCalled, at)),
+        Found::Current => Err(refusal(ResolveErrorKind::SelfCall, at)),
         Found::Defined(Definition::Function(number, levels)) => {
             if usize::from(*levels) < spot.room {
                 Ok(Callee::Function(*number))
             } else {
-                Err(refused(ResolveErrorKind::TooMany, spot.span))
+                Err(refusal(ResolveErrorKind::TooMany, spot.span))
             }
         }
-        Found::Defined(_) => Err(refused(ResolveErrorKind::NotCallable, at)),
+        Found::Defined(_) => Err(refusal(ResolveErrorKind::NotCallable, at)),
         Found::Operation(op) => Ok(Callee::Core(op)),
-        Found::Unknown => Err(refused(ResolveErrorKind::UnknownName, at)),
+        Found::Unknown => Err(refusal(ResolveErrorKind::UnknownName, at)),
     }
 }
 
-/// The callee of a form on a cell.
-pub fn callee(scope: &Scope<'_>, spot: Spot, form: &Form) -> Result<Callee, Stop>
-    ensures { Gives (λ c. c) result (callee_of scope.now spot (tree form.now)) }
+/// What a form is in the place of a function.
+pub fn callee(scope: &Scope<'_>, spot: Spot, form: &Form) -> Result<Callee, ResolveError>
+    ensures { result ≡ callee_of scope.now spot (tree form.now) }
 {
     match form {
         Form::Symbol(name, at) => callee_at(scope.lookup(name), spot, *at),
-        _ => Err(refused(ResolveErrorKind::NotCallable, form.span())),
+        _ => Err(refusal(ResolveErrorKind::NotCallable, form.span())),
     }
 }
 
-/// What a name is at the head of a list at this spot.
-fn head_at(found: Found<'_>, spot: Spot, at: Span) -> Result<Head, Stop>
-    ensures { Gives (λ h. h) result (head_at (meant found.entry) spot at) }
+/// The last of the nodes, in a box.
+fn boxed_last(alloc: Global, nodes: &mut Vec<Node>) -> Result<Box<Node>, AllocError>
+    requires { 0 < length nodes.old.items }
+    ensures { IfOk result (λ b. nodes.old.items ≡ nodes.new.items ++ b.value ∷ []) }
 {
-    if let Found::Form(name) = found {
-        return Ok(Head::Form(name));
-    }
-    if spot.room == 0 {
-        return Err(refused(ResolveErrorKind::TooMany, spot.span));
-    }
-    let callee = callee_at(found, spot, at)?;
-    Ok(Head::Called(callee))
-}
-
-/// The head of a list at this spot.
-pub fn head_of(scope: &Scope<'_>, spot: Spot, form: &Form) -> Result<Head, Stop>
-    ensures { Gives (λ h. h) result (head_of scope.now spot (tree form.now)) }
-{
-    match form {
-        Form::Symbol(name, at) => head_at(scope.lookup(name), spot, *at),
-        _ => {
-            if spot.room == 0 {
-                return Err(refused(ResolveErrorKind::TooMany, spot.span));
-            }
-            Err(refused(ResolveErrorKind::NotCallable, form.span()))
-        }
+    match nodes.pop() {
+        Some(node) => Ok(Box::new(alloc, node)?),
+        None => unreachable!(),
     }
 }
 
-/// The node of a row of nodes.
-pub fn sequence_node(kind: Sequence, nodes: Vec<Node>, spot: Spot) -> Node
-    ensures { tree_of result ≡ sequence_node kind (nodes_tree nodes.items) (spot_mark spot) }
+/// The branches, which are the last two of the nodes.
+fn last_two(alloc: Global, nodes: &mut Vec<Node>) -> Result<Branches, AllocError>
+    requires { 2 ≤ length nodes.old.items }
+    ensures { IfOk result (λ b. nodes.old.items ≡ nodes.new.items ++ b.one.value ∷ b.other.value ∷ []) }
 {
-    match kind {
-        Sequence::Recur => spot.node(NodeKind::Recur(nodes)),
-        Sequence::Println => spot.node(NodeKind::Println(nodes)),
-        Sequence::Vector => spot.node(NodeKind::Vector(nodes)),
-        Sequence::Core(op) => spot.node(NodeKind::Core(op, nodes)),
-        Sequence::Call(number) => spot.node(NodeKind::Call(number, nodes)),
-    }
+    let other = boxed_last(alloc, nodes)?;
+    let one = boxed_last(alloc, nodes)?;
+    Ok(Branches { one, other })
 }
 
 /// A choice by a test. Turned, the second branch is the one of a true test.
-pub fn choice_node(turned: bool, test: Box<Node>, branches: Branches, spot: Spot) -> Node
-    ensures { tree_of result ≡ choice_node turned (tree_of test.value) (tree_of branches.one.value) (tree_of branches.other.value) (spot_mark spot) }
+fn if_kind(turned: bool, test: Box<Node>, branches: Branches) -> NodeKind
+    ensures { (m : Mark) → kind_tree result m ≡ choice_node turned (tree_of test.value) (tree_of branches.one.value) (tree_of branches.other.value) m }
 {
     let Branches { one, other } = branches;
     if turned {
-        return spot.node(NodeKind::If(test, other, one));
+        return NodeKind::If(test, other, one);
     }
-    spot.node(NodeKind::If(test, one, other))
+    NodeKind::If(test, one, other)
 }
 
-/// A node in a box.
-pub fn in_box(alloc: Global, node: Node) -> Result<Box<Node>, Stop>
-    ensures { Gives (λ b. tree_of b.value) result (Ok (tree_of node)) }
+/// The kind of a choice by a test, of these three nodes.
+fn choice_kind(alloc: Global, turned: bool, parts: &mut Vec<Node>) -> Result<NodeKind, AllocError>
+    requires { length parts.old.items ≡ 3 }
+    ensures { IfOk result (λ k. (x y z : ANode) (m : Mark) → parts.old.items ≡ x ∷ y ∷ z ∷ [] → kind_tree k m ≡ choice_node turned (tree_of x) (tree_of y) (tree_of z) m) }
 {
-    Ok(Box::new(alloc, node)?)
+    let branches = last_two(alloc, parts)?;
+    let test = boxed_last(alloc, parts)?;
+    Ok(if_kind(turned, test, branches))
 }
 
-/// What `and`, or `or`, chooses by the value that is bound to the local of this number: the rest, or that value.
-pub fn hidden_choice(
-    alloc: Global,
-    is_or: bool,
-    local: u8,
-    rest: Node,
-    spot: Spot,
-) -> Result<Box<Node>, Stop>
-    ensures { Gives (λ b. tree_of b.value) result (Ok (hidden_choice is_or local (tree_of rest) spot)) }
+/// The kind of a row of nodes.
+fn row_kind(kind: Sequence, nodes: Vec<Node>) -> NodeKind
+    ensures { (m : Mark) → kind_tree result m ≡ sequence_node kind (nodes_tree nodes.items) m }
 {
-    let one = in_box(alloc, rest)?;
-    let other = in_box(alloc, spot.node(NodeKind::Local(local)))?;
-    let wanted = true;
-    let test = Spot { wanted, ..spot }.node(NodeKind::Local(local));
-    let test = in_box(alloc, test)?;
-    let branches = Branches { one, other };
-    in_box(alloc, choice_node(is_or, test, branches, spot))
-}
-
-/// `(and)`, or `(or)`.
-pub fn empty_logic(is_or: bool) -> Value
-    ensures { result ≡ empty_logic is_or }
-{
-    if is_or {
-        Value::Nil
-    } else {
-        Value::Truth(true)
+    match kind {
+        Sequence::Do => NodeKind::Do(nodes),
+        Sequence::Recur => NodeKind::Recur(nodes),
+        Sequence::Println => NodeKind::Println(nodes),
+        Sequence::Vector => NodeKind::Vector(nodes),
+        Sequence::Core(op) => NodeKind::Core(op, nodes),
+        Sequence::Call(number) => NodeKind::Call(number, nodes),
     }
 }
 
-/// A `let`, or a `loop`.
-pub fn binding_node(is_loop: bool, values: Vec<Node>, body: Box<Node>, spot: Spot) -> Node
-    ensures { tree_of result ≡ binding_node is_loop (nodes_tree values.items) (tree_of body.value) (spot_mark spot) }
+/// The kind of a `let`, or of a `loop`, of the nodes of its values and its body.
+fn binding_kind(alloc: Global, is_loop: bool, parts: Vec<Node>) -> Result<NodeKind, AllocError>
+    requires { 0 < length parts.items }
+    ensures { IfOk result (λ k. (vs : List ANode) (n : ANode) (m : Mark) → parts.items ≡ vs ++ n ∷ [] → kind_tree k m ≡ binding_node is_loop (nodes_tree vs) (tree_of n) m) }
 {
+    let mut values = parts;
+    let body = boxed_last(alloc, &mut values)?;
     if is_loop {
-        return spot.node(NodeKind::Loop(values, body));
+        return Ok(NodeKind::Loop(values, body));
     }
-    spot.node(NodeKind::Let(values, body))
+    Ok(NodeKind::Let(values, body))
 }
 
-/// The operation on two nodes.
-pub fn pair_of(alloc: Global, op: Op, a: Node, b: Node, spot: Spot) -> Result<Node, Stop>
-    ensures { Gives tree_of result (Ok (pair_node op (tree_of a) (tree_of b) (spot_mark spot))) }
+/// The kind of an `alter`, of the nodes of its cell and its arguments.
+fn change_kind(alloc: Global, callee: Callee, parts: Vec<Node>) -> Result<NodeKind, AllocError>
+    requires { 0 < length parts.items }
+    ensures { IfOk result (λ k. (n : ANode) (vs : List ANode) (m : Mark) → parts.items ≡ n ∷ vs → kind_tree k m ≡ Alter (tree_of n) callee (nodes_tree vs) m) }
 {
-    let args = vec![in alloc; a, b]?;
-    Ok(spot.node(NodeKind::Core(op, args)))
+    let mut args = parts;
+    let cell = args.remove(0);
+    let cell = Box::new(alloc, cell)?;
+    Ok(NodeKind::Alter(cell, callee, args))
+}
+
+/// The kind of a special form, of the nodes of its parts.
+fn kind_of(alloc: Global, special: Special<'_>, parts: Vec<Node>) -> Result<NodeKind, AllocError>
+    requires { (m : Mark) → (t : Tree) × IsMade special parts.items m t }
+    ensures { IfOk result (λ k. (m : Mark) (t : Tree) → IsMade special.entry parts.items m t → kind_tree k m ≡ t) }
+{
+    let mut parts = parts;
+    match special {
+        Special::Row(kind, _) => Ok(row_kind(kind, parts)),
+        Special::Reading(_) => Ok(NodeKind::Deref(boxed_last(alloc, &mut parts)?)),
+        Special::Transaction(_) => Ok(NodeKind::Dosync(boxed_last(alloc, &mut parts)?)),
+        Special::Pair(op, _, _) => Ok(NodeKind::Core(op, parts)),
+        Special::Choice(turned, _, _, _) => choice_kind(alloc, turned, &mut parts),
+        Special::Binding(is_loop, _, _) => binding_kind(alloc, is_loop, parts),
+        Special::Hidden(_, _, _) => binding_kind(alloc, false, parts),
+        Special::Change(_, called, _) => match called {
+            Ok(callee) => change_kind(alloc, callee, parts),
+            Err(_) => unreachable!(),
+        },
+    }
+}
+
+/// The node of a special form, of the nodes of its parts, behind these nodes.
+pub fn build(
+    alloc: Global,
+    nodes: &mut Vec<Node>,
+    spot: Spot,
+    special: Special<'_>,
+    parts: Vec<Node>,
+) -> Result<(), Stop>
+    requires { (m : Mark) → (t : Tree) × IsMade special parts.items m t }
+    ensures { (t : Tree) → IsMade special.entry parts.items (spot_mark spot) t → Pushes result nodes.old.items nodes.new.items (Ok t) }
+{
+    let kind = kind_of(alloc, special, parts)?;
+    nodes.push(spot.node(kind))?;
+    Ok(())
 }
 
 /// Whether the operation folds any number of arguments from the left.
@@ -315,13 +358,25 @@ pub fn bindable<'f>(scope: &Scope<'_>, form: &'f Form) -> Result<&'f Name, Stop>
             if !may_bind(name.as_bytes()) {
                 return Err(refused(ResolveErrorKind::BadForm, *at));
             }
-            if scope.len() >= MAX_LOCALS {
+            if scope.len() >= MOST_LOCALS {
                 return Err(refused(ResolveErrorKind::TooMany, *at));
             }
             Ok(name)
         }
         _ => Err(refused(ResolveErrorKind::BadForm, form.span())),
     }
+}
+
+/// Binds a hidden local, and gives its number.
+pub fn hide(scope: &mut Scope<'_>, spot: Spot) -> Result<u8, Stop>
+    ensures { Hides result spot scope.old scope.new }
+{
+    let local = scope.len();
+    if local >= MOST_LOCALS {
+        return Err(refused(ResolveErrorKind::TooMany, spot.span));
+    }
+    scope.push(&[])?;
+    Ok(local as u8)
 }
 
 /// Whether the form is a symbol.
@@ -346,11 +401,4 @@ pub fn are_pairs(pairs: &[Form]) -> bool
         return false;
     }
     true
-}
-
-/// Whether one more local may be in scope, and a choice and what it chooses find room.
-pub fn may_hide(scope: &Scope<'_>, spot: Spot) -> bool
-    ensures { result ≡ may_hide scope.now spot }
-{
-    scope.len() < MAX_LOCALS && spot.room > 2
 }

@@ -2,8 +2,9 @@
 
 ghost use Rattle.std.specs.Prelude.{◌≡◌, ◌<◌, ◌≤◌, [], length, Some, None, OnOk, Ok, IfOk};
 ghost use Rattle.txs_resolve.specs.Given.{Gives, GivesLocals, Leaves};
-ghost use Rattle.txs_resolve.specs.Names.{nothing, new_name, form_at, only_literal, ref_of, defining_of, named_form, define, untold, written, function, future, parameter, parameters, are_symbols, step, with_constant, with_definition, with_ref, with_function, names_space, is_namespace};
-ghost use Rattle.txs_resolve.specs.Expressions.{is_symbol};
+ghost use Rattle.txs_resolve.specs.Expansions.{body, form_at};
+ghost use Rattle.txs_resolve.specs.Names.{nothing, new_name, only_literal, ref_of, defining_of, named_form, define, untold, written, function, future, parameter, parameters, are_symbols, step, with_constant, with_definition, with_ref, with_function, names_space, is_namespace};
+ghost use Rattle.txs_resolve.specs.Expressions.{is_symbol, named};
 ghost use Rattle.txs_names.specs.declared.names.FormName.TheVariants.{Ns, Ref};
 ghost use Rattle.txs_names.specs.Scope.{definition_of, with_locals};
 ghost use Rattle.txs_resolve.specs.Scripts.{state_of, IsScript, defining, written_in, name_and_form};
@@ -12,35 +13,20 @@ ghost use Rattle.txs_reader.specs.Tree.{tree, trees, trees_of, group};
 ghost use Rattle.txs_tree.specs.Known.{known, levels};
 ghost use Rattle.txs_tree.specs.Scoped.{ScopedTree};
 ghost use Rattle.txs_tree.specs.View.{functions_of, tree_of};
+ghost use Rattle.txs_value.specs.Limits.{most_definitions, most_levels, most_parameters};
 
 use crate::error::{ResolveErrorKind, Stop, refused};
-use crate::expression::body;
+use crate::expression::expression;
 use crate::levels::levels;
 use crate::literal::{is_literal, literal};
 use crate::nodes::{Spot, is_symbol};
+use crate::parts::{Part, form_at};
 use std::alloc::Global;
-use txs_names::{Definition, FormName, Scope, form_of, may_bind, operation_of};
+use txs_names::{Definition, FormName, Scope, may_bind, operation_of};
 use txs_reader::{Bracket, Form};
 use txs_tree::{Function, Node, Thread};
+use txs_value::limits::{MOST_DEFINITIONS, MOST_DEPTH, MOST_LEVELS, MOST_PARAMETERS, MOST_THREADS};
 use txs_value::{CellDefinition, CellKind, Name, Span, Value};
-
-/// How many levels a tree may have.
-const MAX_LEVELS: usize = 1_000;
-
-/// How many levels the vectors of a literal may have.
-const MAX_DEPTH: usize = 32;
-
-/// How often `def` may stand in a script.
-const MAX_DEFINITIONS: usize = 1_000;
-
-/// How many functions a script may have.
-const MAX_FUNCTIONS: usize = 1_000;
-
-/// How many threads a script may have.
-const MAX_THREADS: usize = 64;
-
-/// How many parameters a function may have.
-const MAX_PARAMETERS: usize = 20;
 
 /// What a script has defined so far: names, cells, functions and threads, the levels of the functions by their
 /// numbers, and how often `def` stood.
@@ -78,16 +64,6 @@ pub struct Signature<'a> {
     pub at: Span,
     pub parameters: &'a [Form],
     pub body: &'a [Form],
-}
-
-/// The form that a list is, by the name at its head.
-fn form_at(form: &Form) -> Option<FormName>
-    ensures { result ≡ form_at (tree form.now) }
-{
-    match form {
-        Form::Symbol(name, _) => form_of(name.as_bytes()),
-        _ => None,
-    }
 }
 
 /// The name, where it can be defined: then it isn't defined yet.
@@ -153,7 +129,7 @@ fn defining_of(form: &Form) -> Option<(bool, &Form)>
 fn with_constant<'a>(script: &mut Script<'a>, name: &'a Name, value: Value) -> Result<(), Stop>
     requires script { IsScript script.old }
     requires new { definition_of name.now script.old.scope.defined ≡ None }
-    requires room { script.old.defs < 1000 }
+    requires room { script.old.defs < most_definitions }
     ensures state { Leaves result (state_of script.new) (Ok (with_constant (state_of script.old) name.now value)) }
     ensures next { OnOk result (IsScript script.new) }
 {
@@ -166,7 +142,7 @@ fn with_constant<'a>(script: &mut Script<'a>, name: &'a Name, value: Value) -> R
 fn with_ref<'a>(script: &mut Script<'a>, name: &'a Name, value: Value) -> Result<(), Stop>
     requires script { IsScript script.old }
     requires new { definition_of name.now script.old.scope.defined ≡ None }
-    requires room { script.old.defs < 1000 }
+    requires room { script.old.defs < most_definitions }
     ensures state { Leaves result (state_of script.new) (Ok (with_ref (state_of script.old) name.now value)) }
     ensures next { OnOk result (IsScript script.new) }
 {
@@ -191,7 +167,7 @@ fn with_definition<'a>(
 ) -> Result<(), Stop>
     requires script { IsScript script.old }
     requires new { definition_of name.now script.old.scope.defined ≡ None }
-    requires room { script.old.defs < 1000 }
+    requires room { script.old.defs < most_definitions }
     ensures state { Leaves result (state_of script.new) (Ok (with_definition is_ref (state_of script.old) name.now value)) }
     ensures next { OnOk result (IsScript script.new) }
 {
@@ -232,10 +208,10 @@ fn define<'a>(
     let Some((is_ref, what)) = defining_of(what) else {
         return Err(refused(ResolveErrorKind::BadForm, span));
     };
-    if script.defs >= MAX_DEFINITIONS {
+    if script.defs >= MOST_DEFINITIONS {
         return Err(refused(ResolveErrorKind::TooMany, span));
     }
-    let value = literal(alloc, MAX_DEPTH, what)?;
+    let value = literal(alloc, usize::from(MOST_DEPTH), what)?;
     let name = new_name(&script.scope, name, at)?;
     with_definition(is_ref, script, name, value)
 }
@@ -288,14 +264,14 @@ fn signature_of(parts: &[Form]) -> Option<Signature<'_>>
 /// The name of a parameter after so many.
 fn parameter(count: usize, form: &Form) -> Result<&Name, Stop>
     ensures name { Gives (λ n. n.now) result (parameter count (tree form.now)) }
-    ensures room { OnOk result (count < 20) }
+    ensures room { OnOk result (count < most_parameters) }
 {
     match form {
         Form::Symbol(name, at) => {
             if !may_bind(name.as_bytes()) {
                 return Err(refused(ResolveErrorKind::BadForm, *at));
             }
-            if count >= MAX_PARAMETERS {
+            if count >= MOST_PARAMETERS {
                 return Err(refused(ResolveErrorKind::TooMany, *at));
             }
             Ok(name)
@@ -309,13 +285,37 @@ fn bind_parameters<'a>(scope: &mut Scope<'a>, forms: &'a [Form]) -> Result<(), S
     requires { scope.old.locals ≡ [] }
     ensures names { GivesLocals result scope.new.locals (parameters [] (trees_of (trees forms.now))) }
     ensures kept { OnOk result (scope.new ≡ with_locals scope.new.locals scope.old) }
-    ensures few { OnOk result (length scope.new.locals ≤ 20) }
+    ensures few { OnOk result (length scope.new.locals ≤ most_parameters) }
 {
     for form in forms {
         let name = parameter(scope.len(), form)?;
         scope.push(name.as_bytes())?;
     }
     Ok(())
+}
+
+/// The node of a body.
+fn body<'a>(
+    alloc: Global,
+    scope: &mut Scope<'a>,
+    spot: Spot,
+    forms: &'a [Form],
+) -> Result<Node, Stop>
+    ensures node { Gives tree_of result (named spot.room scope.old spot.wanted (body (trees_of (trees forms.now)) spot.span)) }
+    ensures kept { OnOk result (scope.new ≡ scope.old) }
+{
+    let mut nodes = Vec::new(alloc);
+    expression(
+        alloc,
+        scope,
+        &mut nodes,
+        spot,
+        Part::List(FormName::Do, forms),
+    )?;
+    match nodes.pop() {
+        Some(node) => Ok(node),
+        None => unreachable!(),
+    }
 }
 
 /// A function is defined, of so many parameters and with this body.
@@ -328,10 +328,10 @@ fn with_function<'a>(
 ) -> Result<(), Stop>
     requires script { IsScript script.old }
     requires new { definition_of name.now script.old.scope.defined ≡ None }
-    requires room { length script.old.functions.items < 1000 }
-    requires few { parameters ≤ 20 }
+    requires room { length script.old.functions.items < most_definitions }
+    requires few { parameters ≤ most_parameters }
     requires scoped { ScopedTree (known (functions_of script.old.functions.items)) parameters (tree_of body) }
-    requires levels { levels (known (functions_of script.old.functions.items)) (tree_of body) ≤ 1000 }
+    requires levels { levels (known (functions_of script.old.functions.items)) (tree_of body) ≤ most_levels }
     ensures state { Leaves result (state_of script.new) (Ok (with_function (state_of script.old) name.now parameters (tree_of body) span)) }
     ensures next { OnOk result (IsScript script.new) }
 {
@@ -360,7 +360,7 @@ fn function_as<'a>(
     ensures state { Leaves result (state_of script.new) (function (state_of script.old) span (written_in (Some written.entry))) }
     ensures next { OnOk result (IsScript script.new) }
 {
-    if script.functions.len() >= MAX_FUNCTIONS {
+    if script.functions.len() >= MOST_DEFINITIONS {
         return Err(refused(ResolveErrorKind::TooMany, span));
     }
     let name = new_name(&script.scope, written.name, written.at)?;
@@ -368,7 +368,7 @@ fn function_as<'a>(
     let parameters = script.scope.len() as u8;
     script.scope.begin(name);
     let spot = Spot {
-        room: MAX_LEVELS,
+        room: MOST_LEVELS,
         span,
         wanted: true,
     };
@@ -405,11 +405,11 @@ fn future<'a>(
     ensures state { Leaves result (state_of script.new) (future (state_of script.old) span (trees_of (trees forms.now))) }
     ensures next { OnOk result (IsScript script.new) }
 {
-    if script.threads.len() >= MAX_THREADS {
+    if script.threads.len() >= MOST_THREADS {
         return Err(refused(ResolveErrorKind::TooMany, span));
     }
     let spot = Spot {
-        room: MAX_LEVELS,
+        room: MOST_LEVELS,
         span,
         wanted: false,
     };

@@ -1,5 +1,4 @@
-use Rattle.std.proofs.Common.{sym, ap, ◌∙◌, arith}
-use Rattle.txs_resolve.specs.Depths.{at_place}
+use Rattle.std.proofs.Common.{sym, ◌∙◌}
 use Rattle.txs_resolve.proofs.LevelLists.{place_missing, place_found}
 use Rattle.txs_resolve.proofs.levels.at_place.Goals as goal
 

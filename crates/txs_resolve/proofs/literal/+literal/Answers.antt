@@ -9,9 +9,10 @@ use Rattle.txs_reader.specs.declared.form.Form.{Group, the_lemmas}
 use Rattle.txs_reader.specs.Tree.{tree}
 use Rattle.txs_resolve.specs.Given.{Gives}
 use Rattle.txs_resolve.specs.Literals.{literal, literals}
-use Rattle.txs_resolve.proofs.Building.{plain, failed, then_err, then_ok}
+use Rattle.txs_resolve.specs.Parts.{plain}
+use Rattle.txs_resolve.proofs.Building.{failed, then_err, then_ok}
 use Rattle.txs_resolve.proofs.Literals.{values_after, literals_step, deeper, square_roomless, square_wide, square_fits}
-use Rattle.txs_resolve.proofs.literal.+literal.Goals.{literal-then-room-eq0-via-then-room-eq0, literal-then-room-eq0-via-else-room-eq0+then-len-gt-MAX_PARTS}
+use Rattle.txs_resolve.proofs.literal.+literal.Goals.{literal-then-room-eq0-via-then-room-eq0, literal-then-room-eq0-via-else-room-eq0+then-len-gt-MOST_ITEMS}
 use Rattle.txs_resolve.proofs.literal.+literal.Goals as goal
 
 pub literal-returns-then-room-eq0-clause-value : goal.literal-returns-then-room-eq0-clause-value
@@ -22,7 +23,7 @@ literal-returns-then-room-eq0-clause-value t c =
     subst (λ st. Gives (λ (v : Value). v) (Err st) (literal c.args.room (tree c.args.form.now))) (sym c.refused.ensures)
     (elim c.then-room-eq0.branch [
       | literal-then-room-eq0-via-then-room-eq0 w ↦ square_roomless c.args.room c.args.form.now forms at whole w.if-room-eq0.true
-      | literal-then-room-eq0-via-else-room-eq0+then-len-gt-MAX_PARTS w ↦ square_wide c.args.room c.args.form.now forms at whole (omega (arith, w.len.ensures, forms.ok, w.if-len-gt-MAX_PARTS.true))
+      | literal-then-room-eq0-via-else-room-eq0+then-len-gt-MOST_ITEMS w ↦ square_wide c.args.room c.args.form.now forms at whole (omega (arith, w.len.ensures, forms.ok, w.if-len-gt-MOST_ITEMS.true))
     ])
 
 pub literal-returns-in_err-items-in-Group-Square-default-default-clause-value :
@@ -33,7 +34,7 @@ literal-returns-in_err-items-in-Group-Square-default-default-clause-value t c =
     let whole : c.args.form.now ≡ Group Square forms at = search (rules, the_lemmas) in
     let p = err_from_is_err_and c.from_residual-in_err-items-in-Group-Square-default-default.result c.from_residual-in_err-items-in-Group-Square-default-default.ensures.1 in
     rw (p.1, p.2) (failed (λ (vs : Vec Value Global). vs.items) (λ (v : Value). v) _ _ _ c.in_err-items-in-Group-Square-default-default.ensures.values (λ e no.
-    square_fits c.args.room c.args.form.now forms at whole c.if-room-eq0.false (omega (arith, c.len.ensures, forms.ok, c.if-len-gt-MAX_PARTS.false))
+    square_fits c.args.room c.args.form.now forms at whole c.if-room-eq0.false (omega (arith, c.len.ensures, forms.ok, c.if-len-gt-MOST_ITEMS.false))
     ∙ then_err (literals (c.args.room - 1) (plain forms.items)) (λ vs. Ok (Vector (plains_of vs))) e (ap (λ l. literals (c.args.room - 1) (plain l)) (sym c.deref.ensures.value) ∙ no)))
 
 pub literal-returns-in_ok-from_vec-in-Group-Square-default-default-clause-value :
@@ -42,7 +43,7 @@ literal-returns-in_ok-from_vec-in-Group-Square-default-default-clause-value t c 
     let forms = c.in-Group-Square-default-default.forms in
     let at = c.in-Group-Square-default-default.span in
     let whole : c.args.form.now ≡ Group Square forms at = search (rules, the_lemmas) in
-    square_fits c.args.room c.args.form.now forms at whole c.if-room-eq0.false (omega (arith, c.len.ensures, forms.ok, c.if-len-gt-MAX_PARTS.false))
+    square_fits c.args.room c.args.form.now forms at whole c.if-room-eq0.false (omega (arith, c.len.ensures, forms.ok, c.if-len-gt-MOST_ITEMS.false))
     ∙ then_ok (literals (c.args.room - 1) (plain forms.items)) (λ vs. Ok (Vector (plains_of vs))) c.in_ok-items-in-Group-Square-default-default.items.items (ap (λ l. literals (c.args.room - 1) (plain l)) (sym c.deref.ensures.value) ∙ c.in_ok-items-in-Group-Square-default-default.ensures.values)
     ∙ ap (λ (ds : List PlainValue). Ok (Vector ds)) (sym c.in_ok-from_vec-in-Group-Square-default-default.ensures)
 

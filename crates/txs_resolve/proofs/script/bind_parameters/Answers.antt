@@ -1,4 +1,4 @@
-use Rattle.std.proofs.Common.{◌≡◌, ◌<◌, ◌≤◌, ◌+◌, ℕ, List, [], ◌∷◌, length, drop, refl, sym, ap, ◌∙◌, subst, arith, Result, Ok, Err}
+use Rattle.std.proofs.Common.{◌≡◌, ◌+◌, ℕ, List, [], ◌∷◌, length, drop, refl, sym, ap, ◌∙◌, subst, arith, Ok}
 use Rattle.txs_reader.specs.Tree.{tree}
 use Rattle.txs_resolve.specs.Expressions.{Answer}
 use Rattle.txs_resolve.specs.Names.{parameter, parameters}
@@ -6,8 +6,9 @@ use Rattle.txs_resolve.specs.Answers.{◌>>=◌}
 use Rattle.txs_names.specs.Scope.{Scope, with_local, with_locals}
 use Rattle.std.specs.Borrow.{Bor}
 use Rattle.std.proofs.lemmas.Result.{err_from_is_err_and}
-use Rattle.txs_resolve.proofs.Parts.{failed_locals}
-use Rattle.txs_resolve.proofs.Building.{plain, plain_at, drop_all}
+use Rattle.txs_resolve.proofs.TopLevel.{failed_locals}
+use Rattle.txs_resolve.specs.Parts.{plain}
+use Rattle.txs_resolve.proofs.Building.{plain_at, drop_all}
 use Rattle.txs_resolve.proofs.script.bind_parameters.Goals as goal
 
 pub loop-form-init : goal.loop-form-init

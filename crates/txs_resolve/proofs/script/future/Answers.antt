@@ -1,38 +1,39 @@
-use Rattle.std.proofs.Common.{◌≡◌, sym, ap, ◌∙◌, subst, arith, false, Result, Ok, Err}
+use Rattle.std.proofs.Common.{sym, ap, ◌∙◌, subst, arith, false, Ok, Err}
 use Rattle.std.proofs.lemmas.Result.{err_from_is_err_and}
 use Rattle.txs_tree.specs.View.{tree_of}
-use Rattle.txs_resolve.specs.Expressions.{named_body, spot_at}
+use Rattle.txs_resolve.specs.Expansions.{body}
+use Rattle.txs_resolve.specs.Expressions.{named}
 use Rattle.txs_resolve.specs.Given.{Leaves}
 use Rattle.txs_resolve.specs.Names.{State, future}
-use Rattle.txs_resolve.specs.Scripts.{IsScript, ScopedState, state_of}
+use Rattle.txs_resolve.specs.Scripts.{ScopedState, state_of}
 use Rattle.txs_resolve.specs.declared.error.Stop.{Stop}
-use Rattle.txs_resolve.proofs.Building.{plain}
-use Rattle.txs_resolve.proofs.Parts.{failed_leaves}
+use Rattle.txs_resolve.specs.Parts.{plain}
+use Rattle.txs_resolve.proofs.TopLevel.{failed_leaves}
 use Rattle.txs_resolve.proofs.Scoping.{Every}
 use Rattle.txs_resolve.proofs.ScopedScripts.{future_scoped}
 use Rattle.txs_resolve.proofs.Tops.{future_full, future_as, new_thread}
 use Rattle.txs_resolve.proofs.script.future.Goals as goal
 
-pub returns-then-len-ge-MAX_THREADS-clause-state : goal.returns-then-len-ge-MAX_THREADS-clause-state
-returns-then-len-ge-MAX_THREADS-clause-state c =
+pub returns-then-len-ge-MOST_THREADS-clause-state : goal.returns-then-len-ge-MOST_THREADS-clause-state
+returns-then-len-ge-MOST_THREADS-clause-state c =
     let s = c.args.script.now in
     let fs = c.args.forms.now in
-    subst (λ (r : Stop). Leaves (Err r) (state_of c.args.script.now) (future (state_of s) c.args.span (plain fs))) (sym c.refused.ensures) (future_full s c.args.span fs c.requires (omega (arith, c.if-len-ge-MAX_THREADS.true, c.len.ensures)))
+    subst (λ (r : Stop). Leaves (Err r) (state_of c.args.script.now) (future (state_of s) c.args.span (plain fs))) (sym c.refused.ensures) (future_full s c.args.span fs c.requires (omega (arith, c.if-len-ge-MOST_THREADS.true, c.len.ensures)))
 
 pub returns-in_err-body-clause-state : goal.returns-in_err-body-clause-state
 returns-in_err-body-clause-state c =
     let s = c.args.script.now in
     let fs = c.args.forms.now in
     let p = err_from_is_err_and c.from_residual.result c.from_residual.ensures.1 in
-    rw (p.1, p.2) (failed_leaves tree_of c.in_err-body.field-0.0 _ (named_body s.scope (spot_at 1000 c.args.span false) (plain fs)) (future (state_of s) c.args.span (plain fs)) c.in_err-body.ensures.node
-    (λ e stops. future_as s c.args.span fs c.requires (omega (arith, c.if-len-ge-MAX_THREADS.false, c.len.ensures)) (Err e) stops))
+    rw (p.1, p.2) (failed_leaves tree_of c.in_err-body.field-0.0 _ (named 1000 s.scope false (body (plain fs) c.args.span)) (future (state_of s) c.args.span (plain fs)) c.in_err-body.ensures.node
+    (λ e stops. future_as s c.args.span fs c.requires (omega (arith, c.if-len-ge-MOST_THREADS.false, c.len.ensures)) (Err e) stops))
 
 pub returns-clause-state : goal.returns-clause-state
 returns-clause-state c =
     let s = c.args.script.now in
     let fs = c.args.forms.now in
     let node = c.in_ok-body.body in
-    future_as s c.args.span fs c.requires (omega (arith, c.if-len-ge-MAX_THREADS.false, c.len.ensures)) (Ok (tree_of node)) c.in_ok-body.ensures.node
+    future_as s c.args.span fs c.requires (omega (arith, c.if-len-ge-MOST_THREADS.false, c.len.ensures)) (Ok (tree_of node)) c.in_ok-body.ensures.node
     ∙ ap (λ (x : State). Ok x) (new_thread s c.body.new.scope c.push.new.self.items node c.args.span c.in_ok-body.ensures.kept c.in_ok-push.ensures.items)
 
 pub returns-clause-next : goal.returns-clause-next

@@ -1,9 +1,9 @@
-use Rattle.std.proofs.Common.{sym, ap, ◌∙◌, Option, Some}
+use Rattle.std.proofs.Common.{sym, ap, ◌∙◌, Some}
 use Rattle.txs_reader.proofs.Trees.{tree-Symbol}
 use Rattle.txs_reader.specs.Tree.{tree, first}
-use Rattle.txs_resolve.specs.Names.{named_form, NamedForm}
-use Rattle.txs_resolve.proofs.Building.{plain}
-use Rattle.txs_resolve.proofs.Parts.{not_one_form, one_form}
+use Rattle.txs_resolve.specs.Names.{named_form}
+use Rattle.txs_resolve.specs.Parts.{plain}
+use Rattle.txs_resolve.proofs.TopLevel.{not_one_form, one_form}
 use Rattle.txs_resolve.proofs.script.named_form.Goals as goal
 
 pub returns-then-behind-ne1 : goal.returns-then-behind-ne1

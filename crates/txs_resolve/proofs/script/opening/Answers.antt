@@ -1,7 +1,7 @@
 use Rattle.std.proofs.Common.{true, sym, ap, ◌∙◌}
 use Rattle.txs_reader.specs.Tree.{tree}
 use Rattle.txs_resolve.specs.Names.{only_literal}
-use Rattle.txs_resolve.proofs.Parts.{not_one_opening, one_opening}
+use Rattle.txs_resolve.proofs.TopLevel.{not_one_opening, one_opening}
 use Rattle.txs_resolve.proofs.script.opening.Goals as goal
 
 pub returns-then-parts-ne1 : goal.returns-then-parts-ne1

@@ -1,4 +1,4 @@
-use Rattle.std.proofs.Common.{◌≡◌, ◌≤◌, ◌++◌, [], ◌∷◌, ℕ, length, sym, ap, ◌∙◌, subst, arith, Ok}
+use Rattle.std.proofs.Common.{◌≡◌, ◌++◌, [], ◌∷◌, ℕ, length, ap, ◌∙◌, subst, arith, Ok}
 use Rattle.txs_tree.specs.View.{tree_of}
 use Rattle.txs_resolve.specs.Depths.{depths}
 use Rattle.txs_resolve.specs.Names.{State}
@@ -6,7 +6,7 @@ use Rattle.txs_names.specs.Scope.{Scope}
 use Rattle.txs_resolve.specs.Scripts.{ScopedState, state_of}
 use Rattle.txs_names.specs.declared.scope.Definition.TheVariants.{Function}
 use Rattle.txs_resolve.proofs.ScopedScripts.{function_more}
-use Rattle.txs_resolve.proofs.Tops.{known_in, same_depths, few_levels, functions_count, state_is, levels_are}
+use Rattle.txs_resolve.proofs.Tops.{same_depths, few_levels, functions_count, state_is, levels_are}
 use Rattle.txs_resolve.proofs.script.with_function.Goals as goal
 
 pub levels-depth-requires : goal.levels-depth-requires

@@ -1,5 +1,5 @@
 -- What the parts of a top-level form are.
-use Rattle.std.proofs.Common.{◌≡◌, ◌≤◌, ℕ, suc, true, false, List, [], ◌∷◌, length, slice_index_or, Option, Some, None, Result, Ok, Err, refl, sym, ap, ◌∙◌, arith}
+use Rattle.std.proofs.Common.{◌≡◌, ℕ, true, false, List, [], ◌∷◌, length, slice_index_or, Some, None, Err, refl, arith}
 use Rattle.txs_value.specs.declared.fault.Span.{Span}
 use Rattle.txs_reader.specs.declared.form.Form.{Form}
 use Rattle.txs_reader.specs.Tree.{tree, leaf, symbol, first}
@@ -10,7 +10,7 @@ use Rattle.txs_resolve.specs.Names.{named_form, names_space, ref_of, only_litera
 use Rattle.txs_resolve.specs.declared.error.ResolveError.{ResolveError}
 use Rattle.txs_resolve.specs.declared.error.Stop.{Stop}
 use Rattle.txs_resolve.specs.declared.error.Stop.TheVariants.{Refused, Memory}
-use Rattle.txs_resolve.proofs.Building.{plain}
+use Rattle.txs_resolve.specs.Parts.{plain}
 
 -- a stop that was handed on
 pub failed_locals : {A B : Type 0} (f : A → B) (s : Stop) (names : List (List ℕ)) (a : Answer B) (b : Answer (List (List ℕ))) → Gives f (Err s) a → ((e : ResolveError) → a ≡ Err e → b ≡ Err e) → GivesLocals (Err s) names b

@@ -1,0 +1,290 @@
+-- What the nodes of a form's parts are put together to.
+use Rattle.std.proofs.Common.{◌≡◌, ◌<◌, ◌≤◌, ◌+◌, ◌-◌, ◌||◌, ℕ, zero, suc, Bool, true, false, List, [], ◌∷◌, ◌++◌, Result, Ok, Err, if◌then◌else◌, cond, length, nat_lt, refl, sym, ap, ◌∙◌, subst, arith, Bor}
+use Rattle.std.proofs.lemmas.Bool.Decides.{nat_tests}
+use Rattle.txs_value.specs.declared.fault.Span.{Span}
+use Rattle.txs_value.specs.declared.op.Callee.{Callee}
+use Rattle.txs_reader.specs.declared.form.Form.{Form}
+use Rattle.txs_reader.specs.Tree.{Tree as FormTree, first, place, tree, parts}
+use Rattle.txs_reader.specs.Tree.{none as no_forms}
+use Rattle.txs_tree.specs.Tree.{Tree, Trees, Mark, Let, more, none, Deref, Dosync, Alter, Core as CoreNode}
+use Rattle.txs_tree.specs.View.{tree_of, trees_of}
+use Rattle.txs_tree.specs.declared.node.Node.{Node}
+use Rattle.txs_names.specs.declared.names.FormName.TheVariants as kind
+use Rattle.txs_names.specs.Scope.{Scope, may_bind, with_local}
+use Rattle.txs_resolve.specs.declared.error.ResolveError.{ResolveError}
+use Rattle.txs_resolve.specs.declared.error.ResolveErrorKind.TheVariants.{TooMany}
+use Rattle.txs_resolve.specs.declared.error.Stop.{Stop}
+use Rattle.txs_resolve.specs.declared.error.Stop.TheVariants.{Refused, Memory}
+use Rattle.txs_resolve.specs.declared.nodes.Sequence.{Sequence}
+use Rattle.txs_resolve.specs.declared.nodes.Spot.{Spot}
+use Rattle.txs_resolve.specs.declared.parts.Part.{Part}
+use Rattle.txs_resolve.specs.declared.parts.Part.TheVariants as part
+use Rattle.txs_resolve.specs.declared.parts.Special.{Special}
+use Rattle.txs_resolve.specs.declared.parts.Special.TheVariants as special
+use Rattle.txs_resolve.specs.Answers.{◌>>=◌, refuse}
+use Rattle.txs_resolve.specs.Expansions.{alone, body, expand_once, hidden}
+use Rattle.txs_resolve.specs.Expressions.{Answer, Bound, Core, whole, parted, Resolver, are_wanted, bound_name, binding_node, choice_node, core_of, made, named, named_all, named_bindings, narrow, put_together, resolved, sequence_node, spot_at, spot_mark}
+use Rattle.txs_resolve.specs.Given.{Fills, Pushes, PushesAll, PushesBound}
+use Rattle.txs_resolve.specs.Parts.{IsMade, hidden_choice, part_form, plain, special_form}
+use Rattle.txs_resolve.proofs.Building.{parts_plain}
+
+-- ---- the definition, one level at a time
+
+bind_same : {A B : Type 0} (a : Answer A) (f g : A → Answer B) → ((x : A) → f x ≡ g x) → (a >>= f) ≡ (a >>= g)
+bind_same (Ok x) f g h = h x
+bind_same (Err e) f g h = refl
+
+-- below the last level nothing is asked
+pub named_is : (room : ℕ) (scope : Scope) (wanted : Bool) (form : FormTree) → named room scope wanted form ≡ resolved (named (room - 1)) room scope wanted (alone form)
+unfolding named
+named_is zero scope wanted form =
+    let f = alone form in
+    let s = spot_at 0 (place f) wanted in
+    bind_same (core_of scope s (expand_once f)) (made (λ _ _ e. refuse TooMany (place e)) scope s) (made (named 0) scope s) (same s) where
+      same : (s : Spot) (c : Core) → made (λ _ _ e. refuse TooMany (place e)) scope (spot_at 0 s.span s.wanted) c ≡ made (named 0) scope (spot_at 0 s.span s.wanted) c
+      same s (whole x) = refl
+      same s (parted form) = refl
+named_is (suc room) scope wanted form =
+    let low : room ≡ suc room - 1 = omega arith in
+    ap (λ (k : ℕ). resolved (named k) (suc room) scope wanted (alone form)) low
+
+pub named_alone : (room : ℕ) (scope : Scope) (wanted : Bool) (form : FormTree) (at : Span) → named room scope wanted (body (first form no_forms) at) ≡ named room scope wanted form
+named_alone room scope wanted form at = named_is room scope wanted (body (first form no_forms) at) ∙ sym (named_is room scope wanted form)
+
+part_same : (at : Span) (p : Part) → part_form (place (part_form at p)) p ≡ part_form at p
+part_same at (part.Written f) = refl
+part_same at (part.List name fs) = refl
+part_same at (part.Prefix fs) = refl
+part_same at part.Nil = refl
+part_same at (part.Hidden n) = refl
+part_same at (part.Choice n false rest) = refl
+part_same at (part.Choice n true rest) = refl
+
+-- what is made of a part at its spot
+abbrev pub part_made : Scope → Part → Spot → Answer Tree
+part_made scope p s = core_of scope s (expand_once (part_form s.span p)) >>= made (named (s.room - 1)) scope s
+
+pub named_part : (at : Span) (room : ℕ) (scope : Scope) (wanted : Bool) (written p : Part) (s : Spot) → alone (part_form at written) ≡ part_form at p → s ≡ spot_at room (place (part_form at p)) wanted
+    → named room scope wanted (part_form at written) ≡ part_made scope p s
+named_part at room scope wanted written p s same is =
+    let here = spot_at room (place (part_form at p)) wanted in
+    named_is room scope wanted (part_form at written)
+    ∙ ap (resolved (named (room - 1)) room scope wanted) same
+    ∙ ap (λ f. core_of scope here (expand_once f) >>= made (named (room - 1)) scope here) (sym (part_same at p))
+    ∙ ap (part_made scope p) (sym is)
+
+-- the node of a part, where its spot is told
+pub at_spot : (i : Spot) (room : ℕ) (at : Span) (wanted : Bool) (scope : Scope) (p : Part) → i ≡ spot_at room at wanted → named i.room scope i.wanted (part_form i.span p) ≡ named room scope wanted (part_form at p)
+at_spot i room at wanted scope p is = ap (λ (s : Spot). named s.room scope s.wanted (part_form s.span p)) is
+
+-- ---- stops that were handed on
+
+pub passed_node : (s : Stop) (a b : Answer Tree) (before now : List Node) → ((e : ResolveError) → s ≡ Refused e → b ≡ Err e) → Pushes (Err s) before now b
+passed_node (Refused e) a b before now h = h e refl
+passed_node Memory a b before now h = tt
+
+pub passed_bound : (s : Stop) (before mid after now : List Node) (scope : Scope) (a : Answer Tree) (b : Answer Bound) → Pushes (Err s) before mid a → ((e : ResolveError) → a ≡ Err e → b ≡ Err e) → PushesBound (Err s) after now scope b
+passed_bound (Refused e) before mid after now scope a b h go = go e h
+passed_bound Memory before mid after now scope a b h go = tt
+
+pub passed_filling : (s : Stop) (form : Special) (before mid now : List Node) (m : Mark) (a b : Answer Tree) → Pushes (Err s) before mid a → ((e : ResolveError) → a ≡ Err e → b ≡ Err e) → Fills (Err s) form now m b
+passed_filling (Refused e) form before mid now m a b h go = go e h
+passed_filling Memory form before mid now m a b h go = tt
+
+-- ---- nodes in a row
+
+started : (before now ns : List Node) → before ≡ [] → now ≡ before ++ ns → now ≡ ns
+started before now ns empty is = is ∙ ap (λ (b : List Node). b ++ ns) empty
+
+pub remade : (form : Special) (ns : List Node) (m n : Mark) (t : Tree) → IsMade form ns m t → (u : Tree) × IsMade form ns n u
+remade (special.Row k fs) ns m n t h = (sequence_node k (trees_of ns) n, refl)
+remade (special.Reading f) ns m n t h = (Deref (tree_of h.0) n, (h.0, h.1, refl))
+remade (special.Transaction fs) ns m n t h = (Dosync (tree_of h.0) n, (h.0, h.1, refl))
+remade (special.Pair op fs f) ns m n t h = (CoreNode op (trees_of ns) n, refl)
+remade (special.Choice turned a b c) ns m n t h = (choice_node turned (tree_of h.0) (tree_of h.1) (tree_of h.2) n, (h.0, h.1, h.2, h.3, refl))
+remade (special.Binding is_loop pairs fs) ns m n t h = (binding_node is_loop (trees_of h.0) (tree_of h.1) n, (h.0, h.1, h.2, refl))
+remade (special.Hidden is_or f rest) ns m n t h = (binding_node false (trees_of h.0) (tree_of h.1) n, (h.0, h.1, h.2, refl))
+remade (special.Change f (Ok callee) fs) ns m n t h = (Alter (tree_of h.0) callee (trees_of h.1) n, (h.0, h.1, h.2, refl))
+remade (special.Change f (Err e) fs) ns m n t h = absurd h
+
+-- ---- one form after the other, put together
+
+row_by : (r : Result (Unit {0}) Stop) (k : Sequence) (fs : Bor (List Form)) (before now : List Node) (m : Mark) (a : Answer Trees) → before ≡ [] → PushesAll r before now a
+    → Fills r (special.Row k fs) now m (a >>= λ nodes. Ok (sequence_node k nodes m))
+row_by (Ok u) k fs before now m a empty h =
+    (sequence_node k (trees_of now) m, refl, ap (λ (o : Answer Trees). o >>= λ nodes. Ok (sequence_node k nodes m)) h.2 ∙ ap (λ (l : List Node). Ok (sequence_node k (trees_of l) m)) (sym (started before now h.0 empty h.1)))
+row_by (Err (Refused e)) k fs before now m a empty h = ap (λ (o : Answer Trees). o >>= λ nodes. Ok (sequence_node k nodes m)) h
+row_by (Err Memory) k fs before now m a empty h = tt
+
+count_from : (before : List Node) (n k : ℕ) → before ≡ [] → n ≡ k → length before + n ≡ k
+count_from before n k empty is = omega (arith, is, ap (λ (l : List Node). length l) empty)
+
+module _ (s : Spot) (scope : Scope) where
+  abbrev by : Resolver
+  by = named (s.room - 1)
+
+  pub row_filled : (r : Result (Unit {0}) Stop) (k : Sequence) (fs : Bor (List Form)) (before now : List Node) (w l : Bool) → w ≡ are_wanted k → l ≡ (are_wanted k || s.wanted) → before ≡ []
+      → PushesAll r before now (narrow (length before + length fs.now) s (named_all by scope w l (plain fs.now)))
+      → Fills r (special.Row k fs) now (spot_mark s) (put_together by scope s (special_form s.span (special.Row k fs)))
+  row_filled r k fs before now w l w_is l_is empty h =
+      row_by r k fs before now (spot_mark s) (narrow (parts (plain fs.now)) s (named_all by scope (are_wanted k) (are_wanted k || s.wanted) (plain fs.now))) empty
+      (subst (PushesAll r before now)
+      (ap (λ (n : ℕ). narrow n s (named_all by scope w l (plain fs.now))) (count_from before (length fs.now) (parts (plain fs.now)) empty (sym (parts_plain fs.now)))
+      ∙ ap (λ (b : Bool). narrow (parts (plain fs.now)) s (named_all by scope b l (plain fs.now))) w_is
+      ∙ ap (λ (b : Bool). narrow (parts (plain fs.now)) s (named_all by scope (are_wanted k) b (plain fs.now))) l_is) h)
+
+  reading_by : (r : Result (Unit {0}) Stop) (f : Bor Form) (before now : List Node) (m : Mark) (a : Answer Tree) → before ≡ [] → Pushes r before now a → Fills r (special.Reading f) now m (a >>= λ cell. Ok (Deref cell m))
+  reading_by (Ok u) f before now m a empty h = (Deref (tree_of h.0) m, (h.0, started before now (h.0 ∷ []) empty h.1, refl), ap (λ (o : Answer Tree). o >>= λ cell. Ok (Deref cell m)) h.2)
+  reading_by (Err (Refused e)) f before now m a empty h = ap (λ (o : Answer Tree). o >>= λ cell. Ok (Deref cell m)) h
+  reading_by (Err Memory) f before now m a empty h = tt
+
+  pub reading_filled : (r : Result (Unit {0}) Stop) (f : Bor Form) (before now : List Node) (i : Spot) → i ≡ spot_at (s.room - 1) s.span true → before ≡ []
+      → Pushes r before now (named i.room scope i.wanted (part_form i.span (part.Written f)))
+      → Fills r (special.Reading f) now (spot_mark s) (put_together by scope s (special_form s.span (special.Reading f)))
+  reading_filled r f before now i is empty h =
+      reading_by r f before now (spot_mark s) (by scope true (tree f.now)) empty (subst (Pushes r before now) (at_spot i (s.room - 1) s.span true scope (part.Written f) is) h)
+
+  transaction_by : (r : Result (Unit {0}) Stop) (fs : Bor (List Form)) (before now : List Node) (m : Mark) (a : Answer Tree) → before ≡ [] → Pushes r before now a → Fills r (special.Transaction fs) now m (a >>= λ node. Ok (Dosync node m))
+  transaction_by (Ok u) fs before now m a empty h = (Dosync (tree_of h.0) m, (h.0, started before now (h.0 ∷ []) empty h.1, refl), ap (λ (o : Answer Tree). o >>= λ node. Ok (Dosync node m)) h.2)
+  transaction_by (Err (Refused e)) fs before now m a empty h = ap (λ (o : Answer Tree). o >>= λ node. Ok (Dosync node m)) h
+  transaction_by (Err Memory) fs before now m a empty h = tt
+
+  pub transaction_filled : (r : Result (Unit {0}) Stop) (fs : Bor (List Form)) (before now : List Node) (i : Spot) → i ≡ spot_at (s.room - 1) s.span s.wanted → before ≡ []
+      → Pushes r before now (named i.room scope i.wanted (part_form i.span (part.List kind.Do fs)))
+      → Fills r (special.Transaction fs) now (spot_mark s) (put_together by scope s (special_form s.span (special.Transaction fs)))
+  transaction_filled r fs before now i is empty h =
+      transaction_by r fs before now (spot_mark s) (by scope s.wanted (body (plain fs.now) s.span)) empty (subst (Pushes r before now) (at_spot i (s.room - 1) s.span s.wanted scope (part.List kind.Do fs) is) h)
+
+  -- the two branches of a choice behind its test
+  abbrev choice_by : Bool → Answer Tree → Answer Tree → Answer Tree → Answer Tree
+  choice_by turned a b c = a >>= λ test. b >>= λ one. c >>= λ other. Ok (choice_node turned test one other (spot_mark s))
+
+  choice_last : (r : Result (Unit {0}) Stop) (turned : Bool) (p q o : Part) (before now : List Node) (x y : Node) (c : Answer Tree) → before ≡ x ∷ y ∷ [] → Pushes r before now c
+      → Fills r (special.Choice turned p q o) now (spot_mark s) (choice_by turned (Ok (tree_of x)) (Ok (tree_of y)) c)
+  choice_last (Ok u) turned p q o before now x y c is h = (
+    choice_node turned (tree_of x) (tree_of y) (tree_of h.0) (spot_mark s),
+    (x, y, h.0, h.1 ∙ ap (λ (l : List Node). l ++ h.0 ∷ []) is, refl),
+    ap (choice_by turned (Ok (tree_of x)) (Ok (tree_of y))) h.2,
+  )
+  choice_last (Err (Refused e)) turned p q o before now x y c is h = ap (choice_by turned (Ok (tree_of x)) (Ok (tree_of y))) h
+  choice_last (Err Memory) turned p q o before now x y c is h = tt
+
+  pub choice_filled : (r : Result (Unit {0}) Stop) (turned : Bool) (p q o : Part) (one later : Scope) (p0 p1 p2 p3 : List Node) (i j : Spot) (x y : Node)
+      → i ≡ spot_at (s.room - 1) s.span true → j ≡ spot_at (s.room - 1) s.span s.wanted → one ≡ scope → later ≡ one
+      → p0 ≡ [] → p1 ≡ p0 ++ x ∷ [] → p2 ≡ p1 ++ y ∷ []
+      → named i.room scope i.wanted (part_form i.span p) ≡ Ok (tree_of x)
+      → named j.room one j.wanted (part_form j.span q) ≡ Ok (tree_of y)
+      → Pushes r p2 p3 (named j.room later j.wanted (part_form j.span o))
+      → Fills r (special.Choice turned p q o) p3 (spot_mark s) (put_together by scope s (special_form s.span (special.Choice turned p q o)))
+  choice_filled r turned p q o one later p0 p1 p2 p3 i j x y i_is j_is kept kept2 empty is1 is2 a b h =
+      let first_is = sym (at_spot i (s.room - 1) s.span true scope p i_is) ∙ a in
+      let second_is = ap (λ z. by z s.wanted (part_form s.span q)) (sym kept) ∙ sym (at_spot j (s.room - 1) s.span s.wanted one q j_is) ∙ b in
+      let third = subst (Pushes r p2 p3) (at_spot j (s.room - 1) s.span s.wanted later o j_is ∙ ap (λ z. by z s.wanted (part_form s.span o)) (kept2 ∙ kept)) h in
+      let row = is2 ∙ ap (λ (l : List Node). l ++ y ∷ []) (started p0 p1 (x ∷ []) empty is1) in
+      subst (Fills r (special.Choice turned p q o) p3 (spot_mark s))
+      (sym (ap (λ (z : Answer Tree). choice_by turned z (by scope s.wanted (part_form s.span q)) (by scope s.wanted (part_form s.span o))) first_is
+      ∙ ap (λ (z : Answer Tree). choice_by turned (Ok (tree_of x)) z (by scope s.wanted (part_form s.span o))) second_is))
+      (choice_last r turned p q o p2 p3 x y (by scope s.wanted (part_form s.span o)) row third)
+
+  abbrev change_by : Answer Tree → Answer Callee → Answer Trees → Answer Tree
+  change_by a called b = a >>= λ cell. called >>= λ callee. b >>= λ nodes. Ok (Alter cell callee nodes (spot_mark s))
+
+  change_last : (r : Result (Unit {0}) Stop) (f : Bor Form) (callee : Callee) (fs : Bor (List Form)) (before now : List Node) (x : Node) (c : Answer Trees) → before ≡ x ∷ [] → PushesAll r before now c
+      → Fills r (special.Change f (Ok callee) fs) now (spot_mark s) (change_by (Ok (tree_of x)) (Ok callee) c)
+  change_last (Ok u) f callee fs before now x c is h =
+      (Alter (tree_of x) callee (trees_of h.0) (spot_mark s), (x, h.0, h.1 ∙ ap (λ (l : List Node). l ++ h.0) is, refl), ap (change_by (Ok (tree_of x)) (Ok callee)) h.2)
+  change_last (Err (Refused e)) f callee fs before now x c is h = ap (change_by (Ok (tree_of x)) (Ok callee)) h
+  change_last (Err Memory) f callee fs before now x c is h = tt
+
+  pub change_filled : (r : Result (Unit {0}) Stop) (f : Bor Form) (callee : Callee) (fs : Bor (List Form)) (one : Scope) (p0 p1 p2 : List Node) (i : Spot) (x : Node)
+      → i ≡ spot_at (s.room - 1) s.span true → one ≡ scope → p0 ≡ [] → p1 ≡ p0 ++ x ∷ []
+      → named i.room scope i.wanted (part_form i.span (part.Written f)) ≡ Ok (tree_of x)
+      → PushesAll r p1 p2 (narrow (length p1 + length fs.now) s (named_all by one true true (plain fs.now)))
+      → Fills r (special.Change f (Ok callee) fs) p2 (spot_mark s) (put_together by scope s (special_form s.span (special.Change f (Ok callee) fs)))
+  change_filled r f callee fs one p0 p1 p2 i x i_is kept empty is1 a h =
+      let args = plain fs.now in
+      let row = started p0 p1 (x ∷ []) empty is1 in
+      let count : length p1 + length fs.now ≡ suc (parts args) = omega (arith, parts_plain fs.now, ap (λ (l : List Node). length l) row) in
+      let last = subst (PushesAll r p1 p2) (ap (λ (n : ℕ). narrow n s (named_all by one true true args)) count ∙ ap (λ z. narrow (suc (parts args)) s (named_all by z true true args)) kept) h in
+      subst (Fills r (special.Change f (Ok callee) fs) p2 (spot_mark s))
+      (sym (ap (λ (z : Answer Tree). change_by z (Ok callee) (narrow (suc (parts args)) s (named_all by scope true true args))) (sym (at_spot i (s.room - 1) s.span true scope (part.Written f) i_is) ∙ a)))
+      (change_last r f callee fs p1 p2 x (narrow (suc (parts args)) s (named_all by scope true true args)) row last)
+
+  abbrev binding_by : Bool → FormTree → Answer Bound → Answer Tree
+  binding_by is_loop forms a = a >>= λ bound. by bound.scope s.wanted forms >>= λ node. Ok (binding_node is_loop bound.values node (spot_mark s))
+
+  abbrev let_by : Bool → Trees → Answer Tree → Answer Tree
+  let_by is_loop values a = a >>= λ node. Ok (binding_node is_loop values node (spot_mark s))
+
+  pub bound_filled : (is_loop : Bool) (pairs fs : Bor (List Form)) (one : Scope) (p0 p1 p2 ns : List Node) (i : Spot) (x : Node)
+      → i ≡ spot_at (s.room - 1) s.span s.wanted → p0 ≡ [] → p1 ≡ p0 ++ ns → p2 ≡ p1 ++ x ∷ []
+      → named_bindings by scope (plain pairs.now) ≡ Ok (record { values = trees_of ns; scope = one })
+      → named i.room one i.wanted (part_form i.span (part.List kind.Do fs)) ≡ Ok (tree_of x)
+      → Fills (Ok tt) (special.Binding is_loop pairs fs) p2 (spot_mark s) (put_together by scope s (special_form s.span (special.Binding is_loop pairs fs)))
+  bound_filled is_loop pairs fs one p0 p1 p2 ns i x i_is empty is1 is2 a b = (
+    binding_node is_loop (trees_of ns) (tree_of x) (spot_mark s),
+    (ns, x, is2 ∙ ap (λ (l : List Node). l ++ x ∷ []) (started p0 p1 ns empty is1), refl),
+    ap (binding_by is_loop (body (plain fs.now) s.span)) a
+        ∙ ap (let_by is_loop (trees_of ns)) (sym (at_spot i (s.room - 1) s.span s.wanted one (part.List kind.Do fs) i_is) ∙ b),
+  )
+
+  -- ---- hidden locals
+
+  hidden_bound : bound_name scope (hidden s.span) ≡ (if nat_lt (length scope.locals) 200 then Ok [] else refuse TooMany s.span)
+  unfolding may_bind
+  hidden_bound = refl
+
+  abbrev one_bound : Tree → List ℕ → Bound
+  one_bound value name = record { values = more value none; scope = with_local name scope }
+
+  abbrev name_by : FormTree → Tree → Answer (List ℕ) → Answer Tree
+  name_by forms value a =
+      (a >>= λ name. Ok (one_bound value name)) >>= λ bound. by bound.scope s.wanted forms >>= λ node. Ok (binding_node false bound.values node (spot_mark s))
+
+  abbrev value_by : FormTree → Answer Tree → Answer Tree
+  value_by forms a =
+      (a >>= λ value. bound_name scope (hidden s.span) >>= λ name. Ok (one_bound value name)) >>= λ bound. by bound.scope s.wanted forms >>= λ node. Ok (binding_node false bound.values node (spot_mark s))
+
+  module _ (is_or : Bool) (f : Bor Form) (rest : Bor (List Form)) (i : Spot) (x : Node) (i_is : i ≡ spot_at (s.room - 1) s.span true) (a : named i.room scope i.wanted (part_form i.span (part.Written f)) ≡ Ok (tree_of x)) where
+    abbrev pub hidden_whole : Answer Tree
+    hidden_whole = put_together by scope s (special_form s.span (special.Hidden is_or f rest))
+
+    abbrev choice_form : FormTree
+    choice_form = hidden_choice is_or (plain rest.now) s.span
+
+    hidden_named : hidden_whole ≡ name_by (body (first choice_form no_forms) s.span) (tree_of x) (if nat_lt (length scope.locals) 200 then Ok [] else refuse TooMany s.span)
+    hidden_named =
+        ap (value_by (body (first choice_form no_forms) s.span)) (sym (at_spot i (s.room - 1) s.span true scope (part.Written f) i_is) ∙ a)
+        ∙ ap (name_by (body (first choice_form no_forms) s.span) (tree_of x)) hidden_bound
+
+    many : (n : ℕ) → 200 ≤ n → nat_lt n 200 ≡ false
+    many n le = grind (arith, nat_tests)
+
+    few : (n : ℕ) → n < 200 → nat_lt n 200 ≡ true
+    few n lt = grind (arith, nat_tests)
+
+    pub hidden_full : 200 ≤ length scope.locals → hidden_whole ≡ refuse TooMany s.span
+    hidden_full le = hidden_named ∙ ap (λ (b : Bool). name_by (body (first choice_form no_forms) s.span) (tree_of x) (if b then Ok [] else refuse TooMany s.span)) (many (length scope.locals) le)
+
+    module _ (j : Spot) (inner : Scope) (n : ℕ) (j_is : j ≡ spot_at (s.room - 1) s.span s.wanted) (inner_is : inner ≡ with_local [] scope) (lt : length scope.locals < 200) where
+      hidden_then : (o : Answer Tree) → named j.room inner j.wanted (part_form j.span (part.Choice n is_or rest)) ≡ o → hidden_whole ≡ let_by false (more (tree_of x) none) o
+      hidden_then o b =
+          hidden_named ∙ ap (λ (b : Bool). name_by (body (first choice_form no_forms) s.span) (tree_of x) (if b then Ok [] else refuse TooMany s.span)) (few (length scope.locals) lt)
+          ∙ ap (let_by false (more (tree_of x) none))
+          (named_alone (s.room - 1) (with_local [] scope) s.wanted choice_form s.span
+          ∙ ap (λ z. by z s.wanted choice_form) (sym inner_is)
+          ∙ sym (at_spot j (s.room - 1) s.span s.wanted inner (part.Choice n is_or rest) j_is) ∙ b)
+
+      pub hidden_stops : (e : ResolveError) → named j.room inner j.wanted (part_form j.span (part.Choice n is_or rest)) ≡ Err e → hidden_whole ≡ Err e
+      hidden_stops e b = hidden_then (Err e) b
+
+      pub hidden_filled : (p0 p1 p2 : List Node) (y : Node) → p0 ≡ [] → p1 ≡ p0 ++ x ∷ [] → p2 ≡ p1 ++ y ∷ []
+          → named j.room inner j.wanted (part_form j.span (part.Choice n is_or rest)) ≡ Ok (tree_of y)
+          → Fills (Ok tt) (special.Hidden is_or f rest) p2 (spot_mark s) hidden_whole
+      hidden_filled p0 p1 p2 y empty is1 is2 b =
+          (Let (more (tree_of x) none) (tree_of y) (spot_mark s), (x ∷ [], y, is2 ∙ ap (λ (l : List Node). l ++ y ∷ []) (started p0 p1 (x ∷ []) empty is1), refl), hidden_then (Ok (tree_of y)) b)
+
+pub narrow_ok : (n : ℕ) (s : Spot) (a : Answer Trees) → n ≤ 65535 → narrow n s a ≡ a
+narrow_ok n s a le = ap (λ b. cond b (refuse TooMany s.span) a) (small n le) where
+  small : (n : ℕ) → n ≤ 65535 → nat_lt 65535 n ≡ false
+  small n le = grind (arith, nat_tests)

@@ -1,0 +1,18 @@
+use Rattle.std.proofs.Common.{List, sym, ap, ◌∙◌}
+use Rattle.txs_reader.specs.declared.form.Bracket.TheVariants.{Round}
+use Rattle.txs_reader.specs.declared.form.Form.{Form}
+use Rattle.txs_reader.specs.Tree.{group, tree}
+use Rattle.txs_resolve.specs.Expansions.{expand_once}
+use Rattle.txs_resolve.specs.Expressions.{core_of}
+use Rattle.txs_resolve.specs.Parts.{plain}
+use Rattle.txs_resolve.proofs.Tables.{list_table}
+use Rattle.txs_resolve.proofs.plans.list.Goals as goal
+
+pub returns-in-Some-form_at-clause-core : goal.returns-in-Some-form_at-clause-core
+returns-in-Some-form_at-clause-core c =
+    c.special.ensures.core
+    ∙ sym (ap (λ (l : List Form). core_of c.args.scope.now c.args.spot (expand_once (group Round (plain l) c.args.spot.span))) c.in-Some.ensures.cases.0
+    ∙ list_table c.args.scope.now c.args.spot c.in-Some-form_at.name (tree c.in-Some.head.now) (plain c.in-Some.args.now) (sym c.form_at.ensures ∙ c.in-Some-form_at.is))
+
+pub returns-in-Core-clause-fits : goal.returns-in-Core-clause-fits
+returns-in-Core-clause-fits c = c.operation.ensures.fits c.args.scope.now
