@@ -12,5 +12,6 @@ pub mod OwnWrites
 pub mod Ready
 pub mod Running
 pub mod Saying
+pub mod Several
 pub mod Striding
 pub mod Turning

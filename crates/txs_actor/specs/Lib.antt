@@ -1,4 +1,5 @@
 pub mod Flat
+pub mod Gliding
 pub mod Laws
 pub mod Nesting
 pub mod PlainActor

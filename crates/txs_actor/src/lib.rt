@@ -6,6 +6,7 @@
 
 pub mod actor;
 pub mod answer;
+mod glide;
 pub mod law;
 mod moves;
 mod operate;

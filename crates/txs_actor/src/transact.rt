@@ -19,6 +19,7 @@ use txs_value::{CellId, CellKind, FaultKind, Span, Value};
 const RERUNS: u16 = 9_999;
 
 /// Whether a transaction runs.
+#[inline(always)]
 pub(crate) fn is_running(tx: &Transaction) -> bool
     ensures { result ≡ is_running tx.now }
 {
@@ -26,6 +27,7 @@ pub(crate) fn is_running(tx: &Transaction) -> bool
 }
 
 /// The cell that a value is, to be read outside a transaction.
+#[inline(always)]
 fn any_cell(value: &Value) -> Result<CellId, FaultKind>
     ensures { result ≡ any_cell value.now }
 {
@@ -36,6 +38,7 @@ fn any_cell(value: &Value) -> Result<CellId, FaultKind>
 }
 
 /// The ref that a value is, to be read in a transaction.
+#[inline(always)]
 fn readable_cell(value: &Value) -> Result<CellId, FaultKind>
     ensures { result ≡ readable_cell value.now }
 {
@@ -49,6 +52,7 @@ fn readable_cell(value: &Value) -> Result<CellId, FaultKind>
 }
 
 /// The ref that a value is, for a form for refs.
+#[inline(always)]
 fn ref_cell(value: &Value) -> Result<CellId, FaultKind>
     ensures { result ≡ ref_cell value.now }
 {
@@ -62,6 +66,7 @@ fn ref_cell(value: &Value) -> Result<CellId, FaultKind>
 }
 
 /// The value of the cell at the top.
+#[inline(always)]
 fn deref(stack: &mut Stack, tx: &Transaction, writes: &[(CellId, Value)]) -> Moved
     requires ascending { IsAscending writes.now }
     requires room { (0 < length stack.old.values) × (length stack.old.values ≤ stack.old.room) }
@@ -88,6 +93,7 @@ fn deref(stack: &mut Stack, tx: &Transaction, writes: &[(CellId, Value)]) -> Mov
 }
 
 /// The value of the ref below n arguments.
+#[inline(always)]
 fn open(n: u16, stack: &mut Stack, tx: &Transaction, writes: &[(CellId, Value)]) -> Moved
     requires ascending { IsAscending writes.now }
     requires room { (n < length stack.old.values) × (length stack.old.values < stack.old.room) }
@@ -108,6 +114,7 @@ fn open(n: u16, stack: &mut Stack, tx: &Transaction, writes: &[(CellId, Value)])
 }
 
 /// The last value becomes that of the ref below it.
+#[inline(always)]
 fn close(stack: &mut Stack, tx: &Transaction, writes: &mut Vec<(CellId, Value)>) -> Moved
     requires ascending { IsAscending writes.old.items }
     requires room { (1 < length stack.old.values) × (length stack.old.values ≤ stack.old.room) }
@@ -127,6 +134,7 @@ fn close(stack: &mut Stack, tx: &Transaction, writes: &mut Vec<(CellId, Value)>)
 }
 
 /// A transaction begins, or joins the one that runs.
+#[inline(always)]
 #[tactic(auto, unfolding(txs_value::specs::Limits::reruns))]
 fn begin(alloc: Global, span: Span, stack: &Stack, tx: &mut Transaction) -> Moved
     requires { depth_in tx.old < 2 ^ 64 }
@@ -150,6 +158,7 @@ fn begin(alloc: Global, span: Span, stack: &Stack, tx: &mut Transaction) -> Move
 }
 
 /// A transaction ends, or leaves the one that runs.
+#[inline(always)]
 fn end(tx: &mut Transaction) -> Moved
     ensures { (vs : List AValue) (ws : Writes) → Comes result vs tx.new ws ws (ends vs ws tx.old) }
 {
@@ -166,8 +175,7 @@ fn end(tx: &mut Transaction) -> Moved
 }
 
 /// An instruction on the transaction.
-#[cold]
-#[inline(never)]
+#[inline(always)]
 pub(crate) fn transact(
     alloc: Global,
     instr: Instr,

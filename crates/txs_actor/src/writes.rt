@@ -9,6 +9,7 @@ use std::alloc::{AllocError, Global};
 use txs_value::{CellId, Listed, Value, copy_value};
 
 /// The place of the ref with this number among the writes, or where it would stand.
+#[inline(always)]
 fn place_for(writes: &[(CellId, Value)], number: u16) -> usize
     requires { IsAscending writes.now }
     ensures { IsPlaceFor writes.now number result }
@@ -17,6 +18,7 @@ fn place_for(writes: &[(CellId, Value)], number: u16) -> usize
 }
 
 /// The own value of the ref with this number, if there is one: the write goes on sharing it.
+#[inline(always)]
 pub(crate) fn own_value(
     writes: &[(CellId, Value)],
     number: u16,
@@ -32,6 +34,7 @@ pub(crate) fn own_value(
 }
 
 /// The ref gets the value as its own.
+#[inline(always)]
 pub(crate) fn put_write(
     writes: &mut Vec<(CellId, Value)>,
     cell: CellId,
@@ -52,6 +55,7 @@ pub(crate) fn put_write(
 }
 
 /// The writes in a list of their own, with the same values.
+#[inline(always)]
 pub(crate) fn copy_own(
     alloc: Global,
     writes: &[(CellId, Value)],

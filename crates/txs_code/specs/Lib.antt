@@ -1,4 +1,5 @@
 pub mod ActorState
+pub mod Fused
 pub mod Machine
 pub mod Opening
 pub mod PlainCode

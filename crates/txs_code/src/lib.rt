@@ -5,9 +5,11 @@
 #![tactic(auto)]
 
 pub mod code;
+pub mod fusing;
 pub mod instr;
 pub mod verified;
 
 pub use code::{Body, Code};
+pub use fusing::{Arithmetic, Comparison, Fused};
 pub use instr::Instr;
 pub use verified::Verified;

@@ -43,7 +43,7 @@ pub fn generate(alloc: Global, program: &Program) -> Result<Verified, AllocError
         of_functions.bodies,
         of_threads.bodies,
     );
-    Ok(Verified::seal(code, of_functions.rooms, of_threads.rooms))
+    Verified::seal(alloc, code, of_functions.rooms, of_threads.rooms)
 }
 
 /// The code of functions.

@@ -1,4 +1,4 @@
-use Rattle.std.proofs.Common.{arith, ◌+◌, ◌≤◌, ◌++◌, [], length, refl, sym, ap, ◌∙◌, subst}
+use Rattle.std.proofs.Common.{◌≡◌, Result, Ok, Err, IfOk, arith, ◌+◌, ◌≤◌, ◌++◌, [], length, refl, sym, ap, ◌∙◌, subst}
 use Rattle.txs_tree.specs.Known.{known}
 use Rattle.txs_tree.specs.Sound.{SoundFunctions, SoundThreads, nodes_of_functions, nodes_of_all}
 use Rattle.txs_tree.specs.View.{functions_of, threads_of, program_of}
@@ -47,6 +47,11 @@ seal-requires c =
     (subst (λ r. WellTyped (code_from zs fs ts) r c.in_ok-of_threads.of_threads.rooms.items) (sym (a.rooms ∙ ap function_rooms f))
     (subst (λ r. WellTyped (code_from zs fs ts) (function_rooms fs) r) (sym (b.rooms ∙ ap thread_rooms t)) (code_well_typed zs fs ts sound.functions sound.threads)))
 
+-- what follows from what holds of a result
+if_ok : {A B : Type 0} (P Q : A → Type 0) → ((a : A) → P a → Q a) → (r : Result A B) → IfOk r P → IfOk r Q
+if_ok P Q h (Ok a) p = h a p
+if_ok P Q h (Err e) p = tt
+
 pub returns : goal.returns
 returns c =
     let sound = c.threads-threads.ensures.sound in
@@ -61,5 +66,5 @@ returns c =
     let constants = b.constants ∙ ap (λ l. l ++ constants_of_threads (threads_of c.threads-threads.result.now)) before ∙ ap (λ l. constants_of_functions fs ++ constants_of_threads l) t in
     let functions = a.bodies ∙ ap (λ l. functions_from l 0) f in
     let threads = b.bodies ∙ ap (λ l. threads_from (threads_of c.threads-threads.result.now) (length l)) before ∙ ap (λ l. threads_from l (length (constants_of_functions fs))) t in
-    let code = c.seal.ensures ∙ c.new-code.ensures ∙ code_is _ zs _ (constants_of_functions fs ++ constants_of_threads ts) _ (functions_from fs 0) _ (threads_from ts (length (constants_of_functions fs))) (c.in_ok-cells.ensures ∙ c.cells.ensures) constants functions threads in
-    subst (λ x. IsCodeOf x (program_of c.args.program.now)) (sym code) (code_right zs fs ts sound.functions sound.threads (program_of c.args.program.now) refl refl refl)
+    let code = c.new-code.ensures ∙ code_is _ zs _ (constants_of_functions fs ++ constants_of_threads ts) _ (functions_from fs 0) _ (threads_from ts (length (constants_of_functions fs))) (c.in_ok-cells.ensures ∙ c.cells.ensures) constants functions threads in
+    if_ok (λ v. v ≡ c.new-code.result) (λ v. IsCodeOf v (program_of c.args.program.now)) (λ v e. subst (λ x. IsCodeOf x (program_of c.args.program.now)) (sym (e ∙ code)) (code_right zs fs ts sound.functions sound.threads (program_of c.args.program.now) refl refl refl)) c.seal.result c.seal.ensures
