@@ -5,7 +5,7 @@ ghost use Rattle.std.specs.Prelude.{◌≡◌, IfOk};
 use crate::ask::{Ask, Reply};
 use crate::event::{Event, EventKind};
 use std::alloc::{AllocError, Global};
-use txs_value::{CellId, Listed, Value, copy_value};
+use txs_value::{Action, CellId, Fault, Listed, Value, copy_action, copy_value, copy_values};
 
 /// The same cells with the same values in a list of its own.
 pub fn copy_writes(
@@ -21,6 +21,34 @@ pub fn copy_writes(
     Ok(Listed::from_vec(copies))
 }
 
+/// The same actions in a list of its own.
+pub fn copy_actions(alloc: Global, actions: &Listed<Action>) -> Result<Listed<Action>, AllocError>
+    ensures { IfOk result (λ c. c ≡ actions.now) }
+{
+    let mut copies = Vec::with_capacity(alloc, actions.as_slice().len())?;
+    for action in actions.as_slice() {
+        copies.push(copy_action(alloc, action)?)?;
+    }
+    Ok(Listed::from_vec(copies))
+}
+
+/// The same cells in a list of its own.
+fn copy_cells(alloc: Global, cells: &Listed<CellId>) -> Result<Listed<CellId>, AllocError>
+    ensures { IfOk result (λ c. c ≡ cells.now) }
+{
+    Ok(Listed::from_vec(Vec::from_slice(alloc, cells.as_slice())?))
+}
+
+/// The same new state of an agent, or the same fault.
+fn copy_new(new: &Result<Value, Fault>) -> Result<Result<Value, Fault>, AllocError>
+    ensures { IfOk result (λ c. c ≡ new.now) }
+{
+    match new {
+        Ok(value) => Ok(Ok(copy_value(value)?)),
+        Err(fault) => Ok(Err(*fault)),
+    }
+}
+
 /// The same ask whose lists are its own.
 pub fn copy_ask(alloc: Global, ask: &Ask) -> Result<Ask, AllocError>
     ensures { IfOk result (λ c. c ≡ ask.now) }
@@ -31,12 +59,53 @@ pub fn copy_ask(alloc: Global, ask: &Ask) -> Result<Ask, AllocError>
             cell: *cell,
             at: *at,
         }),
-        Ask::Commit { at, sets } => Ok(Ask::Commit {
-            at: *at,
-            sets: copy_writes(alloc, sets)?,
+        Ask::View { cells } => Ok(Ask::View {
+            cells: copy_cells(alloc, cells)?,
         }),
-        Ask::Fail { at } => Ok(Ask::Fail { at: *at }),
+        Ask::Commit {
+            at,
+            sets,
+            ensured,
+            view,
+            commuted,
+            sends,
+        } => {
+            let sets = copy_writes(alloc, sets)?;
+            let ensured = copy_cells(alloc, ensured)?;
+            let commuted = copy_writes(alloc, commuted)?;
+            let sends = copy_actions(alloc, sends)?;
+            Ok(Ask::Commit {
+                at: *at,
+                sets,
+                ensured,
+                view: *view,
+                commuted,
+                sends,
+            })
+        }
+        Ask::Fail { at, view } => Ok(Ask::Fail {
+            at: *at,
+            view: *view,
+        }),
         Ask::Peek { cell } => Ok(Ask::Peek { cell: *cell }),
+        Ask::Send { action } => Ok(Ask::Send {
+            action: copy_action(alloc, action)?,
+        }),
+        Ask::Take { agent } => Ok(Ask::Take { agent: *agent }),
+        Ask::Finish { agent, new } => Ok(Ask::Finish {
+            agent: *agent,
+            new: copy_new(new)?,
+        }),
+        Ask::OpenAt { cell } => Ok(Ask::OpenAt { cell: *cell }),
+        Ask::CloseAt { cell, at, new } => Ok(Ask::CloseAt {
+            cell: *cell,
+            at: *at,
+            new: copy_value(new)?,
+        }),
+        Ask::Broke { cell, at } => Ok(Ask::Broke {
+            cell: *cell,
+            at: *at,
+        }),
     }
 }
 
@@ -47,8 +116,26 @@ pub fn copy_reply(alloc: Global, reply: &Reply) -> Result<Reply, AllocError>
     match reply {
         Reply::At(place) => Ok(Reply::At(*place)),
         Reply::Is(value) => Ok(Reply::Is(copy_value(value)?)),
+        Reply::Views(view, values) => Ok(Reply::Views(*view, copy_values(alloc, values)?)),
         Reply::Done => Ok(Reply::Done),
         Reply::Retry(cell) => Ok(Reply::Retry(*cell)),
+        Reply::Changed(cell) => Ok(Reply::Changed(*cell)),
+        Reply::AgentIsFailed(agent) => Ok(Reply::AgentIsFailed(*agent)),
+        Reply::Action {
+            number,
+            action,
+            state,
+        } => {
+            let action = copy_action(alloc, action)?;
+            let state = copy_value(state)?;
+            Ok(Reply::Action {
+                number: *number,
+                action,
+                state,
+            })
+        }
+        Reply::Idle => Ok(Reply::Idle),
+        Reply::Opened(at, value) => Ok(Reply::Opened(*at, copy_value(value)?)),
         Reply::Full => Ok(Reply::Full),
         Reply::Memory => Ok(Reply::Memory),
     }
@@ -59,15 +146,52 @@ fn copy_kind(alloc: Global, kind: &EventKind) -> Result<EventKind, AllocError>
 {
     match kind {
         EventKind::Read { cell } => Ok(EventKind::Read { cell: *cell }),
-        EventKind::Commit { at, sets } => Ok(EventKind::Commit {
-            at: *at,
-            sets: copy_writes(alloc, sets)?,
-        }),
-        EventKind::Retry { since, cell } => Ok(EventKind::Retry {
+        EventKind::Commit {
+            at,
+            view,
+            writes,
+            sends,
+        } => {
+            let writes = copy_writes(alloc, writes)?;
+            let sends = copy_actions(alloc, sends)?;
+            Ok(EventKind::Commit {
+                at: *at,
+                view: *view,
+                writes,
+                sends,
+            })
+        }
+        EventKind::Retry {
+            since,
+            cell,
+            commute,
+        } => Ok(EventKind::Retry {
             since: *since,
             cell: *cell,
+            commute: *commute,
         }),
-        EventKind::Fail { at } => Ok(EventKind::Fail { at: *at }),
+        EventKind::Fail { at, view } => Ok(EventKind::Fail {
+            at: *at,
+            view: *view,
+        }),
+        EventKind::Refused { at, view, agent } => Ok(EventKind::Refused {
+            at: *at,
+            view: *view,
+            agent: *agent,
+        }),
+        EventKind::Send { action } => Ok(EventKind::Send {
+            action: copy_action(alloc, action)?,
+        }),
+        EventKind::SendRefused { agent } => Ok(EventKind::SendRefused { agent: *agent }),
+        EventKind::Act { agent, number, new } => Ok(EventKind::Act {
+            agent: *agent,
+            number: *number,
+            new: copy_new(new)?,
+        }),
+        EventKind::Swap { new } => Ok(EventKind::Swap {
+            new: copy_value(new)?,
+        }),
+        EventKind::Broke { at } => Ok(EventKind::Broke { at: *at }),
     }
 }
 

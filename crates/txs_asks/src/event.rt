@@ -1,26 +1,60 @@
-//! The events that a book keeps, and how an actor ends.
+//! The events that books keep, and how an actor ends.
 
-use txs_value::{CellId, Fault, Listed, Value};
+use txs_value::{Action, CellId, Fault, Listed, Value};
 
-/// What an actor did to the shared state. Places are numbers of events of the same book.
+/// What an actor did to the shared state. Places are numbers of events of the same book. Swaps and broken swaps stand in the book
+/// of their atom, and so do its reads; all else stands in the store's.
 #[derive(Drop)]
 pub enum EventKind {
     /// It read a cell outside every transaction.
     Read {
         cell: CellId,
     },
-    /// A transaction with this read point set these refs, by ascending number.
+    /// A transaction with this read point and last view gave these refs these values, by ascending number, and sent these
+    /// actions, in order.
     Commit {
         at: u32,
-        sets: Listed<(CellId, Value)>,
+        view: u32,
+        writes: Listed<(CellId, Value)>,
+        sends: Listed<Action>,
     },
-    /// A transaction has to run again: the ref was written at `since` or later.
+    /// A transaction has to run again, or its commutes alone: the ref was written at `since` or later.
     Retry {
         since: u32,
         cell: CellId,
+        commute: bool,
     },
-    /// A transaction with this read point ended with a fault.
+    /// A transaction with this read point and last view ended with a fault.
     Fail {
+        at: u32,
+        view: u32,
+    },
+    /// A transaction with this read point and last view wrote nothing, since it held a send to an agent that has failed.
+    Refused {
+        at: u32,
+        view: u32,
+        agent: CellId,
+    },
+    /// It sent an action outside every transaction.
+    Send {
+        action: Action,
+    },
+    /// It would have sent an action to an agent that has failed.
+    SendRefused {
+        agent: CellId,
+    },
+    /// An agent ran an action, the so many-th of its own, counted from 1: its new state, or the fault.
+    Act {
+        agent: CellId,
+        number: u32,
+        new: Result<Value, Fault>,
+    },
+    /// The atom got a value.
+    Swap {
+        new: Value,
+    },
+    /// The callee of a `swap!` faulted on the atom's value at this place.
+    Broke {
         at: u32,
     },
 }

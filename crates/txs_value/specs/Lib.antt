@@ -1,6 +1,7 @@
 pub mod Cells
 pub mod Falls
 pub mod Faults
+pub mod Forms
 pub mod Limits
 pub mod Names
 pub mod Operations

@@ -2,10 +2,21 @@
 
 use crate::value::{CellKind, Name, Value};
 
-/// A cell as a script defines it: its kind, its name, and the value that it opens with.
+/// What an agent does after an action that faulted, as `:error-mode` says.
+#[derive(Clone, Copy, PartialEq, Eq)]
+pub enum ErrorMode {
+    /// It is failed, and runs no further action.
+    Fail,
+    /// It goes on as if the action hadn't happened.
+    Continue,
+}
+
+/// A cell as a script defines it: its kind, its name, the value that it opens with, and of an agent its error mode. Every other
+/// cell has `Fail`.
 #[derive(Drop)]
 pub struct CellDefinition {
     pub kind: CellKind,
     pub name: Name,
     pub opening: Value,
+    pub error_mode: ErrorMode,
 }
