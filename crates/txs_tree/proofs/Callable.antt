@@ -3,13 +3,18 @@ use Rattle.std.proofs.Common.{◌≡◌, ℕ, zero, suc, ◌+◌, ◌-◌, ◌*�
 use Rattle.std.proofs.Math.Seq.{take-append_seam}
 use Rattle.std.proofs.lemmas.Bool.{false≢true}
 use Rattle.std.proofs.lemmas.List.{append-nil}
+use Rattle.txs_value.specs.Forms.{rule}
 use Rattle.txs_value.specs.Places.{nth}
+use Rattle.txs_value.specs.declared.cell.CellDefinition.{CellDefinition}
+use Rattle.txs_value.specs.declared.form.CellForm.TheVariants as form_of
+use Rattle.txs_value.specs.declared.form.Standing.{Standing}
+use Rattle.txs_value.specs.declared.form.Standing.TheVariants.{Anywhere, Inside, Outside}
 use Rattle.txs_value.specs.declared.op.Callee.{Callee}
 use Rattle.txs_value.specs.declared.op.Callee.TheVariants.{Core as CoreOp, Function}
-use Rattle.txs_tree.specs.Known.{Known, is_inside, is_pure, inside_in, any_inside, pure_in, all_pure, known_of, known_from, known}
+use Rattle.txs_tree.specs.Known.{Known, only_inside, is_inside, is_pure, inside_in, any_inside, pure_in, all_pure, known_of, known_from, known}
 use Rattle.txs_tree.specs.Setting.{Setting, deeper, callable}
-use Rattle.txs_tree.specs.Sound.{Zone, in_function, in_thread, in_dosync, SoundCall, PureCall, SoundCallee, SoundTree, SoundAll, SoundDo, SoundLet, SoundFunction, SoundFunctions, nodes, nodes_of_functions}
-use Rattle.txs_tree.specs.Tree.{Tree, Const, Local, If, Do, Let, Loop, Recur, Core, Call, VectorOf, Println, Dosync, Deref, Alter, Trees, none, more, count, PlainFunction}
+use Rattle.txs_tree.specs.Sound.{Zone, in_function, in_thread, in_dosync, MayStand, SoundCall, PureCall, SoundCallee, SoundTree, SoundAll, SoundDo, SoundLet, SoundFunction, SoundFunctions, nodes, nodes_of_functions}
+use Rattle.txs_tree.specs.Tree.{Tree, Const, Local, If, Do, Let, Loop, Recur, Core, Call, VectorOf, Println, Dosync, Look, Put, Update, Send, Trees, none, more, count, PlainFunction}
 use Rattle.txs_tree.specs.View.{function_of, functions_of}
 use Rattle.txs_tree.specs.declared.node.Function as function
 
@@ -92,9 +97,12 @@ module _ (ks ls : List Known) (grows : (f : ℕ) (k : Known) → nth ks f ≡ So
     tree-widened (VectorOf items m) zone d tail h = (h.0, all-widened items zone d h.1)
     tree-widened (Println args m) zone d tail h = (h.0, h.1, all-widened args zone d h.2)
     tree-widened (Dosync body m) zone d tail h = tree-widened body in_dosync d None h
-    tree-widened (Deref cell m) zone d tail h = tree-widened cell zone d None h
-    tree-widened (Alter cell callee args m) zone d tail h =
+    tree-widened (Look form cell m) zone d tail h = (h.0, tree-widened cell zone d None h.1)
+    tree-widened (Put form cell value m) zone d tail h = (h.0, tree-widened cell zone d None h.1, tree-widened value zone d None h.2)
+    tree-widened (Update form cell callee args m) zone d tail h =
         (h.0, tree-widened cell zone d None h.1, callee-widened callee (suc (count args)) h.2, all-widened args zone d h.3)
+    tree-widened (Send cell callee args m) zone d tail h =
+        (tree-widened cell zone d None h.0, callee-widened callee (suc (count args)) h.1, all-widened args zone d h.2)
 
     all-widened : (es : Trees) (zone : Zone) (d : ℕ) → SoundAll ks zone d es → SoundAll ls zone d es
     all-widened none zone d h = h
@@ -110,6 +118,11 @@ module _ (ks ls : List Known) (grows : (f : ℕ) (k : Known) → nth ks f ≡ So
     do-widened (more e (more f rest)) zone d tail h = (tree-widened e zone d None h.0, do-widened (more f rest) zone d tail h.1)
 
 -- ---- a body that isn't for transactions alone may run outside
+
+stands-outside : (s : Standing) → only_inside s ≡ false → MayStand in_thread s
+stands-outside Anywhere out = tt
+stands-outside Inside out = absurd (false≢true (sym out))
+stands-outside Outside out = tt
 
 module _ (ks : List Known) where
   mutual
@@ -136,8 +149,23 @@ module _ (ks : List Known) where
     tree-outside (VectorOf items m) d tail h out = (h.0, all-outside items d h.1 out)
     tree-outside (Println args m) d tail h out = (tt, h.1, all-outside args d h.2 out)
     tree-outside (Dosync body m) d tail h out = h
-    tree-outside (Deref cell m) d tail h out = tree-outside cell d None h out
-    tree-outside (Alter cell callee args m) d tail h out = absurd (false≢true (sym out))
+    tree-outside (Look form cell m) d tail h out =
+        let stands = (rule (form_of.Look form)).stands in
+        let parts = neither (only_inside stands) (inside_in ks cell) out in
+        (stands-outside stands parts.0, tree-outside cell d None h.1 parts.1)
+    tree-outside (Put form cell value m) d tail h out =
+        let stands = (rule (form_of.Put form)).stands in
+        let parts = neither (only_inside stands) (inside_in ks cell || inside_in ks value) out in
+        let operands = neither (inside_in ks cell) (inside_in ks value) parts.1 in
+        (stands-outside stands parts.0, tree-outside cell d None h.1 operands.0, tree-outside value d None h.2 operands.1)
+    tree-outside (Update form cell callee args m) d tail h out =
+        let stands = (rule (form_of.Update form)).stands in
+        let parts = neither (only_inside stands) (inside_in ks cell || any_inside ks args) out in
+        let operands = neither (inside_in ks cell) (any_inside ks args) parts.1 in
+        (stands-outside stands parts.0, tree-outside cell d None h.1 operands.0, h.2, all-outside args d h.3 operands.1)
+    tree-outside (Send cell callee args m) d tail h out =
+        let operands = neither (inside_in ks cell) (any_inside ks args) out in
+        (tree-outside cell d None h.0 operands.0, h.1, all-outside args d h.2 operands.1)
 
     all-outside : (es : Trees) (d : ℕ) → SoundAll ks in_function d es → any_inside ks es ≡ false → SoundAll ks in_thread d es
     all-outside none d h out = h
@@ -201,8 +229,10 @@ module _ (ks : List Known) (all : AllTame ks) where
     tree-tame (VectorOf items m) pure = all-tame items pure
     tree-tame (Println args m) pure = absurd (false≢true pure)
     tree-tame (Dosync body m) pure = absurd (false≢true pure)
-    tree-tame (Deref cell m) pure = absurd (false≢true pure)
-    tree-tame (Alter cell callee args m) pure = absurd (false≢true pure)
+    tree-tame (Look form cell m) pure = absurd (false≢true pure)
+    tree-tame (Put form cell value m) pure = absurd (false≢true pure)
+    tree-tame (Update form cell callee args m) pure = absurd (false≢true pure)
+    tree-tame (Send cell callee args m) pure = absurd (false≢true pure)
 
     all-tame : (es : Trees) → all_pure ks es ≡ true → any_inside ks es ≡ false
     all-tame none pure = refl
@@ -263,16 +293,16 @@ functions_of-at (g ∷ fs) zero f lt is = ap (λ x. Some (function_of x)) (sym i
 functions_of-at (g ∷ fs) (suc i) f lt is = functions_of-at fs i f (omega (arith, lt)) is
 
 -- what is sound where all functions are defined is sound where as many may be called as there are
-pub sound_everywhere : (fs : List function.Function) (n : ℕ) (e : Tree) (zone : Zone) (d : ℕ) (tail : Option ℕ) → SoundTree (known (functions_of fs)) zone d tail e
-    → SoundTree (callable (record { functions = fs; depth = length fs; turns = n })) zone d tail e
-sound_everywhere fs n e zone d tail h =
+pub sound_everywhere : (cells : List CellDefinition) (fs : List function.Function) (n : ℕ) (e : Tree) (zone : Zone) (d : ℕ) (tail : Option ℕ) → SoundTree (known (functions_of fs)) zone d tail e
+    → SoundTree (callable (record { cells = cells; functions = fs; depth = length fs; turns = n })) zone d tail e
+sound_everywhere cells fs n e zone d tail h =
     let all = known (functions_of fs) in
     let many : length all ≡ length fs = length-known (functions_of fs) ∙ length-functions_of fs in
     tree-widened all (take (length fs) all) (λ f k found. nth-before (length fs) all f k (omega (arith, many, nth-length all f k found)) found) e zone d tail h
 
 -- a pure function may be called outside
-pub pure-callable : (fs : List function.Function) (n f m : ℕ) → PureCall (known (functions_of fs)) f m → SoundCall (callable (record { functions = fs; depth = length fs; turns = n })) in_thread f m
-pure-callable fs n f m h =
+pub pure-callable : (cells : List CellDefinition) (fs : List function.Function) (n f m : ℕ) → PureCall (known (functions_of fs)) f m → SoundCall (callable (record { cells = cells; functions = fs; depth = length fs; turns = n })) in_thread f m
+pure-callable cells fs n f m h =
     let all = known (functions_of fs) in
     let many : length all ≡ length fs = length-known (functions_of fs) ∙ length-functions_of fs in
     let tame = call-tame all f (known-tame [] (functions_of fs) tt) (ap is_pure h.found ∙ h.pure) in

@@ -3,7 +3,7 @@ use Rattle.std.proofs.Common.{◌≡◌, ◌*◌, length, get_or, ap, ℕ, zero,
 use Rattle.txs_tree.specs.Sound.{nodes, nodes_in}
 use Rattle.txs_tree.specs.View.{tree_of, trees_of}
 use Rattle.txs_tree.specs.declared.node.Node.{Node}
-use Rattle.txs_tree.specs.Tree.{Tree, Const, Local, If, Do, Let, Loop, Recur, Core, Call, VectorOf, Println, Dosync, Deref, Alter}
+use Rattle.txs_tree.specs.Tree.{Tree, Const, Local, If, Do, Let, Loop, Recur, Core, Call, VectorOf, Println, Dosync, Look, Put, Update, Send}
 
 pub nodes-some : (e : Tree) → 0 < nodes e
 nodes-some (Const v m) = omega arith
@@ -18,8 +18,10 @@ nodes-some (Call f args m) = omega arith
 nodes-some (VectorOf items m) = omega arith
 nodes-some (Println args m) = omega arith
 nodes-some (Dosync body m) = omega arith
-nodes-some (Deref cell m) = omega arith
-nodes-some (Alter cell callee args m) = omega arith
+nodes-some (Look form cell m) = omega arith
+nodes-some (Put form cell value m) = omega arith
+nodes-some (Update form cell callee args m) = omega arith
+nodes-some (Send cell callee args m) = omega arith
 
 -- a node among others has no more nodes than all of them
 pub nodes-at : (ns : List Node) (i : ℕ) (x : Node) → i < length ns → x ≡ get_or ns i x → nodes (tree_of x) ≤ nodes_in (trees_of ns)

@@ -1,21 +1,35 @@
 -- An evaluation one node at a time: what the whole means is what the rest means.
-use Rattle.std.proofs.Common.{◌≡◌, ℕ, zero, suc, ◌+◌, ◌-◌, ◌<◌, ◌≤◌, Bool, true, false, if◌then◌else◌, List, [], ◌∷◌, ◌++◌, length, get_or, take, drop, Some, Result, Err, refl, sym, ap, ◌∙◌, subst, subst₂, append_assoc, length-append, arith}
+use Rattle.std.proofs.Common.{◌≡◌, ℕ, zero, suc, ◌+◌, ◌-◌, ◌<◌, ◌≤◌, Bool, true, false, if◌then◌else◌, List, [], ◌∷◌, ◌++◌, length, get_or, take, drop, Some, Result, Ok, Err, refl, sym, ap, ◌∙◌, subst, subst₂, append_assoc, length-append, arith}
 use Rattle.std.proofs.Math.Seq.{drop-append_seam, take-append_seam}
 use Rattle.std.proofs.lemmas.Bool.{eq-eqb}
 use Rattle.std.proofs.lemmas.List.{drop_more, append-nil, length-take, take-append-le, take-append-drop}
-use Rattle.txs_value.specs.Cells.{any_cell}
 use Rattle.txs_operations.specs.Core.{core, vector_of, is_false}
+use Rattle.txs_value.specs.Forms.{rule, cell_of}
 use Rattle.txs_value.specs.Places.{nth}
 use Rattle.txs_value.specs.Printed.{printed_line}
 use Rattle.txs_operations.specs.Truth.{choose}
+use Rattle.txs_value.specs.declared.fault.FaultKind.{FaultKind}
+use Rattle.txs_value.specs.declared.fault.Span.{Span}
+use Rattle.txs_value.specs.declared.form.CellForm.{CellForm}
+use Rattle.txs_value.specs.declared.form.CellForm.TheVariants as form_of
+use Rattle.txs_value.specs.declared.form.LookForm.{LookForm}
+use Rattle.txs_value.specs.declared.form.LookForm.TheVariants.{Deref, Ensure}
+use Rattle.txs_value.specs.declared.form.PutForm.{PutForm}
+use Rattle.txs_value.specs.declared.form.PutForm.TheVariants.{RefSet, Reset}
+use Rattle.txs_value.specs.declared.form.UpdateForm.{UpdateForm}
+use Rattle.txs_value.specs.declared.form.UpdateForm.TheVariants.{Alter, Commute, Swap}
+use Rattle.txs_value.specs.declared.op.Callee.{Callee}
 use Rattle.txs_value.specs.declared.op.Op.{Op}
+use Rattle.txs_value.specs.declared.value.CellId.{CellId}
 use Rattle.txs_value.specs.declared.value.Value.{Value}
 use Rattle.txs_value.specs.declared.value.Value.TheVariants.{Nil, Truth, Int, Key, Text, Vector, Cell}
-use Rattle.txs_tree.specs.Evaluated.{Stops, Gives, GivesAll, Steps, no_events, calls_in, means, all_mean, do_means, let_means, locals_mean, loop_means, turns_mean, call_means, printing}
-use Rattle.txs_tree.specs.Meaning.{Completion, Completes, Recurs, Faults, Retries, Waits, OutOfTurns, Invalid, bind, again, give, result_of, turns, Effects, eval, eval_all, eval_let, eval_do, call_at}
+use Rattle.txs_tree.specs.Evaluated.{Stops, Gives, GivesAll, Steps, Acts, Lacks, lacking, met, met_as, form_means, around_it, no_events, calls_in, means, all_mean, do_means, let_means, locals_mean, loop_means, turns_mean, call_means, printing}
+use Rattle.txs_tree.specs.Meaning.{Completion, Completes, Recurs, Faults, Retries, Waits, OutOfTurns, Invalid, bind, again, give, result_of, Applies, apply, turns, Effects, eval, eval_all, eval_let, eval_do, call_at}
 use Rattle.txs_tree.specs.Setting.{Setting, deeper}
-use Rattle.txs_tree.specs.Thread.{ThreadState, on_events, reads}
-use Rattle.txs_tree.specs.Tree.{Mark, Tree, Const, Local, If, Do, Let, Loop, Recur, Core, Call, VectorOf, Println, Dosync, Deref, Trees, none, more, count, PlainFunction}
+use Rattle.txs_tree.specs.Sound.{MayStand, in_thread}
+use Rattle.txs_tree.specs.Thread.{ThreadState, Surroundings, on_events, eats, sends, thread_look, thread_put, thread_update}
+use Rattle.txs_tree.specs.Transaction.{on_cell}
+use Rattle.txs_tree.specs.Tree.{Mark, Tree, Const, Local, If, Do, Let, Loop, Recur, Core, Call, VectorOf, Println, Dosync, Look, Put, Update, Send, Trees, none, more, count, PlainFunction}
 use Rattle.txs_tree.specs.View.{tree_of, trees_of, functions_of}
 use Rattle.txs_tree.specs.declared.evaluate.ThreadStop.{ThreadStop}
 use Rattle.txs_tree.specs.declared.evaluate.ThreadStop.TheVariants.{Fault, Event, Turns, Memory}
@@ -133,6 +147,40 @@ stops_gives r y out c err h = subst (λ x. Gives x out c) (sym err) h
 pub stops_all : {V : Type 0} (f : V → List Value) (r : Result V ThreadStop) (y : ThreadStop) (out : List ℕ) (c : Completion ThreadState (List Value)) → r ≡ Err y → Stops y out c → GivesAll f r out c
 stops_all f r y out c err h = subst (λ x. GivesAll f x out c) (sym err) h
 
+-- ---- forms on cells where no event is there
+
+met-as : (r : Result CellId FaultKind) (span : Span) (out : List ℕ) → Stops (met_as span r) out (bind {B = Value} (result_of r span (printing out)) (λ x t. Waits t))
+met-as (Ok c) span out = refl
+met-as (Err k) span out = refl
+
+pub met_lacks : (form : CellForm) (span : Span) (c : Value) (out : List ℕ) → Stops (met form c span) out (lacking form span c out)
+met_lacks form span c out = met-as (cell_of (rule form) false c) span out
+
+-- it waits where it takes the cell
+waits_at : (r : Result CellId FaultKind) (span : Span) (out : List ℕ) (go : CellId → ThreadState → Completion ThreadState Value) → ((x : CellId) → go x (printing out) ≡ Waits (printing out))
+    → bind (result_of r span (printing out)) go ≡ bind (result_of r span (printing out)) (λ x t. Waits t)
+waits_at (Ok c) span out go h = h c
+waits_at (Err k) span out go h = refl
+
+module _ (x : Surroundings) (d : ℕ) (m : Mark) (c : Value) (out : List ℕ) where
+  pub look_lacks : (form : LookForm) → MayStand in_thread (rule (form_of.Look form)).stands → (on_events x d).look form false m c (printing out) ≡ lacking (form_of.Look form) m.span c out
+  look_lacks Deref h = waits_at (cell_of (rule (form_of.Look Deref)) false c) m.span out (thread_look x Deref) (λ k. refl)
+  look_lacks Ensure h = absurd h
+
+  pub put_lacks : (form : PutForm) (w : Value) → MayStand in_thread (rule (form_of.Put form)).stands → (on_events x d).put form false m c w (printing out) ≡ lacking (form_of.Put form) m.span c out
+  put_lacks RefSet w h = absurd h
+  put_lacks Reset w h = waits_at (cell_of (rule (form_of.Put Reset)) false c) m.span out (λ k t. thread_put x Reset k w t) (λ k. refl)
+
+  pub update_lacks : (form : UpdateForm) (callee : Callee) (vs : List Value) (f : Applies ThreadState) → MayStand in_thread (rule (form_of.Update form)).stands
+      → (on_events x d).update form false m c callee vs f (printing out) ≡ lacking (form_of.Update form) m.span c out
+  update_lacks Alter callee vs f h = absurd h
+  update_lacks Commute callee vs f h = absurd h
+  update_lacks Swap callee vs f h = waits_at (cell_of (rule (form_of.Update Swap)) false c) m.span out (λ k t. thread_update x Swap k callee vs f t) (λ k. refl)
+
+  pub send_lacks : (callee : Callee) (vs : List Value) → (on_events x d).send false m c callee vs (printing out) ≡ lacking form_of.Send m.span c out
+  send_lacks callee vs =
+      waits_at (cell_of (rule form_of.Send) false c) m.span out (λ k t. eats 0 (λ e t1. sends (record { agent = k; callee = callee; args = vs; span = m.span }) m.span e.kind t1) t.todo t) (λ k. refl)
+
 -- ---- outside every transaction
 
 module _ (setting : Setting) where
@@ -199,14 +247,37 @@ module _ (setting : Setting) where
     pub dosync_stop : (b : Tree) → e ≡ Dosync b m → means setting e env out ≡ Waits (printing out)
     dosync_stop b is = ap (λ x. means setting x env out) is
 
-    module _ (cell : Tree) (is : e ≡ Deref cell m) where
-      pub deref_stop : (y : ThreadStop) (out1 : List ℕ) → Stops y out1 (means setting cell env out) → Stops y out1 (means setting e env out)
-      deref_stop y out1 h = stops_whole y out1 (means setting e env out) (means setting cell env out) (λ v s1. reads m.span (any_cell v) s1) (ap (λ x. means setting x env out) is) h
+    -- what each family of forms on cells does
+    module _ (out1 : List ℕ) (r : Result Step ThreadStop) where
+      module _ (form : LookForm) (cell : Tree) (is : e ≡ Look form cell m) (stands : MayStand in_thread (rule (form_of.Look form)).stands) where
+        pub steps_look : ((go : Acts) → Lacks (form_of.Look form) m.span go → Steps r out1 (form_means setting cell none go env out)) → Steps r out1 (means setting e env out)
+        steps_look h = subst (λ x. Steps r out1 (means setting x env out)) (sym is) (h (λ c vs t. fx.look form false m c t) (λ c vs o. look_lacks (around_it setting) setting.depth m c o form stands))
 
-      pub deref_reads : (v : Value) (y : ThreadStop) (out1 out2 : List ℕ) → means setting cell env out ≡ Completes v (printing out1) → out2 ≡ out1 → Stops y out2 (reads m.span (any_cell v) (printing out2)) → Stops y out1 (means setting e env out)
-      deref_reads v y out1 out2 h same g =
-          let whole : means setting e env out ≡ reads m.span (any_cell v) (printing out1) = ap (λ x. means setting x env out) is ∙ ap (λ c. bind c (λ w s1. reads m.span (any_cell w) s1)) h in
-          subst (λ c. Stops y out1 c) (sym whole) (subst (λ o. Stops y o (reads m.span (any_cell v) (printing o))) same g)
+      module _ (form : PutForm) (cell value : Tree) (is : e ≡ Put form cell value m) (stands : MayStand in_thread (rule (form_of.Put form)).stands) where
+        abbrev puts : Acts
+        puts c [] t = on_cell (form_of.Put form) false m.span c (λ x t1. Waits t1) t
+        puts c (v ∷ vs) t = fx.put form false m c v t
+
+        puts_lack : Lacks (form_of.Put form) m.span puts
+        puts_lack c [] o = refl
+        puts_lack c (v ∷ vs) o = put_lacks (around_it setting) setting.depth m c o form v stands
+
+        put_whole : form_means setting cell (more value none) puts env out ≡ means setting (Put form cell value m) env out
+        put_whole = λ i. bind (means setting cell env out) (λ c t. bind-bind (eval fx call setting.turns false value env t) (λ v t1. Completes (v ∷ []) t1) (λ vs t1. puts c vs t1) i)
+
+        pub steps_put : ((go : Acts) → Lacks (form_of.Put form) m.span go → Steps r out1 (form_means setting cell (more value none) go env out)) → Steps r out1 (means setting e env out)
+        steps_put h = subst (λ x. Steps r out1 (means setting x env out)) (sym is) (subst (λ c. Steps r out1 c) put_whole (h puts puts_lack))
+
+      module _ (form : UpdateForm) (cell : Tree) (callee : Callee) (args : Trees) (is : e ≡ Update form cell callee args m) (stands : MayStand in_thread (rule (form_of.Update form)).stands) where
+        pub steps_update : ((go : Acts) → Lacks (form_of.Update form) m.span go → Steps r out1 (form_means setting cell args go env out)) → Steps r out1 (means setting e env out)
+        steps_update h =
+            let f = apply (call false) m.span in
+            subst (λ x. Steps r out1 (means setting x env out)) (sym is) (h (λ c vs t. fx.update form false m c callee vs f t) (λ c vs o. update_lacks (around_it setting) setting.depth m c o form callee vs f stands))
+
+      module _ (cell : Tree) (callee : Callee) (args : Trees) (is : e ≡ Send cell callee args m) where
+        pub steps_send : ((go : Acts) → Lacks form_of.Send m.span go → Steps r out1 (form_means setting cell args go env out)) → Steps r out1 (means setting e env out)
+        steps_send h =
+            subst (λ x. Steps r out1 (means setting x env out)) (sym is) (h (λ c vs t. fx.send false m c callee vs t) (λ c vs o. send_lacks (around_it setting) setting.depth m c o callee vs))
 
     -- the arguments' stop is the whole's
     module _ {V : Type 0} (f : V → List Value) (y : ThreadStop) (es : Trees) (out1 : List ℕ) (h : GivesAll f (Err y) out1 (all_mean setting es env out)) where
@@ -248,6 +319,23 @@ module _ (setting : Setting) where
       println_done is g =
           ap (λ x. means setting x env out) is ∙ ap (λ c. bind c (λ us s1. fx.print false us s1)) h
           ∙ ap (λ us. Completes Nil (printing (out1 ++ printed_line us))) (sym same) ∙ ap (λ o. Completes Nil (printing o)) (sym g)
+
+  -- a form on a cell, with what it does
+  module _ (form : CellForm) (m : Mark) (cell : Tree) (args : Trees) (go : Acts) (lacks : Lacks form m.span go) (env : List Value) (out : List ℕ) where
+    module _ (c : Value) (out1 : List ℕ) (h : means setting cell env out ≡ Completes c (printing out1)) where
+      after_cell : form_means setting cell args go env out ≡ bind (all_mean setting args env out1) (λ vs t1. go c vs t1)
+      after_cell = ap (λ r. bind r (λ d t. bind (eval_all fx call setting.turns false args env t) (λ vs t1. go d vs t1))) h
+
+      pub args_stop : (y : ThreadStop) (out2 : List ℕ) (now : List Value) → now ≡ env → Stops y out2 (all_mean setting args now out1) → Stops y out2 (form_means setting cell args go env out)
+      args_stop y out2 now same g =
+          stops_whole y out2 (form_means setting cell args go env out) (all_mean setting args env out1) (λ vs t1. go c vs t1) after_cell
+          (subst (λ l. Stops y out2 (all_mean setting args l out1)) same g)
+
+      pub args_done : (vs now : List Value) (out2 : List ℕ) (y : ThreadStop) → now ≡ env → all_mean setting args now out1 ≡ Completes vs (printing out2) → y ≡ met form c m.span → Stops y out2 (form_means setting cell args go env out)
+      args_done vs now out2 y same g is =
+          let given : all_mean setting args env out1 ≡ Completes vs (printing out2) = subst (λ l. all_mean setting args l out1 ≡ Completes vs (printing out2)) same g in
+          let whole : form_means setting cell args go env out ≡ lacking form m.span c out2 = after_cell ∙ ap (λ r. bind r (λ us t1. go c us t1)) given ∙ lacks c vs out2 in
+          subst₂ (λ z r. Stops z out2 r) (sym is) (sym whole) (met_lacks form m.span c out2)
 
   -- one node more
   module _ (ns : List Node) (i : ℕ) (x : Node) (lt : i < length ns) (is : x ≡ get_or ns i x) (env now : List Value) (out out1 : List ℕ) (same : now ≡ env) where
@@ -350,7 +438,7 @@ module _ (setting : Setting) where
 -- a call is the turns of the function's body, one level deeper
 module _ (setting : Setting) (f : ℕ) (fun : PlainFunction) (left : 0 < setting.depth) (there : nth (functions_of setting.functions) f ≡ Some fun) where
   abbrev fx_at : ℕ → Effects ThreadState
-  fx_at = on_events setting.turns (functions_of setting.functions)
+  fx_at = on_events (around_it setting)
 
   abbrev body_at : PlainFunction → List Value → ThreadState → Completion ThreadState Value
   body_at g = λ ws t. eval (fx_at (setting.depth - 1)) (call_at fx_at setting.turns (functions_of setting.functions) (setting.depth - 1)) setting.turns false g.body ws t

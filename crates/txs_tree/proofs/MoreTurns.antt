@@ -9,7 +9,7 @@ use Rattle.txs_value.specs.declared.value.Value.{Value}
 use Rattle.txs_value.specs.declared.value.Value.TheVariants.{Nil, Truth, Int, Key, Text, Vector, Cell}
 use Rattle.txs_tree.specs.Meaning.{Completion, Completes, Recurs, Faults, Retries, Waits, OutOfTurns, Invalid, bind, again, give, result_of, turns, eval, eval_all, eval_let, eval_do}
 use Rattle.txs_tree.specs.Pure.{Lasts, no_effects, pure_calls, pure_meaning, nowhere}
-use Rattle.txs_tree.specs.Tree.{Tree, Const, Local, If, Do, Let, Loop, Recur, Core, Call, VectorOf, Println, Dosync, Deref, Alter, Trees, none, more, count, PlainFunction}
+use Rattle.txs_tree.specs.Tree.{Tree, Const, Local, If, Do, Let, Loop, Recur, Core, Call, VectorOf, Println, Dosync, Look, Put, Update, Send, Trees, none, more, count, PlainFunction}
 
 -- the one state of pure code
 abbrev State : Type 0
@@ -98,13 +98,23 @@ module _ (n m : ℕ) (le : n ≤ m) where
       tree_lasts (Println args k) env s =
           bind_lasts {B = Value} (eval_all no_effects low n false args env s) (eval_all no_effects high m false args env s) (λ vs t. Invalid) (λ vs t. Invalid) (all_lasts args env s) (λ vs t. refl)
       tree_lasts (Dosync body k) env s = refl
-      tree_lasts (Deref cell k) env s =
+      tree_lasts (Look form cell k) env s =
           bind_lasts {B = Value} (eval no_effects low n false cell env s) (eval no_effects high m false cell env s) (λ v t. Invalid) (λ v t. Invalid) (tree_lasts cell env s) (λ v t. refl)
-      tree_lasts (Alter cell callee args k) env s =
+      tree_lasts (Put form cell value k) env s =
           bind_lasts {B = Value} (eval no_effects low n false cell env s) (eval no_effects high m false cell env s)
-          (λ c t. bind (eval_all no_effects low n false args env t) (λ vs u. Invalid)) (λ c t. bind (eval_all no_effects high m false args env t) (λ vs u. Invalid))
+          (λ c t. bind (eval no_effects low n false value env t) (λ v u. Invalid)) (λ c t. bind (eval no_effects high m false value env t) (λ v u. Invalid))
           (tree_lasts cell env s)
-          (λ c t. bind_lasts {B = Value} (eval_all no_effects low n false args env t) (eval_all no_effects high m false args env t) (λ vs u. Invalid) (λ vs u. Invalid) (all_lasts args env t) (λ vs u. refl))
+          (λ c t. bind_lasts {B = Value} (eval no_effects low n false value env t) (eval no_effects high m false value env t) (λ v u. Invalid) (λ v u. Invalid) (tree_lasts value env t) (λ v u. refl))
+      tree_lasts (Update form cell callee args k) env s =
+          bind_lasts {B = Value} (eval no_effects low n false cell env s) (eval no_effects high m false cell env s)
+          (λ c t. bind (eval_all no_effects low n false args env t) (λ v u. Invalid)) (λ c t. bind (eval_all no_effects high m false args env t) (λ v u. Invalid))
+          (tree_lasts cell env s)
+          (λ c t. bind_lasts {B = Value} (eval_all no_effects low n false args env t) (eval_all no_effects high m false args env t) (λ v u. Invalid) (λ v u. Invalid) (all_lasts args env t) (λ v u. refl))
+      tree_lasts (Send cell callee args k) env s =
+          bind_lasts {B = Value} (eval no_effects low n false cell env s) (eval no_effects high m false cell env s)
+          (λ c t. bind (eval_all no_effects low n false args env t) (λ v u. Invalid)) (λ c t. bind (eval_all no_effects high m false args env t) (λ v u. Invalid))
+          (tree_lasts cell env s)
+          (λ c t. bind_lasts {B = Value} (eval_all no_effects low n false args env t) (eval_all no_effects high m false args env t) (λ v u. Invalid) (λ v u. Invalid) (all_lasts args env t) (λ v u. refl))
 
       all_lasts : (es : Trees) (env : List Value) (s : State) → Lasts (eval_all no_effects low n false es env s) (eval_all no_effects high m false es env s)
       all_lasts none env s = refl

@@ -1,9 +1,10 @@
 -- What a pure function means, by what a call of it means.
 use Rattle.std.proofs.Common.{◌≡◌, ℕ, false, List, [], length, Err, sym, ap, ◌∙◌, subst, subst₂}
+use Rattle.txs_value.specs.declared.cell.CellDefinition.{CellDefinition}
 use Rattle.txs_value.specs.declared.fault.Fault as fault
 use Rattle.txs_value.specs.declared.op.Callee.TheVariants.{Function}
 use Rattle.txs_value.specs.declared.value.Value.{Value}
-use Rattle.txs_tree.specs.Evaluated.{Gives, call_means, printing}
+use Rattle.txs_tree.specs.Evaluated.{Gives, around_it, call_means, printing}
 use Rattle.txs_tree.specs.Known.{is_pure, known}
 use Rattle.txs_tree.specs.Meaning.{Completes, Faults, OutOfTurns, call_at}
 use Rattle.txs_tree.specs.Pure.{pure_meaning}
@@ -18,17 +19,17 @@ use Rattle.txs_tree.proofs.Callable.{length-functions_of, pure-callable}
 use Rattle.txs_tree.proofs.Ends.{whole}
 use Rattle.txs_tree.proofs.PureLaw.{Agrees, call_agrees, pure_value, pure_fault, pure_turns, pure_waits}
 
-module _ (fs : List function.Function) (n f : ℕ) (vs ws : List Value) (setting : Setting) (same : setting ≡ whole fs n) (copy : ws ≡ vs) (pure : PureCall (known (functions_of fs)) f (length vs)) where
+module _ (cells : List CellDefinition) (fs : List function.Function) (n f : ℕ) (vs ws : List Value) (setting : Setting) (same : setting ≡ whole cells fs n) (copy : ws ≡ vs) (pure : PureCall (known (functions_of fs)) f (length vs)) where
   pub callable_here : SoundCall (callable setting) in_thread f (length ws)
-  callable_here = subst₂ (λ s us. SoundCall (callable s) in_thread f (length us)) (sym same) (sym copy) (pure-callable fs n f (length vs) pure)
+  callable_here = subst₂ (λ s us. SoundCall (callable s) in_thread f (length us)) (sym same) (sym copy) (pure-callable cells fs n f (length vs) pure)
 
   module _ (sound : SoundFunctions [] (functions_of fs)) (before out : List ℕ) where
     agrees : Agrees (printing before) (pure_meaning n (functions_of fs) (Function f) vs) (call_means setting f ws before)
     agrees =
         let fns = functions_of fs in
-        let law = call_agrees (printing before) (on_events n fns) n false fns sound (length fns) f vs (ap is_pure pure.found ∙ pure.pure) in
-        let here : Agrees (printing before) (pure_meaning n fns (Function f) vs) (call_means (whole fs n) f vs before) =
-        subst (λ d. Agrees (printing before) (pure_meaning n fns (Function f) vs) (call_at (on_events n fns) n fns d false f vs (printing before))) (length-functions_of fs) law in
+        let law = call_agrees (printing before) (on_events (around_it (whole cells fs n))) n false fns sound (length fns) f vs (ap is_pure pure.found ∙ pure.pure) in
+        let here : Agrees (printing before) (pure_meaning n fns (Function f) vs) (call_means (whole cells fs n) f vs before) =
+        subst (λ d. Agrees (printing before) (pure_meaning n fns (Function f) vs) (call_at (on_events (around_it (whole cells fs n))) n fns d false f vs (printing before))) (length-functions_of fs) law in
         subst₂ (λ s us. Agrees (printing before) (pure_meaning n fns (Function f) vs) (call_means s f us before)) (sym same) (sym copy) here
 
     pub pure_ok : (v : Value) → call_means setting f ws before ≡ Completes v (printing out) → pure_meaning n (functions_of fs) (Function f) vs ≡ Completes v tt

@@ -13,7 +13,7 @@ use Rattle.txs_tree.specs.Known.{Known, is_pure, pure_in, all_pure, known}
 use Rattle.txs_tree.specs.Meaning.{Completion, Completes, Recurs, Faults, Retries, Waits, OutOfTurns, Invalid, bind, again, give, result_of, turns, Effects, eval, eval_all, eval_let, eval_do, call_at}
 use Rattle.txs_tree.specs.Pure.{no_effects}
 use Rattle.txs_tree.specs.Sound.{SoundFunctions}
-use Rattle.txs_tree.specs.Tree.{Tree, Const, Local, If, Do, Let, Loop, Recur, Core, Call, VectorOf, Println, Dosync, Deref, Alter, Trees, none, more, count, PlainFunction}
+use Rattle.txs_tree.specs.Tree.{Tree, Const, Local, If, Do, Let, Loop, Recur, Core, Call, VectorOf, Println, Dosync, Look, Put, Update, Send, Trees, none, more, count, PlainFunction}
 use Rattle.txs_tree.proofs.Callable.{both, function_at}
 
 -- the same with no state
@@ -149,8 +149,10 @@ module _ {S : Type 0} (s : S) where
           (all_agrees items env pure) (λ vs. result_agrees (vector_of vs) m.span)
       tree_agrees (Println args m) env pure = absurd (false≢true pure)
       tree_agrees (Dosync body m) env pure = absurd (false≢true pure)
-      tree_agrees (Deref cell m) env pure = absurd (false≢true pure)
-      tree_agrees (Alter cell callee args m) env pure = absurd (false≢true pure)
+      tree_agrees (Look form cell m) env pure = absurd (false≢true pure)
+      tree_agrees (Put form cell value m) env pure = absurd (false≢true pure)
+      tree_agrees (Update form cell callee args m) env pure = absurd (false≢true pure)
+      tree_agrees (Send cell callee args m) env pure = absurd (false≢true pure)
 
       all_agrees : (es : Trees) (env : List Value) → all_pure ks es ≡ true → Agrees (eval_all no_effects quiet n false es env tt) (eval_all fx call n inside es env s)
       all_agrees none env pure = refl

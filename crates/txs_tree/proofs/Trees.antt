@@ -1,5 +1,8 @@
 -- A node as a tree, with its children as a list.
 use Rattle.std.proofs.Common.{rules, ◌≡◌, ℕ, List, refl, sym, ap, ◌∙◌, Vec, Global, Box}
+use Rattle.txs_value.specs.declared.form.LookForm.{LookForm}
+use Rattle.txs_value.specs.declared.form.PutForm.{PutForm}
+use Rattle.txs_value.specs.declared.form.UpdateForm.{UpdateForm}
 use Rattle.txs_value.specs.declared.op.Callee.{Callee}
 use Rattle.txs_value.specs.declared.op.Op.{Op}
 use Rattle.txs_value.specs.declared.value.Value.{Value}
@@ -8,7 +11,7 @@ use Rattle.txs_tree.specs.Tree as tree
 use Rattle.txs_tree.specs.View.{kind_tree, row_trees, tree_of, trees_of, mark_of}
 use Rattle.txs_tree.specs.declared.node.Node.{Node}
 use Rattle.txs_tree.specs.declared.node.NodeKind.{Row_of-Node, end_of-Node, more_of-Node, items-the_row-Node, the_lemmas}
-use Rattle.txs_tree.specs.declared.node.NodeKind.TheVariants.{Const, Local, If, Do, Let, Loop, Recur, Core, Call, Vector, Println, Dosync, Deref, Alter}
+use Rattle.txs_tree.specs.declared.node.NodeKind.TheVariants.{Const, Local, If, Do, Let, Loop, Recur, Core, Call, Vector, Println, Dosync, Look, Put, Update, Send}
 
 pub row_list : {n : _} (row : Row_of-Node n) → row_trees row ≡ trees_of (items-the_row-Node n row)
 row_list end_of-Node = refl
@@ -44,11 +47,17 @@ println_tree args m = search (rules, the_lemmas, row_list)
 pub dosync_tree : (body : Box Node Global) (m : Mark) → kind_tree (Dosync body) m ≡ tree.Dosync (tree_of body.value) m
 dosync_tree body m = search (rules, the_lemmas)
 
-pub deref_tree : (cell : Box Node Global) (m : Mark) → kind_tree (Deref cell) m ≡ tree.Deref (tree_of cell.value) m
-deref_tree cell m = search (rules, the_lemmas)
+pub look_tree : (form : LookForm) (cell : Box Node Global) (m : Mark) → kind_tree (Look form cell) m ≡ tree.Look form (tree_of cell.value) m
+look_tree form cell m = search (rules, the_lemmas)
 
-pub alter_tree : (cell : Box Node Global) (callee : Callee) (args : Vec Node Global) (m : Mark) → kind_tree (Alter cell callee args) m ≡ tree.Alter (tree_of cell.value) callee (trees_of args.items) m
-alter_tree cell callee args m = search (rules, the_lemmas, row_list)
+pub put_tree : (form : PutForm) (cell value : Box Node Global) (m : Mark) → kind_tree (Put form cell value) m ≡ tree.Put form (tree_of cell.value) (tree_of value.value) m
+put_tree form cell value m = search (rules, the_lemmas)
+
+pub update_tree : (form : UpdateForm) (cell : Box Node Global) (callee : Callee) (args : Vec Node Global) (m : Mark) → kind_tree (Update form cell callee args) m ≡ tree.Update form (tree_of cell.value) callee (trees_of args.items) m
+update_tree form cell callee args m = search (rules, the_lemmas, row_list)
+
+pub send_tree : (cell : Box Node Global) (callee : Callee) (args : Vec Node Global) (m : Mark) → kind_tree (Send cell callee args) m ≡ tree.Send (tree_of cell.value) callee (trees_of args.items) m
+send_tree cell callee args m = search (rules, the_lemmas, row_list)
 
 -- a node by its kind, with its children as they were read
 module _ (n : Node) where
@@ -109,12 +118,22 @@ module _ (n : Node) where
       let m = mark_of n.span n.wanted in
       ap (λ k. kind_tree k m) is ∙ dosync_tree body m ∙ ap (λ x. tree.Dosync (tree_of x) m) (sym same)
 
-  pub deref_node : (cell : Box Node Global) (b : Node) → n.kind ≡ Deref cell → b ≡ cell.value → tree_of n ≡ tree.Deref (tree_of b) (mark_of n.span n.wanted)
-  deref_node cell b is same =
+  pub look_node : (form : LookForm) (cell : Box Node Global) (b : Node) → n.kind ≡ Look form cell → b ≡ cell.value → tree_of n ≡ tree.Look form (tree_of b) (mark_of n.span n.wanted)
+  look_node form cell b is same =
       let m = mark_of n.span n.wanted in
-      ap (λ k. kind_tree k m) is ∙ deref_tree cell m ∙ ap (λ x. tree.Deref (tree_of x) m) (sym same)
+      ap (λ k. kind_tree k m) is ∙ look_tree form cell m ∙ ap (λ x. tree.Look form (tree_of x) m) (sym same)
 
-  pub alter_node : (cell : Box Node Global) (callee : Callee) (args : Vec Node Global) (b : Node) (ns : List Node) → n.kind ≡ Alter cell callee args → b ≡ cell.value → ns ≡ args.items → tree_of n ≡ tree.Alter (tree_of b) callee (trees_of ns) (mark_of n.span n.wanted)
-  alter_node cell callee args b ns is same_cell same =
+  pub put_node : (form : PutForm) (cell value : Box Node Global) (b c : Node) → n.kind ≡ Put form cell value → b ≡ cell.value → c ≡ value.value → tree_of n ≡ tree.Put form (tree_of b) (tree_of c) (mark_of n.span n.wanted)
+  put_node form cell value b c is same_cell same_value =
       let m = mark_of n.span n.wanted in
-      ap (λ k. kind_tree k m) is ∙ alter_tree cell callee args m ∙ ap (λ l. tree.Alter (tree_of cell.value) callee (trees_of l) m) (sym same) ∙ ap (λ x. tree.Alter (tree_of x) callee (trees_of ns) m) (sym same_cell)
+      ap (λ k. kind_tree k m) is ∙ put_tree form cell value m ∙ ap (λ x. tree.Put form (tree_of x) (tree_of value.value) m) (sym same_cell) ∙ ap (λ x. tree.Put form (tree_of b) (tree_of x) m) (sym same_value)
+
+  pub update_node : (form : UpdateForm) (cell : Box Node Global) (callee : Callee) (args : Vec Node Global) (b : Node) (ns : List Node) → n.kind ≡ Update form cell callee args → b ≡ cell.value → ns ≡ args.items → tree_of n ≡ tree.Update form (tree_of b) callee (trees_of ns) (mark_of n.span n.wanted)
+  update_node form cell callee args b ns is same_cell same =
+      let m = mark_of n.span n.wanted in
+      ap (λ k. kind_tree k m) is ∙ update_tree form cell callee args m ∙ ap (λ l. tree.Update form (tree_of cell.value) callee (trees_of l) m) (sym same) ∙ ap (λ x. tree.Update form (tree_of x) callee (trees_of ns) m) (sym same_cell)
+
+  pub send_node : (cell : Box Node Global) (callee : Callee) (args : Vec Node Global) (b : Node) (ns : List Node) → n.kind ≡ Send cell callee args → b ≡ cell.value → ns ≡ args.items → tree_of n ≡ tree.Send (tree_of b) callee (trees_of ns) (mark_of n.span n.wanted)
+  send_node cell callee args b ns is same_cell same =
+      let m = mark_of n.span n.wanted in
+      ap (λ k. kind_tree k m) is ∙ send_tree cell callee args m ∙ ap (λ l. tree.Send (tree_of cell.value) callee (trees_of l) m) (sym same) ∙ ap (λ x. tree.Send (tree_of x) callee (trees_of ns) m) (sym same_cell)

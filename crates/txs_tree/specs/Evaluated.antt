@@ -1,12 +1,19 @@
 -- What the plain evaluator answers.
-use Rattle.std.specs.Prelude.{◌≡◌, ℕ, Bool, false, List, [], ◌++◌, Option, Some, None, Result, Ok, Err, ⊤}
-use Rattle.txs_value.specs.Places.{nth}
+use Rattle.std.specs.Prelude.{◌≡◌, ℕ, suc, Bool, false, List, [], ◌++◌, Option, Some, None, Result, Ok, Err, ⊤}
+use Rattle.txs_value.specs.Limits.{reruns}
+use Rattle.txs_value.specs.Forms.{rule, cell_of}
+use Rattle.txs_value.specs.Places.{nth, fault_at}
+use Rattle.txs_value.specs.declared.fault.FaultKind.{FaultKind}
+use Rattle.txs_value.specs.declared.fault.Span.{Span}
+use Rattle.txs_value.specs.declared.form.CellForm.{CellForm}
+use Rattle.txs_value.specs.declared.value.CellId.{CellId}
 use Rattle.txs_asks.specs.declared.event.Outcome.{Outcome}
 use Rattle.txs_asks.specs.declared.event.Outcome.TheVariants.{Done, Failed}
 use Rattle.txs_value.specs.declared.value.Value.{Value}
 use Rattle.txs_tree.specs.Meaning.{Completion, Completes, Recurs, Faults, Retries, Waits, OutOfTurns, Invalid, bind, turns, Effects, eval, eval_all, eval_let, eval_do, call_at}
 use Rattle.txs_tree.specs.Setting.{Setting}
-use Rattle.txs_tree.specs.Thread.{ThreadState, on_events}
+use Rattle.txs_tree.specs.Thread.{ThreadState, Surroundings, on_events}
+use Rattle.txs_tree.specs.Transaction.{on_cell}
 use Rattle.txs_tree.specs.Tree.{Tree, Trees, count, PlainProgram, PlainThread, ThreadSource}
 use Rattle.txs_tree.specs.View.{functions_of}
 use Rattle.txs_tree.specs.declared.evaluate.ThreadStop.{ThreadStop}
@@ -20,7 +27,7 @@ use Rattle.txs_tree.specs.declared.meaning.ThreadMeaning.{ThreadMeaning}
 -- the source of a thread of the program, if there is one
 abbrev pub source_in : PlainProgram → Option PlainThread → Option ThreadSource
 source_in p None = None
-source_in p (Some t) = Some (record { functions = p.functions; main = t.body })
+source_in p (Some t) = Some (record { functions = p.functions; cells = p.cells; main = t.body })
 
 -- the thread at a place of a program, with the functions that it may call
 abbrev pub thread_source : PlainProgram → ℕ → Option ThreadSource
@@ -45,15 +52,19 @@ Tells m Invalid = (m.needs ≡ Wrong) × (m.outcome ≡ None)
 
 -- bytes that were printed, with no events to come
 abbrev pub printing : List ℕ → ThreadState
-printing out = record { todo = []; printed = out }
+printing out = record { todo = []; printed = out; txs = [] }
+
+-- what surrounds an evaluation
+abbrev pub around_it : Setting → Surroundings
+around_it s = record { cells = s.cells; tries = suc reruns; turns = s.turns; functions = functions_of s.functions }
 
 -- what the forms on cells do outside every transaction, where no event is there
 abbrev pub no_events : Setting → Effects ThreadState
-no_events s = on_events s.turns (functions_of s.functions) s.depth
+no_events s = on_events (around_it s) s.depth
 
 -- what the functions mean there
 abbrev pub calls_in : Setting → Bool → ℕ → List Value → ThreadState → Completion ThreadState Value
-calls_in s = call_at (on_events s.turns (functions_of s.functions)) s.turns (functions_of s.functions) s.depth
+calls_in s = call_at (on_events (around_it s)) s.turns (functions_of s.functions) s.depth
 
 -- what a node means there, with these locals, after these bytes were printed
 abbrev pub means : Setting → Tree → List Value → List ℕ → Completion ThreadState Value
@@ -89,6 +100,32 @@ loop_means s es body env out =
 -- a function on these values
 abbrev pub call_means : Setting → ℕ → List Value → List ℕ → Completion ThreadState Value
 call_means s f vs out = calls_in s false f vs (printing out)
+
+-- where a form stops that takes this cell, or none
+abbrev pub met_as : Span → Result CellId FaultKind → ThreadStop
+met_as span (Ok c) = NoEvent
+met_as span (Err k) = Fault (fault_at k span)
+
+-- where a form on a cell stops, with no event there: it needs one, or doesn't take the value
+abbrev pub met : CellForm → Value → Span → ThreadStop
+met form v span = met_as span (cell_of (rule form) false v)
+
+-- what a form does with its cell and its arguments
+abbrev pub Acts : Type 0
+Acts = Value → List Value → ThreadState → Completion ThreadState Value
+
+-- a form on a cell where no event is there: it waits for one, or doesn't take the value
+abbrev pub lacking : CellForm → Span → Value → List ℕ → Completion ThreadState Value
+lacking form span c out = on_cell form false span c (λ x t. Waits t) (printing out)
+
+-- where no event is there, all that is done is this
+abbrev pub Lacks : CellForm → Span → Acts → Type 0
+Lacks form span go = (c : Value) (vs : List Value) (out : List ℕ) → go c vs (printing out) ≡ lacking form span c out
+
+-- a form's cell, its arguments, and then what it does with them
+abbrev pub form_means : Setting → Tree → Trees → Acts → List Value → List ℕ → Completion ThreadState Value
+form_means s cell args go env out =
+    bind (means s cell env out) (λ c t. bind (eval_all (no_events s) (calls_in s) s.turns false args env t) (λ vs t1. go c vs t1))
 
 -- a stop and the printed bytes are those of the meaning, or there was no memory for them
 abbrev pub Stops : {A : Type 0} → ThreadStop → List ℕ → Completion ThreadState A → Type 0

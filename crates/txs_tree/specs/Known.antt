@@ -1,9 +1,13 @@
 -- What is known of the functions that are defined: all that a call of them rests on.
 use Rattle.std.specs.Prelude.{ℕ, suc, max, Bool, true, false, ◌&&◌, ◌||◌, List, [], ◌∷◌, ◌++◌, Option, Some, None}
+use Rattle.txs_value.specs.Forms.{rule}
 use Rattle.txs_value.specs.Places.{nth}
+use Rattle.txs_value.specs.declared.form.CellForm.TheVariants as form_of
+use Rattle.txs_value.specs.declared.form.Standing.{Standing}
+use Rattle.txs_value.specs.declared.form.Standing.TheVariants.{Anywhere, Inside, Outside}
 use Rattle.txs_value.specs.declared.op.Callee.{Callee}
 use Rattle.txs_value.specs.declared.op.Callee.TheVariants.{Core as CoreOp, Function}
-use Rattle.txs_tree.specs.Tree.{Tree, Const, Local, If, Do, Let, Loop, Recur, Core, Call, VectorOf, Println, Dosync, Deref, Alter, Trees, none, more, PlainFunction}
+use Rattle.txs_tree.specs.Tree.{Tree, Const, Local, If, Do, Let, Loop, Recur, Core, Call, VectorOf, Println, Dosync, Look, Put, Update, Send, Trees, none, more, PlainFunction}
 
 -- what a call of a function rests on: how many values it takes, where it may be called, and how deep its body is
 pub record Known : Type 0 where
@@ -15,6 +19,18 @@ pub record Known : Type 0 where
   pub pure : Bool
   -- how many nodes stand in one another, those of the functions that it calls among them
   pub levels : ℕ
+
+-- whether what stands so is for transactions alone
+abbrev pub only_inside : Standing → Bool
+only_inside Inside = true
+only_inside Anywhere = false
+only_inside Outside = false
+
+-- whether what stands so is for outside alone
+abbrev pub only_outside : Standing → Bool
+only_outside Outside = true
+only_outside Anywhere = false
+only_outside Inside = false
 
 -- whether it is for transactions alone; no function, no
 abbrev pub is_inside : Option Known → Bool
@@ -56,8 +72,10 @@ abbrev mutual
   inside_in ks (VectorOf items m) = any_inside ks items
   inside_in ks (Println args m) = any_inside ks args
   inside_in ks (Dosync body m) = false
-  inside_in ks (Deref cell m) = inside_in ks cell
-  inside_in ks (Alter cell callee args m) = true
+  inside_in ks (Look form cell m) = only_inside (rule (form_of.Look form)).stands || inside_in ks cell
+  inside_in ks (Put form cell value m) = only_inside (rule (form_of.Put form)).stands || (inside_in ks cell || inside_in ks value)
+  inside_in ks (Update form cell callee args m) = only_inside (rule (form_of.Update form)).stands || (inside_in ks cell || any_inside ks args)
+  inside_in ks (Send cell callee args m) = inside_in ks cell || any_inside ks args
 
   -- some of these is inside
   pub any_inside : List Known → Trees → Bool
@@ -79,8 +97,10 @@ abbrev mutual
   outside_in ks (VectorOf items m) = any_outside ks items
   outside_in ks (Println args m) = true
   outside_in ks (Dosync body m) = outside_in ks body
-  outside_in ks (Deref cell m) = outside_in ks cell
-  outside_in ks (Alter cell callee args m) = outside_in ks cell || any_outside ks args
+  outside_in ks (Look form cell m) = only_outside (rule (form_of.Look form)).stands || outside_in ks cell
+  outside_in ks (Put form cell value m) = only_outside (rule (form_of.Put form)).stands || (outside_in ks cell || outside_in ks value)
+  outside_in ks (Update form cell callee args m) = only_outside (rule (form_of.Update form)).stands || (outside_in ks cell || any_outside ks args)
+  outside_in ks (Send cell callee args m) = outside_in ks cell || any_outside ks args
 
   -- some of these is outside
   pub any_outside : List Known → Trees → Bool
@@ -102,8 +122,10 @@ abbrev mutual
   pure_in ks (VectorOf items m) = all_pure ks items
   pure_in ks (Println args m) = false
   pure_in ks (Dosync body m) = false
-  pure_in ks (Deref cell m) = false
-  pure_in ks (Alter cell callee args m) = false
+  pure_in ks (Look form cell m) = false
+  pure_in ks (Put form cell value m) = false
+  pure_in ks (Update form cell callee args m) = false
+  pure_in ks (Send cell callee args m) = false
 
   -- each of these is pure
   pub all_pure : List Known → Trees → Bool
@@ -125,8 +147,10 @@ abbrev mutual
   levels ks (VectorOf items m) = suc (levels_in ks items)
   levels ks (Println args m) = suc (levels_in ks args)
   levels ks (Dosync body m) = suc (levels ks body)
-  levels ks (Deref cell m) = suc (levels ks cell)
-  levels ks (Alter cell callee args m) = suc (max (callee_levels ks callee) (max (levels ks cell) (levels_in ks args)))
+  levels ks (Look form cell m) = suc (levels ks cell)
+  levels ks (Put form cell value m) = suc (max (levels ks cell) (levels ks value))
+  levels ks (Update form cell callee args m) = suc (max (callee_levels ks callee) (max (levels ks cell) (levels_in ks args)))
+  levels ks (Send cell callee args m) = suc (max (callee_levels ks callee) (max (levels ks cell) (levels_in ks args)))
 
   -- the most levels of these, which stand beside one another
   pub levels_in : List Known → Trees → ℕ

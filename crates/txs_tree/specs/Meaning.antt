@@ -6,10 +6,13 @@ use Rattle.txs_operations.specs.Truth.{choose}
 use Rattle.txs_value.specs.declared.fault.Fault.{Fault}
 use Rattle.txs_value.specs.declared.fault.FaultKind.{FaultKind}
 use Rattle.txs_value.specs.declared.fault.Span.{Span}
+use Rattle.txs_value.specs.declared.form.LookForm.{LookForm}
+use Rattle.txs_value.specs.declared.form.PutForm.{PutForm}
+use Rattle.txs_value.specs.declared.form.UpdateForm.{UpdateForm}
 use Rattle.txs_value.specs.declared.op.Callee.{Callee}
 use Rattle.txs_value.specs.declared.op.Callee.TheVariants.{Core as CoreOp, Function}
 use Rattle.txs_value.specs.declared.value.Value.{Value}
-use Rattle.txs_tree.specs.Tree.{Tree, Const, Local, If, Do, Let, Loop, Recur, Core, Call, VectorOf, Println, Dosync, Deref, Alter, Trees, none, more, is_none, count, PlainFunction}
+use Rattle.txs_tree.specs.Tree.{Mark, Tree, Const, Local, If, Do, Let, Loop, Recur, Core, Call, VectorOf, Println, Dosync, Look, Put, Update, Send, Trees, none, more, is_none, count, PlainFunction}
 
 -- how a part of a tree ends, with the state that it leaves
 pub data Completion (S A : Type 0) : Type 0 where
@@ -55,19 +58,31 @@ abbrev pub give : {S A : Type 0} → Option A → S → Completion S A
 give None s = Invalid
 give (Some v) s = Completes v s
 
--- an operation's value, or its fault at the form that names it
-abbrev pub result_of : {S : Type 0} → Result Value FaultKind → Span → S → Completion S Value
+-- what there is, or the fault at the form that names it
+abbrev pub result_of : {S A : Type 0} → Result A FaultKind → Span → S → Completion S A
 result_of (Ok v) span s = Completes v s
 result_of (Err k) span s = Faults (fault_at k span) s
 
--- What the forms on cells do. The truth value tells whether a transaction is running.
+-- a form that has no meaning elsewhere
+abbrev pub allowed : {S A : Type 0} → Bool → Completion S A → Completion S A
+allowed true r = r
+allowed false r = Invalid
+
+-- a callee on values, with a state that goes through
+abbrev pub Applies : Type 0 → Type 0
+Applies S = Callee → List Value → S → Completion S Value
+
+-- What the forms on cells do, one handler for each family. The truth value tells whether a transaction is running; the mark has
+-- the form's span and whether its result is wanted.
 pub record Effects (S : Type 0) : Type 0 where
   pub print : Bool → List Value → S → Completion S Value
-  pub deref : Bool → Span → Value → S → Completion S Value
-  -- with what the callee gives of the cell's value
-  pub alter : Bool → Span → Value → (Value → S → Completion S Value) → S → Completion S Value
-  -- with the body, its locals, and what it does in a running transaction
-  pub dosync : Bool → Span → Tree → List Value → (S → Completion S Value) → S → Completion S Value
+  pub look : LookForm → Bool → Mark → Value → S → Completion S Value
+  pub put : PutForm → Bool → Mark → Value → Value → S → Completion S Value
+  -- with the callee, its further arguments, and what applies it
+  pub update : UpdateForm → Bool → Mark → Value → Callee → List Value → Applies S → S → Completion S Value
+  pub send : Bool → Mark → Value → Callee → List Value → S → Completion S Value
+  -- with the body, its locals, what the body does in a running transaction, and what applies the callees of commutes
+  pub dosync : Bool → Mark → Tree → List Value → (S → Completion S Value) → Applies S → S → Completion S Value
 
 -- at most n turns, each with d values
 abbrev pub turns : {S : Type 0} → ℕ → ℕ → (List Value → S → Completion S Value) → List Value → S → Completion S Value
@@ -80,7 +95,7 @@ last_or true r go = r
 last_or false r go = bind r (λ v s. go s)
 
 -- a callee on its arguments: the table's answer for an operation, the meaning of a function
-abbrev pub apply : {S : Type 0} → (ℕ → List Value → S → Completion S Value) → Span → Callee → List Value → S → Completion S Value
+abbrev pub apply : {S : Type 0} → (ℕ → List Value → S → Completion S Value) → Span → Applies S
 apply call span (CoreOp op) vs s = result_of (core op vs) span s
 apply call span (Function f) vs s = call f vs s
 
@@ -114,14 +129,22 @@ abbrev mutual
   -- the arguments from left to right, and then they are printed
   eval fx call n inside (Println args m) env s = bind (eval_all fx call n inside args env s) (λ vs s1. fx.print inside vs s1)
   -- the body in a transaction, which no recur leaves
-  eval fx call n inside (Dosync body m) env s = fx.dosync inside m.span body env (λ s1. closed (eval fx call n true body env s1)) s
+  eval fx call n inside (Dosync body m) env s =
+      fx.dosync inside m body env (λ s1. closed (eval fx call n true body env s1)) (apply (call true) m.span) s
   -- the cell, and then its value
-  eval fx call n inside (Deref cell m) env s = bind (eval fx call n inside cell env s) (λ v s1. fx.deref inside m.span v s1)
-  -- the cell, the arguments, and then the callee on the cell's value and the arguments
-  eval fx call n inside (Alter cell callee args m) env s =
+  eval fx call n inside (Look form cell m) env s = bind (eval fx call n inside cell env s) (λ c s1. fx.look form inside m c s1)
+  -- the cell, the value, and then the cell gets it
+  eval fx call n inside (Put form cell value m) env s =
       bind (eval fx call n inside cell env s) (λ c s1.
-      bind (eval_all fx call n inside args env s1) (λ vs s2.
-      fx.alter inside m.span c (λ v s3. apply (call inside) m.span callee (v ∷ vs) s3) s2))
+      bind (eval fx call n inside value env s1) (λ v s2. fx.put form inside m c v s2))
+  -- the cell, the arguments, and then the cell gets what the callee makes of its value and the arguments
+  eval fx call n inside (Update form cell callee args m) env s =
+      bind (eval fx call n inside cell env s) (λ c s1.
+      bind (eval_all fx call n inside args env s1) (λ vs s2. fx.update form inside m c callee vs (apply (call inside) m.span) s2))
+  -- the agent, the arguments, and then the action is sent
+  eval fx call n inside (Send cell callee args m) env s =
+      bind (eval fx call n inside cell env s) (λ c s1.
+      bind (eval_all fx call n inside args env s1) (λ vs s2. fx.send inside m c callee vs s2))
 
   -- the values, in order
   pub eval_all : {S : Type 0} → Effects S → (Bool → ℕ → List Value → S → Completion S Value) → ℕ → Bool → Trees → List Value → S → Completion S (List Value)

@@ -16,9 +16,11 @@ use Rattle.txs_tree.specs.declared.pure_call.EvalStop.TheVariants.{Fault, Turns,
 abbrev pub no_effects : Effects (Unit {0})
 no_effects = record {
   print = λ inside vs s. Invalid;
-  deref = λ inside span c s. Invalid;
-  alter = λ inside span c f s. Invalid;
-  dosync = λ inside span node env body s. Invalid;
+  look = λ form inside m c s. Invalid;
+  put = λ form inside m c v s. Invalid;
+  update = λ form inside m c callee vs f s. Invalid;
+  send = λ inside m c callee vs s. Invalid;
+  dosync = λ inside m node env body f s. Invalid;
 }
 
 -- what functions mean as pure code, where calls go at most d deep

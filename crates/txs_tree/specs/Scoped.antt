@@ -4,7 +4,7 @@ use Rattle.txs_value.specs.Limits.{most_items, most_locals, most_threads, most_p
 use Rattle.txs_value.specs.declared.op.Callee.{Callee}
 use Rattle.txs_value.specs.declared.op.Callee.TheVariants.{Core as CoreOp, Function}
 use Rattle.txs_tree.specs.Known.{Known, known_of, known, levels}
-use Rattle.txs_tree.specs.Tree.{Tree, Const, Local, If, Do, Let, Loop, Recur, Core, Call, VectorOf, Println, Dosync, Deref, Alter, Trees, none, more, count, PlainFunction, PlainThread, PlainProgram}
+use Rattle.txs_tree.specs.Tree.{Tree, Const, Local, If, Do, Let, Loop, Recur, Core, Call, VectorOf, Println, Dosync, Look, Put, Update, Send, Trees, none, more, count, PlainFunction, PlainThread, PlainProgram}
 
 -- an operation is always there, a function where it is defined before
 abbrev pub ScopedCallee : List Known → Callee → Type 0
@@ -27,8 +27,11 @@ abbrev mutual
   ScopedTree ks d (VectorOf items m) = (count items ≤ most_items) × ScopedAll ks d items
   ScopedTree ks d (Println args m) = (count args ≤ most_items) × ScopedAll ks d args
   ScopedTree ks d (Dosync body m) = ScopedTree ks d body
-  ScopedTree ks d (Deref cell m) = ScopedTree ks d cell
-  ScopedTree ks d (Alter cell callee args m) =
+  ScopedTree ks d (Look form cell m) = ScopedTree ks d cell
+  ScopedTree ks d (Put form cell value m) = ScopedTree ks d cell × ScopedTree ks d value
+  ScopedTree ks d (Update form cell callee args m) =
+      ScopedTree ks d cell × ScopedCallee ks callee × (count args < most_items) × ScopedAll ks d args
+  ScopedTree ks d (Send cell callee args m) =
       ScopedTree ks d cell × ScopedCallee ks callee × (count args < most_items) × ScopedAll ks d args
 
   -- each of these with the same locals

@@ -1,31 +1,33 @@
 -- Which programs are sound: those that the checks accept.
 use Rattle.std.specs.Prelude.{◌≡◌, ◌<◌, ◌≤◌, ◌+◌, ℕ, suc, true, false, List, [], ◌∷◌, ◌++◌, length, Option, Some, None}
 use Rattle.txs_operations.specs.Core.{takes}
+use Rattle.txs_value.specs.Forms.{rule}
 use Rattle.txs_value.specs.Limits.{most_items, most_locals, most_parameters, most_levels, most_nodes}
 use Rattle.txs_value.specs.Places.{nth}
+use Rattle.txs_value.specs.declared.form.CellForm.TheVariants as form_of
+use Rattle.txs_value.specs.declared.form.Standing.{Standing}
+use Rattle.txs_value.specs.declared.form.Standing.TheVariants.{Anywhere, Inside, Outside}
 use Rattle.txs_value.specs.declared.op.Op.{Op}
 use Rattle.txs_value.specs.declared.op.Callee.{Callee}
 use Rattle.txs_value.specs.declared.op.Callee.TheVariants.{Core as CoreOp, Function}
 use Rattle.txs_tree.specs.Known.{Known, known_of, known, levels}
 use Rattle.txs_tree.specs.Scoped.{Scoped}
-use Rattle.txs_tree.specs.Tree.{Tree, Const, Local, If, Do, Let, Loop, Recur, Core, Call, VectorOf, Println, Dosync, Deref, Alter, Trees, none, more, count, PlainFunction, PlainThread, PlainProgram, ThreadSource}
+use Rattle.txs_tree.specs.Tree.{Tree, Const, Local, If, Do, Let, Loop, Recur, Core, Call, VectorOf, Println, Dosync, Look, Put, Update, Send, Trees, none, more, count, PlainFunction, PlainThread, PlainProgram, ThreadSource}
 
 -- where a node stands: in a function, which may be called inside transactions and outside; in a thread outside every
 -- transaction; or in a transaction
 pub data Zone : Type 0 where
   in_function in_thread in_dosync : Zone
 
--- what is for outside alone may stand here
-abbrev pub MayLeave : Zone → Type 0
-MayLeave in_function = Unit {0}
-MayLeave in_thread = Unit {0}
-MayLeave in_dosync = ⊥
-
--- what is for transactions alone may stand here
-abbrev pub MayEnter : Zone → Type 0
-MayEnter in_function = Unit {0}
-MayEnter in_thread = ⊥
-MayEnter in_dosync = Unit {0}
+-- what stands so may stand here
+abbrev pub MayStand : Zone → Standing → Type 0
+MayStand in_function s = Unit {0}
+MayStand in_thread Anywhere = Unit {0}
+MayStand in_thread Inside = ⊥
+MayStand in_thread Outside = Unit {0}
+MayStand in_dosync Anywhere = Unit {0}
+MayStand in_dosync Inside = Unit {0}
+MayStand in_dosync Outside = ⊥
 
 -- this function may be called here
 abbrev pub MayCall : Zone → Known → Type 0
@@ -73,13 +75,17 @@ abbrev mutual
   SoundTree ks zone d tail (Call f args m) = SoundCall ks zone f (count args) × SoundAll ks zone d args
   SoundTree ks zone d tail (VectorOf items m) = (count items ≤ most_items) × SoundAll ks zone d items
   -- printing is for outside
-  SoundTree ks zone d tail (Println args m) = MayLeave zone × (count args ≤ most_items) × SoundAll ks zone d args
+  SoundTree ks zone d tail (Println args m) = MayStand zone Outside × (count args ≤ most_items) × SoundAll ks zone d args
   -- a barrier for recur; an inner one joins
   SoundTree ks zone d tail (Dosync body m) = SoundTree ks in_dosync d None body
-  SoundTree ks zone d tail (Deref cell m) = SoundTree ks zone d None cell
-  -- setting a ref is for inside
-  SoundTree ks zone d tail (Alter cell callee args m) =
-      MayEnter zone × SoundTree ks zone d None cell × SoundCallee ks callee (suc (count args)) × SoundAll ks zone d args
+  -- the forms on cells stand where the table says, and apply pure callees
+  SoundTree ks zone d tail (Look form cell m) = MayStand zone (rule (form_of.Look form)).stands × SoundTree ks zone d None cell
+  SoundTree ks zone d tail (Put form cell value m) =
+      MayStand zone (rule (form_of.Put form)).stands × SoundTree ks zone d None cell × SoundTree ks zone d None value
+  SoundTree ks zone d tail (Update form cell callee args m) =
+      MayStand zone (rule (form_of.Update form)).stands × SoundTree ks zone d None cell × SoundCallee ks callee (suc (count args)) × SoundAll ks zone d args
+  SoundTree ks zone d tail (Send cell callee args m) =
+      SoundTree ks zone d None cell × SoundCallee ks callee (suc (count args)) × SoundAll ks zone d args
 
   -- each of these, none of them in tail position
   pub SoundAll : List Known → Zone → ℕ → Trees → Type 0
@@ -117,8 +123,10 @@ abbrev mutual
   nodes (VectorOf items m) = suc (nodes_in items)
   nodes (Println args m) = suc (nodes_in args)
   nodes (Dosync body m) = suc (nodes body)
-  nodes (Deref cell m) = suc (nodes cell)
-  nodes (Alter cell callee args m) = suc (nodes cell + nodes_in args)
+  nodes (Look form cell m) = suc (nodes cell)
+  nodes (Put form cell value m) = suc (nodes cell + nodes value)
+  nodes (Update form cell callee args m) = suc (nodes cell + nodes_in args)
+  nodes (Send cell callee args m) = suc (nodes cell + nodes_in args)
 
   -- how many nodes these have together
   pub nodes_in : Trees → ℕ

@@ -2,6 +2,9 @@
 use Rattle.std.specs.Prelude.{ℕ, suc, Bool, true, false, List}
 use Rattle.txs_value.specs.declared.cell.CellDefinition.{CellDefinition}
 use Rattle.txs_value.specs.declared.fault.Span.{Span}
+use Rattle.txs_value.specs.declared.form.LookForm.{LookForm}
+use Rattle.txs_value.specs.declared.form.PutForm.{PutForm}
+use Rattle.txs_value.specs.declared.form.UpdateForm.{UpdateForm}
 use Rattle.txs_value.specs.declared.op.Op.{Op}
 use Rattle.txs_value.specs.declared.op.Callee.{Callee}
 use Rattle.txs_value.specs.declared.value.Value.{Value}
@@ -28,8 +31,11 @@ mutual
     VectorOf : (items : Trees) (mark : Mark) → Tree
     Println : (args : Trees) (mark : Mark) → Tree
     Dosync : (body : Tree) (mark : Mark) → Tree
-    Deref : (cell : Tree) (mark : Mark) → Tree
-    Alter : (cell : Tree) (callee : Callee) (args : Trees) (mark : Mark) → Tree
+    -- the forms on cells, in families
+    Look : (form : LookForm) (cell : Tree) (mark : Mark) → Tree
+    Put : (form : PutForm) (cell value : Tree) (mark : Mark) → Tree
+    Update : (form : UpdateForm) (cell : Tree) (callee : Callee) (args : Trees) (mark : Mark) → Tree
+    Send : (cell : Tree) (callee : Callee) (args : Trees) (mark : Mark) → Tree
 
   -- parts in a row
   pub data Trees : Type 0 where
@@ -63,7 +69,8 @@ pub record PlainProgram : Type 0 where
   pub cells : List CellDefinition
   pub threads : List PlainThread
 
--- one thread with the functions that it may call
+-- one thread with the functions that it may call, and the definitions of cells
 pub record ThreadSource : Type 0 where
   pub functions : List PlainFunction
+  pub cells : List CellDefinition
   pub main : Tree

@@ -5,7 +5,7 @@ use Rattle.txs_value.specs.declared.fault.Span.{Span}
 use Rattle.txs_tree.specs.Tree.{Tree, Trees, Mark, none, more, PlainFunction, PlainThread, PlainProgram}
 use Rattle.txs_tree.specs.Tree as tree
 use Rattle.txs_tree.specs.declared.node.Node.{Node}
-use Rattle.txs_tree.specs.declared.node.NodeKind.{NodeKind, Const, Local, If', Do', Let', Loop', Recur', Core', Vector', Println', Dosync', Deref', Alter', Call', Row_of-Node, end_of-Node, more_of-Node}
+use Rattle.txs_tree.specs.declared.node.NodeKind.{NodeKind, Const, Local, If', Do', Let', Loop', Recur', Core', Vector', Println', Dosync', Look', Put', Update', Send', Call', Row_of-Node, end_of-Node, more_of-Node}
 use Rattle.txs_tree.specs.declared.node.Function.{Function}
 use Rattle.txs_tree.specs.declared.node.Thread.{Thread}
 
@@ -29,8 +29,10 @@ abbrev mutual
   kind_tree (Vector' shape items) m = tree.VectorOf (row_trees items) m
   kind_tree (Println' shape args) m = tree.Println (row_trees args) m
   kind_tree (Dosync' q body span wanted) m = tree.Dosync (kind_tree body (mark_of span wanted)) m
-  kind_tree (Deref' q cell span wanted) m = tree.Deref (kind_tree cell (mark_of span wanted)) m
-  kind_tree (Alter' q cell span wanted callee shape args) m = tree.Alter (kind_tree cell (mark_of span wanted)) callee (row_trees args) m
+  kind_tree (Look' form q cell span wanted) m = tree.Look form (kind_tree cell (mark_of span wanted)) m
+  kind_tree (Put' form q cell span wanted r value span1 wanted1) m = tree.Put form (kind_tree cell (mark_of span wanted)) (kind_tree value (mark_of span1 wanted1)) m
+  kind_tree (Update' form q cell span wanted callee shape args) m = tree.Update form (kind_tree cell (mark_of span wanted)) callee (row_trees args) m
+  kind_tree (Send' q cell span wanted callee shape args) m = tree.Send (kind_tree cell (mark_of span wanted)) callee (row_trees args) m
 
   -- the trees of nodes in a row
   pub row_trees : {n : _} → Row_of-Node n → Trees

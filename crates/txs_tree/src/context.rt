@@ -8,11 +8,13 @@ ghost use Rattle.txs_tree.specs.View.{function_of, functions_of};
 
 use crate::node::Function;
 use std::marker::Model;
+use txs_value::CellDefinition;
 
-/// The functions that are defined, how deep calls may go, and how many turns each loop may make. A function
+/// The cells and functions that are defined, how deep calls may go, and how many turns each loop may make. A function
 /// calls those before it alone: so no more depth is used than there are functions.
 #[derive(Drop)]
 pub(crate) struct Context<'a> {
+    cells: &'a [CellDefinition],
     functions: &'a [Function],
     depth: usize,
     turns: u32,
@@ -31,18 +33,23 @@ impl<'a> Model for Context<'a> {
 
     ghost coded = { Prim.hlevel (codes, node.the_row.coded, value.the_row.coded) };
 
-    ghost view = { λ c. record { functions = c.functions.now; depth = c.depth; turns = c.turns } };
+    ghost view = { λ c. record { cells = c.cells.now; functions = c.functions.now; depth = c.depth; turns = c.turns } };
 
     ghost invariant = { λ c. SoundFunctions [] (functions_of c.functions.now) };
 }
 
 impl<'a> Context<'a> {
     /// Calls may go as deep as there are functions.
-    pub(crate) fn new(functions: &'a [Function], turns: u32) -> Context<'a>
+    pub(crate) fn new(
+        cells: &'a [CellDefinition],
+        functions: &'a [Function],
+        turns: u32,
+    ) -> Context<'a>
         requires { SoundFunctions [] (functions_of functions.now) }
-        ensures { result ≡ record { functions = functions.now; depth = length functions.now; turns = turns } }
+        ensures { result ≡ record { cells = cells.now; functions = functions.now; depth = length functions.now; turns = turns } }
     {
         Context {
+            cells,
             functions,
             depth: functions.len(),
             turns,
@@ -72,6 +79,7 @@ impl<'a> Context<'a> {
         ensures { result ≡ deeper self.now }
     {
         Context {
+            cells: self.cells,
             functions: self.functions,
             depth: self.depth - 1,
             turns: self.turns,

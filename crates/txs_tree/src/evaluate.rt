@@ -1,15 +1,13 @@
 //! The meaning of nodes outside every transaction, by plain recursion.
 
 ghost use Rattle.std.specs.Prelude.{◌≡◌, ◌≤◌, ◌-◌, ◌+◌, ◌++◌, length, take, drop, None, Some, IsTrue, IfOk, OnOk};
-ghost use Rattle.txs_value.specs.Cells.{any_cell};
 ghost use Rattle.txs_operations.specs.Core.{core, takes, vector_of, is_false as is_false_value};
-ghost use Rattle.txs_tree.specs.Evaluated.{Stops, Gives, GivesAll, Steps, means, all_mean, do_means, let_means, locals_mean, loop_means, turns_mean, call_means, printing};
+ghost use Rattle.txs_tree.specs.Evaluated.{Gives, Acts, Lacks, form_means, met, GivesAll, Steps, means, all_mean, do_means, let_means, locals_mean, loop_means, turns_mean, call_means, printing};
 ghost use Rattle.txs_value.specs.Printed.{printed_line};
 ghost use Rattle.txs_value.specs.declared.value.Value.TheVariants.{Nil};
 ghost use Rattle.txs_tree.specs.Meaning.{Completes, result_of};
 ghost use Rattle.txs_tree.specs.Setting.{callable};
 ghost use Rattle.txs_tree.specs.Sound.{InSomeTail, SoundCall, SoundTree, SoundAll, SoundDo, SoundLet, in_thread};
-ghost use Rattle.txs_tree.specs.Thread.{reads};
 ghost use Rattle.txs_tree.specs.Tree.{count};
 ghost use Rattle.txs_tree.specs.View.{tree_of, trees_of};
 ghost use Rattle.txs_tree.specs.declared.evaluate.ThreadStop.TheVariants.{Memory};
@@ -17,11 +15,12 @@ ghost use Rattle.txs_tree.specs.declared.evaluate.ThreadStop.TheVariants.{Memory
 use crate::context::Context;
 use crate::node::{Node, NodeKind};
 use std::alloc::{AllocError, AllocFailed, Global};
+use std::slice::from_ref;
 use txs_operations::{apply, is_false, make_vector};
-use txs_value::{Fault, FaultKind, Op, Span, Stop, Value, copy_value, write_line};
+use txs_value::{CellForm, Fault, Op, Span, Stop, Value, copy_value, write_line};
 
 /// Why an evaluation outside every transaction gives no value.
-#[derive(Drop)]
+#[derive(Clone, Copy)]
 pub(crate) enum ThreadStop {
     /// A form faults.
     Fault(Fault),
@@ -101,16 +100,13 @@ fn print_line(values: Vec<Value>, printed: &mut Vec<u8>) -> Result<Step, ThreadS
     Ok(Step::Value(Value::Nil))
 }
 
-/// A read outside every transaction, where no event is there: it waits for one, unless the value is no cell.
-fn read(value: Value, span: Span, printed: &[u8]) -> ThreadStop
-    ensures { Stops result printed.now (reads span (any_cell value) (printing printed.now)) }
+/// Where a form on a cell stops, with no event there: it needs one, unless it doesn't take the value.
+fn stop_of(form: CellForm, value: Value, span: Span) -> ThreadStop
+    ensures { result ≡ met form value span }
 {
-    match value {
-        Value::Cell(_) => ThreadStop::Event,
-        _ => ThreadStop::Fault(Fault {
-            kind: FaultKind::NotACell,
-            span,
-        }),
+    match form.cell_of(false, &value) {
+        Ok(_) => ThreadStop::Event,
+        Err(kind) => ThreadStop::Fault(Fault { kind, span }),
     }
 }
 
@@ -193,12 +189,58 @@ fn evaluate_tail(
             print_line(values, printed)
         }
         NodeKind::Dosync(_) => Err(ThreadStop::Event),
-        NodeKind::Deref(cell) => {
-            let value = evaluate(alloc, context, cell, locals, printed)?;
-            Err(read(value, node.span, printed))
+        NodeKind::Look(form, cell) => {
+            let form = CellForm::Look(*form);
+            meet(alloc, context, form, cell, &[], node.span, locals, printed)
         }
-        NodeKind::Alter(_, _, _) => unreachable!(),
+        NodeKind::Put(form, cell, new) => {
+            let form = CellForm::Put(*form);
+            meet(
+                alloc,
+                context,
+                form,
+                cell,
+                from_ref(new),
+                node.span,
+                locals,
+                printed,
+            )
+        }
+        NodeKind::Update(form, cell, _, args) => {
+            let form = CellForm::Update(*form);
+            meet(alloc, context, form, cell, args, node.span, locals, printed)
+        }
+        NodeKind::Send(agent, _, args) => {
+            let form = CellForm::Send;
+            meet(
+                alloc, context, form, agent, args, node.span, locals, printed,
+            )
+        }
     }
+}
+
+/// A form on a cell outside every transaction, where no event is there: its cell, its arguments, and then it waits for an
+/// event, unless it doesn't take the cell.
+#[cycle(evaluate)]
+fn meet(
+    alloc: Global,
+    context: &Context<'_>,
+    form: CellForm,
+    cell: &Node,
+    args: &[Node],
+    span: Span,
+    locals: &mut Vec<Value>,
+    printed: &mut Vec<u8>,
+) -> Result<Step, ThreadStop>
+    requires cell { SoundTree (callable context.now) in_thread (length locals.old.items) None (tree_of cell.now) }
+    requires args { SoundAll (callable context.now) in_thread (length locals.old.items) (trees_of args.now) }
+    ensures value { (go : Acts) → Lacks form span go → Steps result printed.new.items
+        (form_means context.now (tree_of cell.now) (trees_of args.now) go locals.old.items printed.old.items) }
+    ensures kept { OnOk result (locals.new.items ≡ locals.old.items) }
+{
+    let stop = stop_of(form, evaluate(alloc, context, cell, locals, printed)?, span);
+    evaluate_all(alloc, context, args, locals, printed)?;
+    Err(stop)
 }
 
 /// The values of the nodes, in order.

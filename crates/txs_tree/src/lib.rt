@@ -1,7 +1,8 @@
 //! Programs as trees, and what they mean. A node is a plain tree to every contract (`tree_of`), a program
 //! the sound program of its cells, functions and threads. `eval_thread` answers exactly the thread meaning on
-//! no events: its printed bytes, what it needs, and how it ends. `eval_pure` answers exactly the pure meaning
-//! of a callee.
+//! no events: its printed bytes, what it needs, and how it ends. A form on a cell outside transactions then
+//! needs an event, or faults where it doesn't take the value. `eval_pure` answers exactly the pure meaning of a
+//! callee.
 #![tactic(auto)]
 
 mod context;

@@ -70,7 +70,7 @@ pub fn eval_thread(
         (λ p. Tells m (thread_meaning p turns []))) }
 {
     program.is_sound();
-    let context = Context::new(program.functions(), turns);
+    let context = Context::new(program.cells(), program.functions(), turns);
     let mut locals = Vec::new(alloc);
     let mut printed = Vec::new(alloc);
     let body = &program.threads()[thread].body;

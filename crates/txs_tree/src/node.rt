@@ -1,6 +1,6 @@
 //! The nodes of a program.
 
-use txs_value::{Callee, Op, Span, Value};
+use txs_value::{Callee, LookForm, Op, PutForm, Span, UpdateForm, Value};
 
 /// What a node does.
 #[cycle(node)]
@@ -30,10 +30,14 @@ pub enum NodeKind {
     Println(Vec<Node>),
     /// The body in a transaction. One inside another joins it.
     Dosync(Box<Node>),
-    /// The value of a cell.
-    Deref(Box<Node>),
-    /// Sets a ref, in a transaction, to what the callee gives of its value and the arguments.
-    Alter(Box<Node>, Callee, Vec<Node>),
+    /// A form that reads the cell.
+    Look(LookForm, Box<Node>),
+    /// A form that gives the cell the value.
+    Put(PutForm, Box<Node>, Box<Node>),
+    /// A form that gives the cell what the callee makes of its value and the arguments.
+    Update(UpdateForm, Box<Node>, Callee, Vec<Node>),
+    /// Sends the agent an action: the callee on its state and the arguments.
+    Send(Box<Node>, Callee, Vec<Node>),
 }
 
 /// A node of a program: what it does, where it stands in the script, and whether its result is wanted.

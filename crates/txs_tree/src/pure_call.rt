@@ -102,7 +102,7 @@ fn call_function(
     ensures { PureGives result (pure_meaning turns (functions_of program.now.functions) (Function number) values.now) }
 {
     program.is_sound();
-    let context = Context::new(program.functions(), turns);
+    let context = Context::new(program.cells(), program.functions(), turns);
     let locals = copied(alloc, values)?;
     let mut printed = Vec::new(alloc);
     match call(alloc, &context, number, locals, &mut printed) {

@@ -3,18 +3,19 @@ use Rattle.std.proofs.lemmas.List.{drop_all, length_push, length-drop}
 use Rattle.txs_operations.specs.Core.{takes}
 use Rattle.txs_value.specs.Places.{nth}
 use Rattle.txs_value.specs.Printed.{printed_line}
+use Rattle.txs_value.specs.declared.form.CellForm.TheVariants as form_of
 use Rattle.txs_value.specs.declared.value.Value.{Value}
-use Rattle.txs_tree.specs.Evaluated.{no_events, calls_in, Stops, Gives, GivesAll, Steps, means, all_mean, do_means, let_means, locals_mean, loop_means, turns_mean, printing}
+use Rattle.txs_tree.specs.Evaluated.{Acts, Lacks, form_means, no_events, calls_in, Stops, Gives, GivesAll, Steps, means, all_mean, do_means, let_means, locals_mean, loop_means, turns_mean, printing}
 use Rattle.txs_tree.specs.Setting.{callable}
-use Rattle.txs_tree.specs.Sound.{in_thread, SoundCall, SoundTree, SoundDo, SoundLet, nodes, nodes_in}
-use Rattle.txs_tree.specs.Tree.{count}
+use Rattle.txs_tree.specs.Sound.{in_thread, SoundCall, SoundTree, SoundAll, SoundDo, SoundLet, nodes, nodes_in}
+use Rattle.txs_tree.specs.Tree.{none, count}
 use Rattle.txs_tree.specs.View.{tree_of, trees_of, mark_of, function_of, functions_of}
 use Rattle.txs_tree.proofs.Callable.{in_room, room, room-deeper, depth_left, is_function, as_many, called_body}
 use Rattle.txs_tree.proofs.Counting.{item_smaller, nodes-some, nodes-last}
-use Rattle.txs_tree.proofs.Evaluation.{collects-start, do_then, rebound, stops_steps, stops_gives, stops_all, local_done, steps_do, steps_let, steps_loop, if_stop, if_goes, recur_stop, core_stop, call_stop, call_is, call_turns, vector_stop, println_stop, deref_stop, deref_reads, recur_done, core_done, vector_done, println_done, all_more, all_stop, do_more, do_stop, do_start, locals_more, locals_stop, let_stop, let_done, loop_stop, loop_done, turn_value, turn_stop, turn_recur, take_kept}
+use Rattle.txs_tree.proofs.Evaluation.{collects-start, do_then, rebound, stops_steps, stops_gives, stops_all, local_done, steps_do, steps_let, steps_loop, if_stop, if_goes, recur_stop, core_stop, call_stop, call_is, call_turns, vector_stop, println_stop, steps_look, steps_put, steps_update, steps_send, args_stop, args_done, recur_done, core_done, vector_done, println_done, all_more, all_stop, do_more, do_stop, do_start, locals_more, locals_stop, let_stop, let_done, loop_stop, loop_done, turn_value, turn_stop, turn_recur, take_kept}
 use Rattle.txs_tree.proofs.Recurs.{recurs_many, never_recurs}
 use Rattle.txs_tree.proofs.Soundness.{SoundAll-from, SoundLet-from, SoundDo-parts, count-from}
-use Rattle.txs_tree.proofs.Trees.{local_node, if_node, do_node, let_node, loop_node, recur_node, core_node, call_node, vector_node, println_node, deref_node}
+use Rattle.txs_tree.proofs.Trees.{local_node, if_node, do_node, let_node, loop_node, recur_node, core_node, call_node, vector_node, println_node, look_node, put_node, update_node, send_node}
 use Rattle.txs_tree.specs.declared.evaluate.Step.TheVariants.{Value as AValue}
 use Rattle.txs_tree.proofs.evaluate.+evaluate.Goals as goal
 
@@ -603,18 +604,85 @@ pub run_turns-returns-in-Value-clause-kept : goal.run_turns-returns-in-Value-cla
 run_turns-returns-in-Value-clause-kept t c =
     ap (λ l. take c.args.before l) c.in_ok-value.ensures.kept ∙ c.loop-turn.invariant.0
 
-pub evaluate_tail-returns-in_err-value-in-Deref-clause-value : goal.evaluate_tail-returns-in_err-value-in-Deref-clause-value
-evaluate_tail-returns-in_err-value-in-Deref-clause-value t c =
+pub evaluate_tail-meet-requires : goal.evaluate_tail-meet-requires
+evaluate_tail-meet-requires t c =
     let n = c.args.node.now in
-    let is = deref_node n c.in-Deref.cell c.deref-in-Deref.result.now c.in-Deref.is c.deref-in-Deref.ensures in
-    let y = c.in_err-value-in-Deref.field-0.0 in
-    let out = c.evaluate-in-Deref.new.printed.items in
-    let whole = deref_stop c.args.context.now (tree_of n) (mark_of n.span n.wanted) c.args.locals.now.items c.args.printed.now.items (tree_of c.deref-in-Deref.result.now) is y out c.in_err-value-in-Deref.ensures.value in
-    stops_steps c.from_residual-in_err-value-in-Deref.result y out (means c.args.context.now (tree_of n) c.args.locals.now.items c.args.printed.now.items) (search rules) whole
+    let is = look_node n c.in-Look.form c.in-Look.cell c.deref-in-Look.result.now c.in-Look.is c.deref-in-Look.ensures in
+    let sound = subst (λ e. SoundTree (callable c.args.context.now) in_thread (length c.args.locals.now.items) c.requires.tail e) is c.requires.sound in
+    let smaller : 3 * (nodes (tree_of c.deref-in-Look.result.now) + nodes_in none) + 2 < 3 * nodes (tree_of n) = omega (arith, ap nodes is) in
+    (search (rules, in_room c.args.context.now _ _ smaller), (sound.1, tt))
 
-pub evaluate_tail-returns-in_ok-value-in-Deref-clause-value : goal.evaluate_tail-returns-in_ok-value-in-Deref-clause-value
-evaluate_tail-returns-in_ok-value-in-Deref-clause-value t c =
+pub evaluate_tail-meet-requires-in-Put : goal.evaluate_tail-meet-requires-in-Put
+evaluate_tail-meet-requires-in-Put t c =
     let n = c.args.node.now in
-    let is = deref_node n c.in-Deref.cell c.deref-in-Deref.result.now c.in-Deref.is c.deref-in-Deref.ensures in
-    deref_reads c.args.context.now (tree_of n) (mark_of n.span n.wanted) c.args.locals.now.items c.args.printed.now.items (tree_of c.deref-in-Deref.result.now) is c.in_ok-value-in-Deref.value c.read.result
-    c.evaluate-in-Deref.new.printed.items c.deref-in-Deref-2.result.now c.in_ok-value-in-Deref.ensures.value c.deref-in-Deref-2.ensures.value c.read.ensures
+    let is = put_node n c.in-Put.form c.in-Put.cell c.in-Put.new c.deref-in-Put.result.now c.deref-in-Put-2.result.now c.in-Put.is c.deref-in-Put.ensures c.deref-in-Put-2.ensures in
+    let sound = subst (λ e. SoundTree (callable c.args.context.now) in_thread (length c.args.locals.now.items) c.requires.tail e) is c.requires.sound in
+    let smaller : 3 * (nodes (tree_of c.deref-in-Put.result.now) + nodes_in (trees_of c.from_ref.result.now)) + 2 < 3 * nodes (tree_of n) = omega (arith, ap nodes is, ap (λ l. nodes_in (trees_of l)) c.from_ref.ensures.value) in
+    (search (rules, in_room c.args.context.now _ _ smaller), (sound.1, subst (λ l. SoundAll (callable c.args.context.now) in_thread (length c.args.locals.now.items) (trees_of l)) (sym c.from_ref.ensures.value) (sound.2, tt)))
+
+pub evaluate_tail-meet-requires-in-Update : goal.evaluate_tail-meet-requires-in-Update
+evaluate_tail-meet-requires-in-Update t c =
+    let n = c.args.node.now in
+    let is = update_node n c.in-Update.form c.in-Update.cell c.in-Update.field-2 c.in-Update.args c.deref-in-Update.result.now c.deref-in-Update-2.result.now c.in-Update.is c.deref-in-Update.ensures c.deref-in-Update-2.ensures.value in
+    let sound = subst (λ e. SoundTree (callable c.args.context.now) in_thread (length c.args.locals.now.items) c.requires.tail e) is c.requires.sound in
+    let smaller : 3 * (nodes (tree_of c.deref-in-Update.result.now) + nodes_in (trees_of c.deref-in-Update-2.result.now)) + 2 < 3 * nodes (tree_of n) = omega (arith, ap nodes is) in
+    (search (rules, in_room c.args.context.now _ _ smaller), (sound.1, sound.3))
+
+pub evaluate_tail-meet-requires-in-Send : goal.evaluate_tail-meet-requires-in-Send
+evaluate_tail-meet-requires-in-Send t c =
+    let n = c.args.node.now in
+    let is = send_node n c.in-Send.agent c.in-Send.field-1 c.in-Send.args c.deref-in-Send.result.now c.deref-in-Send-2.result.now c.in-Send.is c.deref-in-Send.ensures c.deref-in-Send-2.ensures.value in
+    let sound = subst (λ e. SoundTree (callable c.args.context.now) in_thread (length c.args.locals.now.items) c.requires.tail e) is c.requires.sound in
+    let smaller : 3 * (nodes (tree_of c.deref-in-Send.result.now) + nodes_in (trees_of c.deref-in-Send-2.result.now)) + 2 < 3 * nodes (tree_of n) = omega (arith, ap nodes is) in
+    (search (rules, in_room c.args.context.now _ _ smaller), (sound.0, sound.2))
+
+pub evaluate_tail-returns-in-Look-clause-value : goal.evaluate_tail-returns-in-Look-clause-value
+evaluate_tail-returns-in-Look-clause-value t c =
+    let n = c.args.node.now in
+    let is = look_node n c.in-Look.form c.in-Look.cell c.deref-in-Look.result.now c.in-Look.is c.deref-in-Look.ensures in
+    let sound = subst (λ e. SoundTree (callable c.args.context.now) in_thread (length c.args.locals.now.items) c.requires.tail e) is c.requires.sound in
+    steps_look c.args.context.now (tree_of n) (mark_of n.span n.wanted) c.args.locals.now.items c.args.printed.now.items c.meet.new.printed.items c.meet.result c.in-Look.form (tree_of c.deref-in-Look.result.now) is sound.0 c.meet.ensures.value
+
+pub evaluate_tail-returns-in-Put-clause-value : goal.evaluate_tail-returns-in-Put-clause-value
+evaluate_tail-returns-in-Put-clause-value t c =
+    let n = c.args.node.now in
+    let is = put_node n c.in-Put.form c.in-Put.cell c.in-Put.new c.deref-in-Put.result.now c.deref-in-Put-2.result.now c.in-Put.is c.deref-in-Put.ensures c.deref-in-Put-2.ensures in
+    let sound = subst (λ e. SoundTree (callable c.args.context.now) in_thread (length c.args.locals.now.items) c.requires.tail e) is c.requires.sound in
+    let b = c.deref-in-Put-2.result.now in
+    let each = subst (λ l. (go : Acts) → Lacks (form_of.Put c.in-Put.form) n.span go → Steps c.meet-in-Put.result c.meet-in-Put.new.printed.items (form_means c.args.context.now (tree_of c.deref-in-Put.result.now) (trees_of l) go c.args.locals.now.items c.args.printed.now.items)) c.from_ref.ensures.value c.meet-in-Put.ensures.value in
+    steps_put c.args.context.now (tree_of n) (mark_of n.span n.wanted) c.args.locals.now.items c.args.printed.now.items c.meet-in-Put.new.printed.items c.meet-in-Put.result c.in-Put.form (tree_of c.deref-in-Put.result.now) (tree_of b) is sound.0 each
+
+pub evaluate_tail-returns-in-Update-clause-value : goal.evaluate_tail-returns-in-Update-clause-value
+evaluate_tail-returns-in-Update-clause-value t c =
+    let n = c.args.node.now in
+    let is = update_node n c.in-Update.form c.in-Update.cell c.in-Update.field-2 c.in-Update.args c.deref-in-Update.result.now c.deref-in-Update-2.result.now c.in-Update.is c.deref-in-Update.ensures c.deref-in-Update-2.ensures.value in
+    let sound = subst (λ e. SoundTree (callable c.args.context.now) in_thread (length c.args.locals.now.items) c.requires.tail e) is c.requires.sound in
+    steps_update c.args.context.now (tree_of n) (mark_of n.span n.wanted) c.args.locals.now.items c.args.printed.now.items c.meet-in-Update.new.printed.items c.meet-in-Update.result c.in-Update.form (tree_of c.deref-in-Update.result.now) c.in-Update.field-2 (trees_of c.deref-in-Update-2.result.now) is sound.0 c.meet-in-Update.ensures.value
+
+pub evaluate_tail-returns-in-Send-clause-value : goal.evaluate_tail-returns-in-Send-clause-value
+evaluate_tail-returns-in-Send-clause-value t c =
+    let n = c.args.node.now in
+    let is = send_node n c.in-Send.agent c.in-Send.field-1 c.in-Send.args c.deref-in-Send.result.now c.deref-in-Send-2.result.now c.in-Send.is c.deref-in-Send.ensures c.deref-in-Send-2.ensures.value in
+    steps_send c.args.context.now (tree_of n) (mark_of n.span n.wanted) c.args.locals.now.items c.args.printed.now.items c.meet-in-Send.new.printed.items c.meet-in-Send.result (tree_of c.deref-in-Send.result.now) c.in-Send.field-1 (trees_of c.deref-in-Send-2.result.now) is c.meet-in-Send.ensures.value
+
+pub meet-evaluate-requires : goal.meet-evaluate-requires
+meet-evaluate-requires t c =
+    let smaller : 3 * nodes (tree_of c.args.cell.now) + 1 < 3 * (nodes (tree_of c.args.cell.now) + nodes_in (trees_of c.args.args.now)) + 2 = omega arith in
+    (search (rules, in_room c.args.context.now _ _ smaller), c.requires.cell)
+
+pub meet-evaluate_all-requires : goal.meet-evaluate_all-requires
+meet-evaluate_all-requires t c =
+    let some = nodes-some (tree_of c.args.cell.now) in
+    let smaller : 3 * nodes_in (trees_of c.args.args.now) + 2 < 3 * (nodes (tree_of c.args.cell.now) + nodes_in (trees_of c.args.args.now)) + 2 = omega (arith, some) in
+    (search (rules, in_room c.args.context.now _ _ smaller), subst (λ l. SoundAll (callable c.args.context.now) in_thread (length l) (trees_of c.args.args.now)) (sym c.in_ok-evaluate.ensures.kept) c.requires.args)
+
+pub meet-returns-in_err-evaluate_all-clause-value : goal.meet-returns-in_err-evaluate_all-clause-value
+meet-returns-in_err-evaluate_all-clause-value t c go lacks =
+    let y = c.in_err-evaluate_all.field-0.0 in
+    let out = c.evaluate_all.new.printed.items in
+    let whole = args_stop c.args.context.now c.args.form (mark_of c.args.span true) (tree_of c.args.cell.now) (trees_of c.args.args.now) go lacks c.args.locals.now.items c.args.printed.now.items c.in_ok-evaluate.field-0 c.evaluate.new.printed.items c.in_ok-evaluate.ensures.value y out c.evaluate.new.locals.items c.in_ok-evaluate.ensures.kept c.in_err-evaluate_all.ensures.value in
+    stops_steps c.from_residual-in_err-evaluate_all.result y out (form_means c.args.context.now (tree_of c.args.cell.now) (trees_of c.args.args.now) go c.args.locals.now.items c.args.printed.now.items) (search rules) whole
+
+pub meet-returns-clause-value : goal.meet-returns-clause-value
+meet-returns-clause-value t c go lacks =
+    args_done c.args.context.now c.args.form (mark_of c.args.span true) (tree_of c.args.cell.now) (trees_of c.args.args.now) go lacks c.args.locals.now.items c.args.printed.now.items c.in_ok-evaluate.field-0 c.evaluate.new.printed.items c.in_ok-evaluate.ensures.value c.in_ok-evaluate_all.field-0.items c.evaluate.new.locals.items c.evaluate_all.new.printed.items c.stop_of-stop.result c.in_ok-evaluate.ensures.kept c.in_ok-evaluate_all.ensures.value c.stop_of-stop.ensures

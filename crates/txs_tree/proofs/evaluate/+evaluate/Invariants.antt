@@ -20,6 +20,9 @@ decreases-evaluate_all l = room l.context.now + (3 * nodes_in (trees_of l.nodes.
 abbrev pub decreases-evaluate_do : goal.decreases-evaluate_do
 decreases-evaluate_do l = room l.context.now + (3 * nodes_in (trees_of l.nodes.now) + 2)
 
+abbrev pub decreases-meet : goal.decreases-meet
+decreases-meet l = room l.context.now + (3 * (nodes (tree_of l.cell.now) + nodes_in (trees_of l.args.now)) + 2)
+
 abbrev pub decreases-bind_locals : goal.decreases-bind_locals
 decreases-bind_locals l = room l.context.now + (3 * nodes_in (trees_of l.nodes.now) + 2)
 
