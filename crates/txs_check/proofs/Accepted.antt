@@ -4,20 +4,24 @@ use Rattle.std.proofs.lemmas.Bool.{eqb-true, eq-eqb, not-true, not_from_false}
 use Rattle.txs_operations.specs.Core.{takes}
 use Rattle.txs_value.specs.Places.{nth}
 use Rattle.txs_value.specs.declared.fault.Span.{Span}
+use Rattle.txs_value.specs.Forms.{rule}
+use Rattle.txs_value.specs.declared.form.CellForm.TheVariants as form_of
+use Rattle.txs_value.specs.declared.form.Standing.{Standing}
+use Rattle.txs_value.specs.declared.form.Standing.TheVariants.{Anywhere, Inside, Outside}
 use Rattle.txs_value.specs.declared.op.Callee.{Callee}
 use Rattle.txs_value.specs.declared.op.Callee.TheVariants.{Core as CoreOp, Function}
 use Rattle.txs_tree.specs.Known.{Known, is_pure}
 use Rattle.txs_tree.specs.Scoped.{ScopedTree, ScopedAll, ScopedLet}
-use Rattle.txs_tree.specs.Sound.{SoundTree, SoundAll, SoundLet, SoundDo, SoundCall, SoundCallee, PureCall, TakesFew, MayCall, MayLeave, MayEnter, in_function, in_thread, in_dosync}
+use Rattle.txs_tree.specs.Sound.{SoundTree, SoundAll, SoundLet, SoundDo, SoundCall, SoundCallee, PureCall, TakesFew, MayCall, MayStand, in_function, in_thread, in_dosync}
 use Rattle.txs_tree.specs.Sound as sound
-use Rattle.txs_tree.specs.Tree.{Tree, Const, Local, If, Do, Let, Loop, Recur, Core, Call, VectorOf, Println, Dosync, Deref, Alter, Trees, none, more, count}
+use Rattle.txs_tree.specs.Tree.{Tree, Const, Local, If, Do, Let, Loop, Recur, Core, Call, VectorOf, Println, Dosync, Look, Put, Update, Send, Trees, none, more, count}
 use Rattle.txs_check.specs.declared.error.CheckErrorKind.TheVariants.{RecurNotTail, RecurCount, RecurAcrossDosync, Arity, NotPure, InsideOnly, OutsideOnly}
 use Rattle.txs_check.specs.declared.place.Target.{Target}
 use Rattle.txs_check.specs.declared.place.Target.TheVariants.{Nowhere, Across, Nearest}
 use Rattle.txs_check.specs.declared.place.Zone.{Zone}
 use Rattle.txs_check.specs.declared.place.Zone.TheVariants.{InFunction, InFuture, InDosync}
-use Rattle.txs_check.specs.Refused.{fine, ◌>>◌, only, inner, across, recurs, accepts, zoned, calls, called, prints, alters, checked, checked_all, checked_do}
-use Rattle.txs_check.proofs.Steps.{refused_not_fine, first, second, both, only_true, only_fine}
+use Rattle.txs_check.specs.Refused.{fine, ◌>>◌, only, inner, across, recurs, accepts, zoned, calls, called, placed, formed, applied, turned_in, in_turn, checked, checked_all, checked_do}
+use Rattle.txs_check.proofs.Steps.{refused_not_fine, first, second, both, turn_first, turn_second, turn_both, only_true, only_fine}
 
 -- the number of values of a recur that may stand here
 abbrev pub tail_of : Target → Option ℕ
@@ -109,25 +113,29 @@ sound_called ks (Function f) n at s =
     ∙ both (only (eqb s.function.parameters n) Arity at) (only s.function.pure NotPure at)
     (only_fine (eqb s.function.parameters n) Arity at (eq-eqb s.function.parameters n s.arity)) (only_fine s.function.pure NotPure at s.pure)
 
-prints_may : (z : Zone) (at : Span) → prints z at ≡ fine → MayLeave (zone_of z)
-prints_may InFunction at e = tt
-prints_may InFuture at e = tt
-prints_may InDosync at e = refused_not_fine OutsideOnly at e
+placed_may : (z : Zone) (s : Standing) (at : Span) → placed z s at ≡ fine → MayStand (zone_of z) s
+placed_may InFunction s at e = tt
+placed_may InFuture Anywhere at e = tt
+placed_may InFuture Inside at e = refused_not_fine InsideOnly at e
+placed_may InFuture Outside at e = tt
+placed_may InDosync Anywhere at e = tt
+placed_may InDosync Inside at e = tt
+placed_may InDosync Outside at e = refused_not_fine OutsideOnly at e
 
-may_prints : (z : Zone) (at : Span) → MayLeave (zone_of z) → prints z at ≡ fine
-may_prints InFunction at m = refl
-may_prints InFuture at m = refl
-may_prints InDosync at m = absurd m
+may_placed : (z : Zone) (s : Standing) (at : Span) → MayStand (zone_of z) s → placed z s at ≡ fine
+may_placed InFunction s at m = refl
+may_placed InFuture Anywhere at m = refl
+may_placed InFuture Inside at m = absurd m
+may_placed InFuture Outside at m = refl
+may_placed InDosync Anywhere at m = refl
+may_placed InDosync Inside at m = refl
+may_placed InDosync Outside at m = absurd m
 
-alters_may : (z : Zone) (at : Span) → alters z at ≡ fine → MayEnter (zone_of z)
-alters_may InFunction at e = tt
-alters_may InFuture at e = refused_not_fine InsideOnly at e
-alters_may InDosync at e = tt
-
-may_alters : (z : Zone) (at : Span) → MayEnter (zone_of z) → alters z at ≡ fine
-may_alters InFunction at m = refl
-may_alters InFuture at m = absurd m
-may_alters InDosync at m = refl
+-- what may stand anywhere
+anywhere : (z : Zone) → MayStand (zone_of z) Anywhere
+anywhere InFunction = tt
+anywhere InFuture = tt
+anywhere InDosync = tt
 
 mutual
   pub accepted_sound : (ks : List Known) (z : Zone) (t : Target) (d : ℕ) (e : Tree) → ScopedTree ks d e → checked ks z t e ≡ fine → SoundTree ks (zone_of z) d (tail_of t) e
@@ -137,8 +145,9 @@ mutual
       let x = checked ks z (inner t) c in
       let y = checked ks z t a in
       let w = checked ks z t b in
-      let g : y >> w ≡ fine = second x (y >> w) h in
-      (subst (λ o. SoundTree ks (zone_of z) d o c) (inner_tail t) (accepted_sound ks z (inner t) d c s.0 (first x (y >> w) h)), accepted_sound ks z t d a s.1 (first y w g), accepted_sound ks z t d b s.2 (second y w g))
+      let turn = turned_in m a b in
+      let g : in_turn turn y w ≡ fine = second x (in_turn turn y w) h in
+      (subst (λ o. SoundTree ks (zone_of z) d o c) (inner_tail t) (accepted_sound ks z (inner t) d c s.0 (first x (in_turn turn y w) h)), accepted_sound ks z t d a s.1 (turn_first turn y w g), accepted_sound ks z t d b s.2 (turn_second turn y w g))
   accepted_sound ks z t d (Do items m) s h = accepted_do ks z t d items s.0 s.1 h
   accepted_sound ks z t d (Let values body m) s h =
       let x = checked_all ks z (inner t) values in
@@ -162,20 +171,38 @@ mutual
       (calls_sound ks z f (count args) m.span (first x y h), accepted_all ks z t d args s.1 (second x y h))
   accepted_sound ks z t d (VectorOf items m) s h = (s.0, accepted_all ks z t d items s.1 h)
   accepted_sound ks z t d (Println args m) s h =
-      let x = prints z m.span in
+      let x = placed z Outside m.span in
       let y = checked_all ks z (inner t) args in
-      (prints_may z m.span (first x y h), s.0, accepted_all ks z t d args s.1 (second x y h))
+      (placed_may z Outside m.span (first x y h), s.0, accepted_all ks z t d args s.1 (second x y h))
   accepted_sound ks z t d (Dosync body m) s h = subst (λ o. SoundTree ks in_dosync d o body) (across_tail t) (accepted_sound ks InDosync (across t) d body s h)
-  accepted_sound ks z t d (Deref cell m) s h = subst (λ o. SoundTree ks (zone_of z) d o cell) (inner_tail t) (accepted_sound ks z (inner t) d cell s h)
-  accepted_sound ks z t d (Alter cell callee args m) s h =
+  accepted_sound ks z t d (Look form cell m) s h =
+      let x = formed z (form_of.Look form) m.span in
+      let y = checked ks z (inner t) cell in
+      (placed_may z (rule (form_of.Look form)).stands m.span (first x y h), subst (λ o. SoundTree ks (zone_of z) d o cell) (inner_tail t) (accepted_sound ks z (inner t) d cell s (second x y h)))
+  accepted_sound ks z t d (Put form cell value m) s h =
+      let x = formed z (form_of.Put form) m.span in
+      let y = checked ks z (inner t) cell in
+      let w = checked ks z (inner t) value in
+      let g : y >> w ≡ fine = second x (y >> w) h in
+      (placed_may z (rule (form_of.Put form)).stands m.span (first x (y >> w) h), subst (λ o. SoundTree ks (zone_of z) d o cell) (inner_tail t) (accepted_sound ks z (inner t) d cell s.0 (first y w g)), subst (λ o. SoundTree ks (zone_of z) d o value) (inner_tail t) (accepted_sound ks z (inner t) d value s.1 (second y w g)))
+  accepted_sound ks z t d (Send cell callee args m) s h =
       let n = suc (count args) in
       let v = called ks callee n m.span in
-      let w = alters z m.span in
+      let w = formed z form_of.Send m.span in
       let x = checked ks z (inner t) cell in
       let y = checked_all ks z (inner t) args in
       let g : v >> w ≡ fine = first (v >> w) (x >> y) h in
       let k : x >> y ≡ fine = second (v >> w) (x >> y) h in
-      (alters_may z m.span (second v w g), subst (λ o. SoundTree ks (zone_of z) d o cell) (inner_tail t) (accepted_sound ks z (inner t) d cell s.0 (first x y k)), called_sound ks callee n m.span (omega (arith, s.2)) (first v w g), accepted_all ks z t d args s.3 (second x y k))
+      (subst (λ o. SoundTree ks (zone_of z) d o cell) (inner_tail t) (accepted_sound ks z (inner t) d cell s.0 (first x y k)), called_sound ks callee n m.span (omega (arith, s.2)) (first v w g), accepted_all ks z t d args s.3 (second x y k))
+  accepted_sound ks z t d (Update form cell callee args m) s h =
+      let n = suc (count args) in
+      let v = called ks callee n m.span in
+      let w = formed z (form_of.Update form) m.span in
+      let x = checked ks z (inner t) cell in
+      let y = checked_all ks z (inner t) args in
+      let g : v >> w ≡ fine = first (v >> w) (x >> y) h in
+      let k : x >> y ≡ fine = second (v >> w) (x >> y) h in
+      (placed_may z (rule (form_of.Update form)).stands m.span (second v w g), subst (λ o. SoundTree ks (zone_of z) d o cell) (inner_tail t) (accepted_sound ks z (inner t) d cell s.0 (first x y k)), called_sound ks callee n m.span (omega (arith, s.2)) (first v w g), accepted_all ks z t d args s.3 (second x y k))
 
   accepted_all : (ks : List Known) (z : Zone) (t : Target) (d : ℕ) (es : Trees) → ScopedAll ks d es → checked_all ks z (inner t) es ≡ fine → SoundAll ks (zone_of z) d es
   accepted_all ks z t d none s h = tt
@@ -204,9 +231,9 @@ mutual
   sound_accepted ks z t d (Const v m) s = refl
   sound_accepted ks z t d (Local i m) s = refl
   sound_accepted ks z t d (If c a b m) s =
-      both (checked ks z (inner t) c) (checked ks z t a >> checked ks z t b)
+      both (checked ks z (inner t) c) (in_turn (turned_in m a b) (checked ks z t a) (checked ks z t b))
       (sound_accepted ks z (inner t) d c (subst (λ o. SoundTree ks (zone_of z) d o c) (sym (inner_tail t)) s.0))
-      (both (checked ks z t a) (checked ks z t b) (sound_accepted ks z t d a s.1) (sound_accepted ks z t d b s.2))
+      (turn_both (turned_in m a b) (checked ks z t a) (checked ks z t b) (sound_accepted ks z t d a s.1) (sound_accepted ks z t d b s.2))
   sound_accepted ks z t d (Do items m) s = sound_do ks z t d items s
   sound_accepted ks z t d (Let values body m) s =
       both (checked_all ks z (inner t) values) (checked ks z t body) (sound_let ks z t d values s.0) (sound_accepted ks z t (d + count values) body s.1)
@@ -220,13 +247,27 @@ mutual
       both (calls ks z f (count args) m.span) (checked_all ks z (inner t) args) (sound_calls ks z f (count args) m.span s.0) (sound_all ks z t d args s.1)
   sound_accepted ks z t d (VectorOf items m) s = sound_all ks z t d items s.1
   sound_accepted ks z t d (Println args m) s =
-      both (prints z m.span) (checked_all ks z (inner t) args) (may_prints z m.span s.0) (sound_all ks z t d args s.2)
+      both (placed z Outside m.span) (checked_all ks z (inner t) args) (may_placed z Outside m.span s.0) (sound_all ks z t d args s.2)
   sound_accepted ks z t d (Dosync body m) s = sound_accepted ks InDosync (across t) d body (subst (λ o. SoundTree ks in_dosync d o body) (sym (across_tail t)) s)
-  sound_accepted ks z t d (Deref cell m) s = sound_accepted ks z (inner t) d cell (subst (λ o. SoundTree ks (zone_of z) d o cell) (sym (inner_tail t)) s)
-  sound_accepted ks z t d (Alter cell callee args m) s =
+  sound_accepted ks z t d (Look form cell m) s =
+      both (formed z (form_of.Look form) m.span) (checked ks z (inner t) cell) (may_placed z (rule (form_of.Look form)).stands m.span s.0)
+      (sound_accepted ks z (inner t) d cell (subst (λ o. SoundTree ks (zone_of z) d o cell) (sym (inner_tail t)) s.1))
+  sound_accepted ks z t d (Put form cell value m) s =
+      both (formed z (form_of.Put form) m.span) (checked ks z (inner t) cell >> checked ks z (inner t) value) (may_placed z (rule (form_of.Put form)).stands m.span s.0)
+      (both (checked ks z (inner t) cell) (checked ks z (inner t) value)
+      (sound_accepted ks z (inner t) d cell (subst (λ o. SoundTree ks (zone_of z) d o cell) (sym (inner_tail t)) s.1))
+      (sound_accepted ks z (inner t) d value (subst (λ o. SoundTree ks (zone_of z) d o value) (sym (inner_tail t)) s.2)))
+  sound_accepted ks z t d (Send cell callee args m) s =
       let n = suc (count args) in
-      both (called ks callee n m.span >> alters z m.span) (checked ks z (inner t) cell >> checked_all ks z (inner t) args)
-      (both (called ks callee n m.span) (alters z m.span) (sound_called ks callee n m.span s.2) (may_alters z m.span s.0))
+      both (applied ks z form_of.Send callee n m.span) (checked ks z (inner t) cell >> checked_all ks z (inner t) args)
+      (both (called ks callee n m.span) (formed z form_of.Send m.span) (sound_called ks callee n m.span s.1) (may_placed z Anywhere m.span (anywhere z)))
+      (both (checked ks z (inner t) cell) (checked_all ks z (inner t) args)
+      (sound_accepted ks z (inner t) d cell (subst (λ o. SoundTree ks (zone_of z) d o cell) (sym (inner_tail t)) s.0))
+      (sound_all ks z t d args s.2))
+  sound_accepted ks z t d (Update form cell callee args m) s =
+      let n = suc (count args) in
+      both (applied ks z (form_of.Update form) callee n m.span) (checked ks z (inner t) cell >> checked_all ks z (inner t) args)
+      (both (called ks callee n m.span) (formed z (form_of.Update form) m.span) (sound_called ks callee n m.span s.2) (may_placed z (rule (form_of.Update form)).stands m.span s.0))
       (both (checked ks z (inner t) cell) (checked_all ks z (inner t) args)
       (sound_accepted ks z (inner t) d cell (subst (λ o. SoundTree ks (zone_of z) d o cell) (sym (inner_tail t)) s.1))
       (sound_all ks z t d args s.3))

@@ -1,7 +1,7 @@
 -- Counts of nodes.
 use Rattle.std.proofs.Common.{◌≡◌, ◌≢◌, ℕ, suc, ◌+◌, ◌-◌, ◌<◌, Option, Some, None, MatchOption, arith}
 use Rattle.txs_tree.specs.Sound.{nodes}
-use Rattle.txs_tree.specs.Tree.{Tree, Const, Local, If, Do, Let, Loop, Recur, Core, Call, VectorOf, Println, Dosync, Deref, Alter}
+use Rattle.txs_tree.specs.Tree.{Tree, Const, Local, If, Do, Let, Loop, Recur, Core, Call, VectorOf, Println, Dosync, Look, Put, Update, Send}
 
 pub nodes-some : (e : Tree) → 0 < nodes e
 nodes-some (Const v m) = omega arith
@@ -16,8 +16,10 @@ nodes-some (Call f args m) = omega arith
 nodes-some (VectorOf items m) = omega arith
 nodes-some (Println args m) = omega arith
 nodes-some (Dosync body m) = omega arith
-nodes-some (Deref cell m) = omega arith
-nodes-some (Alter cell callee args m) = omega arith
+nodes-some (Look form cell m) = omega arith
+nodes-some (Put form cell value m) = omega arith
+nodes-some (Update form cell callee args m) = omega arith
+nodes-some (Send cell callee args m) = omega arith
 
 -- one node more than others
 pub counted : (r : Option ℕ) (l k limit : ℕ) → l ≡ suc k → limit ≢ 0 → MatchOption r (limit - 1 < k) (λ left. left + k ≡ limit - 1) → MatchOption r (limit < l) (λ left. left + l ≡ limit)

@@ -3,12 +3,16 @@ use Rattle.std.proofs.Common.{◌≡◌, ◌≢◌, ℕ, suc, ◌≤◌, ◌⊎�
 use Rattle.txs_operations.specs.Core.{takes}
 use Rattle.txs_value.specs.Places.{nth}
 use Rattle.txs_value.specs.declared.fault.Span.{Span}
+use Rattle.txs_value.specs.declared.form.CellForm.TheVariants as form_of
+use Rattle.txs_value.specs.Forms.{rule}
+use Rattle.txs_value.specs.declared.form.Standing.{Standing}
+use Rattle.txs_value.specs.declared.form.Standing.TheVariants.{Anywhere, Inside, Outside}
 use Rattle.txs_value.specs.declared.op.Callee.{Callee}
 use Rattle.txs_value.specs.declared.op.Callee.TheVariants.{Core as CoreOp, Function}
 use Rattle.txs_tree.specs.Known.{Known, is_pure, known_of, known_from, known}
 use Rattle.txs_tree.specs.Scoped.{Scoped, ScopedFunctions, ScopedThreads}
 use Rattle.txs_tree.specs.Sound.{Sound, SoundFunctions, SoundThreads, nodes}
-use Rattle.txs_tree.specs.Tree.{Tree, Const, Local, If, Do, Let, Loop, Recur, Core, Call, VectorOf, Println, Dosync, Deref, Alter, Trees, none, more, count, PlainFunction, PlainThread, PlainProgram}
+use Rattle.txs_tree.specs.Tree.{Tree, Const, Local, If, Do, Let, Loop, Recur, Core, Call, VectorOf, Println, Dosync, Look, Put, Update, Send, Trees, none, more, count, PlainFunction, PlainThread, PlainProgram}
 use Rattle.txs_tree.specs.View.{functions_of, threads_of, program_of}
 use Rattle.txs_tree.specs.declared.node.Function.{Function as AFunction}
 use Rattle.txs_tree.specs.declared.node.Thread.{Thread}
@@ -20,8 +24,8 @@ use Rattle.txs_check.specs.declared.place.Target.{Target}
 use Rattle.txs_check.specs.declared.place.Target.TheVariants.{Nowhere, Across, Nearest}
 use Rattle.txs_check.specs.declared.place.Zone.{Zone}
 use Rattle.txs_check.specs.declared.place.Zone.TheVariants.{InFunction, InFuture, InDosync}
-use Rattle.txs_check.specs.Refused.{Checked, fine, ◌>>◌, only, inner, across, operates, recurs, accepts, zoned, calls, called, prints, alters, checked, checked_all, checked_do, Body, function_body, thread_body, in_order, checked_body, checked_bodies, ◌>>=◌, room, few, refusal, CheckStops}
-use Rattle.txs_check.proofs.Steps.{first, second, both, err_not_fine, Told, told_then, told_only, told_kind}
+use Rattle.txs_check.specs.Refused.{Checked, fine, ◌>>◌, only, inner, across, operates, recurs, accepts, zoned, calls, called, placed, formed, applied, turned_in, in_turn, checked, checked_all, checked_do, Body, function_body, thread_body, in_order, checked_body, checked_bodies, ◌>>=◌, room, few, refusal, CheckStops}
+use Rattle.txs_check.proofs.Steps.{first, second, both, err_not_fine, Told, told_then, told_turn, told_only, told_kind}
 use Rattle.txs_check.proofs.Accepted.{accepted_sound, sound_accepted}
 use Rattle.txs_check.proofs.Order.{order_accepted, accepted_order, total_order, room_few, few_room}
 use Rattle.txs_check.proofs.Same.{bodies_same, checked_front, known_front}
@@ -105,22 +109,21 @@ told_called : (ks : List Known) (c : Callee) (n : ℕ) (at : Span) → Told (cal
 told_called ks (CoreOp op) n at = told_only (takes op n) Arity at (λ m. m)
 told_called ks (Function f) n at = told_then (only (accepts (nth ks f) n) Arity at) (only (is_pure (nth ks f)) NotPure at) (told_only (accepts (nth ks f) n) Arity at (λ m. m)) (told_only (is_pure (nth ks f)) NotPure at (λ m. m))
 
-told_prints : (z : Zone) (at : Span) → Told (prints z at)
-told_prints InFunction at = tt
-told_prints InFuture at = tt
-told_prints InDosync at = λ m. m
-
-told_alters : (z : Zone) (at : Span) → Told (alters z at)
-told_alters InFunction at = tt
-told_alters InFuture at = λ m. m
-told_alters InDosync at = tt
+told_placed : (z : Zone) (s : Standing) (at : Span) → Told (placed z s at)
+told_placed InFunction s at = tt
+told_placed InFuture Anywhere at = tt
+told_placed InFuture Inside at = λ m. m
+told_placed InFuture Outside at = tt
+told_placed InDosync Anywhere at = tt
+told_placed InDosync Inside at = tt
+told_placed InDosync Outside at = λ m. m
 
 module _ (ks : List Known) where
   mutual
     told_checked : (z : Zone) (t : Target) (e : Tree) → Told (checked ks z t e)
     told_checked z t (Const v m) = tt
     told_checked z t (Local i m) = tt
-    told_checked z t (If c a b m) = told_then (checked ks z (inner t) c) (checked ks z t a >> checked ks z t b) (told_checked z (inner t) c) (told_then (checked ks z t a) (checked ks z t b) (told_checked z t a) (told_checked z t b))
+    told_checked z t (If c a b m) = told_then (checked ks z (inner t) c) (in_turn (turned_in m a b) (checked ks z t a) (checked ks z t b)) (told_checked z (inner t) c) (told_turn (turned_in m a b) (checked ks z t a) (checked ks z t b) (told_checked z t a) (told_checked z t b))
     told_checked z t (Do items m) = told_do z t items
     told_checked z t (Let values body m) = told_then (checked_all ks z (inner t) values) (checked ks z t body) (told_all z (inner t) values) (told_checked z t body)
     told_checked z t (Loop values body m) = told_then (checked_all ks z (inner t) values) (checked ks z (Nearest (count values) true) body) (told_all z (inner t) values) (told_checked z (Nearest (count values) true) body)
@@ -128,13 +131,21 @@ module _ (ks : List Known) where
     told_checked z t (Core op args m) = told_then (operates op (count args) m.span) (checked_all ks z (inner t) args) (told_only (takes op (count args)) Arity m.span (λ x. x)) (told_all z (inner t) args)
     told_checked z t (Call f args m) = told_then (calls ks z f (count args) m.span) (checked_all ks z (inner t) args) (told_calls ks z f (count args) m.span) (told_all z (inner t) args)
     told_checked z t (VectorOf items m) = told_all z (inner t) items
-    told_checked z t (Println args m) = told_then (prints z m.span) (checked_all ks z (inner t) args) (told_prints z m.span) (told_all z (inner t) args)
+    told_checked z t (Println args m) = told_then (placed z Outside m.span) (checked_all ks z (inner t) args) (told_placed z Outside m.span) (told_all z (inner t) args)
     told_checked z t (Dosync body m) = told_checked InDosync (across t) body
-    told_checked z t (Deref cell m) = told_checked z (inner t) cell
-    told_checked z t (Alter cell callee args m) =
+    told_checked z t (Look form cell m) = told_then (formed z (form_of.Look form) m.span) (checked ks z (inner t) cell) (told_placed z (rule (form_of.Look form)).stands m.span) (told_checked z (inner t) cell)
+    told_checked z t (Put form cell value m) =
+        told_then (formed z (form_of.Put form) m.span) (checked ks z (inner t) cell >> checked ks z (inner t) value) (told_placed z (rule (form_of.Put form)).stands m.span)
+        (told_then (checked ks z (inner t) cell) (checked ks z (inner t) value) (told_checked z (inner t) cell) (told_checked z (inner t) value))
+    told_checked z t (Update form cell callee args m) =
         let n = suc (count args) in
-        told_then (called ks callee n m.span >> alters z m.span) (checked ks z (inner t) cell >> checked_all ks z (inner t) args)
-        (told_then (called ks callee n m.span) (alters z m.span) (told_called ks callee n m.span) (told_alters z m.span))
+        told_then (applied ks z (form_of.Update form) callee n m.span) (checked ks z (inner t) cell >> checked_all ks z (inner t) args)
+        (told_then (called ks callee n m.span) (formed z (form_of.Update form) m.span) (told_called ks callee n m.span) (told_placed z (rule (form_of.Update form)).stands m.span))
+        (told_then (checked ks z (inner t) cell) (checked_all ks z (inner t) args) (told_checked z (inner t) cell) (told_all z (inner t) args))
+    told_checked z t (Send cell callee args m) =
+        let n = suc (count args) in
+        told_then (applied ks z form_of.Send callee n m.span) (checked ks z (inner t) cell >> checked_all ks z (inner t) args)
+        (told_then (called ks callee n m.span) (formed z form_of.Send m.span) (told_called ks callee n m.span) (told_placed z Anywhere m.span))
         (told_then (checked ks z (inner t) cell) (checked_all ks z (inner t) args) (told_checked z (inner t) cell) (told_all z (inner t) args))
 
     told_all : (z : Zone) (t : Target) (es : Trees) → Told (checked_all ks z t es)

@@ -1,15 +1,16 @@
 -- Nodes, functions and threads from a place on.
-use Rattle.std.proofs.Common.{◌≡◌, ℕ, zero, suc, ◌+◌, ◌<◌, List, [], ◌∷◌, ◌++◌, length, get_or, map, take, drop, refl, sym, ap, ◌∙◌, arith}
+use Rattle.std.proofs.Common.{◌≡◌, ℕ, Bool, zero, suc, ◌+◌, ◌<◌, List, [], ◌∷◌, ◌++◌, length, get_or, map, take, drop, refl, sym, ap, ◌∙◌, arith}
 use Rattle.std.proofs.lemmas.List.{drop_more}
-use Rattle.txs_tree.specs.Tree.{none, more, count}
-use Rattle.txs_tree.specs.View.{tree_of, trees_of, function_of, functions_of, thread_of, threads_of}
+use Rattle.txs_tree.specs.Tree.{Tree, Mark, If, none, more, count}
+use Rattle.txs_tree.specs.View.{kind_tree, mark_of, tree_of, trees_of, function_of, functions_of, thread_of, threads_of}
 use Rattle.txs_tree.specs.declared.node.Function.{Function}
 use Rattle.txs_tree.specs.declared.node.Node.{Node}
+use Rattle.txs_tree.specs.declared.node.NodeKind.{NodeKind, Const, Local, If', Do', Let', Loop', Recur', Core', Vector', Println', Dosync', Look', Put', Update', Send', Call'}
 use Rattle.txs_tree.specs.declared.node.Thread.{Thread}
 use Rattle.txs_tree.specs.Known.{Known}
 use Rattle.txs_check.specs.declared.place.Target.{Target}
 use Rattle.txs_check.specs.declared.place.Zone.{Zone}
-use Rattle.txs_check.specs.Refused.{fine, ◌>>◌, ◌>>=◌, inner, checked, checked_all, checked_do, before, function_body, thread_body, in_order, checked_body, checked_bodies, taken, room}
+use Rattle.txs_check.specs.Refused.{fine, ◌>>◌, ◌>>=◌, inner, place_of, turned, turned_in, in_turn, checked, checked_all, checked_do, before, function_body, thread_body, in_order, checked_body, checked_bodies, taken, room}
 use Rattle.txs_check.proofs.Order.{bodies_append, room_append}
 use Rattle.txs_check.proofs.Steps.{then_same}
 
@@ -35,6 +36,37 @@ pub threads_drop : (n : ℕ) (ts : List Thread) → threads_of (drop n ts) ≡ d
 threads_drop zero ts = refl
 threads_drop (suc n) [] = refl
 threads_drop (suc n) (t ∷ ts) = threads_drop n ts
+
+-- a node's tree stands where the node does
+place_kind : (k : NodeKind) (m : Mark) → place_of (kind_tree k m) ≡ m.span
+place_kind (Const v) m = refl
+place_kind (Local i) m = refl
+place_kind (If' q test span wanted r first span1 wanted1 s second span2 wanted2) m = refl
+place_kind (Do' shape items) m = refl
+place_kind (Let' shape values q body span wanted) m = refl
+place_kind (Loop' shape values q body span wanted) m = refl
+place_kind (Recur' shape values) m = refl
+place_kind (Core' op shape args) m = refl
+place_kind (Call' f shape args) m = refl
+place_kind (Vector' shape items) m = refl
+place_kind (Println' shape args) m = refl
+place_kind (Dosync' q body span wanted) m = refl
+place_kind (Look' form q cell span wanted) m = refl
+place_kind (Put' form q cell span wanted r value span1 wanted1) m = refl
+place_kind (Update' form q cell span wanted callee shape args) m = refl
+place_kind (Send' q cell span wanted callee shape args) m = refl
+
+place_node : (n : Node) → place_of (tree_of n) ≡ n.span
+place_node n = place_kind n.kind (mark_of n.span n.wanted)
+
+-- the check of a choice, by where it and its branches begin
+pub branches_in_turn : (ks : List Known) (z : Zone) (t : Target) (m : Mark) (test : Tree) (a b : Node) (turn : Bool) → turn ≡ turned m.span.from a.span.from b.span.from →
+    checked ks z t (If test (tree_of a) (tree_of b) m) ≡ checked ks z (inner t) test >> in_turn turn (checked ks z t (tree_of a)) (checked ks z t (tree_of b))
+branches_in_turn ks z t m test a b turn is =
+    let x = checked ks z t (tree_of a) in
+    let y = checked ks z t (tree_of b) in
+    let same : turned_in m (tree_of a) (tree_of b) ≡ turn = (λ i. turned m.span.from (place_node a i).from (place_node b i).from) ∙ sym is in
+    ap (λ w. checked ks z (inner t) test >> in_turn w x y) same
 
 -- the nodes before the last one, and the last one
 pub do_parts : (ks : List Known) (z : Zone) (t : Target) (ns : List Node) (x : Node) → checked_do ks z t (trees_of (ns ++ x ∷ [])) ≡ checked_all ks z (inner t) (trees_of ns) >> checked ks z t (tree_of x)

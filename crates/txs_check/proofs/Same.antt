@@ -1,13 +1,16 @@
 -- What is said of a tree rests on the functions that it names alone, and not on how deep they are.
 use Rattle.std.proofs.Common.{◌≡◌, ℕ, zero, suc, ◌+◌, ◌<◌, ◌&&◌, ◌||◌, true, List, [], ◌∷◌, ◌++◌, length, get_or, Option, Some, None, refl, sym, ap, ◌∙◌, append_assoc, arith}
 use Rattle.std.proofs.lemmas.List.{append-nil, map-append}
+use Rattle.txs_value.specs.Forms.{rule}
 use Rattle.txs_value.specs.Places.{nth}
 use Rattle.txs_value.specs.declared.fault.Span.{Span}
+use Rattle.txs_value.specs.declared.form.CellForm.TheVariants as form_of
+use Rattle.txs_value.specs.declared.form.Standing.TheVariants.{Outside}
 use Rattle.txs_value.specs.declared.op.Callee.{Callee}
 use Rattle.txs_value.specs.declared.op.Callee.TheVariants.{Core as CoreOp, Function}
-use Rattle.txs_tree.specs.Known.{Known, is_inside, is_outside, is_pure, inside_in, any_inside, outside_in, any_outside, pure_in, all_pure, known_of, known_from}
+use Rattle.txs_tree.specs.Known.{Known, only_inside, only_outside, is_inside, is_outside, is_pure, inside_in, any_inside, outside_in, any_outside, pure_in, all_pure, known_of, known_from}
 use Rattle.txs_tree.specs.Scoped.{ScopedTree, ScopedAll, ScopedLet, ScopedCallee}
-use Rattle.txs_tree.specs.Tree.{Tree, Const, Local, If, Do, Let, Loop, Recur, Core, Call, VectorOf, Println, Dosync, Deref, Alter, Trees, none, more, count, PlainFunction}
+use Rattle.txs_tree.specs.Tree.{Tree, Const, Local, If, Do, Let, Loop, Recur, Core, Call, VectorOf, Println, Dosync, Look, Put, Update, Send, Trees, none, more, count, PlainFunction}
 use Rattle.txs_check.specs.declared.class.Class.{Class}
 use Rattle.txs_check.specs.declared.class.Signature.{Signature}
 use Rattle.txs_check.specs.declared.error.CheckErrorKind.TheVariants.{Arity, NotPure}
@@ -15,7 +18,7 @@ use Rattle.txs_check.specs.declared.place.Target.{Target}
 use Rattle.txs_check.specs.declared.place.Target.TheVariants.{Nearest}
 use Rattle.txs_check.specs.declared.place.Zone.{Zone}
 use Rattle.txs_check.specs.declared.place.Zone.TheVariants.{InFunction, InFuture, InDosync}
-use Rattle.txs_check.specs.Refused.{◌>>◌, only, inner, across, operates, recurs, accepts, zoned, calls, called, prints, alters, checked, checked_all, checked_do, Body, checked_bodies}
+use Rattle.txs_check.specs.Refused.{◌>>◌, only, inner, across, operates, recurs, accepts, zoned, calls, called, placed, formed, turned_in, in_turn, checked, checked_all, checked_do, Body, checked_bodies}
 use Rattle.txs_check.specs.Signatures.{bare_one, bare, class_in, known_row, known_as}
 
 abbrev pub signature : ℕ → Class → Signature
@@ -85,8 +88,10 @@ module _ (ks ls : List Known) (same : bare ls ≡ bare ks) where
     inside_same (VectorOf items m) = any_inside_same items
     inside_same (Println args m) = any_inside_same args
     inside_same (Dosync body m) = refl
-    inside_same (Deref cell m) = inside_same cell
-    inside_same (Alter cell callee args m) = refl
+    inside_same (Look form cell m) = λ i. only_inside (rule (form_of.Look form)).stands || inside_same cell i
+    inside_same (Put form cell value m) = λ i. only_inside (rule (form_of.Put form)).stands || (inside_same cell i || inside_same value i)
+    inside_same (Update form cell callee args m) = λ i. only_inside (rule (form_of.Update form)).stands || (inside_same cell i || any_inside_same args i)
+    inside_same (Send cell callee args m) = λ i. inside_same cell i || any_inside_same args i
 
     pub any_inside_same : (es : Trees) → any_inside ls es ≡ any_inside ks es
     any_inside_same none = refl
@@ -106,8 +111,10 @@ module _ (ks ls : List Known) (same : bare ls ≡ bare ks) where
     outside_same (VectorOf items m) = any_outside_same items
     outside_same (Println args m) = refl
     outside_same (Dosync body m) = outside_same body
-    outside_same (Deref cell m) = outside_same cell
-    outside_same (Alter cell callee args m) = λ i. outside_same cell i || any_outside_same args i
+    outside_same (Look form cell m) = λ i. only_outside (rule (form_of.Look form)).stands || outside_same cell i
+    outside_same (Put form cell value m) = λ i. only_outside (rule (form_of.Put form)).stands || (outside_same cell i || outside_same value i)
+    outside_same (Update form cell callee args m) = λ i. only_outside (rule (form_of.Update form)).stands || (outside_same cell i || any_outside_same args i)
+    outside_same (Send cell callee args m) = λ i. outside_same cell i || any_outside_same args i
 
     pub any_outside_same : (es : Trees) → any_outside ls es ≡ any_outside ks es
     any_outside_same none = refl
@@ -127,8 +134,10 @@ module _ (ks ls : List Known) (same : bare ls ≡ bare ks) where
     pure_same (VectorOf items m) = all_pure_same items
     pure_same (Println args m) = refl
     pure_same (Dosync body m) = refl
-    pure_same (Deref cell m) = refl
-    pure_same (Alter cell callee args m) = refl
+    pure_same (Look form cell m) = refl
+    pure_same (Put form cell value m) = refl
+    pure_same (Update form cell callee args m) = refl
+    pure_same (Send cell callee args m) = refl
 
     pub all_pure_same : (es : Trees) → all_pure ls es ≡ all_pure ks es
     all_pure_same none = refl
@@ -145,7 +154,7 @@ module _ (ks ls : List Known) (same : bare ls ≡ bare ks) where
     pub checked_same : (z : Zone) (t : Target) (e : Tree) → checked ls z t e ≡ checked ks z t e
     checked_same z t (Const v m) = refl
     checked_same z t (Local i m) = refl
-    checked_same z t (If c a b m) = λ i. checked_same z (inner t) c i >> (checked_same z t a i >> checked_same z t b i)
+    checked_same z t (If c a b m) = λ i. checked_same z (inner t) c i >> in_turn (turned_in m a b) (checked_same z t a i) (checked_same z t b i)
     checked_same z t (Do items m) = do_same z t items
     checked_same z t (Let values body m) = λ i. all_same z (inner t) values i >> checked_same z t body i
     checked_same z t (Loop values body m) = λ i. all_same z (inner t) values i >> checked_same z (Nearest (count values) true) body i
@@ -153,10 +162,12 @@ module _ (ks ls : List Known) (same : bare ls ≡ bare ks) where
     checked_same z t (Core op args m) = λ i. operates op (count args) m.span >> all_same z (inner t) args i
     checked_same z t (Call f args m) = λ i. calls_same z f (count args) m.span i >> all_same z (inner t) args i
     checked_same z t (VectorOf items m) = all_same z (inner t) items
-    checked_same z t (Println args m) = λ i. prints z m.span >> all_same z (inner t) args i
+    checked_same z t (Println args m) = λ i. placed z Outside m.span >> all_same z (inner t) args i
     checked_same z t (Dosync body m) = checked_same InDosync (across t) body
-    checked_same z t (Deref cell m) = checked_same z (inner t) cell
-    checked_same z t (Alter cell callee args m) = λ i. (called_same callee (suc (count args)) m.span i >> alters z m.span) >> (checked_same z (inner t) cell i >> all_same z (inner t) args i)
+    checked_same z t (Look form cell m) = λ i. formed z (form_of.Look form) m.span >> checked_same z (inner t) cell i
+    checked_same z t (Put form cell value m) = λ i. formed z (form_of.Put form) m.span >> (checked_same z (inner t) cell i >> checked_same z (inner t) value i)
+    checked_same z t (Update form cell callee args m) = λ i. (called_same callee (suc (count args)) m.span i >> formed z (form_of.Update form) m.span) >> (checked_same z (inner t) cell i >> all_same z (inner t) args i)
+    checked_same z t (Send cell callee args m) = λ i. (called_same callee (suc (count args)) m.span i >> formed z form_of.Send m.span) >> (checked_same z (inner t) cell i >> all_same z (inner t) args i)
 
     pub all_same : (z : Zone) (t : Target) (es : Trees) → checked_all ls z t es ≡ checked_all ks z t es
     all_same z t none = refl
@@ -214,7 +225,7 @@ module _ (ks ms : List Known) where
     pub checked_front : (z : Zone) (t : Target) (d : ℕ) (e : Tree) → ScopedTree ks d e → checked (ks ++ ms) z t e ≡ checked ks z t e
     checked_front z t d (Const v m) s = refl
     checked_front z t d (Local i m) s = refl
-    checked_front z t d (If c a b m) s = λ i. checked_front z (inner t) d c s.0 i >> (checked_front z t d a s.1 i >> checked_front z t d b s.2 i)
+    checked_front z t d (If c a b m) s = λ i. checked_front z (inner t) d c s.0 i >> in_turn (turned_in m a b) (checked_front z t d a s.1 i) (checked_front z t d b s.2 i)
     checked_front z t d (Do items m) s = do_front z t d items s.1
     checked_front z t d (Let values body m) s = λ i. let_front z (inner t) d values s.0 i >> checked_front z t (d + count values) body s.1 i
     checked_front z t d (Loop values body m) s = λ i. let_front z (inner t) d values s.0 i >> checked_front z (Nearest (count values) true) (d + count values) body s.1 i
@@ -222,10 +233,12 @@ module _ (ks ms : List Known) where
     checked_front z t d (Core op args m) s = λ i. operates op (count args) m.span >> all_front z (inner t) d args s.1 i
     checked_front z t d (Call f args m) s = λ i. (only (accepts (front f s.0 i) (count args)) Arity m.span >> zoned z (front f s.0 i) m.span) >> all_front z (inner t) d args s.1 i
     checked_front z t d (VectorOf items m) s = all_front z (inner t) d items s.1
-    checked_front z t d (Println args m) s = λ i. prints z m.span >> all_front z (inner t) d args s.1 i
+    checked_front z t d (Println args m) s = λ i. placed z Outside m.span >> all_front z (inner t) d args s.1 i
     checked_front z t d (Dosync body m) s = checked_front InDosync (across t) d body s
-    checked_front z t d (Deref cell m) s = checked_front z (inner t) d cell s
-    checked_front z t d (Alter cell callee args m) s = λ i. (called_front callee (suc (count args)) m.span s.1 i >> alters z m.span) >> (checked_front z (inner t) d cell s.0 i >> all_front z (inner t) d args s.3 i)
+    checked_front z t d (Look form cell m) s = λ i. formed z (form_of.Look form) m.span >> checked_front z (inner t) d cell s i
+    checked_front z t d (Put form cell value m) s = λ i. formed z (form_of.Put form) m.span >> (checked_front z (inner t) d cell s.0 i >> checked_front z (inner t) d value s.1 i)
+    checked_front z t d (Update form cell callee args m) s = λ i. (called_front callee (suc (count args)) m.span s.1 i >> formed z (form_of.Update form) m.span) >> (checked_front z (inner t) d cell s.0 i >> all_front z (inner t) d args s.3 i)
+    checked_front z t d (Send cell callee args m) s = λ i. (called_front callee (suc (count args)) m.span s.1 i >> formed z form_of.Send m.span) >> (checked_front z (inner t) d cell s.0 i >> all_front z (inner t) d args s.3 i)
 
     all_front : (z : Zone) (t : Target) (d : ℕ) (es : Trees) → ScopedAll ks d es → checked_all (ks ++ ms) z t es ≡ checked_all ks z t es
     all_front z t d none s = refl

@@ -4,7 +4,7 @@ use Rattle.txs_value.specs.declared.fault.Span.{Span}
 use Rattle.txs_check.specs.declared.error.CheckError.{CheckError}
 use Rattle.txs_check.specs.declared.error.CheckErrorKind.{CheckErrorKind}
 use Rattle.txs_check.specs.declared.error.CheckErrorKind.TheVariants.{RecurNotTail, RecurCount, RecurAcrossDosync, Arity, NotPure, InsideOnly, OutsideOnly, CodeTooLarge, Memory}
-use Rattle.txs_check.specs.Refused.{Checked, fine, refused, only, ◌>>◌}
+use Rattle.txs_check.specs.Refused.{Checked, fine, refused, only, in_turn, ◌>>◌}
 
 abbrev IsRefused : Checked → Type 0
 IsRefused (Ok u) = ⊥
@@ -30,6 +30,19 @@ both a b p q = ap (λ x. x >> b) p ∙ q
 pub then_same : (a b c : Checked) → (a >> b) >> c ≡ a >> (b >> c)
 then_same (Ok u) b c = refl
 then_same (Err e) b c = refl
+
+-- one after the other, in either order
+pub turn_first : (turn : Bool) (a b : Checked) → in_turn turn a b ≡ fine → a ≡ fine
+turn_first false a b e = first a b e
+turn_first true a b e = second b a e
+
+pub turn_second : (turn : Bool) (a b : Checked) → in_turn turn a b ≡ fine → b ≡ fine
+turn_second false a b e = second a b e
+turn_second true a b e = first b a e
+
+pub turn_both : (turn : Bool) (a b : Checked) → a ≡ fine → b ≡ fine → in_turn turn a b ≡ fine
+turn_both false a b p q = both a b p q
+turn_both true a b p q = both b a q p
 
 pub only_true : (b : Bool) (kind : CheckErrorKind) (at : Span) → only b kind at ≡ fine → b ≡ true
 only_true true kind at e = refl
@@ -57,6 +70,10 @@ Told (Err e) = IsWant e.kind → ⊥
 pub told_then : (a b : Checked) → Told a → Told b → Told (a >> b)
 told_then (Ok u) b p q = q
 told_then (Err e) b p q = p
+
+pub told_turn : (turn : Bool) (a b : Checked) → Told a → Told b → Told (in_turn turn a b)
+told_turn false a b p q = told_then a b p q
+told_turn true a b p q = told_then b a q p
 
 pub told_only : (b : Bool) (kind : CheckErrorKind) (at : Span) → (IsWant kind → ⊥) → Told (only b kind at)
 told_only true kind at p = tt

@@ -1,23 +1,28 @@
 -- Each refusal is true of the program.
-use Rattle.std.proofs.Common.{◌≡◌, ℕ, suc, ◌<◌, ◌≤◌, ◌+◌, ◌-◌, ◌⊎◌, inl, inr, Bool, true, false, not, nat_eq, nat_le, Option, List, [], ◌∷◌, ◌++◌, Some, None, Result, Ok, Err, refl, sym, ap, subst, arith, if◌then◌else◌}
+use Rattle.std.proofs.Common.{◌≡◌, ℕ, suc, ◌<◌, ◌≤◌, ◌+◌, ◌-◌, ◌⊎◌, inl, inr, Bool, true, false, not, nat_eq, nat_le, Option, List, [], ◌∷◌, ◌++◌, Some, None, Ok, Err, refl, sym, ap, subst, arith, if◌then◌else◌}
 use Rattle.std.proofs.lemmas.Bool.Decides.{nat_tests}
 use Rattle.txs_operations.specs.Core.{takes}
+use Rattle.txs_value.specs.Forms.{rule}
 use Rattle.txs_value.specs.Places.{nth}
 use Rattle.txs_value.specs.declared.fault.Span.{Span}
+use Rattle.txs_value.specs.declared.form.CellForm.{CellForm}
+use Rattle.txs_value.specs.declared.form.CellForm.TheVariants as form_of
+use Rattle.txs_value.specs.declared.form.Standing.{Standing}
+use Rattle.txs_value.specs.declared.form.Standing.TheVariants.{Anywhere, Inside, Outside}
 use Rattle.txs_value.specs.declared.op.Callee.{Callee}
 use Rattle.txs_value.specs.declared.op.Callee.TheVariants.{Core as CoreOp, Function}
 use Rattle.txs_tree.specs.Known.{Known, is_pure, known}
 use Rattle.txs_tree.specs.Sound.{nodes}
-use Rattle.txs_tree.specs.Tree.{Tree, Mark, Const, Local, If, Do, Let, Loop, Recur, Core, Call, VectorOf, Println, Dosync, Deref, Alter, Trees, none, more, count, PlainProgram}
-use Rattle.txs_check.specs.Faulty.{place_of, IsAmong, is_first, is_later, IsLast, is_only, is_behind, IsBefore, is_now, is_then, Stands, as_whole, in_test, in_first, in_second, in_block, in_last, in_bound, in_let, in_start, in_loop, in_recur, in_operation, in_call, in_vector, in_line, in_transaction, in_read, in_cell, in_further, callee_takes, HasFault, recurs_nowhere, recurs_before_end, recurs_across, recurs_with_others, operates_on_others, calls_with_others, alters_with_others, alters_impurely, calls_outside, alters_outside, calls_inside, prints_inside, FaultIn, IsBody, body_first, body_later, all_nodes, IsTrueOf, of_form, of_size}
+use Rattle.txs_tree.specs.Tree.{Tree, Mark, Const, Local, If, Do, Let, Loop, Recur, Core, Call, VectorOf, Println, Dosync, Look, Put, Update, Send, Trees, none, more, count, PlainProgram}
+use Rattle.txs_check.specs.Faulty.{IsAmong, is_first, is_later, IsLast, is_only, is_behind, IsBefore, is_now, is_then, Stands, as_whole, in_test, in_first, in_second, in_block, in_last, in_bound, in_let, in_start, in_loop, in_recur, in_operation, in_call, in_vector, in_line, in_transaction, in_looked, in_filled, in_value, in_updated, in_further, in_agent, in_sent, IsForm, it_looks, it_puts, it_updates, it_sends, HasApplied, in_update, in_action, HasFault, recurs_nowhere, recurs_before_end, recurs_across, recurs_with_others, operates_on_others, calls_with_others, applies_to_others, applies_impurely, calls_outside, stands_outside, calls_inside, stands_inside, prints_inside, FaultIn, IsBody, body_first, body_later, all_nodes, IsTrueOf, of_form, of_size}
 use Rattle.txs_check.specs.declared.error.CheckError.{CheckError}
 use Rattle.txs_check.specs.declared.error.CheckErrorKind.{CheckErrorKind}
-use Rattle.txs_check.specs.declared.error.CheckErrorKind.TheVariants.{RecurNotTail, RecurCount, RecurAcrossDosync, Arity, NotPure, InsideOnly, OutsideOnly, CodeTooLarge}
+use Rattle.txs_check.specs.declared.error.CheckErrorKind.TheVariants.{RecurCount, Arity, NotPure, InsideOnly, OutsideOnly, CodeTooLarge}
 use Rattle.txs_check.specs.declared.place.Target.{Target}
 use Rattle.txs_check.specs.declared.place.Target.TheVariants.{Nowhere, Across, Nearest}
 use Rattle.txs_check.specs.declared.place.Zone.{Zone}
 use Rattle.txs_check.specs.declared.place.Zone.TheVariants.{InFunction, InFuture, InDosync}
-use Rattle.txs_check.specs.Refused.{Checked, ◌>>◌, only, inner, across, recurs, operates, accepts, zoned, calls, called, prints, alters, here, checked, checked_all, checked_do, Body, in_order, checked_bodies, ◌>>=◌, room, few, refusal, CheckStops}
+use Rattle.txs_check.specs.Refused.{Checked, ◌>>◌, only, inner, across, recurs, accepts, zoned, called, placed, formed, here, place_of, turned_in, in_turn, checked, checked_all, checked_do, Body, in_order, checked_bodies, ◌>>=◌, room, few, refusal, CheckStops}
 
 -- this holds of the refusal, if there is one
 abbrev Holds : (CheckError → Type 0) → Checked → Type 0
@@ -27,6 +32,10 @@ Holds P (Err e) = P e
 holds_then : (P : CheckError → Type 0) (a b : Checked) → Holds P a → Holds P b → Holds P (a >> b)
 holds_then P (Ok u) b p q = q
 holds_then P (Err e) b p q = p
+
+holds_turn : (P : CheckError → Type 0) (turn : Bool) (a b : Checked) → Holds P a → Holds P b → Holds P (in_turn turn a b)
+holds_turn P false a b p q = holds_then P a b p q
+holds_turn P true a b p q = holds_then P b a q p
 
 holds_only : (P : CheckError → Type 0) (b : Bool) (kind : CheckErrorKind) (at : Span) → (b ≡ false → P (record { kind = kind; at = at })) → Holds P (only b kind at)
 holds_only P true kind at f = tt
@@ -62,20 +71,28 @@ module _ (ks : List Known) where
   own_zoned InFuture t f args m (Some k) is = holds_only (Own InFuture t (Call f args m)) (not k.inside) InsideOnly m.span (λ h. (calls_outside f args m k refl is (not_false k.inside h), refl))
   own_zoned InDosync t f args m (Some k) is = holds_only (Own InDosync t (Call f args m)) (not k.outside) OutsideOnly m.span (λ h. (calls_inside f args m k refl is (not_false k.outside h), refl))
 
-  own_called : (z : Zone) (t : Target) (cell : Tree) (callee : Callee) (args : Trees) (m : Mark) → Holds (Own z t (Alter cell callee args m)) (called ks callee (suc (count args)) m.span)
-  own_called z t cell (CoreOp op) args m = holds_only (Own z t (Alter cell (CoreOp op) args m)) (takes op (suc (count args))) Arity m.span (λ h. (alters_with_others cell (CoreOp op) args m h, refl))
-  own_called z t cell (Function f) args m =
-      let P = Own z t (Alter cell (Function f) args m) in
-      holds_then P (only (accepts (nth ks f) (suc (count args))) Arity m.span) (only (is_pure (nth ks f)) NotPure m.span)
-      (holds_only P (accepts (nth ks f) (suc (count args))) Arity m.span (λ h. (alters_with_others cell (Function f) args m h, refl)))
-      (holds_only P (is_pure (nth ks f)) NotPure m.span (λ h. (alters_impurely cell f args m h, refl)))
+  own_called : (z : Zone) (t : Target) (e : Tree) (callee : Callee) (n : ℕ) → HasApplied callee n e → (at : Span) → at ≡ place_of e → Holds (Own z t e) (called ks callee n at)
+  own_called z t e (CoreOp op) n has at is = holds_only (Own z t e) (takes op n) Arity at (λ h. (applies_to_others (CoreOp op) n e has h, is))
+  own_called z t e (Function f) n has at is =
+      let P = Own z t e in
+      holds_then P (only (accepts (nth ks f) n) Arity at) (only (is_pure (nth ks f)) NotPure at)
+      (holds_only P (accepts (nth ks f) n) Arity at (λ h. (applies_to_others (Function f) n e has h, is)))
+      (holds_only P (is_pure (nth ks f)) NotPure at (λ h. (applies_impurely f n e has h, is)))
 
-  own_alters : (z : Zone) (t : Target) (cell : Tree) (callee : Callee) (args : Trees) (m : Mark) → Holds (Own z t (Alter cell callee args m)) (alters z m.span)
-  own_alters InFunction t cell callee args m = tt
-  own_alters InFuture t cell callee args m = (alters_outside cell callee args m refl, refl)
-  own_alters InDosync t cell callee args m = tt
+  own_placed : (z : Zone) (t : Target) (f : CellForm) (e : Tree) → IsForm f e → (s : Standing) → (rule f).stands ≡ s → (at : Span) → at ≡ place_of e → Holds (Own z t e) (placed z s at)
+  own_placed InFunction t f e it s stands at is = tt
+  own_placed InFuture t f e it Anywhere stands at is = tt
+  own_placed InFuture t f e it Inside stands at is = (stands_outside f e refl it stands, is)
+  own_placed InFuture t f e it Outside stands at is = tt
+  own_placed InDosync t f e it Anywhere stands at is = tt
+  own_placed InDosync t f e it Inside stands at is = tt
+  own_placed InDosync t f e it Outside stands at is = (stands_inside f e refl it stands, is)
 
-  own_prints : (z : Zone) (t : Target) (args : Trees) (m : Mark) → Holds (Own z t (Println args m)) (prints z m.span)
+  -- a form on a cell stands elsewhere than the table says
+  own_formed : (z : Zone) (t : Target) (f : CellForm) (e : Tree) → IsForm f e → (at : Span) → at ≡ place_of e → Holds (Own z t e) (formed z f at)
+  own_formed z t f e it at is = own_placed z t f e it (rule f).stands refl at is
+
+  own_prints : (z : Zone) (t : Target) (args : Trees) (m : Mark) → Holds (Own z t (Println args m)) (placed z Outside m.span)
   own_prints InFunction t args m = tt
   own_prints InFuture t args m = tt
   own_prints InDosync t args m = (prints_inside args m refl, refl)
@@ -97,9 +114,18 @@ module _ (ks : List Known) where
   own z t (VectorOf items m) = tt
   own z t (Println args m) = own_prints z t args m
   own z t (Dosync body m) = tt
-  own z t (Deref cell m) = tt
-  own z t (Alter cell callee args m) =
-      holds_then (Own z t (Alter cell callee args m)) (called ks callee (suc (count args)) m.span) (alters z m.span) (own_called z t cell callee args m) (own_alters z t cell callee args m)
+  own z t (Look form cell m) = own_formed z t (form_of.Look form) (Look form cell m) (it_looks form cell m) m.span refl
+  own z t (Put form cell value m) = own_formed z t (form_of.Put form) (Put form cell value m) (it_puts form cell value m) m.span refl
+  own z t (Update form cell callee args m) =
+      let e = Update form cell callee args m in
+      let n = suc (count args) in
+      holds_then (Own z t e) (called ks callee n m.span) (formed z (form_of.Update form) m.span)
+      (own_called z t e callee n (in_update form cell callee args m) m.span refl) (own_formed z t (form_of.Update form) e (it_updates form cell callee args m) m.span refl)
+  own z t (Send cell callee args m) =
+      let e = Send cell callee args m in
+      let n = suc (count args) in
+      holds_then (Own z t e) (called ks callee n m.span) (formed z form_of.Send m.span)
+      (own_called z t e callee n (in_action cell callee args m) m.span refl) (own_formed z t form_of.Send e (it_sends cell callee args m) m.span refl)
 
   -- a fault of the form is one in it
   as_own : (z : Zone) (t : Target) (e : Tree) (err : CheckError) → Own z t e err → FaultIn ks z t e err
@@ -139,9 +165,9 @@ module _ (ks : List Known) where
     walked z t (If c a b m) =
         let e = If c a b m in
         let P = FaultIn ks z t e in
-        holds_then P (checked ks z (inner t) c) (checked ks z t a >> checked ks z t b)
+        holds_then P (checked ks z (inner t) c) (in_turn (turned_in m a b) (checked ks z t a) (checked ks z t b))
         (holds_maps (FaultIn ks z (inner t) c) P (checked ks z (inner t) c) (through z t e z (inner t) c (λ fz ft f s. in_test z t c a b m s)) (walked z (inner t) c))
-        (holds_then P (checked ks z t a) (checked ks z t b)
+        (holds_turn P (turned_in m a b) (checked ks z t a) (checked ks z t b)
         (holds_maps (FaultIn ks z t a) P (checked ks z t a) (through z t e z t a (λ fz ft f s. in_first z t c a b m s)) (walked z t a))
         (holds_maps (FaultIn ks z t b) P (checked ks z t b) (through z t e z t b (λ fz ft f s. in_second z t c a b m s)) (walked z t b)))
     walked z t (Do items m) = holds_maps (InBlock z t items) (FaultIn ks z t (Do items m)) (checked_do ks z t items) (block_parts z t items m) (walked_do z t items)
@@ -185,15 +211,36 @@ module _ (ks : List Known) where
         (holds_maps (Own z t e) P (here ks z t e) (as_own z t e) (own z t e))
         (holds_maps (Among z (inner t) args) P (checked_all ks z (inner t) args) (in_parts z t e args z (inner t) (λ part among fz ft f s. in_line z t args m part among s)) (walked_all z (inner t) args))
     walked z t (Dosync body m) = holds_maps (FaultIn ks InDosync (across t) body) (FaultIn ks z t (Dosync body m)) (checked ks InDosync (across t) body) (through z t (Dosync body m) InDosync (across t) body (λ fz ft f s. in_transaction z t body m s)) (walked InDosync (across t) body)
-    walked z t (Deref cell m) = holds_maps (FaultIn ks z (inner t) cell) (FaultIn ks z t (Deref cell m)) (checked ks z (inner t) cell) (through z t (Deref cell m) z (inner t) cell (λ fz ft f s. in_read z t cell m s)) (walked z (inner t) cell)
-    walked z t (Alter cell callee args m) =
-        let e = Alter cell callee args m in
+    walked z t (Look form cell m) =
+        let e = Look form cell m in
+        let P = FaultIn ks z t e in
+        holds_then P (here ks z t e) (checked ks z (inner t) cell)
+        (holds_maps (Own z t e) P (here ks z t e) (as_own z t e) (own z t e))
+        (holds_maps (FaultIn ks z (inner t) cell) P (checked ks z (inner t) cell) (through z t e z (inner t) cell (λ fz ft f s. in_looked z t form cell m s)) (walked z (inner t) cell))
+    walked z t (Put form cell value m) =
+        let e = Put form cell value m in
+        let P = FaultIn ks z t e in
+        holds_then P (here ks z t e) (checked ks z (inner t) cell >> checked ks z (inner t) value)
+        (holds_maps (Own z t e) P (here ks z t e) (as_own z t e) (own z t e))
+        (holds_then P (checked ks z (inner t) cell) (checked ks z (inner t) value)
+        (holds_maps (FaultIn ks z (inner t) cell) P (checked ks z (inner t) cell) (through z t e z (inner t) cell (λ fz ft f s. in_filled z t form cell value m s)) (walked z (inner t) cell))
+        (holds_maps (FaultIn ks z (inner t) value) P (checked ks z (inner t) value) (through z t e z (inner t) value (λ fz ft f s. in_value z t form cell value m s)) (walked z (inner t) value)))
+    walked z t (Update form cell callee args m) =
+        let e = Update form cell callee args m in
         let P = FaultIn ks z t e in
         holds_then P (here ks z t e) (checked ks z (inner t) cell >> checked_all ks z (inner t) args)
         (holds_maps (Own z t e) P (here ks z t e) (as_own z t e) (own z t e))
         (holds_then P (checked ks z (inner t) cell) (checked_all ks z (inner t) args)
-        (holds_maps (FaultIn ks z (inner t) cell) P (checked ks z (inner t) cell) (through z t e z (inner t) cell (λ fz ft f s. in_cell z t cell callee args m s)) (walked z (inner t) cell))
-        (holds_maps (Among z (inner t) args) P (checked_all ks z (inner t) args) (in_parts z t e args z (inner t) (λ part among fz ft f s. in_further z t cell callee args m part among s)) (walked_all z (inner t) args)))
+        (holds_maps (FaultIn ks z (inner t) cell) P (checked ks z (inner t) cell) (through z t e z (inner t) cell (λ fz ft f s. in_updated z t form cell callee args m s)) (walked z (inner t) cell))
+        (holds_maps (Among z (inner t) args) P (checked_all ks z (inner t) args) (in_parts z t e args z (inner t) (λ part among fz ft f s. in_further z t form cell callee args m part among s)) (walked_all z (inner t) args)))
+    walked z t (Send cell callee args m) =
+        let e = Send cell callee args m in
+        let P = FaultIn ks z t e in
+        holds_then P (here ks z t e) (checked ks z (inner t) cell >> checked_all ks z (inner t) args)
+        (holds_maps (Own z t e) P (here ks z t e) (as_own z t e) (own z t e))
+        (holds_then P (checked ks z (inner t) cell) (checked_all ks z (inner t) args)
+        (holds_maps (FaultIn ks z (inner t) cell) P (checked ks z (inner t) cell) (through z t e z (inner t) cell (λ fz ft f s. in_agent z t cell callee args m s)) (walked z (inner t) cell))
+        (holds_maps (Among z (inner t) args) P (checked_all ks z (inner t) args) (in_parts z t e args z (inner t) (λ part among fz ft f s. in_sent z t cell callee args m part among s)) (walked_all z (inner t) args)))
 
     walked_all : (z : Zone) (t : Target) (es : Trees) → Holds (Among z t es) (checked_all ks z t es)
     walked_all z t none = tt

@@ -1,16 +1,22 @@
 -- What a refusal says of a program: a form that stands in it has that fault, or its forms are too many.
 use Rattle.std.specs.Prelude.{◌≡◌, ◌<◌, ◌+◌, ℕ, suc, Bool, true, false, nat_eq, List, [], ◌∷◌, ◌++◌, Some}
 use Rattle.txs_operations.specs.Core.{takes}
+use Rattle.txs_value.specs.Forms.{rule}
 use Rattle.txs_value.specs.Limits.{most_nodes}
 use Rattle.txs_value.specs.Places.{nth}
-use Rattle.txs_value.specs.declared.fault.Span.{Span}
+use Rattle.txs_value.specs.declared.form.CellForm.{CellForm}
+use Rattle.txs_value.specs.declared.form.CellForm.TheVariants as form_of
+use Rattle.txs_value.specs.declared.form.LookForm.{LookForm}
+use Rattle.txs_value.specs.declared.form.PutForm.{PutForm}
+use Rattle.txs_value.specs.declared.form.Standing.TheVariants.{Inside, Outside}
+use Rattle.txs_value.specs.declared.form.UpdateForm.{UpdateForm}
 use Rattle.txs_value.specs.declared.op.Op.{Op}
 use Rattle.txs_value.specs.declared.op.Callee.{Callee}
 use Rattle.txs_value.specs.declared.op.Callee.TheVariants.{Core as CoreOp, Function}
 use Rattle.txs_tree.specs.Known.{Known, is_pure, known}
 use Rattle.txs_tree.specs.Sound.{nodes}
-use Rattle.txs_tree.specs.Tree.{Tree, Mark, Const, Local, If, Do, Let, Loop, Recur, Core, Call, VectorOf, Println, Dosync, Deref, Alter, Trees, none, more, count, PlainProgram}
-use Rattle.txs_check.specs.Refused.{inner, across, accepts, Body, in_order}
+use Rattle.txs_tree.specs.Tree.{Tree, Mark, If, Do, Let, Loop, Recur, Core, Call, VectorOf, Println, Dosync, Look, Put, Update, Send, Trees, none, more, count, PlainProgram}
+use Rattle.txs_check.specs.Refused.{inner, across, accepts, place_of, Body, in_order}
 use Rattle.txs_check.specs.declared.error.CheckError.{CheckError}
 use Rattle.txs_check.specs.declared.error.CheckErrorKind.{CheckErrorKind}
 use Rattle.txs_check.specs.declared.error.CheckErrorKind.TheVariants.{RecurNotTail, RecurCount, RecurAcrossDosync, Arity, NotPure, InsideOnly, OutsideOnly, CodeTooLarge}
@@ -18,23 +24,6 @@ use Rattle.txs_check.specs.declared.place.Target.{Target}
 use Rattle.txs_check.specs.declared.place.Target.TheVariants.{Nowhere, Across, Nearest}
 use Rattle.txs_check.specs.declared.place.Zone.{Zone}
 use Rattle.txs_check.specs.declared.place.Zone.TheVariants.{InFuture, InDosync}
-
--- where a form stands in the script
-abbrev pub place_of : Tree → Span
-place_of (Const v m) = m.span
-place_of (Local i m) = m.span
-place_of (If c a b m) = m.span
-place_of (Do items m) = m.span
-place_of (Let values body m) = m.span
-place_of (Loop values body m) = m.span
-place_of (Recur values m) = m.span
-place_of (Core op args m) = m.span
-place_of (Call f args m) = m.span
-place_of (VectorOf items m) = m.span
-place_of (Println args m) = m.span
-place_of (Dosync body m) = m.span
-place_of (Deref cell m) = m.span
-place_of (Alter cell callee args m) = m.span
 
 -- ---- where forms stand
 
@@ -73,11 +62,27 @@ pub data Stands (zone : Zone) (target : Target) (form : Tree) : Zone → Target 
   in_vector : (z : Zone) (t : Target) (items : Trees) (m : Mark) (e : Tree) → IsAmong e items → Stands zone target form z (inner t) e → Stands zone target form z t (VectorOf items m)
   in_line : (z : Zone) (t : Target) (args : Trees) (m : Mark) (e : Tree) → IsAmong e args → Stands zone target form z (inner t) e → Stands zone target form z t (Println args m)
   in_transaction : (z : Zone) (t : Target) (body : Tree) (m : Mark) → Stands zone target form InDosync (across t) body → Stands zone target form z t (Dosync body m)
-  in_read : (z : Zone) (t : Target) (cell : Tree) (m : Mark) → Stands zone target form z (inner t) cell → Stands zone target form z t (Deref cell m)
-  in_cell : (z : Zone) (t : Target) (cell : Tree) (callee : Callee) (args : Trees) (m : Mark) → Stands zone target form z (inner t) cell → Stands zone target form z t (Alter cell callee args m)
-  in_further : (z : Zone) (t : Target) (cell : Tree) (callee : Callee) (args : Trees) (m : Mark) (e : Tree) → IsAmong e args → Stands zone target form z (inner t) e → Stands zone target form z t (Alter cell callee args m)
+  in_looked : (z : Zone) (t : Target) (f : LookForm) (cell : Tree) (m : Mark) → Stands zone target form z (inner t) cell → Stands zone target form z t (Look f cell m)
+  in_filled : (z : Zone) (t : Target) (f : PutForm) (cell value : Tree) (m : Mark) → Stands zone target form z (inner t) cell → Stands zone target form z t (Put f cell value m)
+  in_value : (z : Zone) (t : Target) (f : PutForm) (cell value : Tree) (m : Mark) → Stands zone target form z (inner t) value → Stands zone target form z t (Put f cell value m)
+  in_updated : (z : Zone) (t : Target) (f : UpdateForm) (cell : Tree) (callee : Callee) (args : Trees) (m : Mark) → Stands zone target form z (inner t) cell → Stands zone target form z t (Update f cell callee args m)
+  in_further : (z : Zone) (t : Target) (f : UpdateForm) (cell : Tree) (callee : Callee) (args : Trees) (m : Mark) (e : Tree) → IsAmong e args → Stands zone target form z (inner t) e → Stands zone target form z t (Update f cell callee args m)
+  in_agent : (z : Zone) (t : Target) (cell : Tree) (callee : Callee) (args : Trees) (m : Mark) → Stands zone target form z (inner t) cell → Stands zone target form z t (Send cell callee args m)
+  in_sent : (z : Zone) (t : Target) (cell : Tree) (callee : Callee) (args : Trees) (m : Mark) (e : Tree) → IsAmong e args → Stands zone target form z (inner t) e → Stands zone target form z t (Send cell callee args m)
 
 -- ---- which fault a form has
+
+-- this is that form on a cell
+pub data IsForm : CellForm → Tree → Type 0 where
+  it_looks : (f : LookForm) (cell : Tree) (m : Mark) → IsForm (form_of.Look f) (Look f cell m)
+  it_puts : (f : PutForm) (cell value : Tree) (m : Mark) → IsForm (form_of.Put f) (Put f cell value m)
+  it_updates : (f : UpdateForm) (cell : Tree) (callee : Callee) (args : Trees) (m : Mark) → IsForm (form_of.Update f) (Update f cell callee args m)
+  it_sends : (cell : Tree) (callee : Callee) (args : Trees) (m : Mark) → IsForm form_of.Send (Send cell callee args m)
+
+-- this is a form on a cell that has the callee applied to so many arguments, the cell's value among them
+pub data HasApplied : Callee → ℕ → Tree → Type 0 where
+  in_update : (f : UpdateForm) (cell : Tree) (callee : Callee) (args : Trees) (m : Mark) → HasApplied callee (suc (count args)) (Update f cell callee args m)
+  in_action : (cell : Tree) (callee : Callee) (args : Trees) (m : Mark) → HasApplied callee (suc (count args)) (Send cell callee args m)
 
 -- whether a callee takes so many arguments
 abbrev pub callee_takes : List Known → Callee → ℕ → Bool
@@ -95,14 +100,15 @@ pub data HasFault (ks : List Known) (zone : Zone) (target : Target) : CheckError
   -- a number of arguments that isn't taken
   operates_on_others : (op : Op) (args : Trees) (m : Mark) → takes op (count args) ≡ false → HasFault ks zone target Arity (Core op args m)
   calls_with_others : (f : ℕ) (args : Trees) (m : Mark) → accepts (nth ks f) (count args) ≡ false → HasFault ks zone target Arity (Call f args m)
-  alters_with_others : (cell : Tree) (callee : Callee) (args : Trees) (m : Mark) → callee_takes ks callee (suc (count args)) ≡ false → HasFault ks zone target Arity (Alter cell callee args m)
-  -- a function that isn't pure, where a form on a cell calls it
-  alters_impurely : (cell : Tree) (f : ℕ) (args : Trees) (m : Mark) → is_pure (nth ks f) ≡ false → HasFault ks zone target NotPure (Alter cell (Function f) args m)
+  applies_to_others : (callee : Callee) (n : ℕ) (e : Tree) → HasApplied callee n e → callee_takes ks callee n ≡ false → HasFault ks zone target Arity e
+  -- a function that isn't pure, where a form on a cell has it applied
+  applies_impurely : (f n : ℕ) (e : Tree) → HasApplied (Function f) n e → is_pure (nth ks f) ≡ false → HasFault ks zone target NotPure e
   -- what is for transactions alone, in a future outside them
   calls_outside : (f : ℕ) (args : Trees) (m : Mark) (k : Known) → zone ≡ InFuture → nth ks f ≡ Some k → k.inside ≡ true → HasFault ks zone target InsideOnly (Call f args m)
-  alters_outside : (cell : Tree) (callee : Callee) (args : Trees) (m : Mark) → zone ≡ InFuture → HasFault ks zone target InsideOnly (Alter cell callee args m)
+  stands_outside : (f : CellForm) (e : Tree) → zone ≡ InFuture → IsForm f e → (rule f).stands ≡ Inside → HasFault ks zone target InsideOnly e
   -- what is for outside alone, in a transaction
   calls_inside : (f : ℕ) (args : Trees) (m : Mark) (k : Known) → zone ≡ InDosync → nth ks f ≡ Some k → k.outside ≡ true → HasFault ks zone target OutsideOnly (Call f args m)
+  stands_inside : (f : CellForm) (e : Tree) → zone ≡ InDosync → IsForm f e → (rule f).stands ≡ Outside → HasFault ks zone target OutsideOnly e
   prints_inside : (args : Trees) (m : Mark) → zone ≡ InDosync → HasFault ks zone target OutsideOnly (Println args m)
 
 -- a form that stands in this one, which stands so, has the fault, and the refusal's place

@@ -1,15 +1,20 @@
 -- Which programs the checks refuse, and with what: the first refusal in source order.
-use Rattle.std.specs.Prelude.{◌≡◌, ℕ, suc, Bool, true, false, not, ◌-◌, nat_lt, nat_le, nat_eq, if◌then◌else◌, List, [], ◌∷◌, ◌++◌, map, take, drop, Option, Some, None, Result, Ok, Err}
+use Rattle.std.specs.Prelude.{◌≡◌, ℕ, suc, Bool, true, false, not, ◌-◌, ◌&&◌, nat_lt, nat_le, nat_eq, if◌then◌else◌, List, [], ◌∷◌, ◌++◌, map, take, drop, Option, Some, None, Result, Ok, Err}
 use Rattle.txs_operations.specs.Core.{takes}
+use Rattle.txs_value.specs.Forms.{rule, may_stand}
 use Rattle.txs_value.specs.Limits.{most_nodes}
 use Rattle.txs_value.specs.Places.{nth}
 use Rattle.txs_value.specs.declared.fault.Span.{Span}
+use Rattle.txs_value.specs.declared.form.CellForm.{CellForm}
+use Rattle.txs_value.specs.declared.form.CellForm.TheVariants as form_of
+use Rattle.txs_value.specs.declared.form.Standing.{Standing}
+use Rattle.txs_value.specs.declared.form.Standing.TheVariants.{Outside}
 use Rattle.txs_value.specs.declared.op.Op.{Op}
 use Rattle.txs_value.specs.declared.op.Callee.{Callee}
 use Rattle.txs_value.specs.declared.op.Callee.TheVariants.{Core as CoreOp, Function}
 use Rattle.txs_tree.specs.Known.{Known, is_pure, known}
 use Rattle.txs_tree.specs.Sound.{nodes}
-use Rattle.txs_tree.specs.Tree.{Tree, Const, Local, If, Do, Let, Loop, Recur, Core, Call, VectorOf, Println, Dosync, Deref, Alter, Trees, none, more, count, PlainFunction, PlainThread, PlainProgram}
+use Rattle.txs_tree.specs.Tree.{Tree, Mark, Const, Local, If, Do, Let, Loop, Recur, Core, Call, VectorOf, Println, Dosync, Look, Put, Update, Send, Trees, none, more, count, PlainFunction, PlainThread, PlainProgram}
 use Rattle.txs_check.specs.declared.error.CheckError.{CheckError}
 use Rattle.txs_check.specs.declared.error.CheckErrorKind.{CheckErrorKind}
 use Rattle.txs_check.specs.declared.error.CheckErrorKind.TheVariants.{RecurNotTail, RecurCount, RecurAcrossDosync, Arity, NotPure, InsideOnly, OutsideOnly, CodeTooLarge}
@@ -86,21 +91,19 @@ abbrev pub called : List Known → Callee → ℕ → Span → Checked
 called ks (CoreOp op) n at = operates op n at
 called ks (Function f) n at = only (accepts (nth ks f) n) Arity at >> only (is_pure (nth ks f)) NotPure at
 
--- printing is for outside
-abbrev pub prints : Zone → Span → Checked
-prints InFunction at = fine
-prints InFuture at = fine
-prints InDosync at = refused OutsideOnly at
+-- what is for transactions alone doesn't stand in a future outside them, nor what is for outside alone in them
+abbrev pub placed : Zone → Standing → Span → Checked
+placed InFunction s at = fine
+placed InFuture s at = only (may_stand s false) InsideOnly at
+placed InDosync s at = only (may_stand s true) OutsideOnly at
 
--- setting a ref is for transactions
-abbrev pub alters : Zone → Span → Checked
-alters InFunction at = fine
-alters InFuture at = refused InsideOnly at
-alters InDosync at = fine
+-- a form on a cell stands where the table says
+abbrev pub formed : Zone → CellForm → Span → Checked
+formed zone form at = placed zone (rule form).stands at
 
--- an alter, whose callee is handed so many arguments with the ref's value
-abbrev pub alter_here : List Known → Zone → Callee → ℕ → Span → Checked
-alter_here ks zone callee n at = called ks callee n at >> alters zone at
+-- a form on a cell that applies a callee to so many arguments, the cell's value among them
+abbrev pub applied : List Known → Zone → CellForm → Callee → ℕ → Span → Checked
+applied ks zone form callee n at = called ks callee n at >> formed zone form at
 
 -- the node itself, without its parts
 abbrev pub here : List Known → Zone → Target → Tree → Checked
@@ -114,19 +117,57 @@ here ks zone target (Recur values m) = recurs target (count values) m.span
 here ks zone target (Core op args m) = operates op (count args) m.span
 here ks zone target (Call f args m) = calls ks zone f (count args) m.span
 here ks zone target (VectorOf items m) = fine
-here ks zone target (Println args m) = prints zone m.span
+-- printing is for outside
+here ks zone target (Println args m) = placed zone Outside m.span
 here ks zone target (Dosync body m) = fine
-here ks zone target (Deref cell m) = fine
-here ks zone target (Alter cell callee args m) = alter_here ks zone callee (suc (count args)) m.span
+here ks zone target (Look form cell m) = formed zone (form_of.Look form) m.span
+here ks zone target (Put form cell value m) = formed zone (form_of.Put form) m.span
+here ks zone target (Update form cell callee args m) = applied ks zone (form_of.Update form) callee (suc (count args)) m.span
+here ks zone target (Send cell callee args m) = applied ks zone form_of.Send callee (suc (count args)) m.span
 
--- ---- the walk: a node before its parts, the parts from left to right
+-- ---- the order of branches
+
+-- where a form stands in the script
+abbrev pub place_of : Tree → Span
+place_of (Const v m) = m.span
+place_of (Local i m) = m.span
+place_of (If c a b m) = m.span
+place_of (Do items m) = m.span
+place_of (Let values body m) = m.span
+place_of (Loop values body m) = m.span
+place_of (Recur values m) = m.span
+place_of (Core op args m) = m.span
+place_of (Call f args m) = m.span
+place_of (VectorOf items m) = m.span
+place_of (Println args m) = m.span
+place_of (Dosync body m) = m.span
+place_of (Look form cell m) = m.span
+place_of (Put form cell value m) = m.span
+place_of (Update form cell callee args m) = m.span
+place_of (Send cell callee args m) = m.span
+
+-- Whether the second of two branches is written first, as an `if-not` writes them: by where the choice and its branches begin.
+-- A branch that begins where the choice does is made by the expansion, as the rest of a `cond`, and stands behind the first.
+abbrev pub turned : ℕ → ℕ → ℕ → Bool
+turned whole one other = nat_lt whole other && nat_lt other one
+
+-- the same of a choice with this mark
+abbrev pub turned_in : Mark → Tree → Tree → Bool
+turned_in m a b = turned m.span.from (place_of a).from (place_of b).from
+
+-- one after the other as they are written
+abbrev pub in_turn : Bool → Checked → Checked → Checked
+in_turn false a b = a >> b
+in_turn true a b = b >> a
+
+-- ---- the walk: a node before its parts, the parts as they are written
 
 abbrev mutual
   -- a node, and then its parts: what is refused first
   pub checked : List Known → Zone → Target → Tree → Checked
   checked ks zone target (Const v m) = here ks zone target (Const v m)
   checked ks zone target (Local i m) = here ks zone target (Local i m)
-  checked ks zone target (If c a b m) = here ks zone target (If c a b m) >> (checked ks zone (inner target) c >> (checked ks zone target a >> checked ks zone target b))
+  checked ks zone target (If c a b m) = here ks zone target (If c a b m) >> (checked ks zone (inner target) c >> in_turn (turned_in m a b) (checked ks zone target a) (checked ks zone target b))
   checked ks zone target (Do items m) = here ks zone target (Do items m) >> checked_do ks zone target items
   checked ks zone target (Let values body m) = here ks zone target (Let values body m) >> (checked_all ks zone (inner target) values >> checked ks zone target body)
   -- a loop is the target of its body
@@ -137,8 +178,10 @@ abbrev mutual
   checked ks zone target (VectorOf items m) = here ks zone target (VectorOf items m) >> checked_all ks zone (inner target) items
   checked ks zone target (Println args m) = here ks zone target (Println args m) >> checked_all ks zone (inner target) args
   checked ks zone target (Dosync body m) = here ks zone target (Dosync body m) >> checked ks InDosync (across target) body
-  checked ks zone target (Deref cell m) = here ks zone target (Deref cell m) >> checked ks zone (inner target) cell
-  checked ks zone target (Alter cell callee args m) = here ks zone target (Alter cell callee args m) >> (checked ks zone (inner target) cell >> checked_all ks zone (inner target) args)
+  checked ks zone target (Look form cell m) = here ks zone target (Look form cell m) >> checked ks zone (inner target) cell
+  checked ks zone target (Put form cell value m) = here ks zone target (Put form cell value m) >> (checked ks zone (inner target) cell >> checked ks zone (inner target) value)
+  checked ks zone target (Update form cell callee args m) = here ks zone target (Update form cell callee args m) >> (checked ks zone (inner target) cell >> checked_all ks zone (inner target) args)
+  checked ks zone target (Send cell callee args m) = here ks zone target (Send cell callee args m) >> (checked ks zone (inner target) cell >> checked_all ks zone (inner target) args)
 
   -- these parts from left to right, none of them in tail position
   pub checked_all : List Known → Zone → Target → Trees → Checked

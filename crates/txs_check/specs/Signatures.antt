@@ -1,7 +1,8 @@
 -- What the table of functions says of them: all that is known but how deep they are.
 use Rattle.std.specs.Prelude.{ℕ, Bool, false, ◌==◌, ◌&&◌, ◌||◌, List, map, Option, Some, None}
 use Rattle.txs_value.specs.Places.{nth}
-use Rattle.txs_tree.specs.Known.{Known, is_inside, is_outside, is_pure, inside_in, any_inside, outside_in, any_outside, pure_in, all_pure}
+use Rattle.txs_value.specs.declared.form.Standing.{Standing}
+use Rattle.txs_tree.specs.Known.{Known, only_inside, only_outside, is_inside, is_outside, is_pure, inside_in, any_inside, outside_in, any_outside, pure_in, all_pure}
 use Rattle.txs_tree.specs.Tree.{Tree, Trees}
 use Rattle.txs_check.specs.declared.class.Class.{Class}
 use Rattle.txs_check.specs.declared.class.Signature.{Signature}
@@ -17,6 +18,10 @@ class_in ks e = record { inside = inside_in ks e; outside = outside_in ks e; pur
 -- what parts in a row are together
 abbrev pub class_in_all : List Known → Trees → Class
 class_in_all ks es = record { inside = any_inside ks es; outside = any_outside ks es; pure = all_pure ks es }
+
+-- what stands so: no form on a cell is pure
+abbrev pub class_standing : Standing → Class
+class_standing s = record { inside = only_inside s; outside = only_outside s; pure = false }
 
 -- what a call is
 abbrev pub class_known : Option Known → Class

@@ -2,12 +2,14 @@
 
 ghost use Rattle.std.specs.Prelude.{◌≡◌, false, IfOk};
 ghost use Rattle.txs_tree.specs.Known.{known};
+ghost use Rattle.txs_value.specs.Forms.{rule};
 ghost use Rattle.txs_value.specs.Places.{nth};
 ghost use Rattle.txs_tree.specs.View.{tree_of, trees_of, function_of, functions_of};
-ghost use Rattle.txs_check.specs.Signatures.{joined, class_in, class_in_all, class_known, bare, known_as, known_if};
+ghost use Rattle.txs_check.specs.Signatures.{joined, class_in, class_in_all, class_known, class_standing, bare, known_as, known_if};
 
 use std::alloc::{AllocError, Global};
 use txs_tree::{Function, Node, NodeKind};
+use txs_value::{CellForm, Standing};
 
 /// What a body is: for transactions alone, for outside alone, or pure.
 #[derive(Clone, Copy, PartialEq, Eq)]
@@ -98,6 +100,24 @@ fn class_of_function(signatures: &[Signature], number: u16) -> Class
     }
 }
 
+/// What stands so: no form on a cell is pure.
+fn class_of_standing(standing: Standing) -> Class
+    ensures { result ≡ class_standing standing }
+{
+    match standing {
+        Standing::Anywhere => IMPURE,
+        Standing::Inside => INSIDE,
+        Standing::Outside => OUTSIDE,
+    }
+}
+
+/// What a form on a cell is, without its parts.
+fn class_of_form(form: CellForm) -> Class
+    ensures { result ≡ class_standing (rule form).stands }
+{
+    class_of_standing(form.rule().stands)
+}
+
 /// What a node is, where so much is known of functions.
 #[cycle(class)]
 fn class_of(signatures: &[Signature], node: &Node) -> Class
@@ -125,10 +145,20 @@ fn class_of(signatures: &[Signature], node: &Node) -> Class
         NodeKind::Vector(items) => class_of_all(signatures, items),
         NodeKind::Println(args) => OUTSIDE.join(class_of_all(signatures, args)),
         NodeKind::Dosync(body) => class_of(signatures, body).in_transaction(),
-        NodeKind::Deref(cell) => IMPURE.join(class_of(signatures, cell)),
-        NodeKind::Alter(cell, _, args) => {
+        NodeKind::Look(form, cell) => {
+            class_of_form(CellForm::Look(*form)).join(class_of(signatures, cell))
+        }
+        NodeKind::Put(form, cell, value) => {
+            let parts = class_of(signatures, cell).join(class_of(signatures, value));
+            class_of_form(CellForm::Put(*form)).join(parts)
+        }
+        NodeKind::Update(form, cell, _, args) => {
             let parts = class_of(signatures, cell).join(class_of_all(signatures, args));
-            INSIDE.join(parts)
+            class_of_form(CellForm::Update(*form)).join(parts)
+        }
+        NodeKind::Send(agent, _, args) => {
+            let parts = class_of(signatures, agent).join(class_of_all(signatures, args));
+            class_of_form(CellForm::Send).join(parts)
         }
     }
 }

@@ -1,10 +1,10 @@
 //! Where a node stands: in a transaction or outside, and what a recur meets there.
 
 ghost use Rattle.std.specs.Prelude.{◌≡◌};
-ghost use Rattle.txs_check.specs.Refused.{inner, across, only, recurs, prints, alters};
+ghost use Rattle.txs_check.specs.Refused.{inner, across, only, recurs, placed};
 
 use crate::error::{CheckError, CheckErrorKind};
-use txs_value::Span;
+use txs_value::{Span, Standing};
 
 /// Where a node stands: in a function outside every transaction of it, in a future outside every transaction,
 /// or in a transaction.
@@ -63,18 +63,15 @@ impl Target {
 }
 
 impl Zone {
-    /// Whether a line may be printed here.
-    pub fn check_print(self, at: Span) -> Result<(), CheckError>
-        ensures { result ≡ prints self at }
+    /// Whether what stands so may stand here.
+    pub fn check_standing(self, standing: Standing, at: Span) -> Result<(), CheckError>
+        ensures { result ≡ placed self standing at }
     {
-        only(self != Zone::InDosync, CheckErrorKind::OutsideOnly, at)
-    }
-
-    /// Whether a ref may be set here.
-    pub fn check_alter(self, at: Span) -> Result<(), CheckError>
-        ensures { result ≡ alters self at }
-    {
-        only(self != Zone::InFuture, CheckErrorKind::InsideOnly, at)
+        match self {
+            Zone::InFunction => Ok(()),
+            Zone::InFuture => only(standing.allows(false), CheckErrorKind::InsideOnly, at),
+            Zone::InDosync => only(standing.allows(true), CheckErrorKind::OutsideOnly, at),
+        }
     }
 }
 

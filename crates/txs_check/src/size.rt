@@ -38,9 +38,17 @@ pub fn nodes_left(node: &Node, limit: u32) -> Option<u32>
         NodeKind::Vector(items) => all_nodes_left(items, limit - 1),
         NodeKind::Println(args) => all_nodes_left(args, limit - 1),
         NodeKind::Dosync(body) => nodes_left(body, limit - 1),
-        NodeKind::Deref(cell) => nodes_left(cell, limit - 1),
-        NodeKind::Alter(cell, _, args) => {
+        NodeKind::Look(_, cell) => nodes_left(cell, limit - 1),
+        NodeKind::Put(_, cell, value) => {
             let left = nodes_left(cell, limit - 1)?;
+            nodes_left(value, left)
+        }
+        NodeKind::Update(_, cell, _, args) => {
+            let left = nodes_left(cell, limit - 1)?;
+            all_nodes_left(args, left)
+        }
+        NodeKind::Send(agent, _, args) => {
+            let left = nodes_left(agent, limit - 1)?;
             all_nodes_left(args, left)
         }
     }

@@ -1,8 +1,8 @@
-//! The walk over a body: a node before its parts, and the parts from left to right.
+//! The walk over a body: a node before its parts, and the parts as they are written.
 
 ghost use Rattle.std.specs.Prelude.{◌≡◌, length, suc};
 ghost use Rattle.txs_tree.specs.View.{tree_of, trees_of};
-ghost use Rattle.txs_check.specs.Refused.{accepts, alter_here, called, calls, checked, checked_all, here, operates, zoned};
+ghost use Rattle.txs_check.specs.Refused.{accepts, applied, called, calls, checked, checked_all, formed, here, operates, turned, zoned};
 ghost use Rattle.txs_tree.specs.Known.{is_pure};
 ghost use Rattle.txs_check.specs.Signatures.{known_as, known_if};
 
@@ -11,7 +11,7 @@ use crate::error::{CheckError, CheckErrorKind};
 use crate::place::{Target, Zone, only};
 use txs_operations::takes;
 use txs_tree::{Node, NodeKind};
-use txs_value::{Callee, Op, Span};
+use txs_value::{Callee, CellForm, Op, Span, Standing};
 
 /// Whether the operation takes so many arguments.
 fn check_operation(op: Op, count: usize, at: Span) -> Result<(), CheckError>
@@ -88,18 +88,26 @@ fn check_callee(
     }
 }
 
-/// Whether an `alter` may stand here, with these arguments behind the ref's value.
-fn check_alter(
+/// Whether the form on a cell may stand here.
+fn check_form(zone: Zone, form: CellForm, at: Span) -> Result<(), CheckError>
+    ensures { result ≡ formed zone form at }
+{
+    zone.check_standing(form.rule().stands, at)
+}
+
+/// Whether the form on a cell may stand here and have the callee applied, with these arguments behind the cell's value.
+fn check_applied(
     signatures: &[Signature],
     zone: Zone,
+    form: CellForm,
     callee: Callee,
     args: &[Node],
     at: Span,
 ) -> Result<(), CheckError>
-    ensures { result ≡ alter_here (known_as signatures.now) zone callee (suc (length args.now)) at }
+    ensures { result ≡ applied (known_as signatures.now) zone form callee (suc (length args.now)) at }
 {
     check_callee(signatures, callee, args.len() + 1, at)?;
-    zone.check_alter(at)
+    check_form(zone, form, at)
 }
 
 /// Whether the node itself may stand here.
@@ -124,16 +132,29 @@ fn check_here(
             check_call(signatures, zone, *number, args.len(), node.span)
         }
         NodeKind::Vector(_) => Ok(()),
-        NodeKind::Println(_) => zone.check_print(node.span),
+        NodeKind::Println(_) => zone.check_standing(Standing::Outside, node.span),
         NodeKind::Dosync(_) => Ok(()),
-        NodeKind::Deref(_) => Ok(()),
-        NodeKind::Alter(_, callee, args) => {
-            check_alter(signatures, zone, *callee, args, node.span)
+        NodeKind::Look(form, _) => check_form(zone, CellForm::Look(*form), node.span),
+        NodeKind::Put(form, _, _) => check_form(zone, CellForm::Put(*form), node.span),
+        NodeKind::Update(form, _, callee, args) => {
+            let form = CellForm::Update(*form);
+            check_applied(signatures, zone, form, *callee, args, node.span)
+        }
+        NodeKind::Send(_, callee, args) => {
+            check_applied(signatures, zone, CellForm::Send, *callee, args, node.span)
         }
     }
 }
 
-/// Whether the node may stand here, and then its parts, from left to right: the first refusal is the answer.
+/// Whether the second of two branches is written first, as an `if-not` writes them: by where the choice, the first
+/// branch and the second one begin. A branch that begins where the choice does is made by an expansion.
+fn is_turned(whole: u32, first: u32, second: u32) -> bool
+    ensures { result ≡ turned whole first second }
+{
+    whole < second && second < first
+}
+
+/// Whether the node may stand here, and then its parts, as they are written: the first refusal is the answer.
 #[cycle(walk)]
 pub fn check_node(
     signatures: &[Signature],
@@ -144,40 +165,54 @@ pub fn check_node(
     ensures { result ≡ checked (known_as signatures.now) zone target (tree_of node.now) }
 {
     check_here(signatures, zone, target, node)?;
+    let inner = target.inner();
     match &node.kind {
         NodeKind::Const(_) => Ok(()),
         NodeKind::Local(_) => Ok(()),
         NodeKind::If(test, first, second) => {
-            check_node(signatures, zone, target.inner(), test)?;
-            check_node(signatures, zone, target, first)?;
-            check_node(signatures, zone, target, second)
+            check_node(signatures, zone, inner, test)?;
+            if is_turned(node.span.from, first.span.from, second.span.from) {
+                check_node(signatures, zone, target, second)?;
+                check_node(signatures, zone, target, first)
+            } else {
+                check_node(signatures, zone, target, first)?;
+                check_node(signatures, zone, target, second)
+            }
         }
         NodeKind::Do(items) => match items.split_last() {
             None => Ok(()),
             Some((last, before)) => {
-                check_all(signatures, zone, target.inner(), before)?;
+                check_all(signatures, zone, inner, before)?;
                 check_node(signatures, zone, target, last)
             }
         },
         NodeKind::Let(values, body) => {
-            check_all(signatures, zone, target.inner(), values)?;
+            check_all(signatures, zone, inner, values)?;
             check_node(signatures, zone, target, body)
         }
         NodeKind::Loop(values, body) => {
-            check_all(signatures, zone, target.inner(), values)?;
+            check_all(signatures, zone, inner, values)?;
             let own = Target::Nearest(values.len(), true);
             check_node(signatures, zone, own, body)
         }
-        NodeKind::Recur(values) => check_all(signatures, zone, target.inner(), values),
-        NodeKind::Core(_, args) => check_all(signatures, zone, target.inner(), args),
-        NodeKind::Call(_, args) => check_all(signatures, zone, target.inner(), args),
-        NodeKind::Vector(items) => check_all(signatures, zone, target.inner(), items),
-        NodeKind::Println(args) => check_all(signatures, zone, target.inner(), args),
+        NodeKind::Recur(values) => check_all(signatures, zone, inner, values),
+        NodeKind::Core(_, args) => check_all(signatures, zone, inner, args),
+        NodeKind::Call(_, args) => check_all(signatures, zone, inner, args),
+        NodeKind::Vector(items) => check_all(signatures, zone, inner, items),
+        NodeKind::Println(args) => check_all(signatures, zone, inner, args),
         NodeKind::Dosync(body) => check_node(signatures, Zone::InDosync, target.across(), body),
-        NodeKind::Deref(cell) => check_node(signatures, zone, target.inner(), cell),
-        NodeKind::Alter(cell, _, args) => {
-            check_node(signatures, zone, target.inner(), cell)?;
-            check_all(signatures, zone, target.inner(), args)
+        NodeKind::Look(_, cell) => check_node(signatures, zone, inner, cell),
+        NodeKind::Put(_, cell, value) => {
+            check_node(signatures, zone, inner, cell)?;
+            check_node(signatures, zone, inner, value)
+        }
+        NodeKind::Update(_, cell, _, args) => {
+            check_node(signatures, zone, inner, cell)?;
+            check_all(signatures, zone, inner, args)
+        }
+        NodeKind::Send(agent, _, args) => {
+            check_node(signatures, zone, inner, agent)?;
+            check_all(signatures, zone, inner, args)
         }
     }
 }

@@ -1,2 +1,3 @@
 pub mod Heads
+pub mod Nearest
 pub mod Scopes

@@ -1,11 +1,11 @@
 -- The names in scope as a list whose nearest is first.
-use Rattle.std.proofs.Common.{◌≡◌, ◌≤◌, ◌<◌, ◌+◌, ◌-◌, ℕ, suc, List, [], ◌∷◌, ◌++◌, Option, None, Some, length, take, drop, get_or, map, reverse, cond, bytes_eq, refl, sym, ap, ◌∙◌, arith, length-drop}
+use Rattle.std.proofs.Common.{◌≡◌, ◌<◌, ◌+◌, ◌-◌, ℕ, List, [], ◌∷◌, ◌++◌, Option, None, Some, length, take, drop, get_or, map, reverse, cond, bytes_eq, refl, sym, ap, ◌∙◌, arith, length-drop}
 use Rattle.std.proofs.lemmas.List.{reverse-append, length-reverse, take-append-drop, take-map, map_more, length-map, length-take-le}
 use Rattle.std.proofs.lemmas.Cmp.{nat_list_eq_equiv}
 use Rattle.std.specs.Borrow.{Bor}
 use Rattle.std.specs.Map.{lookup}
 use Rattle.std.specs.Option.{option_copied}
-use Rattle.txs_names.specs.Scope.{number_in, definition_of, Entry}
+use Rattle.txs_names.specs.Scope.{number_in, definition_of}
 use Rattle.txs_names.specs.Viewed.{entries_of, lent}
 use Rattle.txs_names.specs.declared.scope.Definition.{Definition}
 

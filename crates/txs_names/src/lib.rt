@@ -6,6 +6,7 @@
 //! lists of its names.
 #![tactic(auto)]
 
+pub mod law;
 pub mod names;
 pub mod scope;
 

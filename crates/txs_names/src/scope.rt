@@ -9,15 +9,15 @@ use crate::names::{FormName, form_of, has_dot, operation_of};
 use indexmap::IndexMap;
 use std::alloc::{AllocError, Global};
 use std::marker::Model;
-use txs_value::{Name, Op, Value};
+use txs_value::{CellId, Name, Op, Value};
 
 /// What a name is defined as.
 #[derive(Drop)]
 pub enum Definition {
     /// A constant.
     Constant(Value),
-    /// A ref, by its number among the cells.
-    Cell(u16),
+    /// A cell.
+    Cell(CellId),
     /// A function, by its number, and how many levels its body has, with those of the functions that it calls.
     Function(u16, u16),
 }

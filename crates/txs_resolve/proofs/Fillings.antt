@@ -6,7 +6,7 @@ use Rattle.txs_value.specs.declared.op.Callee.{Callee}
 use Rattle.txs_reader.specs.declared.form.Form.{Form}
 use Rattle.txs_reader.specs.Tree.{Tree as FormTree, first, place, tree, parts}
 use Rattle.txs_reader.specs.Tree.{none as no_forms}
-use Rattle.txs_tree.specs.Tree.{Tree, Trees, Mark, Let, more, none, Deref, Dosync, Alter, Core as CoreNode}
+use Rattle.txs_tree.specs.Tree.{Tree, Trees, Mark, Let, Put, more, none, Core as CoreNode}
 use Rattle.txs_tree.specs.View.{tree_of, trees_of}
 use Rattle.txs_tree.specs.declared.node.Node.{Node}
 use Rattle.txs_names.specs.declared.names.FormName.TheVariants as kind
@@ -15,7 +15,11 @@ use Rattle.txs_resolve.specs.declared.error.ResolveError.{ResolveError}
 use Rattle.txs_resolve.specs.declared.error.ResolveErrorKind.TheVariants.{TooMany}
 use Rattle.txs_resolve.specs.declared.error.Stop.{Stop}
 use Rattle.txs_resolve.specs.declared.error.Stop.TheVariants.{Refused, Memory}
+use Rattle.txs_resolve.specs.declared.nodes.Change.{Change}
+use Rattle.txs_resolve.specs.declared.nodes.Couple.{Couple}
+use Rattle.txs_resolve.specs.declared.nodes.Couple.TheVariants as couple
 use Rattle.txs_resolve.specs.declared.nodes.Sequence.{Sequence}
+use Rattle.txs_resolve.specs.declared.nodes.Single.{Single}
 use Rattle.txs_resolve.specs.declared.nodes.Spot.{Spot}
 use Rattle.txs_resolve.specs.declared.parts.Part.{Part}
 use Rattle.txs_resolve.specs.declared.parts.Part.TheVariants as part
@@ -23,10 +27,10 @@ use Rattle.txs_resolve.specs.declared.parts.Special.{Special}
 use Rattle.txs_resolve.specs.declared.parts.Special.TheVariants as special
 use Rattle.txs_resolve.specs.Answers.{◌>>=◌, refuse}
 use Rattle.txs_resolve.specs.Expansions.{alone, body, expand_once, hidden}
-use Rattle.txs_resolve.specs.Expressions.{Answer, Bound, Core, whole, parted, Resolver, are_wanted, bound_name, binding_node, choice_node, core_of, made, named, named_all, named_bindings, narrow, put_together, resolved, sequence_node, spot_at, spot_mark}
+use Rattle.txs_resolve.specs.Expressions.{Answer, Bound, Core, whole, parted, Resolver, are_wanted, bound_name, binding_node, callee_of, change_node, changing, choice_node, core_of, is_wanted, made, named, named_all, named_bindings, narrow, put_together, resolved, sequence_node, single_node, spot_at, spot_mark}
 use Rattle.txs_resolve.specs.Given.{Fills, Pushes, PushesAll, PushesBound}
-use Rattle.txs_resolve.specs.Parts.{IsMade, hidden_choice, part_form, plain, special_form}
-use Rattle.txs_resolve.proofs.Building.{parts_plain}
+use Rattle.txs_resolve.specs.Parts.{IsMade, couple_node, hidden_choice, part_form, plain, special_form}
+use Rattle.txs_resolve.proofs.Building.{parts_plain, roomy}
 
 -- ---- the definition, one level at a time
 
@@ -91,6 +95,10 @@ pub passed_filling : (s : Stop) (form : Special) (before mid now : List Node) (m
 passed_filling (Refused e) form before mid now m a b h go = go e h
 passed_filling Memory form before mid now m a b h go = tt
 
+pub passed_items : (s : Stop) (before mid now after : List Node) (a : Answer Trees) (b : Answer Tree) → PushesAll (Err s) before mid a → ((e : ResolveError) → a ≡ Err e → b ≡ Err e) → Pushes (Err s) now after b
+passed_items (Refused e) before mid now after a b h go = go e h
+passed_items Memory before mid now after a b h go = tt
+
 -- ---- nodes in a row
 
 started : (before now ns : List Node) → before ≡ [] → now ≡ before ++ ns → now ≡ ns
@@ -98,14 +106,11 @@ started before now ns empty is = is ∙ ap (λ (b : List Node). b ++ ns) empty
 
 pub remade : (form : Special) (ns : List Node) (m n : Mark) (t : Tree) → IsMade form ns m t → (u : Tree) × IsMade form ns n u
 remade (special.Row k fs) ns m n t h = (sequence_node k (trees_of ns) n, refl)
-remade (special.Reading f) ns m n t h = (Deref (tree_of h.0) n, (h.0, h.1, refl))
-remade (special.Transaction fs) ns m n t h = (Dosync (tree_of h.0) n, (h.0, h.1, refl))
-remade (special.Pair op fs f) ns m n t h = (CoreNode op (trees_of ns) n, refl)
+remade (special.Single k p) ns m n t h = (single_node k (tree_of h.0) n, (h.0, h.1, refl))
+remade (special.Pair k p f) ns m n t h = (couple_node k (tree_of h.0) (tree_of h.1) n, (h.0, h.1, h.2, refl))
 remade (special.Choice turned a b c) ns m n t h = (choice_node turned (tree_of h.0) (tree_of h.1) (tree_of h.2) n, (h.0, h.1, h.2, h.3, refl))
 remade (special.Binding is_loop pairs fs) ns m n t h = (binding_node is_loop (trees_of h.0) (tree_of h.1) n, (h.0, h.1, h.2, refl))
 remade (special.Hidden is_or f rest) ns m n t h = (binding_node false (trees_of h.0) (tree_of h.1) n, (h.0, h.1, h.2, refl))
-remade (special.Change f (Ok callee) fs) ns m n t h = (Alter (tree_of h.0) callee (trees_of h.1) n, (h.0, h.1, h.2, refl))
-remade (special.Change f (Err e) fs) ns m n t h = absurd h
 
 -- ---- one form after the other, put together
 
@@ -133,27 +138,66 @@ module _ (s : Spot) (scope : Scope) where
       ∙ ap (λ (b : Bool). narrow (parts (plain fs.now)) s (named_all by scope b l (plain fs.now))) w_is
       ∙ ap (λ (b : Bool). narrow (parts (plain fs.now)) s (named_all by scope (are_wanted k) b (plain fs.now))) l_is) h)
 
-  reading_by : (r : Result (Unit {0}) Stop) (f : Bor Form) (before now : List Node) (m : Mark) (a : Answer Tree) → before ≡ [] → Pushes r before now a → Fills r (special.Reading f) now m (a >>= λ cell. Ok (Deref cell m))
-  reading_by (Ok u) f before now m a empty h = (Deref (tree_of h.0) m, (h.0, started before now (h.0 ∷ []) empty h.1, refl), ap (λ (o : Answer Tree). o >>= λ cell. Ok (Deref cell m)) h.2)
-  reading_by (Err (Refused e)) f before now m a empty h = ap (λ (o : Answer Tree). o >>= λ cell. Ok (Deref cell m)) h
-  reading_by (Err Memory) f before now m a empty h = tt
+  single_by : (r : Result (Unit {0}) Stop) (k : Single) (p : Part) (before now : List Node) (m : Mark) (a : Answer Tree) → before ≡ [] → Pushes r before now a
+      → Fills r (special.Single k p) now m (a >>= λ node. Ok (single_node k node m))
+  single_by (Ok u) k p before now m a empty h =
+      (single_node k (tree_of h.0) m, (h.0, started before now (h.0 ∷ []) empty h.1, refl), ap (λ (o : Answer Tree). o >>= λ node. Ok (single_node k node m)) h.2)
+  single_by (Err (Refused e)) k p before now m a empty h = ap (λ (o : Answer Tree). o >>= λ node. Ok (single_node k node m)) h
+  single_by (Err Memory) k p before now m a empty h = tt
 
-  pub reading_filled : (r : Result (Unit {0}) Stop) (f : Bor Form) (before now : List Node) (i : Spot) → i ≡ spot_at (s.room - 1) s.span true → before ≡ []
-      → Pushes r before now (named i.room scope i.wanted (part_form i.span (part.Written f)))
-      → Fills r (special.Reading f) now (spot_mark s) (put_together by scope s (special_form s.span (special.Reading f)))
-  reading_filled r f before now i is empty h =
-      reading_by r f before now (spot_mark s) (by scope true (tree f.now)) empty (subst (Pushes r before now) (at_spot i (s.room - 1) s.span true scope (part.Written f) is) h)
+  pub single_filled : (r : Result (Unit {0}) Stop) (k : Single) (p : Part) (before now : List Node) (i : Spot) (w : Bool) → w ≡ (is_wanted k || s.wanted) → i ≡ spot_at (s.room - 1) s.span w → before ≡ []
+      → Pushes r before now (named i.room scope i.wanted (part_form i.span p))
+      → Fills r (special.Single k p) now (spot_mark s) (put_together by scope s (special_form s.span (special.Single k p)))
+  single_filled r k p before now i w w_is is empty h =
+      single_by r k p before now (spot_mark s) (by scope (is_wanted k || s.wanted) (part_form s.span p)) empty
+      (subst (Pushes r before now) (at_spot i (s.room - 1) s.span w scope p is ∙ ap (λ (b : Bool). by scope b (part_form s.span p)) w_is) h)
 
-  transaction_by : (r : Result (Unit {0}) Stop) (fs : Bor (List Form)) (before now : List Node) (m : Mark) (a : Answer Tree) → before ≡ [] → Pushes r before now a → Fills r (special.Transaction fs) now m (a >>= λ node. Ok (Dosync node m))
-  transaction_by (Ok u) fs before now m a empty h = (Dosync (tree_of h.0) m, (h.0, started before now (h.0 ∷ []) empty h.1, refl), ap (λ (o : Answer Tree). o >>= λ node. Ok (Dosync node m)) h.2)
-  transaction_by (Err (Refused e)) fs before now m a empty h = ap (λ (o : Answer Tree). o >>= λ node. Ok (Dosync node m)) h
-  transaction_by (Err Memory) fs before now m a empty h = tt
+  -- two parts
+  abbrev pair_by : Couple → Answer Tree → Answer Tree → Answer Tree
+  pair_by (couple.Core op) a b = (a >>= λ x. (b >>= λ y. Ok (more y none)) >>= λ ys. Ok (more x ys)) >>= λ nodes. Ok (CoreNode op nodes (spot_mark s))
+  pair_by (couple.Put form) a b = a >>= λ x. b >>= λ y. Ok (Put form x y (spot_mark s))
 
-  pub transaction_filled : (r : Result (Unit {0}) Stop) (fs : Bor (List Form)) (before now : List Node) (i : Spot) → i ≡ spot_at (s.room - 1) s.span s.wanted → before ≡ []
-      → Pushes r before now (named i.room scope i.wanted (part_form i.span (part.List kind.Do fs)))
-      → Fills r (special.Transaction fs) now (spot_mark s) (put_together by scope s (special_form s.span (special.Transaction fs)))
-  transaction_filled r fs before now i is empty h =
-      transaction_by r fs before now (spot_mark s) (by scope s.wanted (body (plain fs.now) s.span)) empty (subst (Pushes r before now) (at_spot i (s.room - 1) s.span s.wanted scope (part.List kind.Do fs) is) h)
+  pair_whole : (k : Couple) (p : Part) (f : Bor Form) → put_together by scope s (special_form s.span (special.Pair k p f)) ≡ pair_by k (by scope true (part_form s.span p)) (by scope true (tree f.now))
+  pair_whole (couple.Core op) p f = refl
+  pair_whole (couple.Put form) p f = refl
+
+  pair_ok : (k : Couple) (x y : Tree) → pair_by k (Ok x) (Ok y) ≡ Ok (couple_node k x y (spot_mark s))
+  pair_ok (couple.Core op) x y = refl
+  pair_ok (couple.Put form) x y = refl
+
+  pair_err : (k : Couple) (x : Tree) (e : ResolveError) → pair_by k (Ok x) (Err e) ≡ Err e
+  pair_err (couple.Core op) x e = refl
+  pair_err (couple.Put form) x e = refl
+
+  pair_stop : (k : Couple) (b : Answer Tree) (e : ResolveError) → pair_by k (Err e) b ≡ Err e
+  pair_stop (couple.Core op) b e = refl
+  pair_stop (couple.Put form) b e = refl
+
+  pub pair_stops : (k : Couple) (p : Part) (f : Bor Form) (i : Spot) (e : ResolveError) → i ≡ spot_at (s.room - 1) s.span true
+      → named i.room scope i.wanted (part_form i.span p) ≡ Err e → put_together by scope s (special_form s.span (special.Pair k p f)) ≡ Err e
+  pair_stops k p f i e is h =
+      pair_whole k p f ∙ ap (λ (z : Answer Tree). pair_by k z (by scope true (tree f.now))) (sym (at_spot i (s.room - 1) s.span true scope p is) ∙ h) ∙ pair_stop k (by scope true (tree f.now)) e
+
+  pair_last : (r : Result (Unit {0}) Stop) (k : Couple) (p : Part) (f : Bor Form) (before now : List Node) (x : Node) (b : Answer Tree) → before ≡ x ∷ [] → Pushes r before now b
+      → Fills r (special.Pair k p f) now (spot_mark s) (pair_by k (Ok (tree_of x)) b)
+  pair_last (Ok u) k p f before now x b is h = (
+    couple_node k (tree_of x) (tree_of h.0) (spot_mark s),
+    (x, h.0, h.1 ∙ ap (λ (l : List Node). l ++ h.0 ∷ []) is, refl),
+    ap (pair_by k (Ok (tree_of x))) h.2 ∙ pair_ok k (tree_of x) (tree_of h.0),
+  )
+  pair_last (Err (Refused e)) k p f before now x b is h = ap (pair_by k (Ok (tree_of x))) h ∙ pair_err k (tree_of x) e
+  pair_last (Err Memory) k p f before now x b is h = tt
+
+  pub pair_filled : (r : Result (Unit {0}) Stop) (k : Couple) (p : Part) (f : Bor Form) (one : Scope) (p0 p1 p2 : List Node) (i : Spot) (x : Node)
+      → i ≡ spot_at (s.room - 1) s.span true → one ≡ scope → p0 ≡ [] → p1 ≡ p0 ++ x ∷ []
+      → named i.room scope i.wanted (part_form i.span p) ≡ Ok (tree_of x)
+      → Pushes r p1 p2 (named i.room one i.wanted (part_form i.span (part.Written f)))
+      → Fills r (special.Pair k p f) p2 (spot_mark s) (put_together by scope s (special_form s.span (special.Pair k p f)))
+  pair_filled r k p f one p0 p1 p2 i x i_is kept empty is1 a h =
+      let second = subst (Pushes r p1 p2) (at_spot i (s.room - 1) s.span true one (part.Written f) i_is ∙ ap (λ z. by z true (tree f.now)) kept) h in
+      subst (Fills r (special.Pair k p f) p2 (spot_mark s))
+      (sym (pair_whole k p f ∙ ap (λ (z : Answer Tree). pair_by k z (by scope true (tree f.now))) (sym (at_spot i (s.room - 1) s.span true scope p i_is) ∙ a)))
+      (pair_last r k p f p1 p2 x (by scope true (tree f.now)) (started p0 p1 (x ∷ []) empty is1) second)
 
   -- the two branches of a choice behind its test
   abbrev choice_by : Bool → Answer Tree → Answer Tree → Answer Tree → Answer Tree
@@ -186,29 +230,37 @@ module _ (s : Spot) (scope : Scope) where
       ∙ ap (λ (z : Answer Tree). choice_by turned (Ok (tree_of x)) z (by scope s.wanted (part_form s.span o))) second_is))
       (choice_last r turned p q o p2 p3 x y (by scope s.wanted (part_form s.span o)) row third)
 
-  abbrev change_by : Answer Tree → Answer Callee → Answer Trees → Answer Tree
-  change_by a called b = a >>= λ cell. called >>= λ callee. b >>= λ nodes. Ok (Alter cell callee nodes (spot_mark s))
+  -- a form that calls something
+  abbrev change_by : Change → Answer Tree → Answer Callee → Answer Trees → Answer Tree
+  change_by k a called b = a >>= λ cell. called >>= λ callee. b >>= λ nodes. Ok (change_node k cell callee nodes (spot_mark s))
 
-  change_last : (r : Result (Unit {0}) Stop) (f : Bor Form) (callee : Callee) (fs : Bor (List Form)) (before now : List Node) (x : Node) (c : Answer Trees) → before ≡ x ∷ [] → PushesAll r before now c
-      → Fills r (special.Change f (Ok callee) fs) now (spot_mark s) (change_by (Ok (tree_of x)) (Ok callee) c)
-  change_last (Ok u) f callee fs before now x c is h =
-      (Alter (tree_of x) callee (trees_of h.0) (spot_mark s), (x, h.0, h.1 ∙ ap (λ (l : List Node). l ++ h.0) is, refl), ap (change_by (Ok (tree_of x)) (Ok callee)) h.2)
-  change_last (Err (Refused e)) f callee fs before now x c is h = ap (change_by (Ok (tree_of x)) (Ok callee)) h
-  change_last (Err Memory) f callee fs before now x c is h = tt
+  module _ (some : s.room ≡ 0 → ⊥) (k : Change) (r f : Bor Form) (args : Bor (List Form)) where
+    abbrev pub changed_whole : Answer Tree
+    changed_whole = made by scope s (parted (changing k (tree r.now) (tree f.now) (plain args.now)))
 
-  pub change_filled : (r : Result (Unit {0}) Stop) (f : Bor Form) (callee : Callee) (fs : Bor (List Form)) (one : Scope) (p0 p1 p2 : List Node) (i : Spot) (x : Node)
-      → i ≡ spot_at (s.room - 1) s.span true → one ≡ scope → p0 ≡ [] → p1 ≡ p0 ++ x ∷ []
-      → named i.room scope i.wanted (part_form i.span (part.Written f)) ≡ Ok (tree_of x)
-      → PushesAll r p1 p2 (narrow (length p1 + length fs.now) s (named_all by one true true (plain fs.now)))
-      → Fills r (special.Change f (Ok callee) fs) p2 (spot_mark s) (put_together by scope s (special_form s.span (special.Change f (Ok callee) fs)))
-  change_filled r f callee fs one p0 p1 p2 i x i_is kept empty is1 a h =
-      let args = plain fs.now in
-      let row = started p0 p1 (x ∷ []) empty is1 in
-      let count : length p1 + length fs.now ≡ suc (parts args) = omega (arith, parts_plain fs.now, ap (λ (l : List Node). length l) row) in
-      let last = subst (PushesAll r p1 p2) (ap (λ (n : ℕ). narrow n s (named_all by one true true args)) count ∙ ap (λ z. narrow (suc (parts args)) s (named_all by z true true args)) kept) h in
-      subst (Fills r (special.Change f (Ok callee) fs) p2 (spot_mark s))
-      (sym (ap (λ (z : Answer Tree). change_by z (Ok callee) (narrow (suc (parts args)) s (named_all by scope true true args))) (sym (at_spot i (s.room - 1) s.span true scope (part.Written f) i_is) ∙ a)))
-      (change_last r f callee fs p1 p2 x (narrow (suc (parts args)) s (named_all by scope true true args)) row last)
+    abbrev row_of : Scope → ℕ → Answer Trees
+    row_of one n = narrow n s (named_all by one true true (plain args.now))
+
+    changed_is : changed_whole ≡ change_by k (by scope true (tree r.now)) (callee_of scope s (tree f.now)) (row_of scope (suc (parts (plain args.now))))
+    changed_is = roomy s (change_by k (by scope true (tree r.now)) (callee_of scope s (tree f.now)) (row_of scope (suc (parts (plain args.now))))) some
+
+    module _ (i : Spot) (i_is : i ≡ spot_at (s.room - 1) s.span true) where
+      cell_is : (o : Answer Tree) → named i.room scope i.wanted (part_form i.span (part.Written r)) ≡ o → by scope true (tree r.now) ≡ o
+      cell_is o h = sym (at_spot i (s.room - 1) s.span true scope (part.Written r) i_is) ∙ h
+
+      module _ (x : Node) (a : named i.room scope i.wanted (part_form i.span (part.Written r)) ≡ Ok (tree_of x)) (one : Scope) (kept : one ≡ scope) where
+        called_is : (o : Answer Callee) → callee_of one s (tree f.now) ≡ o → changed_whole ≡ change_by k (Ok (tree_of x)) o (row_of scope (suc (parts (plain args.now))))
+        called_is o h =
+            changed_is
+            ∙ ap (λ (z : Answer Tree). change_by k z (callee_of scope s (tree f.now)) (row_of scope (suc (parts (plain args.now))))) (cell_is (Ok (tree_of x)) a)
+            ∙ ap (λ (z : Answer Callee). change_by k (Ok (tree_of x)) z (row_of scope (suc (parts (plain args.now))))) (ap (λ z. callee_of z s (tree f.now)) (sym kept) ∙ h)
+
+        pub args_then : (callee : Callee) (o : Answer Trees) (n : ℕ) → callee_of one s (tree f.now) ≡ Ok callee → n ≡ suc (length args.now) → row_of one n ≡ o
+            → changed_whole ≡ (o >>= λ nodes. Ok (change_node k (tree_of x) callee nodes (spot_mark s)))
+        args_then callee o n called count h =
+            called_is (Ok callee) called
+            ∙ ap (change_by k (Ok (tree_of x)) (Ok callee))
+            (ap (row_of scope) (ap suc (parts_plain args.now) ∙ sym count) ∙ ap (λ z. row_of z n) (sym kept) ∙ h)
 
   abbrev binding_by : Bool → FormTree → Answer Bound → Answer Tree
   binding_by is_loop forms a = a >>= λ bound. by bound.scope s.wanted forms >>= λ node. Ok (binding_node is_loop bound.values node (spot_mark s))

@@ -5,7 +5,7 @@ use Rattle.txs_value.specs.Places.{nth}
 use Rattle.txs_value.specs.declared.op.Callee.{Callee}
 use Rattle.txs_value.specs.declared.op.Callee.TheVariants.{Core as CoreOp, Function}
 use Rattle.txs_tree.specs.Known.{Known, callee_levels, levels, levels_in, levels_of}
-use Rattle.txs_tree.specs.Tree.{Tree, Trees, Const, Local, If, Do, Let, Loop, Recur, Core, Call, VectorOf, Println, Dosync, Deref, Alter, none, more}
+use Rattle.txs_tree.specs.Tree.{Tree, Trees, Const, Local, If, Do, Let, Loop, Recur, Core, Call, VectorOf, Println, Dosync, Look, Put, Update, Send, none, more}
 use Rattle.txs_resolve.specs.Depths.{at_place, callee_depth, depths, depths_in}
 
 beyond : (ls : List ℕ) (n : ℕ) → length ls ≤ n → at_place ls n ≡ 0
@@ -59,8 +59,10 @@ module _ (ks : List Known) where
     depths_levels (VectorOf items m) = omega (arith, depths_all items)
     depths_levels (Println args m) = omega (arith, depths_all args)
     depths_levels (Dosync body m) = omega (arith, depths_levels body)
-    depths_levels (Deref cell m) = omega (arith, depths_levels cell)
-    depths_levels (Alter cell callee args m) = omega (arith, callee_same callee, depths_levels cell, depths_all args)
+    depths_levels (Look form cell m) = omega (arith, depths_levels cell)
+    depths_levels (Put form cell value m) = omega (arith, depths_levels cell, depths_levels value)
+    depths_levels (Update form cell callee args m) = omega (arith, callee_same callee, depths_levels cell, depths_all args)
+    depths_levels (Send cell callee args m) = omega (arith, callee_same callee, depths_levels cell, depths_all args)
 
     depths_all : (ts : Trees) → depths_in (known_levels ks) ts ≡ levels_in ks ts
     depths_all none = refl

@@ -1,4 +1,5 @@
 pub mod Building
+pub mod Defining
 pub mod Fillings
 pub mod HiddenLocals
 pub mod Laws
@@ -10,5 +11,6 @@ pub mod ScopedScripts
 pub mod Scoping
 pub mod Singles
 pub mod Stops
+pub mod Symbols
 pub mod Tables
 pub mod Tops

@@ -1,28 +1,30 @@
 -- What a script defines is scoped, form by form.
-use Rattle.std.proofs.Common.{◌≡◌, ◌<◌, ◌≤◌, ◌+◌, ℕ, zero, suc, Bool, true, false, nat_lt, if◌then◌else◌, List, [], ◌∷◌, ◌++◌, length, Option, Some, None, Ok, Err, refl, sym, ap, subst, length-append, arith}
+use Rattle.std.proofs.Common.{◌≡◌, ◌<◌, ◌≤◌, ◌+◌, ℕ, zero, suc, true, false, nat_lt, if◌then◌else◌, List, [], ◌∷◌, ◌++◌, length, Option, Some, None, Ok, Err, refl, sym, ap, subst, length-append, arith}
 use Rattle.txs_value.specs.Limits.{most_depth, most_levels}
 use Rattle.txs_value.specs.Places.{nth}
 use Rattle.txs_value.specs.declared.cell.CellDefinition.{CellDefinition}
 use Rattle.txs_value.specs.declared.fault.Span.{Span}
 use Rattle.txs_value.specs.declared.op.Callee.{Callee}
 use Rattle.txs_value.specs.declared.op.Callee.TheVariants.{Core as CoreOp, Function as TheFunction}
+use Rattle.txs_value.specs.declared.value.CellId.{CellId}
 use Rattle.txs_value.specs.declared.value.Value.{Value}
 use Rattle.txs_reader.specs.declared.form.Bracket.TheVariants.{Round, Square}
 use Rattle.txs_reader.specs.Tree.{Tree as Form, Trees as Forms, leaf, group, first, number, symbol, nil, truth, text, keyword}
 use Rattle.txs_reader.specs.Tree.{none as no_forms}
 use Rattle.txs_tree.specs.Known.{Known, callee_levels, levels, levels_in, levels_of, known, known_from, known_of}
 use Rattle.txs_tree.specs.Scoped.{Scoped, ScopedCallee, ScopedTree, ScopedAll, ScopedLet, ScopedFunction, ScopedFunctions, ScopedThread, ScopedThreads}
-use Rattle.txs_tree.specs.Tree.{Tree, Trees, Const, Local, If, Do, Let, Loop, Recur, Core, Call, VectorOf, Println, Dosync, Deref, Alter, none, more, count, PlainFunction, PlainThread, PlainProgram}
+use Rattle.txs_tree.specs.Tree.{Tree, Trees, Const, Local, If, Do, Let, Loop, Recur, Core, Call, VectorOf, Println, Dosync, Look, Put, Update, Send, none, more, count, PlainFunction, PlainThread, PlainProgram}
 use Rattle.txs_tree.proofs.Callable.{length-known}
 use Rattle.txs_resolve.specs.declared.error.ResolveErrorKind.TheVariants.{BadForm, TooMany}
 use Rattle.txs_names.specs.declared.names.FormName.{FormName}
 use Rattle.txs_names.specs.declared.names.FormName.TheVariants as kind
 use Rattle.txs_names.specs.declared.scope.Definition.{Definition}
 use Rattle.txs_names.specs.declared.scope.Definition.TheVariants.{Constant, Cell as ACell, Function as AFunction}
+use Rattle.txs_resolve.specs.declared.definition.CellSort.{CellSort}
 use Rattle.txs_resolve.specs.Expansions.{body, form_at}
 use Rattle.txs_resolve.specs.Expressions.{Answer, named}
 use Rattle.txs_resolve.specs.Literals.{literal}
-use Rattle.txs_resolve.specs.Names.{State, nothing, program, new_name, Defining, defining_of, new_ref, with_constant, with_ref, with_definition, defined_as_one, NamedForm, named_form, defined_at, define, parameter, parameters, Written, written, with_function, function, with_thread, future, top_level, step, steps, behind_namespace, named_script, Resolves}
+use Rattle.txs_resolve.specs.Names.{State, nothing, program, new_name, Defining, defining_of, new_cell, with_constant, with_definition, defined_as_one, NamedForm, named_form, defined_at, define, parameter, parameters, Written, written, with_function, function, with_thread, future, top_level, step, steps, behind_namespace, named_script, Resolves}
 use Rattle.txs_resolve.specs.Answers.{◌>>=◌, refuse}
 use Rattle.txs_names.specs.Scope.{Scope, Entry, may_bind}
 use Rattle.txs_resolve.specs.Scripts.{IsKnown, AreKnown, ScopedState}
@@ -74,8 +76,10 @@ module _ (ks ls : List Known) where
     tree_front (VectorOf items m) d h = (h.0, all_front items d h.1)
     tree_front (Println args m) d h = (h.0, all_front args d h.1)
     tree_front (Dosync body m) d h = tree_front body d h
-    tree_front (Deref cell m) d h = tree_front cell d h
-    tree_front (Alter cell callee args m) d h = (tree_front cell d h.0, callee_front callee h.1, h.2, all_front args d h.3)
+    tree_front (Look form cell m) d h = tree_front cell d h
+    tree_front (Put form cell value m) d h = (tree_front cell d h.0, tree_front value d h.1)
+    tree_front (Update form cell callee args m) d h = (tree_front cell d h.0, callee_front callee h.1, h.2, all_front args d h.3)
+    tree_front (Send cell callee args m) d h = (tree_front cell d h.0, callee_front callee h.1, h.2, all_front args d h.3)
 
     all_front : (ts : Trees) (d : ℕ) → ScopedAll ks d ts → ScopedAll (ks ++ ls) d ts
     all_front none d h = tt
@@ -99,8 +103,10 @@ module _ (ks ls : List Known) where
     same_levels (VectorOf items m) d h = omega (arith, same_all items d h.1)
     same_levels (Println args m) d h = omega (arith, same_all args d h.1)
     same_levels (Dosync body m) d h = omega (arith, same_levels body d h)
-    same_levels (Deref cell m) d h = omega (arith, same_levels cell d h)
-    same_levels (Alter cell callee args m) d h = omega (arith, same_levels cell d h.0, callee_same callee h.1, same_all args d h.3)
+    same_levels (Look form cell m) d h = omega (arith, same_levels cell d h)
+    same_levels (Put form cell value m) d h = omega (arith, same_levels cell d h.0, same_levels value d h.1)
+    same_levels (Update form cell callee args m) d h = omega (arith, same_levels cell d h.0, callee_same callee h.1, same_all args d h.3)
+    same_levels (Send cell callee args m) d h = omega (arith, same_levels cell d h.0, callee_same callee h.1, same_all args d h.3)
 
     same_all : (ts : Trees) (d : ℕ) → ScopedAll ks d ts → levels_in (ks ++ ls) ts ≡ levels_in ks ts
     same_all none d h = refl
@@ -164,19 +170,8 @@ constant_scoped s name v h lt = record {
   few_threads = h.few_threads;
 }
 
-pub ref_scoped : (s : State) (name : List ℕ) (v : Value) → ScopedState s → s.defs < 1000 → ScopedState (with_ref s name v)
-ref_scoped s name v h lt = record {
-  functions = h.functions;
-  threads = h.threads;
-  known = entries_known (known s.functions) s.defined (record { name = name; what = ACell (length s.cells) }) h.known tt;
-  few_cells = omega (arith, h.few_cells, length-append s.cells (new_ref name v ∷ []));
-  few_defs = omega (arith, lt);
-  few_functions = h.few_functions;
-  few_threads = h.few_threads;
-}
-
 -- a cell is defined, whatever it is and whatever number it is given
-pub cell_scoped : (s : State) (cells : List CellDefinition) (name : List ℕ) (n : ℕ) → ScopedState s → s.defs < 1000 → length cells ≡ suc (length s.cells)
+pub cell_scoped : (s : State) (cells : List CellDefinition) (name : List ℕ) (n : CellId) → ScopedState s → s.defs < 1000 → length cells ≡ suc (length s.cells)
     → ScopedState (record { defined = s.defined ++ record { name = name; what = ACell n } ∷ []; cells = cells; functions = s.functions; threads = s.threads; defs = suc s.defs })
 cell_scoped s cells name n h lt longer = record {
   functions = h.functions;
@@ -188,17 +183,18 @@ cell_scoped s cells name n h lt longer = record {
   few_threads = h.few_threads;
 }
 
-definition_scoped : (is_ref : Bool) (s : State) (name : List ℕ) (v : Value) → ScopedState s → s.defs < 1000 → ScopedState (with_definition is_ref s name v)
-definition_scoped false s name v h lt = constant_scoped s name v h lt
-definition_scoped true s name v h lt = ref_scoped s name v h lt
+definition_scoped : (sort : Option CellSort) (s : State) (name : List ℕ) (v : Value) → ScopedState s → s.defs < 1000 → ScopedState (with_definition sort s name v)
+definition_scoped None s name v h lt = constant_scoped s name v h lt
+definition_scoped (Some sort) s name v h lt =
+    cell_scoped s (s.cells ++ new_cell name sort v ∷ []) name (record { kind = sort.kind; number = length s.cells }) h lt (omega (arith, length-append s.cells (new_cell name sort v ∷ [])))
 
 defined_scoped : (s : State) (name : List ℕ) (at span : Span) (o : Option Defining) → ScopedState s → Every ScopedState (defined_as_one s name at span o)
 defined_scoped s name at span None h = tt
 defined_scoped s name at span (Some d) h =
     let v = literal most_depth d.value in
     let n = new_name s.defined name at in
-    if_every ScopedState (nat_lt s.defs 1000) (v >>= λ x. n >>= λ y. Ok (with_definition d.is_ref s y x)) (record { kind = TooMany; at = span })
-    (λ lt. two_every Anything Anything ScopedState v n (λ x y. with_definition d.is_ref s y x) (anything v) (anything n) (λ x y p q. definition_scoped d.is_ref s y x h (is_less s.defs 1000 lt)))
+    if_every ScopedState (nat_lt s.defs 1000) (v >>= λ x. n >>= λ y. Ok (with_definition d.sort s y x)) (record { kind = TooMany; at = span })
+    (λ lt. two_every Anything Anything ScopedState v n (λ x y. with_definition d.sort s y x) (anything v) (anything n) (λ x y p q. definition_scoped d.sort s y x h (is_less s.defs 1000 lt)))
 
 named_scoped : (s : State) (span : Span) (o : Option NamedForm) → ScopedState s → Every ScopedState (defined_at s span o)
 named_scoped s span None h = tt

@@ -5,6 +5,8 @@ use Rattle.std.specs.List.{list_any}
 use Rattle.txs_value.specs.Operations.{op_name}
 use Rattle.txs_value.specs.Places.{nth}
 use Rattle.txs_value.specs.declared.fault.Span.{Span}
+use Rattle.txs_value.specs.declared.form.CellForm.{CellForm}
+use Rattle.txs_value.specs.declared.form.CellForm.TheVariants as on_cell
 use Rattle.txs_value.specs.declared.op.Op.{Op}
 use Rattle.txs_value.specs.declared.op.Callee.{Callee}
 use Rattle.txs_value.specs.declared.op.Callee.TheVariants.{Core as CoreOp, Function as TheFunction}
@@ -15,19 +17,23 @@ use Rattle.txs_reader.specs.Tree.{Tree as Form, Trees as Forms, Leaf, leaf, grou
 use Rattle.txs_reader.specs.Tree.{none as no_forms}
 use Rattle.txs_tree.specs.Known.{Known, levels, levels_in, levels_of}
 use Rattle.txs_tree.specs.Scoped.{ScopedTree, ScopedAll, ScopedLet}
-use Rattle.txs_tree.specs.Tree.{Tree, Trees, Mark, Const, Local, Dosync, Deref, Alter, more, count}
+use Rattle.txs_tree.specs.Tree.{Tree, Trees, Mark, Const, Local, Put, more, count}
 use Rattle.txs_tree.proofs.Callable.{nth-length}
 use Rattle.txs_resolve.specs.declared.error.ResolveError.{ResolveError}
 use Rattle.txs_resolve.specs.declared.error.ResolveErrorKind.TheVariants.{BadForm, TooMany}
 use Rattle.txs_names.specs.declared.names.FormName.{FormName}
 use Rattle.txs_names.specs.declared.names.FormName.TheVariants as kind
+use Rattle.txs_resolve.specs.declared.nodes.Change.{Change}
+use Rattle.txs_resolve.specs.declared.nodes.Change.TheVariants as change_by
+use Rattle.txs_resolve.specs.declared.nodes.Single.{Single}
+use Rattle.txs_resolve.specs.declared.nodes.Single.TheVariants as single
 use Rattle.txs_resolve.specs.declared.nodes.Sequence.{Sequence}
 use Rattle.txs_resolve.specs.declared.nodes.Sequence.TheVariants as sequence
 use Rattle.txs_resolve.specs.declared.nodes.Spot.{Spot}
 use Rattle.txs_names.specs.declared.scope.Definition.{Definition}
 use Rattle.txs_names.specs.declared.scope.Definition.TheVariants.{Constant, Cell as ACell, Function as AFunction}
 use Rattle.txs_resolve.specs.Expansions.{alone, body, expand_once, form_at}
-use Rattle.txs_resolve.specs.Expressions.{Answer, Bound, Special, row, reading, transaction, choice, binding, change, Core as ACore, whole, parted, Resolver, spot_at, spot_mark, some_room, in_room, narrow, ref_id, symbol_node, leaf_value, leaf_node, callee_at, callee_of, flag, sequence_node, are_wanted, choice_node, binding_node, are_pairs, special, applied, list_core, core_of, bound_name, named_all, named_bindings, put_together, made, resolved, named}
+use Rattle.txs_resolve.specs.Expressions.{Answer, Bound, Special, row, one_part, putting, choice, binding, changing, Core as ACore, whole, parted, Resolver, spot_at, spot_mark, some_room, in_room, narrow, symbol_node, leaf_value, leaf_node, callee_at, callee_of, flag, sequence_node, are_wanted, choice_node, single_node, is_wanted, change_node, binding_node, are_pairs, cell_form, of_family, special, applied, list_core, core_of, bound_name, named_all, named_bindings, put_together, made, resolved, named}
 use Rattle.txs_resolve.specs.Answers.{◌>>=◌, refuse}
 use Rattle.txs_names.specs.Scope.{Scope, Entry, with_local, number_in, local_number, definition_of, is_current, with_name, form_name, form_names, operations, is_dot, may_bind, Meaning, a_form, dotted, a_local, the_current, defined_as, operation, unknown, or_form, or_local, or_defined, or_unknown, meaning}
 use Rattle.txs_resolve.specs.Scripts.{IsKnown, AreKnown}
@@ -198,7 +204,7 @@ module _ (ks : List Known) where
   symbol_placed d (a_local i) s h = room_every (Placed d s.room) s (Ok (Local i (spot_mark s))) (λ lt. (h, omega (arith, lt)))
   symbol_placed d the_current s h = tt
   symbol_placed d (defined_as (Constant v)) s h = room_every (Placed d s.room) s (Ok (Const v (spot_mark s))) (λ lt. (tt, omega (arith, lt)))
-  symbol_placed d (defined_as (ACell k)) s h = room_every (Placed d s.room) s (Ok (Const (Cell (ref_id k)) (spot_mark s))) (λ lt. (tt, omega (arith, lt)))
+  symbol_placed d (defined_as (ACell k)) s h = room_every (Placed d s.room) s (Ok (Const (Cell k) (spot_mark s))) (λ lt. (tt, omega (arith, lt)))
   symbol_placed d (defined_as (AFunction n l)) s h = tt
   symbol_placed d (operation op) s h = tt
   symbol_placed d unknown s h = tt
@@ -293,35 +299,40 @@ module _ (ks : List Known) where
   abbrev Fit : ℕ → ACore → Type 0
   Fit room (whole x) = Unit {0}
   Fit room (parted (row k forms)) = RowFits k room (parts forms)
-  Fit room (parted (reading r)) = Unit {0}
-  Fit room (parted (transaction forms)) = Unit {0}
+  Fit room (parted (one_part k form)) = Unit {0}
+  Fit room (parted (putting form r e)) = Unit {0}
   Fit room (parted (choice turned c a b)) = Unit {0}
   Fit room (parted (binding is_loop pairs forms)) = Unit {0}
-  Fit room (parted (change r callee args)) = Every (CalleeFits room) callee
+  Fit room (parted (changing k r f args)) = Unit {0}
 
-  special_fits : (f : FormName) (args : Forms) (scope : Scope) (s : Spot) → InScope scope → Every (Fit s.room) (special f scope s args)
-  special_fits kind.If (first c (first a no_forms)) scope s h = tt
-  special_fits kind.If (first c (first a (first b no_forms))) scope s h = tt
-  special_fits kind.IfNot (first c (first a no_forms)) scope s h = tt
-  special_fits kind.IfNot (first c (first a (first b no_forms))) scope s h = tt
-  special_fits kind.Do (first e rest) scope s h = omega arith
-  special_fits kind.Let (first (group Square pairs at) forms) scope s h =
+  family_fits : (o : Option CellForm) (args : Forms) (at : Span) (room : ℕ) → Every (Fit room) (of_family o at args)
+  family_fits (Some (on_cell.Look form)) (first r no_forms) at room = tt
+  family_fits (Some (on_cell.Put form)) (first r (first e no_forms)) at room = tt
+  family_fits (Some (on_cell.Update form)) (first r (first f args)) at room = tt
+  family_fits (Some on_cell.Send) (first r (first f args)) at room = tt
+  family_fits _ _ at room = tt
+
+  special_fits : (f : FormName) (args : Forms) (s : Spot) → Every (Fit s.room) (special f s args)
+  special_fits kind.If (first c (first a no_forms)) s = tt
+  special_fits kind.If (first c (first a (first b no_forms))) s = tt
+  special_fits kind.IfNot (first c (first a no_forms)) s = tt
+  special_fits kind.IfNot (first c (first a (first b no_forms))) s = tt
+  special_fits kind.Do (first e rest) s = omega arith
+  special_fits kind.Let (first (group Square pairs at) forms) s =
       if_every (Fit s.room) (are_pairs pairs) (Ok (parted (binding false pairs (body forms s.span)))) (record { kind = BadForm; at = s.span }) (λ yes. tt)
-  special_fits kind.Loop (first (group Square pairs at) forms) scope s h =
+  special_fits kind.Loop (first (group Square pairs at) forms) s =
       if_every (Fit s.room) (are_pairs pairs) (Ok (parted (binding true pairs (body forms s.span)))) (record { kind = BadForm; at = s.span }) (λ yes. tt)
-  special_fits kind.Recur args scope s h = tt
-  special_fits kind.Println args scope s h = tt
-  special_fits kind.Dosync forms scope s h = tt
-  special_fits kind.Deref (first r no_forms) scope s h = tt
-  special_fits kind.Alter (first r (first f args)) scope s h = callee_of_fits scope s f h
-  special_fits _ _ scope s h = tt
+  special_fits kind.Recur args s = tt
+  special_fits kind.Println args s = tt
+  special_fits kind.Dosync forms s = tt
+  special_fits name args s = family_fits (cell_form name) args s.span s.room
 
   applied_fits : (callee : Callee) (room : ℕ) (head : Form) (args : Forms) (at : Span) → CalleeFits room callee → Fit room (applied callee head args at)
   applied_fits (CoreOp op) room head args at h = tt
   applied_fits (TheFunction n) room head args at h = h
 
   list_fits : (o : Option FormName) (scope : Scope) (s : Spot) (head : Form) (args : Forms) → InScope scope → Every (Fit s.room) (list_core o scope s head args)
-  list_fits (Some f) scope s head args h = special_fits f args scope s h
+  list_fits (Some f) scope s head args h = special_fits f args s
   list_fits None scope s head args h =
       room_every (Fit s.room) s (callee_of scope s head >>= λ callee. Ok (applied callee head args s.span))
       (λ lt. one_every (CalleeFits s.room) (Fit s.room) (callee_of scope s head) (λ callee. applied callee head args s.span) (callee_of_fits scope s head h)
@@ -382,9 +393,15 @@ module _ (ks : List Known) where
   row_placed (sequence.Core op) d low n room m ts lt fits h = ((subst (λ k. k ≤ 65535) (sym h.1.2) h.0, h.1.0), omega (arith, lt, h.1.1))
   row_placed (sequence.Call f) d low n room m ts lt fits h = ((fits.0, h.1.0), omega (arith, lt, h.1.1, fits.1))
 
-  alter_placed : (d low room n : ℕ) (cell : Tree) (callee : Callee) (args : Trees) (m : Mark) → low < room → suc n ≤ 65535 → Placed d low cell → CalleeFits room callee → AllPlaced d low n args → Placed d room (Alter cell callee args m)
-  alter_placed d low room n cell (CoreOp op) args m lt le p q t = ((p.0, tt, omega (arith, le, t.2), t.0), omega (arith, lt, p.1, t.1))
-  alter_placed d low room n cell (TheFunction f) args m lt le p q t = ((p.0, q.0, omega (arith, le, t.2), t.0), omega (arith, lt, p.1, t.1, q.1))
+  single_placed : (k : Single) (d low room : ℕ) (part : Tree) (m : Mark) → low < room → Placed d low part → Placed d room (single_node k part m)
+  single_placed single.Dosync d low room part m lt p = (p.0, omega (arith, lt, p.1))
+  single_placed (single.Look form) d low room part m lt p = (p.0, omega (arith, lt, p.1))
+
+  change_placed : (k : Change) (d low room n : ℕ) (cell : Tree) (callee : Callee) (args : Trees) (m : Mark) → low < room → suc n ≤ 65535 → Placed d low cell → CalleeFits room callee → AllPlaced d low n args → Placed d room (change_node k cell callee args m)
+  change_placed (change_by.Update form) d low room n cell (CoreOp op) args m lt le p q t = ((p.0, tt, omega (arith, le, t.2), t.0), omega (arith, lt, p.1, t.1))
+  change_placed (change_by.Update form) d low room n cell (TheFunction f) args m lt le p q t = ((p.0, q.0, omega (arith, le, t.2), t.0), omega (arith, lt, p.1, t.1, q.1))
+  change_placed change_by.Send d low room n cell (CoreOp op) args m lt le p q t = ((p.0, tt, omega (arith, le, t.2), t.0), omega (arith, lt, p.1, t.1))
+  change_placed change_by.Send d low room n cell (TheFunction f) args m lt le p q t = ((p.0, q.0, omega (arith, le, t.2), t.0), omega (arith, lt, p.1, t.1, q.1))
 
   module _ (scope : Scope) (s : Spot) (h : InScope scope) (low : ℕ) (by : Resolver) (lt : low < s.room) (each : Deeper low by) where
     put_placed : (form : Special) → Fit s.room (parted form) → Every (Placed (length scope.locals) s.room) (put_together by scope s form)
@@ -394,12 +411,14 @@ module _ (ks : List Known) where
         one_every (Narrow d low (parts forms)) (Placed d s.room) (narrow (parts forms) s items) (λ nodes. sequence_node k nodes (spot_mark s))
         (narrow_every (Narrow d low (parts forms)) (parts forms) s items (λ le. counted d low (parts forms) items le (all_placed low by each scope (are_wanted k) (are_wanted k || s.wanted) forms h)))
         (λ ts all. row_placed k d low (parts forms) s.room (spot_mark s) ts lt fits all)
-    put_placed (reading r) fits =
+    put_placed (one_part k form) fits =
         let d = length scope.locals in
-        one_every (Placed d low) (Placed d s.room) (by scope true r) (λ cell. Deref cell (spot_mark s)) (each scope true r h) (λ cell p. (p.0, omega (arith, lt, p.1)))
-    put_placed (transaction forms) fits =
+        let wanted = is_wanted k || s.wanted in
+        one_every (Placed d low) (Placed d s.room) (by scope wanted form) (λ node. single_node k node (spot_mark s)) (each scope wanted form h) (λ node p. single_placed k d low s.room node (spot_mark s) lt p)
+    put_placed (putting form r e) fits =
         let d = length scope.locals in
-        one_every (Placed d low) (Placed d s.room) (by scope s.wanted forms) (λ node. Dosync node (spot_mark s)) (each scope s.wanted forms h) (λ node p. (p.0, omega (arith, lt, p.1)))
+        two_every (Placed d low) (Placed d low) (Placed d s.room) (by scope true r) (by scope true e) (λ x y. Put form x y (spot_mark s)) (each scope true r h) (each scope true e h)
+        (λ x y p q. ((p.0, q.0), omega (arith, lt, p.1, q.1)))
     put_placed (choice turned c a b) fits =
         let d = length scope.locals in
         three_every (Placed d low) (Placed d low) (Placed d low) (Placed d s.room) (by scope true c) (by scope s.wanted a) (by scope s.wanted b) (λ x y z. choice_node turned x y z (spot_mark s))
@@ -412,15 +431,15 @@ module _ (ks : List Known) where
         (λ b p. one_every (Placed (length b.scope.locals) low) (Placed d s.room) (by b.scope s.wanted forms) (λ node. binding_node is_loop b.values node (spot_mark s))
         (each b.scope s.wanted forms (record { known = p.known; few = p.few }))
         (λ node q. binding_placed is_loop d (length b.scope.locals) low s.room b.values node (spot_mark s) lt p.values p.levels p.locals q))
-    put_placed (change r callee args) fits =
+    put_placed (changing k r f args) fits =
         let d = length scope.locals in
         let n = parts args in
         let items = named_all by scope true true args in
-        three_every (Placed d low) (CalleeFits s.room) (λ ts. (suc n ≤ 65535) × AllPlaced d low n ts) (Placed d s.room) (by scope true r) callee (narrow (suc n) s items) (λ x y z. Alter x y z (spot_mark s))
-        (each scope true r h) fits
+        three_every (Placed d low) (CalleeFits s.room) (λ ts. (suc n ≤ 65535) × AllPlaced d low n ts) (Placed d s.room) (by scope true r) (callee_of scope s f) (narrow (suc n) s items) (λ x y z. change_node k x y z (spot_mark s))
+        (each scope true r h) (callee_of_fits scope s f h)
         (narrow_every (λ ts. (suc n ≤ 65535) × AllPlaced d low n ts) (suc n) s items
         (λ le. one_all items le (all_placed low by each scope true true args h)))
-        (λ x y z p q t. alter_placed d low s.room n x y z (spot_mark s) lt t.0 p q t.1) where
+        (λ x y z p q t. change_placed k d low s.room n x y z (spot_mark s) lt t.0 p q t.1) where
           one_all : {n : ℕ} (o : Answer Trees) → suc n ≤ 65535 → Every (AllPlaced (length scope.locals) low n) o → Every (λ ts. (suc n ≤ 65535) × AllPlaced (length scope.locals) low n ts) o
           one_all (Ok ts) le h = (le, h)
           one_all (Err e) le h = tt

@@ -1,6 +1,9 @@
 -- What a list is, by the name at its head and by how many parts it has.
 use Rattle.std.proofs.Common.{◌≡◌, ◌≤◌, ◌<◌, ◌%◌, ◌&&◌, ℕ, zero, suc, Bool, true, false, List, [], ◌∷◌, ◌++◌, Option, Some, None, Ok, if◌then◌else◌, length, nat_lt, refl, sym, ap, subst, ◌∙◌, arith}
 use Rattle.txs_value.specs.declared.fault.Span.{Span}
+use Rattle.txs_value.specs.declared.form.CellForm.TheVariants as on_cell
+use Rattle.txs_value.specs.declared.form.LookForm.{LookForm}
+use Rattle.txs_value.specs.declared.form.PutForm.{PutForm}
 use Rattle.txs_value.specs.declared.op.Op.{Op}
 use Rattle.txs_reader.specs.declared.form.Bracket.TheVariants.{Round}
 use Rattle.txs_reader.specs.declared.form.Form.{Form}
@@ -14,7 +17,7 @@ use Rattle.txs_resolve.specs.declared.nodes.Sequence.TheVariants as sequence
 use Rattle.txs_resolve.specs.declared.nodes.Spot.{Spot}
 use Rattle.txs_resolve.specs.Answers.{refuse}
 use Rattle.txs_resolve.specs.Expansions.{body, expand_once, expansion, expansion_by, form_at, hidden, is_even, is_zero, list, or_same, three, two}
-use Rattle.txs_resolve.specs.Expressions.{Answer, Core, parted, row, reading, choice, binding, all_but_last, core_of, folds, is_chain, last_of, list_core, operands, special}
+use Rattle.txs_resolve.specs.Expressions.{Answer, Core, parted, row, choice, binding, all_but_last, core_of, folds, is_chain, last_of, list_core, of_family, operands, special}
 use Rattle.txs_resolve.specs.Parts.{choice_name, first_or_nil, hidden_choice, logic_name, plain, table}
 use Rattle.txs_resolve.proofs.Building.{parts_plain}
 
@@ -58,7 +61,7 @@ module _ (scope : Scope) (s : Spot) where
   -- a form by its name, whatever its head looks like
   abbrev by_name : FormName → Forms → Option FormTree → Answer Core
   by_name name args (Some form) = core_of scope s form
-  by_name name args None = special name scope s args
+  by_name name args None = special name s args
 
   by_head : (name : FormName) (head : FormTree) (args : Forms) (at : Span) → form_at head ≡ Some name
       → core_of scope s (expand_once (group Round (first head args) at)) ≡ by_name name args (expansion name args at)
@@ -117,13 +120,15 @@ module _ (scope : Scope) (s : Spot) where
   logic_one true e [] one = refl
   logic_one is_or e (f ∷ fs) one = absurd (omega (arith, one))
 
-  pub reading_many : (e : Form) (fs : List Form) → (length fs ≡ 0 → ⊥) → refuse BadForm s.span ≡ table kind.Deref scope s (plain (e ∷ fs))
-  reading_many e [] some = absurd (some refl)
-  reading_many e (f ∷ fs) some = refl
+-- ---- forms on cells
 
-  pub reading_one : (e : Form) (fs : List Form) → length fs ≡ 0 → Ok (parted (reading (tree e))) ≡ table kind.Deref scope s (plain (e ∷ fs))
-  reading_one e [] one = refl
-  reading_one e (f ∷ fs) one = absurd (omega (arith, one))
+pub looks_far : (form : LookForm) (at : Span) (r : FormTree) (fs : List Form) → (length fs ≡ 0 → ⊥) → refuse BadForm at ≡ of_family (Some (on_cell.Look form)) at (first r (plain fs))
+looks_far form at r [] some = absurd (some refl)
+looks_far form at r (f ∷ fs) some = refl
+
+pub puts_more : (form : PutForm) (at : Span) (r : FormTree) (e : Form) (fs : List Form) → (length fs ≡ 0 → ⊥) → refuse BadForm at ≡ of_family (Some (on_cell.Put form)) at (first r (plain (e ∷ fs)))
+puts_more form at r e [] some = absurd (some refl)
+puts_more form at r e (f ∷ fs) some = refl
 
 -- ---- chains
 

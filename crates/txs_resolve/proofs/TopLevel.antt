@@ -1,12 +1,12 @@
 -- What the parts of a top-level form are.
-use Rattle.std.proofs.Common.{◌≡◌, ℕ, true, false, List, [], ◌∷◌, length, slice_index_or, Some, None, Err, refl, arith}
+use Rattle.std.proofs.Common.{◌≡◌, ℕ, false, List, [], ◌∷◌, length, slice_index_or, Some, None, Err, refl, arith}
 use Rattle.txs_value.specs.declared.fault.Span.{Span}
 use Rattle.txs_reader.specs.declared.form.Form.{Form}
 use Rattle.txs_reader.specs.Tree.{tree, leaf, symbol, first}
-use Rattle.txs_names.specs.declared.names.FormName.TheVariants.{Ns, Ref}
+use Rattle.txs_names.specs.declared.names.FormName.TheVariants.{Ns}
 use Rattle.txs_resolve.specs.Expressions.{Answer, is_symbol}
 use Rattle.txs_resolve.specs.Given.{Gives, GivesLocals, Leaves}
-use Rattle.txs_resolve.specs.Names.{named_form, names_space, ref_of, only_literal}
+use Rattle.txs_resolve.specs.Names.{named_form, names_space}
 use Rattle.txs_resolve.specs.declared.error.ResolveError.{ResolveError}
 use Rattle.txs_resolve.specs.declared.error.Stop.{Stop}
 use Rattle.txs_resolve.specs.declared.error.Stop.TheVariants.{Refused, Memory}
@@ -36,16 +36,6 @@ pub one_name : (fs : List Form) (d : Form) → length fs ≡ 1 → names_space (
 one_name [] d h = absurd (omega (arith, h))
 one_name (f ∷ []) d h = refl
 one_name (f ∷ g ∷ fs) d h = absurd (omega (arith, h))
-
-pub not_one_opening : (fs : List Form) → (length fs ≡ 1 → ⊥) → ref_of (Some Ref) (plain fs) ≡ None
-not_one_opening [] h = refl
-not_one_opening (f ∷ []) h = absurd (h refl)
-not_one_opening (f ∷ g ∷ fs) h = refl
-
-pub one_opening : (fs : List Form) (d : Form) → length fs ≡ 1 → ref_of (Some Ref) (plain fs) ≡ only_literal true (tree (slice_index_or fs 0 d))
-one_opening [] d h = absurd (omega (arith, h))
-one_opening (f ∷ []) d h = refl
-one_opening (f ∷ g ∷ fs) d h = absurd (omega (arith, h))
 
 pub failed_binding : {C : Type 0} (s : Stop) (names : List (List ℕ)) (now : C) (a : Answer (List (List ℕ))) (b : Answer C) → GivesLocals (Err s) names a → ((e : ResolveError) → a ≡ Err e → b ≡ Err e) → Leaves (Err s) now b
 failed_binding (Refused e) names now a b h go = go e h

@@ -2,7 +2,7 @@
 use Rattle.std.specs.Prelude.{ℕ, zero, suc, max, List, [], ◌∷◌}
 use Rattle.txs_value.specs.declared.op.Callee.{Callee}
 use Rattle.txs_value.specs.declared.op.Callee.TheVariants.{Core as CoreOp, Function}
-use Rattle.txs_tree.specs.Tree.{Tree, Const, Local, If, Do, Let, Loop, Recur, Core, Call, VectorOf, Println, Dosync, Deref, Alter, Trees, none, more}
+use Rattle.txs_tree.specs.Tree.{Tree, Const, Local, If, Do, Let, Loop, Recur, Core, Call, VectorOf, Println, Dosync, Look, Put, Update, Send, Trees, none, more}
 
 -- the number at a place, nought where there is none
 abbrev pub at_place : List ℕ → ℕ → ℕ
@@ -30,8 +30,10 @@ abbrev mutual
   depths ls (VectorOf items m) = suc (depths_in ls items)
   depths ls (Println args m) = suc (depths_in ls args)
   depths ls (Dosync body m) = suc (depths ls body)
-  depths ls (Deref cell m) = suc (depths ls cell)
-  depths ls (Alter cell callee args m) = suc (max (callee_depth ls callee) (max (depths ls cell) (depths_in ls args)))
+  depths ls (Look form cell m) = suc (depths ls cell)
+  depths ls (Put form cell value m) = suc (max (depths ls cell) (depths ls value))
+  depths ls (Update form cell callee args m) = suc (max (callee_depth ls callee) (max (depths ls cell) (depths_in ls args)))
+  depths ls (Send cell callee args m) = suc (max (callee_depth ls callee) (max (depths ls cell) (depths_in ls args)))
 
   -- the most of these, which stand beside one another
   pub depths_in : List ℕ → Trees → ℕ

@@ -6,21 +6,29 @@ use Rattle.txs_value.specs.declared.op.Op.{Op}
 use Rattle.txs_value.specs.declared.op.Op.TheVariants.{Add, Subtract, Multiply}
 use Rattle.txs_value.specs.declared.op.Callee.{Callee}
 use Rattle.txs_value.specs.declared.op.Callee.TheVariants.{Core as CoreOp, Function as TheFunction}
-use Rattle.txs_value.specs.declared.value.CellId.{CellId}
-use Rattle.txs_value.specs.declared.value.CellKind.TheVariants.{Ref}
+use Rattle.txs_value.specs.declared.form.CellForm.{CellForm}
+use Rattle.txs_value.specs.declared.form.CellForm.TheVariants as on_cell
+use Rattle.txs_value.specs.declared.form.LookForm.TheVariants.{Deref, Ensure}
+use Rattle.txs_value.specs.declared.form.PutForm.{PutForm}
+use Rattle.txs_value.specs.declared.form.PutForm.TheVariants.{RefSet, Reset}
+use Rattle.txs_value.specs.declared.form.UpdateForm.TheVariants.{Alter, Commute, Swap}
 use Rattle.txs_value.specs.declared.value.Value.{Value}
 use Rattle.txs_value.specs.declared.value.Value.TheVariants.{Nil, Truth, Int, Text, Key, Cell}
 use Rattle.txs_reader.specs.declared.form.Bracket.TheVariants.{Round, Square}
 use Rattle.txs_reader.specs.Tree.{Tree as Form, Trees as Forms, Leaf, leaf, group, first, place, number, symbol, nil, truth, text, keyword, parts}
 use Rattle.txs_reader.specs.Tree.{none as no_forms}
-use Rattle.txs_tree.specs.Tree.{Tree, Trees, Mark, Const, Local, If, Do, Let, Loop, Recur, Core as CoreNode, Call, VectorOf, Println, Dosync, Deref, Alter, none, more}
+use Rattle.txs_tree.specs.Tree.{Tree, Trees, Mark, Const, Local, If, Do, Let, Loop, Recur, Core as CoreNode, Call, VectorOf, Println, Dosync, Look, Put, Update, Send, none, more}
 use Rattle.txs_tree.specs.View.{mark_of}
 use Rattle.txs_resolve.specs.declared.error.ResolveError.{ResolveError}
 use Rattle.txs_resolve.specs.declared.error.ResolveErrorKind.TheVariants.{UnknownName, BadForm, NotCallable, LocalCalled, SelfCall, TooMany}
 use Rattle.txs_names.specs.declared.names.FormName.{FormName}
 use Rattle.txs_names.specs.declared.names.FormName.TheVariants as kind
+use Rattle.txs_resolve.specs.declared.nodes.Change.{Change}
+use Rattle.txs_resolve.specs.declared.nodes.Change.TheVariants as change_by
 use Rattle.txs_resolve.specs.declared.nodes.Sequence.{Sequence}
 use Rattle.txs_resolve.specs.declared.nodes.Sequence.TheVariants as sequence
+use Rattle.txs_resolve.specs.declared.nodes.Single.{Single}
+use Rattle.txs_resolve.specs.declared.nodes.Single.TheVariants as single
 use Rattle.txs_resolve.specs.declared.nodes.Spot.{Spot}
 use Rattle.txs_names.specs.declared.scope.Definition.TheVariants.{Constant, Cell as ACell, Function as AFunction}
 use Rattle.txs_resolve.specs.Answers.{◌>>=◌, refuse}
@@ -58,15 +66,11 @@ narrow n s next = if nat_lt most_items n then refuse TooMany s.span else next
 
 -- ---- symbols and literals
 
--- the ref of this number
-abbrev pub ref_id : ℕ → CellId
-ref_id k = record { kind = Ref; number = k }
-
 -- what a symbol is as a value: a local, a constant or a cell
 abbrev pub symbol_node : Meaning → Spot → Answer Tree
 symbol_node (a_local i) s = in_room s (Ok (Local i (spot_mark s)))
 symbol_node (defined_as (Constant v)) s = in_room s (Ok (Const v (spot_mark s)))
-symbol_node (defined_as (ACell k)) s = in_room s (Ok (Const (Cell (ref_id k)) (spot_mark s)))
+symbol_node (defined_as (ACell c)) s = in_room s (Ok (Const (Cell c) (spot_mark s)))
 symbol_node unknown s = refuse UnknownName s.span
 symbol_node _ s = refuse BadForm s.span
 
@@ -128,6 +132,21 @@ abbrev pub choice_node : Bool → Tree → Tree → Tree → Mark → Tree
 choice_node false test a b m = If test a b m
 choice_node true test a b m = If test b a m
 
+-- a transaction, or a form that reads the cell
+abbrev pub single_node : Single → Tree → Mark → Tree
+single_node single.Dosync body m = Dosync body m
+single_node (single.Look form) cell m = Look form cell m
+
+-- whether the result of its part is wanted whatever becomes of its own: that of a cell is, that of a body isn't
+abbrev pub is_wanted : Single → Bool
+is_wanted single.Dosync = false
+is_wanted (single.Look form) = true
+
+-- a form that gives the cell what is called makes of its value and the arguments, or that sends it
+abbrev pub change_node : Change → Tree → Callee → Trees → Mark → Tree
+change_node (change_by.Update form) cell callee args m = Update form cell callee args m
+change_node change_by.Send cell callee args m = Send cell callee args m
+
 -- a `let`, or a `loop`
 abbrev pub binding_node : Bool → Trees → Tree → Mark → Tree
 binding_node false values body m = Let values body m
@@ -139,16 +158,16 @@ binding_node true values body m = Loop values body m
 pub data Special : Type 0 where
   -- these forms in order
   row : Sequence → Forms → Special
-  -- the cell that is read
-  reading : Form → Special
-  -- the body
-  transaction : Form → Special
+  -- the body of a transaction, or the cell that is read
+  one_part : Single → Form → Special
+  -- the cell, and the value that it is given
+  putting : PutForm → Form → Form → Special
   -- whether the branches are turned, the test, and the two branches
   choice : Bool → Form → Form → Form → Special
   -- whether a recur comes back to it, names and values in turn, and the body that sees them
   binding : Bool → Forms → Form → Special
   -- the cell, what is called, and its further arguments
-  change : Form → Answer Callee → Forms → Special
+  changing : Change → Form → Form → Forms → Special
 
 -- what a form is when no more is to expand: one without parts, or a special form
 pub data Core : Type 0 where
@@ -170,21 +189,39 @@ are_pairs (first binder (first e rest)) = is_symbol binder && are_pairs rest
 abbrev pub bound_in : Bool → Spot → Forms → Forms → Answer Core
 bound_in is_loop s pairs forms = if are_pairs pairs then Ok (parted (binding is_loop pairs (body forms s.span))) else refuse BadForm s.span
 
--- a special form, by its name and its parts: a `when` without a test, a top-level form and what trees have no node for are none
-abbrev pub special : FormName → Scope → Spot → Forms → Answer Core
-special kind.If scope s (first c (first a no_forms)) = Ok (parted (choice false c a (leaf nil s.span)))
-special kind.If scope s (first c (first a (first b no_forms))) = Ok (parted (choice false c a b))
-special kind.IfNot scope s (first c (first a no_forms)) = Ok (parted (choice true c a (leaf nil s.span)))
-special kind.IfNot scope s (first c (first a (first b no_forms))) = Ok (parted (choice true c a b))
-special kind.Do scope s (first e rest) = Ok (parted (row sequence.Do (first e rest)))
-special kind.Let scope s (first (group Square pairs at) forms) = bound_in false s pairs forms
-special kind.Loop scope s (first (group Square pairs at) forms) = bound_in true s pairs forms
-special kind.Recur scope s args = Ok (parted (row sequence.Recur args))
-special kind.Println scope s args = Ok (parted (row sequence.Println args))
-special kind.Dosync scope s forms = Ok (parted (transaction (body forms s.span)))
-special kind.Deref scope s (first r no_forms) = Ok (parted (reading r))
-special kind.Alter scope s (first r (first f args)) = Ok (parted (change r (callee_of scope s f) args))
-special _ scope s _ = refuse BadForm s.span
+-- the forms on cells, by their names
+abbrev pub cell_form : FormName → Option CellForm
+cell_form kind.Deref = Some (on_cell.Look Deref)
+cell_form kind.Ensure = Some (on_cell.Look Ensure)
+cell_form kind.RefSet = Some (on_cell.Put RefSet)
+cell_form kind.Reset = Some (on_cell.Put Reset)
+cell_form kind.Alter = Some (on_cell.Update Alter)
+cell_form kind.Commute = Some (on_cell.Update Commute)
+cell_form kind.Swap = Some (on_cell.Update Swap)
+cell_form kind.Send = Some on_cell.Send
+cell_form _ = None
+
+-- a form on a cell, by what its family wants behind the cell: nothing, a value, or what is called and its arguments
+abbrev pub of_family : Option CellForm → Span → Forms → Answer Core
+of_family (Some (on_cell.Look form)) at (first r no_forms) = Ok (parted (one_part (single.Look form) r))
+of_family (Some (on_cell.Put form)) at (first r (first e no_forms)) = Ok (parted (putting form r e))
+of_family (Some (on_cell.Update form)) at (first r (first f args)) = Ok (parted (changing (change_by.Update form) r f args))
+of_family (Some on_cell.Send) at (first r (first f args)) = Ok (parted (changing change_by.Send r f args))
+of_family _ at _ = refuse BadForm at
+
+-- a special form, by its name and its parts: a `when` without a test and a top-level form are none
+abbrev pub special : FormName → Spot → Forms → Answer Core
+special kind.If s (first c (first a no_forms)) = Ok (parted (choice false c a (leaf nil s.span)))
+special kind.If s (first c (first a (first b no_forms))) = Ok (parted (choice false c a b))
+special kind.IfNot s (first c (first a no_forms)) = Ok (parted (choice true c a (leaf nil s.span)))
+special kind.IfNot s (first c (first a (first b no_forms))) = Ok (parted (choice true c a b))
+special kind.Do s (first e rest) = Ok (parted (row sequence.Do (first e rest)))
+special kind.Let s (first (group Square pairs at) forms) = bound_in false s pairs forms
+special kind.Loop s (first (group Square pairs at) forms) = bound_in true s pairs forms
+special kind.Recur s args = Ok (parted (row sequence.Recur args))
+special kind.Println s args = Ok (parted (row sequence.Println args))
+special kind.Dosync s forms = Ok (parted (one_part single.Dosync (body forms s.span)))
+special name s args = of_family (cell_form name) s.span args
 
 -- the operations that fold any number of arguments from the left
 abbrev pub folds : Op → Bool
@@ -220,7 +257,7 @@ applied (TheFunction n) head args at = parted (row (sequence.Call n) args)
 
 -- a list, by the form whose name stands at its head, else by what is called
 abbrev pub list_core : Option FormName → Scope → Spot → Form → Forms → Answer Core
-list_core (Some f) scope s head args = special f scope s args
+list_core (Some f) scope s head args = special f s args
 list_core None scope s head args = in_room s (callee_of scope s head >>= λ callee. Ok (applied callee head args s.span))
 
 -- a form in which no more is to expand
@@ -270,12 +307,13 @@ abbrev pub put_together : Resolver → Scope → Spot → Special → Answer Tre
 put_together deeper scope s (row k forms) =
     narrow (parts forms) s (named_all deeper scope (are_wanted k) (are_wanted k || s.wanted) forms) >>= λ nodes.
     Ok (sequence_node k nodes (spot_mark s))
-put_together deeper scope s (reading r) =
+put_together deeper scope s (one_part k form) =
+    deeper scope (is_wanted k || s.wanted) form >>= λ node.
+    Ok (single_node k node (spot_mark s))
+put_together deeper scope s (putting form r e) =
     deeper scope true r >>= λ cell.
-    Ok (Deref cell (spot_mark s))
-put_together deeper scope s (transaction forms) =
-    deeper scope s.wanted forms >>= λ node.
-    Ok (Dosync node (spot_mark s))
+    deeper scope true e >>= λ value.
+    Ok (Put form cell value (spot_mark s))
 -- what is written first is looked at first, also where the branches are turned
 put_together deeper scope s (choice turned c a b) =
     deeper scope true c >>= λ test.
@@ -286,11 +324,11 @@ put_together deeper scope s (binding is_loop pairs forms) =
     named_bindings deeper scope pairs >>= λ bound.
     deeper bound.scope s.wanted forms >>= λ node.
     Ok (binding_node is_loop bound.values node (spot_mark s))
-put_together deeper scope s (change r called args) =
+put_together deeper scope s (changing k r f args) =
     deeper scope true r >>= λ cell.
-    called >>= λ callee.
+    callee_of scope s f >>= λ callee.
     narrow (suc (parts args)) s (named_all deeper scope true true args) >>= λ nodes.
-    Ok (Alter cell callee nodes (spot_mark s))
+    Ok (change_node k cell callee nodes (spot_mark s))
 
 -- the tree of a form in which no more is to expand; a special form finds room or is too much
 abbrev pub made : Resolver → Scope → Spot → Core → Answer Tree

@@ -1,4 +1,5 @@
 pub mod Answers
+pub mod Defined
 pub mod Depths
 pub mod Expansions
 pub mod Expressions

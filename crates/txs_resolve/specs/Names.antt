@@ -1,13 +1,14 @@
 -- Which program the forms of a script are, or the first refusal met.
-use Rattle.std.specs.Prelude.{◌≡◌, ℕ, suc, Bool, true, false, ◌&&◌, nat_lt, List, [], ◌∷◌, ◌++◌, length, Option, Some, None, Ok, Err, if◌then◌else◌}
+use Rattle.std.specs.Prelude.{◌≡◌, ℕ, suc, Bool, true, false, ◌&&◌, bytes_eq, codes, nat_lt, List, [], ◌∷◌, ◌++◌, length, Option, Some, None, Ok, Err, if◌then◌else◌}
 use Rattle.txs_value.specs.Limits.{most_depth, most_levels, most_definitions, most_threads, most_parameters}
 use Rattle.txs_value.specs.Operations.{op_name}
 use Rattle.txs_value.specs.declared.fault.Span.{Span}
 use Rattle.txs_value.specs.declared.cell.CellDefinition.{CellDefinition}
-use Rattle.txs_value.specs.declared.value.CellKind.TheVariants.{Ref}
+use Rattle.txs_value.specs.declared.value.CellKind.{CellKind}
+use Rattle.txs_value.specs.declared.value.CellKind.TheVariants.{Ref, Atom, Agent}
 use Rattle.txs_value.specs.declared.value.Value.{Value}
 use Rattle.txs_reader.specs.declared.form.Bracket.TheVariants.{Round, Square}
-use Rattle.txs_reader.specs.Tree.{Tree as Form, Trees as Forms, leaf, group, first, place, symbol, text}
+use Rattle.txs_reader.specs.Tree.{Tree as Form, Trees as Forms, leaf, group, first, keyword, place, symbol, text}
 use Rattle.txs_reader.specs.Tree.{none as no_forms}
 use Rattle.txs_tree.specs.Known.{levels, known}
 use Rattle.txs_tree.specs.Tree.{Tree, PlainFunction, PlainThread, PlainProgram}
@@ -16,6 +17,9 @@ use Rattle.txs_resolve.specs.declared.error.ResolveErrorKind.TheVariants.{Redefi
 use Rattle.txs_names.specs.declared.names.FormName.{FormName}
 use Rattle.txs_names.specs.declared.names.FormName.TheVariants as kind
 use Rattle.txs_names.specs.declared.scope.Definition.TheVariants.{Constant, Cell, Function}
+use Rattle.txs_resolve.specs.declared.definition.CellSort.{CellSort}
+use Rattle.txs_value.specs.declared.cell.ErrorMode.{ErrorMode}
+use Rattle.txs_value.specs.declared.cell.ErrorMode.TheVariants.{Fail, Continue}
 use Rattle.txs_resolve.specs.Expansions.{body, form_at}
 use Rattle.txs_resolve.specs.Expressions.{Answer, is_symbol, named}
 use Rattle.txs_resolve.specs.Literals.{is_literal, literal}
@@ -47,30 +51,65 @@ new_name defined name at =
     then (if is_none (with_name op_name name operations) && is_none (definition_of name defined) then Ok name else refuse Redefined at)
     else refuse BadForm at
 
--- ---- definitions of constants and refs
+-- ---- definitions of constants and cells
 
--- what a definition is of: a constant, or a ref that opens with it
+-- what a definition is of: a constant, or a cell that opens with it
 pub record Defining : Type 0 where
-  pub is_ref : Bool
+  pub sort : Option CellSort
   pub value : Form
 
 -- a definition of a literal, and of nothing else
-abbrev pub only_literal : Bool → Form → Option Defining
-only_literal is_ref form = if is_literal form then Some (record { is_ref = is_ref; value = form }) else None
+abbrev pub only_literal : Option CellSort → Form → Option Defining
+only_literal sort form = if is_literal form then Some (record { sort = sort; value = form }) else None
 
--- `(ref L)` with this head and these parts
-abbrev pub ref_of : Option FormName → Forms → Option Defining
-ref_of (Some kind.Ref) (first form no_forms) = only_literal true form
-ref_of _ _ = None
+-- the cells that forms make, by their names
+abbrev pub cell_kind : FormName → Option CellKind
+cell_kind kind.Ref = Some Ref
+cell_kind kind.Atom = Some Atom
+cell_kind kind.Agent = Some Agent
+cell_kind _ = None
 
--- a literal, or `(ref L)`; atoms and agents come with the trees that use them
+-- the error mode of this keyword: `:fail` or `:continue`
+abbrev pub mode_of : Form → Option ErrorMode
+mode_of (leaf (keyword name) at) =
+    if bytes_eq name (codes "fail") then Some Fail else (if bytes_eq name (codes "continue") then Some Continue else None)
+mode_of form = None
+
+-- whether a form is the keyword `:error-mode`
+abbrev pub is_error_mode : Form → Bool
+is_error_mode (leaf (keyword name) at) = bytes_eq name (codes "error-mode")
+is_error_mode form = false
+
+-- what stands behind a cell's opening value: nothing, or of an agent `:error-mode :fail` or `:error-mode :continue`. Without one
+-- an agent fails (clojure.org/reference/agents).
+abbrev pub mode_behind : CellKind → Forms → Option ErrorMode
+mode_behind k no_forms = Some Fail
+mode_behind Agent (first key (first mode no_forms)) = if is_error_mode key then mode_of mode else None
+mode_behind k _ = None
+
+-- a cell of this kind and error mode that opens with this literal
+abbrev pub opened : CellKind → Option ErrorMode → Form → Option Defining
+opened k (Some mode) form = only_literal (Some (record { kind = k; error_mode = mode })) form
+opened k None form = None
+
+-- `(ref L)`, `(atom L)` or `(agent L ..)` with this head and these parts
+abbrev pub cell_of : Option CellKind → Forms → Option Defining
+cell_of (Some k) (first form behind) = opened k (mode_behind k behind) form
+cell_of _ _ = None
+
+-- the kind of cell that a list makes, by the form at its head
+abbrev pub kind_at : Option FormName → Option CellKind
+kind_at (Some name) = cell_kind name
+kind_at None = None
+
+-- a literal, or what makes a cell that opens with one
 abbrev pub defining_of : Form → Option Defining
-defining_of (group Round (first head args) at) = ref_of (form_at head) args
-defining_of form = only_literal false form
+defining_of (group Round (first head args) at) = cell_of (kind_at (form_at head)) args
+defining_of form = only_literal None form
 
--- a ref that opens with this value
-abbrev pub new_ref : List ℕ → Value → CellDefinition
-new_ref name v = record { kind = Ref; name = name; opening = v }
+-- a cell that opens with this value
+abbrev pub new_cell : List ℕ → CellSort → Value → CellDefinition
+new_cell name sort v = record { kind = sort.kind; name = name; opening = v; error_mode = sort.error_mode }
 
 -- one more constant
 abbrev pub with_constant : State → List ℕ → Value → State
@@ -82,30 +121,33 @@ with_constant s name v = record {
   defs = suc s.defs;
 }
 
--- one more ref, whose number is that of the cells before it
-abbrev pub with_ref : State → List ℕ → Value → State
-with_ref s name v = record {
-  defined = s.defined ++ record { name = name; what = Cell (length s.cells) } ∷ [];
-  cells = s.cells ++ new_ref name v ∷ [];
+-- one more cell, whose number is that of the cells before it
+abbrev pub with_cell : State → List ℕ → CellSort → Value → State
+with_cell s name sort v = record {
+  defined = s.defined ++ record { name = name; what = Cell (record { kind = sort.kind; number = length s.cells }) } ∷ [];
+  cells = s.cells ++ new_cell name sort v ∷ [];
   functions = s.functions;
   threads = s.threads;
   defs = suc s.defs;
 }
 
--- one more constant or ref
-abbrev pub with_definition : Bool → State → List ℕ → Value → State
-with_definition false s name v = with_constant s name v
-with_definition true s name v = with_ref s name v
+-- one more constant or cell
+abbrev pub with_definition : Option CellSort → State → List ℕ → Value → State
+with_definition None s name v = with_constant s name v
+with_definition (Some sort) s name v = with_cell s name sort v
+
+-- a definition of this name, for which there is room: the initial value is looked at before the name
+abbrev pub entered : State → List ℕ → Span → Defining → Answer State
+entered s name at d =
+    literal most_depth d.value >>= λ v.
+    new_name s.defined name at >>= λ n.
+    Ok (with_definition d.sort s n v)
 
 -- a definition of this name; there are at most 1,000
 abbrev pub defined_as_one : State → List ℕ → Span → Span → Option Defining → Answer State
 defined_as_one s name at span None = refuse BadForm span
 defined_as_one s name at span (Some d) =
-    if nat_lt s.defs most_definitions then (
-    literal most_depth d.value >>= λ v.
-    new_name s.defined name at >>= λ n.
-    Ok (with_definition d.is_ref s n v))
-    else refuse TooMany span
+    if nat_lt s.defs most_definitions then entered s name at d else refuse TooMany span
 
 -- `name form`
 pub record NamedForm : Type 0 where

@@ -1,18 +1,25 @@
 -- Forms as the resolver meets them, and what their nodes are put together to.
-use Rattle.std.specs.Prelude.{◌≡◌, Bool, true, false, List, [], ◌∷◌, ◌++◌, Some, Ok, Err}
+use Rattle.std.specs.Prelude.{◌≡◌, Bool, true, false, List, [], ◌∷◌, ◌++◌, Option, Some, None, Ok, Err}
 use Rattle.txs_value.specs.declared.fault.Span.{Span}
 use Rattle.txs_reader.specs.declared.form.Bracket.TheVariants.{Round}
 use Rattle.txs_reader.specs.declared.form.Form.{Form as AForm}
 use Rattle.txs_reader.specs.Tree.{Tree as Form, Trees as Forms, Leaf, leaf, group, first, symbol, nil, truth, tree, trees, trees_of}
 use Rattle.txs_value.specs.declared.value.Value.{Value}
 use Rattle.txs_reader.specs.Tree.{none as no_forms}
-use Rattle.txs_tree.specs.Tree.{Tree, Mark, Const, Deref, Dosync, Alter, Core as CoreNode}
+use Rattle.txs_tree.specs.Tree.{Tree, Mark, Const, Core as CoreNode, Put, more, none}
 use Rattle.txs_tree.specs.declared.node.Node.{Node}
 use Rattle.txs_tree.specs.View.{tree_of}
 use Rattle.txs_tree.specs.View as view
 use Rattle.txs_names.specs.declared.names.FormName.{FormName}
 use Rattle.txs_names.specs.declared.names.FormName.TheVariants as kind
 use Rattle.txs_names.specs.Scope.{Scope, local_number}
+use Rattle.txs_value.specs.declared.form.CellForm.{CellForm}
+use Rattle.txs_value.specs.declared.form.CellForm.TheVariants as on_cell
+use Rattle.txs_resolve.specs.declared.error.ResolveErrorKind.TheVariants.{BadForm}
+use Rattle.txs_resolve.specs.declared.nodes.Change.{Change}
+use Rattle.txs_resolve.specs.declared.nodes.Change.TheVariants as change_by
+use Rattle.txs_resolve.specs.declared.nodes.Couple.{Couple}
+use Rattle.txs_resolve.specs.declared.nodes.Couple.TheVariants as couple
 use Rattle.txs_resolve.specs.declared.nodes.Sequence.TheVariants as sequence
 use Rattle.txs_resolve.specs.declared.nodes.Spot.{Spot}
 use Rattle.txs_resolve.specs.declared.parts.Part.{Part}
@@ -23,9 +30,9 @@ use Rattle.txs_resolve.specs.declared.parts.Special.{Special}
 use Rattle.txs_resolve.specs.declared.parts.Special.TheVariants as special
 use Rattle.txs_resolve.specs.declared.parts.Core.{Core}
 use Rattle.txs_resolve.specs.declared.parts.Core.TheVariants as core
-use Rattle.txs_resolve.specs.Answers.{◌>>=◌}
+use Rattle.txs_resolve.specs.Answers.{◌>>=◌, refuse}
 use Rattle.txs_resolve.specs.Expansions.{body, expand_once, form_at, hidden, is_alone, list, three, two}
-use Rattle.txs_resolve.specs.Expressions.{Answer, binding_node, choice_node, sequence_node}
+use Rattle.txs_resolve.specs.Expressions.{Answer, binding_node, choice_node, sequence_node, single_node}
 use Rattle.txs_resolve.specs.Expressions as spec
 
 -- the forms as the definition sees them
@@ -83,36 +90,50 @@ WholeFits scope (whole.Hidden n) = local_number [] scope ≡ Some n
 -- a special form and its parts, as the definition sees them; what an expansion makes stands at this place
 abbrev pub special_form : Span → Special → spec.Special
 special_form at (special.Row k fs) = spec.row k (plain fs.now)
-special_form at (special.Reading f) = spec.reading (tree f.now)
-special_form at (special.Transaction fs) = spec.transaction (body (plain fs.now) at)
-special_form at (special.Pair op fs f) = spec.row (sequence.Core op) (two (group Round (plain fs.now) at) (tree f.now))
+special_form at (special.Single k p) = spec.one_part k (part_form at p)
+special_form at (special.Pair (couple.Core op) p f) = spec.row (sequence.Core op) (two (part_form at p) (tree f.now))
+special_form at (special.Pair (couple.Put form) p f) = spec.putting form (part_form at p) (tree f.now)
 special_form at (special.Choice turned c a b) = spec.choice turned (part_form at c) (part_form at a) (part_form at b)
 special_form at (special.Binding is_loop pairs fs) = spec.binding is_loop (plain pairs.now) (body (plain fs.now) at)
 special_form at (special.Hidden is_or f rest) = spec.binding false (two (hidden at) (tree f.now)) (body (first (hidden_choice is_or (plain rest.now) at) no_forms) at)
-special_form at (special.Change f callee fs) = spec.change (tree f.now) callee (plain fs.now)
 
 abbrev pub SpecialFits : Scope → Special → Type 0
 SpecialFits scope (special.Row k fs) = Unit {0}
-SpecialFits scope (special.Reading f) = Unit {0}
-SpecialFits scope (special.Transaction fs) = Unit {0}
-SpecialFits scope (special.Pair op fs f) = Unit {0}
+SpecialFits scope (special.Single k p) = PartFits scope p
+SpecialFits scope (special.Pair k p f) = PartFits scope p
 SpecialFits scope (special.Choice turned c a b) = PartFits scope c × PartFits scope a × PartFits scope b
 SpecialFits scope (special.Binding is_loop pairs fs) = Unit {0}
 SpecialFits scope (special.Hidden is_or f rest) = Unit {0}
-SpecialFits scope (special.Change f callee fs) = Unit {0}
 
 abbrev pub core_form : Span → Core → spec.Core
 core_form at (core.Whole w) = spec.whole (whole_leaf w)
 core_form at (core.Parted s) = spec.parted (special_form at s)
+core_form at (core.Changing k r f fs) = spec.parted (spec.changing k (tree r.now) (tree f.now) (plain fs.now))
 
 abbrev pub CoreFits : Scope → Core → Type 0
 CoreFits scope (core.Whole w) = WholeFits scope w
 CoreFits scope (core.Parted s) = SpecialFits scope s
+CoreFits scope (core.Changing k r f fs) = Unit {0}
 
 -- an answer, as it is seen
 abbrev pub seen : {A B : Type 0} → (A → B) → Answer A → Answer B
 seen f (Ok x) = Ok (f x)
 seen f (Err e) = Err e
+
+-- what a form is, or that it is none
+abbrev pub told : Spot → Option Core → Answer spec.Core
+told s None = refuse BadForm s.span
+told s (Some c) = Ok (core_form s.span c)
+
+-- the form on a cell that calls something
+abbrev pub change_form : Change → CellForm
+change_form (change_by.Update form) = on_cell.Update form
+change_form change_by.Send = on_cell.Send
+
+-- the node of a form of two nodes
+abbrev pub couple_node : Couple → Tree → Tree → Mark → Tree
+couple_node (couple.Core op) x y m = CoreNode op (more x (more y none)) m
+couple_node (couple.Put form) x y m = Put form x y m
 
 -- whether a list of these forms has one part behind its head, and is that part
 abbrev pub is_single : Forms → Bool
@@ -124,18 +145,14 @@ is_single (first head (first e (first f rest))) = false
 -- nodes, put together to this tree
 abbrev pub IsMade : Special → List Node → Mark → Tree → Type 0
 IsMade (special.Row k fs) ns m t = t ≡ sequence_node k (view.trees_of ns) m
-IsMade (special.Reading f) ns m t = (n : Node) × (ns ≡ n ∷ []) × (t ≡ Deref (tree_of n) m)
-IsMade (special.Transaction fs) ns m t = (n : Node) × (ns ≡ n ∷ []) × (t ≡ Dosync (tree_of n) m)
-IsMade (special.Pair op fs f) ns m t = t ≡ CoreNode op (view.trees_of ns) m
+IsMade (special.Single k p) ns m t = (n : Node) × (ns ≡ n ∷ []) × (t ≡ single_node k (tree_of n) m)
+IsMade (special.Pair k p f) ns m t = (x : Node) × (y : Node) × (ns ≡ x ∷ y ∷ []) × (t ≡ couple_node k (tree_of x) (tree_of y) m)
 IsMade (special.Choice turned c a b) ns m t =
     (x : Node) × (y : Node) × (z : Node) × (ns ≡ x ∷ y ∷ z ∷ []) × (t ≡ choice_node turned (tree_of x) (tree_of y) (tree_of z) m)
 IsMade (special.Binding is_loop pairs fs) ns m t =
     (vs : List Node) × (n : Node) × (ns ≡ vs ++ n ∷ []) × (t ≡ binding_node is_loop (view.trees_of vs) (tree_of n) m)
 IsMade (special.Hidden is_or f rest) ns m t =
     (vs : List Node) × (n : Node) × (ns ≡ vs ++ n ∷ []) × (t ≡ binding_node false (view.trees_of vs) (tree_of n) m)
-IsMade (special.Change f (Ok callee) fs) ns m t =
-    (n : Node) × (vs : List Node) × (ns ≡ n ∷ vs) × (t ≡ Alter (tree_of n) callee (view.trees_of vs) m)
-IsMade (special.Change f (Err e) fs) ns m t = ⊥
 
 -- what a list is whose head is a form's name, once it is expanded
 abbrev pub table : FormName → Scope → Spot → Forms → Answer spec.Core

@@ -1,5 +1,5 @@
 -- What a script has defined so far, as plain data.
-use Rattle.std.specs.Prelude.{◌≡◌, ◌≤◌, ℕ, Bool, List, [], ◌∷◌, length, map, Option, Some, None}
+use Rattle.std.specs.Prelude.{◌≡◌, ◌≤◌, ℕ, List, [], ◌∷◌, length, map, Option, Some, None}
 use Rattle.std.specs.Borrow.{Bor}
 use Rattle.txs_reader.specs.declared.form.Form.{Form as AForm}
 use Rattle.txs_reader.specs.Tree.{tree, trees, trees_of}
@@ -11,6 +11,7 @@ use Rattle.txs_value.specs.Places.{nth}
 use Rattle.txs_value.specs.declared.fault.Span.{Span}
 use Rattle.txs_names.specs.declared.scope.Definition.{Definition}
 use Rattle.txs_names.specs.declared.scope.Definition.TheVariants.{Constant, Cell, Function}
+use Rattle.txs_resolve.specs.declared.definition.Opening.{Opening}
 use Rattle.txs_resolve.specs.declared.script.Script.{Script}
 use Rattle.txs_resolve.specs.declared.script.Signature.{Signature}
 use Rattle.txs_resolve.specs.Names.{State, Defining, Written, NamedForm}
@@ -29,7 +30,7 @@ state_of s = record {
 -- a function that is defined is known, with its levels
 abbrev pub IsKnown : List Known → Definition → Type 0
 IsKnown ks (Constant v) = Unit {0}
-IsKnown ks (Cell n) = Unit {0}
+IsKnown ks (Cell c) = Unit {0}
 IsKnown ks (Function n levels) = (k : Known) × (nth ks n ≡ Some k) × (k.levels ≡ levels)
 
 -- what is known of functions agrees with each of these definitions
@@ -54,10 +55,14 @@ pub record IsScript (s : Script) : Type 0 where
   pub levels : s.levels.items ≡ map (λ k. k.levels) (known (functions_of s.functions.items))
   pub scoped : ScopedState (state_of s)
 
--- what a definition is of
-abbrev pub defining : Option (Bool × Bor AForm) → Option Defining
+-- what a definition is of, with its literal as the definition sees it
+abbrev pub opened_as : Opening → Defining
+opened_as d = record { sort = d.sort; value = tree d.value.now }
+
+-- what a definition is of, if it is one
+abbrev pub defining : Option Opening → Option Defining
 defining None = None
-defining (Some d) = Some (record { is_ref = d.0; value = tree d.1.now })
+defining (Some d) = Some (opened_as d)
 
 -- the parts of a function that were found, if they were
 abbrev pub written_in : Option Signature → Option Written

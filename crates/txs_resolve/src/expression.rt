@@ -2,13 +2,15 @@
 
 ghost use Rattle.std.specs.Prelude.{◌≡◌, ◌≤◌, ◌+◌, ◌-◌, [], length, OnOk};
 ghost use Rattle.txs_reader.specs.Tree.{tree};
-ghost use Rattle.txs_resolve.specs.Expressions.{made, named, named_all, named_bindings, narrow, parted, put_together, spot_mark};
+ghost use Rattle.txs_resolve.specs.Expressions.{changing, made, named, named_all, named_bindings, narrow, parted, put_together, spot_mark};
 ghost use Rattle.txs_resolve.specs.Given.{Fills, IsWithin, Pushes, PushesAll, PushesBound};
 ghost use Rattle.txs_resolve.specs.Parts.{part_form, plain, special_form, PartFits, SpecialFits};
 ghost use Rattle.txs_resolve.specs.declared.parts.Special.TheVariants as special;
 
 use crate::error::{ResolveErrorKind, Stop, refused};
-use crate::nodes::{Spot, bindable, build, flag_at, hide, push_whole};
+use crate::nodes::{
+    Change, Couple, Spot, bindable, build, build_change, callee, flag_at, hide, push_whole,
+};
 use crate::parts::{Core, Part, Special, alone};
 use crate::plans::plan;
 use std::alloc::Global;
@@ -35,6 +37,9 @@ pub fn expression<'a>(
     match plan(scope, spot, part)? {
         Core::Whole(whole) => push_whole(alloc, scope, nodes, spot, whole),
         Core::Parted(special) => parted(alloc, scope, nodes, spot, special),
+        Core::Changing(change, cell, function, args) => changed(
+            alloc, scope, nodes, spot, change, cell, function, args,
+        ),
     }
 }
 
@@ -59,6 +64,37 @@ fn parted<'a>(
     build(alloc, nodes, spot, special, parts)
 }
 
+/// The node of a form on a cell that calls something, behind these nodes.
+#[cycle(resolve)]
+fn changed<'a>(
+    alloc: Global,
+    scope: &mut Scope<'a>,
+    nodes: &mut Vec<Node>,
+    spot: Spot,
+    change: Change,
+    cell: &'a Form,
+    function: &'a Form,
+    args: &'a [Form],
+) -> Result<(), Stop>
+    ensures node { Pushes result nodes.old.items nodes.new.items (made (named (spot.room - 1)) scope.old spot (parted (changing change (tree cell.now) (tree function.now) (plain args.now)))) }
+    ensures kept { OnOk result (scope.new ≡ scope.old) }
+{
+    if spot.room == 0 {
+        return Err(refused(ResolveErrorKind::TooMany, spot.span));
+    }
+    let mut parts = Vec::new(alloc);
+    expression(
+        alloc,
+        scope,
+        &mut parts,
+        spot.inner(true),
+        Part::Written(cell),
+    )?;
+    let callee = callee(scope, spot, function)?;
+    items(alloc, scope, &mut parts, spot, true, true, args)?;
+    build_change(alloc, nodes, spot, change, callee, parts)
+}
+
 /// The nodes of a special form's parts.
 #[cycle(resolve)]
 fn children<'a>(
@@ -74,42 +110,74 @@ fn children<'a>(
     ensures nodes { Fills result special.entry parts.new.items (spot_mark spot) (put_together (named (spot.room - 1)) scope.old spot (special_form spot.span special.entry)) }
     ensures kept { OnOk result (scope.new ≡ scope.old) }
 {
-    let value = spot.inner(true);
-    let branch = spot.inner(spot.wanted);
     match special {
         Special::Row(kind, forms) => {
             let (wanted, last) = (kind.are_wanted(), kind.last_wanted(spot.wanted));
             items(alloc, scope, parts, spot, wanted, last, forms)
         },
-        Special::Reading(cell) => expression(alloc, scope, parts, value, Part::Written(cell)),
-        Special::Transaction(body) => expression(
-            alloc,
-            scope,
-            parts,
-            branch,
-            Part::List(FormName::Do, body),
+        Special::Single(single, part) => {
+            let inner = spot.inner(single.part_wanted(spot.wanted));
+            expression(alloc, scope, parts, inner, part)
+        }
+        Special::Pair(couple, first, second) => pair(
+            alloc, scope, parts, spot, couple, first, second,
         ),
-        Special::Pair(_, forms, last) => {
-            expression(alloc, scope, parts, value, Part::Prefix(forms))?;
-            expression(alloc, scope, parts, value, Part::Written(last))
-        }
-        Special::Choice(_, test, one, other) => {
-            expression(alloc, scope, parts, value, test)?;
-            expression(alloc, scope, parts, branch, one)?;
-            expression(alloc, scope, parts, branch, other)
-        }
+        Special::Choice(turned, test, one, other) => choice(
+            alloc, scope, parts, spot, turned, test, one, other,
+        ),
         Special::Binding(is_loop, pairs, forms) => bound(
             alloc, scope, parts, spot, is_loop, pairs, forms,
         ),
         Special::Hidden(is_or, first, rest) => hidden(
             alloc, scope, parts, spot, is_or, first, rest,
         ),
-        Special::Change(cell, callee, args) => {
-            expression(alloc, scope, parts, value, Part::Written(cell))?;
-            callee?;
-            items(alloc, scope, parts, spot, true, true, args)
-        }
     }
+}
+
+/// The nodes of two parts, whose results are wanted.
+#[cycle(resolve)]
+fn pair<'a>(
+    alloc: Global,
+    scope: &mut Scope<'a>,
+    parts: &mut Vec<Node>,
+    spot: Spot,
+    couple: Couple,
+    first: Part<'a>,
+    second: &'a Form,
+) -> Result<(), Stop>
+    requires room { 1 ≤ spot.room }
+    requires empty { parts.old.items ≡ [] }
+    requires fits { PartFits scope.old first }
+    ensures nodes { Fills result (special.Pair couple first.entry second.entry) parts.new.items (spot_mark spot) (put_together (named (spot.room - 1)) scope.old spot (special_form spot.span (special.Pair couple first.entry second.entry))) }
+    ensures kept { OnOk result (scope.new ≡ scope.old) }
+{
+    let inner = spot.inner(true);
+    expression(alloc, scope, parts, inner, first)?;
+    expression(alloc, scope, parts, inner, Part::Written(second))
+}
+
+/// The nodes of a test and of its two branches, as they are written.
+#[cycle(resolve)]
+fn choice<'a>(
+    alloc: Global,
+    scope: &mut Scope<'a>,
+    parts: &mut Vec<Node>,
+    spot: Spot,
+    turned: bool,
+    test: Part<'a>,
+    one: Part<'a>,
+    other: Part<'a>,
+) -> Result<(), Stop>
+    requires room { 1 ≤ spot.room }
+    requires empty { parts.old.items ≡ [] }
+    requires fits { SpecialFits scope.old (special.Choice turned test one other) }
+    ensures nodes { Fills result (special.Choice turned test.entry one.entry other.entry) parts.new.items (spot_mark spot) (put_together (named (spot.room - 1)) scope.old spot (special_form spot.span (special.Choice turned test.entry one.entry other.entry))) }
+    ensures kept { OnOk result (scope.new ≡ scope.old) }
+{
+    let branch = spot.inner(spot.wanted);
+    expression(alloc, scope, parts, spot.inner(true), test)?;
+    expression(alloc, scope, parts, branch, one)?;
+    expression(alloc, scope, parts, branch, other)
 }
 
 /// The nodes of the values of a `let` or a `loop`, and of its body.

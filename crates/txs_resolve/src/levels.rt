@@ -52,8 +52,13 @@ pub fn levels(known: &[u16], node: &Node) -> usize
         NodeKind::Vector(items) => 1 + most_levels(known, items),
         NodeKind::Println(args) => 1 + most_levels(known, args),
         NodeKind::Dosync(body) => 1 + levels(known, body),
-        NodeKind::Deref(cell) => 1 + levels(known, cell),
-        NodeKind::Alter(cell, callee, args) => {
+        NodeKind::Look(_, cell) => 1 + levels(known, cell),
+        NodeKind::Put(_, cell, value) => 1 + levels(known, cell).max(levels(known, value)),
+        NodeKind::Update(_, cell, callee, args) => {
+            let parts = levels(known, cell).max(most_levels(known, args));
+            1 + of_callee(known, *callee).max(parts)
+        }
+        NodeKind::Send(cell, callee, args) => {
             let parts = levels(known, cell).max(most_levels(known, args));
             1 + of_callee(known, *callee).max(parts)
         }

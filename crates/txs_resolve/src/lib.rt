@@ -4,6 +4,7 @@
 //! or one refusal; `resolve` answers the same.
 #![tactic(auto)]
 
+mod definition;
 pub mod error;
 mod expression;
 pub mod law;

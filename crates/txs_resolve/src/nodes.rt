@@ -1,14 +1,14 @@
 //! Nodes of what is resolved, and what names are where they stand.
 
 ghost use Rattle.std.specs.Prelude.{◌≡◌, ◌<◌, ◌≤◌, ◌+◌, ◌-◌, ◌||◌, [], ◌∷◌, ◌++◌, List, length, drop, Ok, IfOk, OnOk};
-ghost use Rattle.txs_resolve.specs.Expressions.{are_wanted, are_pairs, bound_name, callee_at, callee_of, choice_node, flag, folds, in_room, is_chain, is_symbol, leaf_node, binding_node, sequence_node, spot_at, spot_mark, symbol_node};
+ghost use Rattle.txs_resolve.specs.Expressions.{are_wanted, are_pairs, bound_name, callee_at, callee_of, change_node, choice_node, flag, folds, is_wanted, single_node, in_room, is_chain, is_symbol, leaf_node, binding_node, sequence_node, spot_at, spot_mark, symbol_node};
 ghost use Rattle.txs_resolve.specs.Given.{BindsName, Gives, Hides, Pushes};
 ghost use Rattle.txs_resolve.specs.Literals.{literal};
-ghost use Rattle.txs_resolve.specs.Parts.{constant_of, whole_leaf, IsMade, WholeFits};
+ghost use Rattle.txs_resolve.specs.Parts.{constant_of, couple_node, whole_leaf, IsMade, WholeFits};
 ghost use Rattle.txs_names.specs.Scope.{meaning};
 ghost use Rattle.txs_names.specs.Viewed.{meant};
 ghost use Rattle.txs_reader.specs.Tree.{tree, trees, trees_of};
-ghost use Rattle.txs_tree.specs.Tree.{Tree, Mark, Const, Local, Alter};
+ghost use Rattle.txs_tree.specs.Tree.{Tree, Mark, Const, Local};
 ghost use Rattle.txs_tree.specs.declared.node.Node.{Node as ANode};
 ghost use Rattle.txs_tree.specs.View.{kind_tree, tree_of, trees_of as nodes_tree};
 
@@ -20,7 +20,7 @@ use txs_names::{Definition, Found, Scope, may_bind};
 use txs_reader::Form;
 use txs_tree::{Node, NodeKind};
 use txs_value::limits::MOST_LOCALS;
-use txs_value::{Callee, CellId, CellKind, Name, Op, Span, Value, copy_value};
+use txs_value::{Callee, LookForm, Name, Op, PutForm, Span, UpdateForm, Value, copy_value};
 
 /// Where a node stands: how many levels it may have, its span, and whether its result is wanted.
 #[derive(Clone, Copy)]
@@ -96,7 +96,40 @@ impl Sequence {
     }
 }
 
-/// The branches of a choice.
+/// The forms that are made of one node.
+#[derive(Clone, Copy)]
+pub enum Single {
+    Dosync,
+    Look(LookForm),
+}
+
+impl Single {
+    /// Whether the result of its part is wanted, where its own is or isn't.
+    pub fn part_wanted(self, wanted: bool) -> bool
+        ensures { result ≡ (is_wanted self || wanted) }
+    {
+        match self {
+            Single::Dosync => wanted,
+            Single::Look(_) => true,
+        }
+    }
+}
+
+/// The forms that are made of two nodes, whose results are wanted.
+#[derive(Clone, Copy)]
+pub enum Couple {
+    Core(Op),
+    Put(PutForm),
+}
+
+/// The forms on cells that call something.
+#[derive(Clone, Copy)]
+pub enum Change {
+    Update(UpdateForm),
+    Send,
+}
+
+/// The branches of a choice, or another two nodes.
 #[derive(Drop)]
 struct Branches {
     one: Box<Node>,
@@ -110,11 +143,7 @@ fn symbol(scope: &Scope<'_>, name: &Name, spot: Spot) -> Result<Node, Stop>
     match scope.lookup(name) {
         Found::Local(number) => local(number, spot),
         Found::Defined(Definition::Constant(value)) => constant(copy_value(value)?, spot),
-        Found::Defined(Definition::Cell(number)) => {
-            let kind = CellKind::Ref;
-            let number = *number;
-            constant(Value::Cell(CellId { kind, number }), spot)
-        }
+        Found::Defined(Definition::Cell(cell)) => constant(Value::Cell(*cell), spot),
         Found::Unknown => Err(refused(ResolveErrorKind::UnknownName, spot.span)),
         _ => Err(refused(ResolveErrorKind::BadForm, spot.span)),
     }
@@ -279,15 +308,55 @@ fn binding_kind(alloc: Global, is_loop: bool, parts: Vec<Node>) -> Result<NodeKi
     Ok(NodeKind::Let(values, body))
 }
 
-/// The kind of an `alter`, of the nodes of its cell and its arguments.
-fn change_kind(alloc: Global, callee: Callee, parts: Vec<Node>) -> Result<NodeKind, AllocError>
+/// The kind of a form of two nodes.
+fn couple_kind(alloc: Global, couple: Couple, parts: Vec<Node>) -> Result<NodeKind, AllocError>
+    requires { length parts.items ≡ 2 }
+    ensures { IfOk result (λ k. (x y : ANode) (m : Mark) → parts.items ≡ x ∷ y ∷ [] → kind_tree k m ≡ couple_node couple (tree_of x) (tree_of y) m) }
+{
+    let mut parts = parts;
+    match couple {
+        Couple::Core(op) => Ok(NodeKind::Core(op, parts)),
+        Couple::Put(form) => {
+            let Branches { one, other } = last_two(alloc, &mut parts)?;
+            Ok(NodeKind::Put(form, one, other))
+        }
+    }
+}
+
+/// The kind of a form of one node.
+fn single_kind(single: Single, part: Box<Node>) -> NodeKind
+    ensures { (m : Mark) → kind_tree result m ≡ single_node single (tree_of part.value) m }
+{
+    match single {
+        Single::Dosync => NodeKind::Dosync(part),
+        Single::Look(form) => NodeKind::Look(form, part),
+    }
+}
+
+/// The kind of a form that calls something, of its cell and the nodes of its arguments.
+fn called_kind(change: Change, callee: Callee, cell: Box<Node>, args: Vec<Node>) -> NodeKind
+    ensures { (m : Mark) → kind_tree result m ≡ change_node change (tree_of cell.value) callee (nodes_tree args.items) m }
+{
+    match change {
+        Change::Update(form) => NodeKind::Update(form, cell, callee, args),
+        Change::Send => NodeKind::Send(cell, callee, args),
+    }
+}
+
+/// The kind of a form that calls something, of the nodes of its cell and its arguments.
+fn change_kind(
+    alloc: Global,
+    change: Change,
+    callee: Callee,
+    parts: Vec<Node>,
+) -> Result<NodeKind, AllocError>
     requires { 0 < length parts.items }
-    ensures { IfOk result (λ k. (n : ANode) (vs : List ANode) (m : Mark) → parts.items ≡ n ∷ vs → kind_tree k m ≡ Alter (tree_of n) callee (nodes_tree vs) m) }
+    ensures { IfOk result (λ k. (n : ANode) (vs : List ANode) (m : Mark) → parts.items ≡ n ∷ vs → kind_tree k m ≡ change_node change (tree_of n) callee (nodes_tree vs) m) }
 {
     let mut args = parts;
     let cell = args.remove(0);
     let cell = Box::new(alloc, cell)?;
-    Ok(NodeKind::Alter(cell, callee, args))
+    Ok(called_kind(change, callee, cell, args))
 }
 
 /// The kind of a special form, of the nodes of its parts.
@@ -298,16 +367,11 @@ fn kind_of(alloc: Global, special: Special<'_>, parts: Vec<Node>) -> Result<Node
     let mut parts = parts;
     match special {
         Special::Row(kind, _) => Ok(row_kind(kind, parts)),
-        Special::Reading(_) => Ok(NodeKind::Deref(boxed_last(alloc, &mut parts)?)),
-        Special::Transaction(_) => Ok(NodeKind::Dosync(boxed_last(alloc, &mut parts)?)),
-        Special::Pair(op, _, _) => Ok(NodeKind::Core(op, parts)),
+        Special::Single(single, _) => Ok(single_kind(single, boxed_last(alloc, &mut parts)?)),
+        Special::Pair(couple, _, _) => couple_kind(alloc, couple, parts),
         Special::Choice(turned, _, _, _) => choice_kind(alloc, turned, &mut parts),
         Special::Binding(is_loop, _, _) => binding_kind(alloc, is_loop, parts),
         Special::Hidden(_, _, _) => binding_kind(alloc, false, parts),
-        Special::Change(_, called, _) => match called {
-            Ok(callee) => change_kind(alloc, callee, parts),
-            Err(_) => unreachable!(),
-        },
     }
 }
 
@@ -323,6 +387,23 @@ pub fn build(
     ensures { (t : Tree) → IsMade special.entry parts.items (spot_mark spot) t → Pushes result nodes.old.items nodes.new.items (Ok t) }
 {
     let kind = kind_of(alloc, special, parts)?;
+    nodes.push(spot.node(kind))?;
+    Ok(())
+}
+
+/// The node of a form that calls something, of the nodes of its cell and its arguments, behind these nodes.
+pub fn build_change(
+    alloc: Global,
+    nodes: &mut Vec<Node>,
+    spot: Spot,
+    change: Change,
+    callee: Callee,
+    parts: Vec<Node>,
+) -> Result<(), Stop>
+    requires { 0 < length parts.items }
+    ensures { (n : ANode) (vs : List ANode) → parts.items ≡ n ∷ vs → Pushes result nodes.old.items nodes.new.items (Ok (change_node change (tree_of n) callee (nodes_tree vs) (spot_mark spot))) }
+{
+    let kind = change_kind(alloc, change, callee, parts)?;
     nodes.push(spot.node(kind))?;
     Ok(())
 }

@@ -7,11 +7,10 @@ ghost use Rattle.txs_resolve.specs.Expansions.{alone, form_at, is_alone};
 ghost use Rattle.txs_resolve.specs.Parts.{is_single, part_form, plain, PartFits};
 ghost use Rattle.txs_value.specs.declared.fault.Span.{Span as ASpan};
 
-use crate::error::ResolveError;
-use crate::nodes::Sequence;
+use crate::nodes::{Change, Couple, Sequence, Single};
 use txs_names::{FormName, form_of};
 use txs_reader::{Bracket, Form};
-use txs_value::{Callee, Name, Op, Span};
+use txs_value::{Name, Span};
 
 /// A form: one that is written, or one that an expansion makes of written ones.
 #[derive(Clone, Copy)]
@@ -46,17 +45,16 @@ pub enum Whole<'a> {
 pub enum Special<'a> {
     /// Forms in a row.
     Row(Sequence, &'a [Form]),
-    Reading(&'a Form),
-    Transaction(&'a [Form]),
-    /// An operation on the list of these forms, and on one more argument.
-    Pair(Op, &'a [Form], &'a Form),
+    /// The body of a transaction, or the cell that is read.
+    Single(Single, Part<'a>),
+    /// What an operation is applied to, or a cell and the value that it is given.
+    Pair(Couple, Part<'a>, &'a Form),
     /// Whether the branches are turned, the test, and the branches.
     Choice(bool, Part<'a>, Part<'a>, Part<'a>),
     /// Whether it is a loop, names and values in turn, and the body.
     Binding(bool, &'a [Form], &'a [Form]),
     /// Whether it is an `or`, its first value, and the rest: the value is bound to a hidden local.
     Hidden(bool, &'a Form, &'a [Form]),
-    Change(&'a Form, Result<Callee, ResolveError>, &'a [Form]),
 }
 
 /// What a form is, once it is expanded.
@@ -64,6 +62,8 @@ pub enum Special<'a> {
 pub enum Core<'a> {
     Whole(Whole<'a>),
     Parted(Special<'a>),
+    /// The cell that is changed, what is called, and its further arguments.
+    Changing(Change, &'a Form, &'a Form, &'a [Form]),
 }
 
 impl<'a> Part<'a> {

@@ -1,30 +1,25 @@
 //! What each form is, once it is expanded: the table of the forms.
 
-ghost use Rattle.std.specs.Prelude.{◌≡◌, ◌∷◌, length, take, Ok, IfOk};
-ghost use Rattle.txs_names.specs.declared.names.FormName.TheVariants.{Cond, Do, Deref, Alter};
+ghost use Rattle.std.specs.Prelude.{◌≡◌, ◌∷◌, length, take, Ok, IfOk, Some, IfSome};
+ghost use Rattle.txs_names.specs.declared.names.FormName.TheVariants.{Cond, Do};
 ghost use Rattle.txs_names.specs.Scope.{Scope as AScope};
 ghost use Rattle.txs_reader.specs.declared.form.Bracket.TheVariants.{Round};
-ghost use Rattle.txs_reader.specs.Tree.{tree, group, place};
+ghost use Rattle.txs_reader.specs.Tree.{tree, group, first, place};
 ghost use Rattle.txs_value.specs.declared.fault.Span.{Span};
+ghost use Rattle.txs_value.specs.declared.form.CellForm.TheVariants.{Look, Put};
 ghost use Rattle.txs_value.specs.declared.op.Callee.TheVariants.{Core as CoreOp};
 ghost use Rattle.txs_resolve.specs.declared.error.ResolveErrorKind.TheVariants.{BadForm};
 ghost use Rattle.txs_resolve.specs.Expansions.{expand_once};
-ghost use Rattle.txs_resolve.specs.Expressions.{applied, core_of};
-ghost use Rattle.txs_resolve.specs.Parts.{binding_name, choice_name, core_form, guard_name, first_or_nil, logic_name, part_form, plain, seen, table, CoreFits, PartFits};
+ghost use Rattle.txs_resolve.specs.declared.nodes.Spot.{Spot as ASpot};
+ghost use Rattle.txs_resolve.specs.Expressions.{applied, cell_form, core_of, of_family};
+ghost use Rattle.txs_resolve.specs.Parts.{binding_name, change_form, choice_name, core_form, guard_name, first_or_nil, logic_name, part_form, plain, seen, table, told, CoreFits, PartFits};
 
 use crate::error::{ResolveError, ResolveErrorKind, refusal};
-use crate::nodes::{Sequence, Spot, are_pairs, callee, is_chain};
+use crate::nodes::{Change, Couple, Sequence, Single, Spot, are_pairs, callee, is_chain};
 use crate::parts::{Core, Part, Special, Whole, form_at};
 use txs_names::{FormName, Scope};
 use txs_reader::{Bracket, Form};
-use txs_value::{Callee, Op};
-
-/// No form of the language.
-fn bad_form(spot: Spot) -> ResolveError
-    ensures { result ≡ record { kind = BadForm; at = spot.span } }
-{
-    refusal(ResolveErrorKind::BadForm, spot.span)
-}
+use txs_value::{Callee, CellForm, LookForm, Op, PutForm, UpdateForm};
 
 /// The first of the forms, else nil.
 fn first_of(forms: &[Form]) -> Part<'_>
@@ -38,148 +33,190 @@ fn first_of(forms: &[Form]) -> Part<'_>
 }
 
 /// An `if`, or an `if-not`, whose branches are turned.
-fn either<'a>(spot: Spot, turned: bool, args: &'a [Form]) -> Result<Core<'a>, ResolveError>
-    ensures core { (scope : AScope) → seen (core_form spot.span) result ≡ table (choice_name turned) scope spot (plain args.now) }
-    ensures fits { (scope : AScope) → IfOk result (CoreFits scope) }
+fn either(turned: bool, args: &[Form]) -> Option<Core<'_>>
+    ensures core { (scope : AScope) (s : ASpot) → told s result ≡ table (choice_name turned) scope s (plain args.now) }
+    ensures fits { (scope : AScope) → IfSome result (CoreFits scope) }
 {
-    let Some((test, behind)) = args.split_first() else {
-        return Err(bad_form(spot));
-    };
-    let Some((one, rest)) = behind.split_first() else {
-        return Err(bad_form(spot));
-    };
+    let (test, behind) = args.split_first()?;
+    let (one, rest) = behind.split_first()?;
     if rest.len() > 1 {
-        return Err(bad_form(spot));
+        return None;
     }
     let (test, one, other) = (Part::Written(test), Part::Written(one), first_of(rest));
-    Ok(Core::Parted(Special::Choice(turned, test, one, other)))
+    Some(Core::Parted(Special::Choice(turned, test, one, other)))
 }
 
 /// A `when`, or a `when-not`, whose branches are turned.
-fn guarded<'a>(spot: Spot, turned: bool, args: &'a [Form]) -> Result<Core<'a>, ResolveError>
-    ensures core { (scope : AScope) → seen (core_form spot.span) result ≡ table (guard_name turned) scope spot (plain args.now) }
-    ensures fits { (scope : AScope) → IfOk result (CoreFits scope) }
+fn guarded(turned: bool, args: &[Form]) -> Option<Core<'_>>
+    ensures core { (scope : AScope) (s : ASpot) → told s result ≡ table (guard_name turned) scope s (plain args.now) }
+    ensures fits { (scope : AScope) → IfSome result (CoreFits scope) }
 {
-    let Some((test, forms)) = args.split_first() else {
-        return Err(bad_form(spot));
-    };
+    let (test, forms) = args.split_first()?;
     let body = Part::List(FormName::Do, forms);
-    Ok(Core::Parted(Special::Choice(turned, Part::Written(test), body, Part::Nil)))
+    Some(Core::Parted(Special::Choice(turned, Part::Written(test), body, Part::Nil)))
 }
 
 /// A `cond`.
-fn cond<'a>(spot: Spot, args: &'a [Form]) -> Result<Core<'a>, ResolveError>
-    ensures core { (scope : AScope) → seen (core_form spot.span) result ≡ table Cond scope spot (plain args.now) }
-    ensures fits { (scope : AScope) → IfOk result (CoreFits scope) }
+fn cond(args: &[Form]) -> Option<Core<'_>>
+    ensures core { (scope : AScope) (s : ASpot) → told s result ≡ table Cond scope s (plain args.now) }
+    ensures fits { (scope : AScope) → IfSome result (CoreFits scope) }
 {
     let Some((test, behind)) = args.split_first() else {
-        return Ok(Core::Whole(Whole::Nil));
+        return Some(Core::Whole(Whole::Nil));
     };
-    let Some((one, rest)) = behind.split_first() else {
-        return Err(bad_form(spot));
-    };
+    let (one, rest) = behind.split_first()?;
     if rest.len() % 2 != 0 {
-        return Err(bad_form(spot));
+        return None;
     }
     let other = Part::List(FormName::Cond, rest);
-    Ok(Core::Parted(Special::Choice(false, Part::Written(test), Part::Written(one), other)))
+    Some(Core::Parted(Special::Choice(false, Part::Written(test), Part::Written(one), other)))
 }
 
 /// An `and`, or an `or`.
-fn logic<'a>(spot: Spot, is_or: bool, args: &'a [Form]) -> Result<Core<'a>, ResolveError>
-    ensures core { (scope : AScope) → seen (core_form spot.span) result ≡ table (logic_name is_or) scope spot (plain args.now) }
-    ensures fits { (scope : AScope) → IfOk result (CoreFits scope) }
+fn logic(is_or: bool, args: &[Form]) -> Option<Core<'_>>
+    ensures core { (scope : AScope) (s : ASpot) → told s result ≡ table (logic_name is_or) scope s (plain args.now) }
+    ensures fits { (scope : AScope) → IfSome result (CoreFits scope) }
 {
     let Some((value, rest)) = args.split_first() else {
-        return Ok(Core::Whole(if is_or { Whole::Nil } else { Whole::Truth }));
+        return Some(Core::Whole(if is_or { Whole::Nil } else { Whole::Truth }));
     };
     if rest.len() == 0 {
-        return Err(bad_form(spot));
+        return None;
     }
-    Ok(Core::Parted(Special::Hidden(is_or, value, rest)))
+    Some(Core::Parted(Special::Hidden(is_or, value, rest)))
 }
 
 /// A `do`.
-fn block<'a>(spot: Spot, args: &'a [Form]) -> Result<Core<'a>, ResolveError>
-    ensures core { (scope : AScope) → seen (core_form spot.span) result ≡ table Do scope spot (plain args.now) }
-    ensures fits { (scope : AScope) → IfOk result (CoreFits scope) }
+fn block(args: &[Form]) -> Core<'_>
+    ensures core { (scope : AScope) (s : ASpot) → Ok (core_form s.span result) ≡ table Do scope s (plain args.now) }
+    ensures fits { (scope : AScope) → CoreFits scope result }
 {
     if args.len() == 0 {
-        return Ok(Core::Whole(Whole::Nil));
+        return Core::Whole(Whole::Nil);
     }
-    Ok(Core::Parted(Special::Row(Sequence::Do, args)))
+    Core::Parted(Special::Row(Sequence::Do, args))
 }
 
 /// A `let`, or a `loop`.
-fn binding<'a>(spot: Spot, is_loop: bool, args: &'a [Form]) -> Result<Core<'a>, ResolveError>
-    ensures core { (scope : AScope) → seen (core_form spot.span) result ≡ table (binding_name is_loop) scope spot (plain args.now) }
-    ensures fits { (scope : AScope) → IfOk result (CoreFits scope) }
+fn binding(is_loop: bool, args: &[Form]) -> Option<Core<'_>>
+    ensures core { (scope : AScope) (s : ASpot) → told s result ≡ table (binding_name is_loop) scope s (plain args.now) }
+    ensures fits { (scope : AScope) → IfSome result (CoreFits scope) }
 {
     let Some((Form::Group(Bracket::Square, pairs, _), forms)) = args.split_first() else {
-        return Err(bad_form(spot));
+        return None;
     };
     if !are_pairs(pairs) {
-        return Err(bad_form(spot));
+        return None;
     }
-    Ok(Core::Parted(Special::Binding(is_loop, pairs, forms)))
+    Some(Core::Parted(Special::Binding(is_loop, pairs, forms)))
 }
 
-/// A `deref`.
-fn reading<'a>(spot: Spot, args: &'a [Form]) -> Result<Core<'a>, ResolveError>
-    ensures core { (scope : AScope) → seen (core_form spot.span) result ≡ table Deref scope spot (plain args.now) }
-    ensures fits { (scope : AScope) → IfOk result (CoreFits scope) }
+/// A form that reads this cell, behind which nothing stands.
+fn reading<'a>(form: LookForm, cell: &'a Form, behind: &'a [Form]) -> Option<Core<'a>>
+    ensures core { (s : ASpot) → told s result ≡ of_family (Some (Look form)) s.span (first (tree cell.now) (plain behind.now)) }
+    ensures fits { (scope : AScope) → IfSome result (CoreFits scope) }
 {
-    let Some((cell, behind)) = args.split_first() else {
-        return Err(bad_form(spot));
-    };
     if behind.len() != 0 {
-        return Err(bad_form(spot));
+        return None;
     }
-    Ok(Core::Parted(Special::Reading(cell)))
+    Some(Core::Parted(Special::Single(Single::Look(form), Part::Written(cell))))
 }
 
-/// An `alter`.
-fn change<'a>(scope: &Scope<'_>, spot: Spot, args: &'a [Form]) -> Result<Core<'a>, ResolveError>
-    ensures core { seen (core_form spot.span) result ≡ table Alter scope.now spot (plain args.now) }
-    ensures fits { IfOk result (CoreFits scope.now) }
+/// A form that gives this cell the value behind it.
+fn putting<'a>(form: PutForm, cell: &'a Form, behind: &'a [Form]) -> Option<Core<'a>>
+    ensures core { (s : ASpot) → told s result ≡ of_family (Some (Put form)) s.span (first (tree cell.now) (plain behind.now)) }
+    ensures fits { (scope : AScope) → IfSome result (CoreFits scope) }
 {
-    let Some((cell, behind)) = args.split_first() else {
-        return Err(bad_form(spot));
-    };
-    let Some((function, further)) = behind.split_first() else {
-        return Err(bad_form(spot));
-    };
-    Ok(Core::Parted(Special::Change(cell, callee(scope, spot, function), further)))
+    let (value, rest) = behind.split_first()?;
+    if rest.len() != 0 {
+        return None;
+    }
+    Some(Core::Parted(Special::Pair(Couple::Put(form), Part::Written(cell), value)))
+}
+
+/// A form on this cell that calls what stands behind it.
+fn changing<'a>(change: Change, cell: &'a Form, behind: &'a [Form]) -> Option<Core<'a>>
+    ensures core { (s : ASpot) → told s result ≡ of_family (Some (change_form change)) s.span (first (tree cell.now) (plain behind.now)) }
+    ensures fits { (scope : AScope) → IfSome result (CoreFits scope) }
+{
+    let (function, args) = behind.split_first()?;
+    Some(Core::Changing(change, cell, function, args))
+}
+
+/// A form on a cell, by its name.
+fn cell_form(name: FormName) -> Option<CellForm>
+    ensures { result ≡ cell_form name }
+{
+    match name {
+        FormName::Deref => Some(CellForm::Look(LookForm::Deref)),
+        FormName::Ensure => Some(CellForm::Look(LookForm::Ensure)),
+        FormName::RefSet => Some(CellForm::Put(PutForm::RefSet)),
+        FormName::Reset => Some(CellForm::Put(PutForm::Reset)),
+        FormName::Alter => Some(CellForm::Update(UpdateForm::Alter)),
+        FormName::Commute => Some(CellForm::Update(UpdateForm::Commute)),
+        FormName::Swap => Some(CellForm::Update(UpdateForm::Swap)),
+        FormName::Send => Some(CellForm::Send),
+        _ => None,
+    }
+}
+
+/// A form on a cell, by what its family wants behind the cell.
+fn on_cell(name: FormName, args: &[Form]) -> Option<Core<'_>>
+    ensures core { (s : ASpot) → told s result ≡ of_family (cell_form name) s.span (plain args.now) }
+    ensures fits { (scope : AScope) → IfSome result (CoreFits scope) }
+{
+    let form = cell_form(name)?;
+    let (cell, behind) = args.split_first()?;
+    match form {
+        CellForm::Look(look) => reading(look, cell, behind),
+        CellForm::Put(put) => putting(put, cell, behind),
+        CellForm::Update(update) => changing(Change::Update(update), cell, behind),
+        CellForm::Send => changing(Change::Send, cell, behind),
+    }
 }
 
 /// What a list is at whose head the name of a form stands.
-fn special<'a>(
-    scope: &Scope<'_>,
-    spot: Spot,
-    name: FormName,
-    args: &'a [Form],
-) -> Result<Core<'a>, ResolveError>
-    ensures core { seen (core_form spot.span) result ≡ table name scope.now spot (plain args.now) }
-    ensures fits { IfOk result (CoreFits scope.now) }
+fn special(name: FormName, args: &[Form]) -> Option<Core<'_>>
+    ensures core { (scope : AScope) (s : ASpot) → told s result ≡ table name scope s (plain args.now) }
+    ensures fits { (scope : AScope) → IfSome result (CoreFits scope) }
 {
     match name {
-        FormName::If => either(spot, false, args),
-        FormName::IfNot => either(spot, true, args),
-        FormName::When => guarded(spot, false, args),
-        FormName::WhenNot => guarded(spot, true, args),
-        FormName::And => logic(spot, false, args),
-        FormName::Or => logic(spot, true, args),
-        FormName::Cond => cond(spot, args),
-        FormName::Do => block(spot, args),
-        FormName::Let => binding(spot, false, args),
-        FormName::Loop => binding(spot, true, args),
-        FormName::Recur => Ok(Core::Parted(Special::Row(Sequence::Recur, args))),
-        FormName::Println => Ok(Core::Parted(Special::Row(Sequence::Println, args))),
-        FormName::Dosync => Ok(Core::Parted(Special::Transaction(args))),
-        FormName::Deref => reading(spot, args),
-        FormName::Alter => change(scope, spot, args),
-        _ => Err(bad_form(spot)),
+        FormName::If => either(false, args),
+        FormName::IfNot => either(true, args),
+        FormName::When => guarded(false, args),
+        FormName::WhenNot => guarded(true, args),
+        FormName::And => logic(false, args),
+        FormName::Or => logic(true, args),
+        FormName::Cond => cond(args),
+        FormName::Do => Some(block(args)),
+        FormName::Let => binding(false, args),
+        FormName::Loop => binding(true, args),
+        FormName::Recur => Some(Core::Parted(Special::Row(Sequence::Recur, args))),
+        FormName::Println => Some(Core::Parted(Special::Row(Sequence::Println, args))),
+        FormName::Dosync => {
+            let body = Part::List(FormName::Do, args);
+            Some(Core::Parted(Special::Single(Single::Dosync, body)))
+        }
+        _ => on_cell(name, args),
     }
+}
+
+/// What a list is at whose head the name of a form stands, for a form at this spot.
+fn shaped<'a>(spot: Spot, name: FormName, args: &'a [Form]) -> Result<Core<'a>, ResolveError>
+    ensures core { (scope : AScope) → seen (core_form spot.span) result ≡ table name scope spot (plain args.now) }
+    ensures fits { (scope : AScope) → IfOk result (CoreFits scope) }
+{
+    match special(name, args) {
+        Some(core) => Ok(core),
+        None => Err(bad_form(spot)),
+    }
+}
+
+/// No form of the language.
+fn bad_form(spot: Spot) -> ResolveError
+    ensures { result ≡ record { kind = BadForm; at = spot.span } }
+{
+    refusal(ResolveErrorKind::BadForm, spot.span)
 }
 
 /// An operation: that on more than two arguments is the chain of its pairs.
@@ -194,7 +231,7 @@ fn operation<'a>(op: Op, head: &Form, forms: &'a [Form], args: &'a [Form]) -> Co
     let Some((last, prefix)) = forms.split_last() else {
         return Core::Parted(Special::Row(Sequence::Core(op), args));
     };
-    Core::Parted(Special::Pair(op, prefix, last))
+    Core::Parted(Special::Pair(Couple::Core(op), Part::Prefix(prefix), last))
 }
 
 /// What a list is, by the form whose name stands at its head, else by what is called.
@@ -206,7 +243,7 @@ fn list<'a>(scope: &Scope<'_>, spot: Spot, forms: &'a [Form]) -> Result<Core<'a>
         return Err(bad_form(spot));
     };
     if let Some(name) = form_at(head) {
-        return special(scope, spot, name, args);
+        return shaped(spot, name, args);
     }
     if spot.room == 0 {
         return Err(refusal(ResolveErrorKind::TooMany, spot.span));
@@ -243,7 +280,7 @@ pub fn plan<'a>(scope: &Scope<'_>, spot: Spot, part: Part<'a>) -> Result<Core<'a
 {
     match part {
         Part::Written(form) => written(scope, spot, form),
-        Part::List(name, args) => special(scope, spot, name, args),
+        Part::List(name, args) => shaped(spot, name, args),
         Part::Prefix(forms) => list(scope, spot, forms),
         Part::Nil => Ok(Core::Whole(Whole::Nil)),
         Part::Hidden(number) => Ok(Core::Whole(Whole::Hidden(number))),

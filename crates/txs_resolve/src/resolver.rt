@@ -37,13 +37,12 @@ fn steps<'a>(alloc: Global, script: &mut Script<'a>, forms: &'a [Form]) -> Resul
     Ok(())
 }
 
-/// The program that the forms of a script are: an optional `(ns name)`, and then definitions of constants and
-/// refs, functions and futures. Each symbol stands for the nearest enclosing local, else for the definition
-/// before it, else for a core operation. Forms are walked in source order, each before its parts, and an
-/// initial value before its name; at one form the lower number comes first. A form's shape is looked at before
-/// whether its node finds room among the 1,000 levels. What a form on a cell calls is looked at behind the
-/// cell. Atoms and agents, and the forms `ref-set`, `commute`, `ensure`, `swap!`, `reset!` and `send`, have no
-/// nodes, and are `BadForm`.
+/// The program that the forms of a script are: an optional `(ns name)`, and then definitions of constants,
+/// refs, atoms and agents, functions and futures. Each symbol stands for the nearest enclosing local, else for
+/// the definition before it, else for a core operation. Forms are walked in source order, each before its
+/// parts, and an initial value before its name; at one form the lower number comes first. A form's shape is
+/// looked at before whether its node finds room among the 1,000 levels. What a form on a cell calls is looked
+/// at behind the cell.
 ///
 /// # Errors
 /// The first refusal met, with the span of the symbol or form that is refused; `Memory` at 0..0 where the

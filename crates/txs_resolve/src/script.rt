@@ -3,11 +3,11 @@
 ghost use Rattle.std.specs.Prelude.{◌≡◌, ◌<◌, ◌≤◌, [], length, Some, None, OnOk, Ok, IfOk};
 ghost use Rattle.txs_resolve.specs.Given.{Gives, GivesLocals, Leaves};
 ghost use Rattle.txs_resolve.specs.Expansions.{body, form_at};
-ghost use Rattle.txs_resolve.specs.Names.{nothing, new_name, only_literal, ref_of, defining_of, named_form, define, untold, written, function, future, parameter, parameters, are_symbols, step, with_constant, with_definition, with_ref, with_function, names_space, is_namespace};
+ghost use Rattle.txs_resolve.specs.Names.{nothing, entered, new_cell, new_name, named_form, define, untold, written, function, future, parameter, parameters, are_symbols, step, with_cell, with_constant, with_definition, with_function, names_space, is_namespace};
 ghost use Rattle.txs_resolve.specs.Expressions.{is_symbol, named};
-ghost use Rattle.txs_names.specs.declared.names.FormName.TheVariants.{Ns, Ref};
+ghost use Rattle.txs_names.specs.declared.names.FormName.TheVariants.{Ns};
 ghost use Rattle.txs_names.specs.Scope.{definition_of, with_locals};
-ghost use Rattle.txs_resolve.specs.Scripts.{state_of, IsScript, defining, written_in, name_and_form};
+ghost use Rattle.txs_resolve.specs.Scripts.{opened_as, state_of, IsScript, written_in, name_and_form};
 ghost use Rattle.txs_reader.specs.declared.form.Bracket.TheVariants.{Round};
 ghost use Rattle.txs_reader.specs.Tree.{tree, trees, trees_of, group};
 ghost use Rattle.txs_tree.specs.Known.{known, levels};
@@ -15,18 +15,19 @@ ghost use Rattle.txs_tree.specs.Scoped.{ScopedTree};
 ghost use Rattle.txs_tree.specs.View.{functions_of, tree_of};
 ghost use Rattle.txs_value.specs.Limits.{most_definitions, most_levels, most_parameters};
 
+use crate::definition::{CellSort, Opening, defining_of};
 use crate::error::{ResolveErrorKind, Stop, refused};
 use crate::expression::expression;
 use crate::levels::levels;
-use crate::literal::{is_literal, literal};
+use crate::literal::literal;
 use crate::nodes::{Spot, is_symbol};
 use crate::parts::{Part, form_at};
-use std::alloc::Global;
+use std::alloc::{AllocError, Global};
 use txs_names::{Definition, FormName, Scope, may_bind, operation_of};
 use txs_reader::{Bracket, Form};
 use txs_tree::{Function, Node, Thread};
 use txs_value::limits::{MOST_DEFINITIONS, MOST_DEPTH, MOST_LEVELS, MOST_PARAMETERS, MOST_THREADS};
-use txs_value::{CellDefinition, CellKind, Name, Span, Value};
+use txs_value::{CellDefinition, CellId, Name, Span, Value};
 
 /// What a script has defined so far: names, cells, functions and threads, the levels of the functions by their
 /// numbers, and how often `def` stood.
@@ -83,48 +84,6 @@ fn new_name<'a>(scope: &Scope<'_>, name: &'a Name, at: Span) -> Result<&'a Name,
     Ok(name)
 }
 
-/// The form, where it is a literal.
-fn only_literal(is_ref: bool, form: &Form) -> Option<(bool, &Form)>
-    ensures { defining result ≡ only_literal is_ref (tree form.now) }
-{
-    if is_literal(form) {
-        Some((is_ref, form))
-    } else {
-        None
-    }
-}
-
-/// The literal in `(ref L)` with these parts.
-fn opening(parts: &[Form]) -> Option<(bool, &Form)>
-    ensures { defining result ≡ ref_of (Some Ref) (trees_of (trees parts.now)) }
-{
-    if parts.len() != 1 {
-        return None;
-    }
-    only_literal(true, &parts[0])
-}
-
-/// The literal in `(ref L)` with this head and these parts.
-fn ref_of<'f>(head: &Form, parts: &'f [Form]) -> Option<(bool, &'f Form)>
-    ensures { defining result ≡ ref_of (form_at (tree head.now)) (trees_of (trees parts.now)) }
-{
-    match form_at(head) {
-        Some(FormName::Ref) => opening(parts),
-        _ => None,
-    }
-}
-
-/// What a definition is of, a literal or `(ref L)`: whether it is a ref, and the literal.
-fn defining_of(form: &Form) -> Option<(bool, &Form)>
-    ensures { defining result ≡ defining_of (tree form.now) }
-{
-    let Form::Group(Bracket::Round, forms, _) = form else {
-        return only_literal(false, form);
-    };
-    let (head, parts) = forms.split_first()?;
-    ref_of(head, parts)
-}
-
 /// A constant is defined.
 fn with_constant<'a>(script: &mut Script<'a>, name: &'a Name, value: Value) -> Result<(), Stop>
     requires script { IsScript script.old }
@@ -138,29 +97,44 @@ fn with_constant<'a>(script: &mut Script<'a>, name: &'a Name, value: Value) -> R
     Ok(())
 }
 
-/// A ref is defined, which opens with this value.
-fn with_ref<'a>(script: &mut Script<'a>, name: &'a Name, value: Value) -> Result<(), Stop>
+/// A cell of this name and sort, which opens with this value.
+fn new_cell(name: &Name, sort: CellSort, opening: Value) -> Result<CellDefinition, AllocError>
+    ensures { IfOk result (λ c. c ≡ new_cell name.now sort opening) }
+{
+    Ok(CellDefinition {
+        kind: sort.kind,
+        name: name.share()?,
+        opening,
+        error_mode: sort.error_mode,
+    })
+}
+
+/// A cell is defined, which opens with this value.
+fn with_cell<'a>(
+    script: &mut Script<'a>,
+    name: &'a Name,
+    sort: CellSort,
+    value: Value,
+) -> Result<(), Stop>
     requires script { IsScript script.old }
     requires new { definition_of name.now script.old.scope.defined ≡ None }
     requires room { script.old.defs < most_definitions }
-    ensures state { Leaves result (state_of script.new) (Ok (with_ref (state_of script.old) name.now value)) }
+    ensures state { Leaves result (state_of script.new) (Ok (with_cell (state_of script.old) name.now sort value)) }
     ensures next { OnOk result (IsScript script.new) }
 {
+    let kind = sort.kind;
     let number = script.cells.len() as u16;
-    let cell = CellDefinition {
-        kind: CellKind::Ref,
-        name: name.share()?,
-        opening: value,
-    };
-    script.cells.push(cell)?;
-    script.scope.define(name, Definition::Cell(number))?;
+    script.cells.push(new_cell(name, sort, value)?)?;
+    script
+        .scope
+        .define(name, Definition::Cell(CellId { kind, number }))?;
     script.defs += 1;
     Ok(())
 }
 
-/// A constant or a ref is defined.
+/// A constant or a cell is defined.
 fn with_definition<'a>(
-    is_ref: bool,
+    sort: Option<CellSort>,
     script: &mut Script<'a>,
     name: &'a Name,
     value: Value,
@@ -168,13 +142,13 @@ fn with_definition<'a>(
     requires script { IsScript script.old }
     requires new { definition_of name.now script.old.scope.defined ≡ None }
     requires room { script.old.defs < most_definitions }
-    ensures state { Leaves result (state_of script.new) (Ok (with_definition is_ref (state_of script.old) name.now value)) }
+    ensures state { Leaves result (state_of script.new) (Ok (with_definition sort (state_of script.old) name.now value)) }
     ensures next { OnOk result (IsScript script.new) }
 {
-    if is_ref {
-        return with_ref(script, name, value);
+    match sort {
+        Some(sort) => with_cell(script, name, sort, value),
+        None => with_constant(script, name, value),
     }
-    with_constant(script, name, value)
 }
 
 /// The name and the form in `(def name form)` with these parts.
@@ -191,6 +165,24 @@ fn named_form(parts: &[Form]) -> Option<(&Name, Span, &Form)>
     Some((name, *at, &behind[0]))
 }
 
+/// What the script has defined behind a `def` of this name, for which there is room.
+fn enter<'a>(
+    alloc: Global,
+    script: &mut Script<'a>,
+    name: &'a Name,
+    at: Span,
+    opening: Opening<'_>,
+) -> Result<(), Stop>
+    requires script { IsScript script.old }
+    requires room { script.old.defs < most_definitions }
+    ensures state { Leaves result (state_of script.new) (entered (state_of script.old) name.now at (opened_as opening.entry)) }
+    ensures next { OnOk result (IsScript script.new) }
+{
+    let value = literal(alloc, usize::from(MOST_DEPTH), opening.value)?;
+    let name = new_name(&script.scope, name, at)?;
+    with_definition(opening.sort, script, name, value)
+}
+
 /// What the script has defined behind a `def` with these parts.
 fn define<'a>(
     alloc: Global,
@@ -205,15 +197,13 @@ fn define<'a>(
     let Some((name, at, what)) = named_form(parts) else {
         return Err(refused(ResolveErrorKind::BadForm, span));
     };
-    let Some((is_ref, what)) = defining_of(what) else {
+    let Some(opening) = defining_of(what) else {
         return Err(refused(ResolveErrorKind::BadForm, span));
     };
     if script.defs >= MOST_DEFINITIONS {
         return Err(refused(ResolveErrorKind::TooMany, span));
     }
-    let value = literal(alloc, usize::from(MOST_DEPTH), what)?;
-    let name = new_name(&script.scope, name, at)?;
-    with_definition(is_ref, script, name, value)
+    enter(alloc, script, name, at, opening)
 }
 
 /// The forms without a text in front of them.

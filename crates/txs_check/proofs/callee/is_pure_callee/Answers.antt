@@ -1,6 +1,5 @@
-use Rattle.std.proofs.Common.{◌≡◌, Bool, true, sym, ap, ◌∙◌, subst}
+use Rattle.std.proofs.Common.{◌≡◌, true, sym, ap, ◌∙◌, subst}
 use Rattle.txs_value.specs.declared.op.Callee.{Callee}
-use Rattle.txs_value.specs.declared.op.Callee.TheVariants.{Function}
 use Rattle.txs_tree.specs.Known.{known}
 use Rattle.txs_tree.specs.Pure.{PureCallee}
 use Rattle.txs_tree.specs.View.{functions_of}

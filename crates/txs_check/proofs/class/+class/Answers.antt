@@ -1,6 +1,8 @@
 use Rattle.std.proofs.Common.{true, false, sym, ap, ◌∙◌}
-use Rattle.txs_check.specs.Signatures.{joined, class_in, known_as}
-use Rattle.txs_tree.proofs.Trees.{do_node, let_node, loop_node, recur_node, core_node, call_node, vector_node, println_node, alter_node}
+use Rattle.txs_value.specs.Forms.{rule}
+use Rattle.txs_value.specs.declared.form.CellForm.TheVariants as form_of
+use Rattle.txs_check.specs.Signatures.{joined, class_in, class_standing, known_as}
+use Rattle.txs_tree.proofs.Trees.{do_node, let_node, loop_node, recur_node, core_node, call_node, vector_node, println_node, update_node, send_node}
 use Rattle.txs_check.proofs.class.+class.Goals as goal
 
 pub class_of-returns-in-Do : goal.class_of-returns-in-Do
@@ -43,7 +45,16 @@ class_of-returns-in-Println t c =
     let ks = known_as c.args.signatures.now in
     c.join-in-Println.ensures ∙ ap (λ x. joined (record { inside = false; outside = true; pure = false }) x) c.class_of_all-in-Println.ensures ∙ sym (ap (λ e. class_in ks e) (println_node c.args.node.now c.in-Println.args c.deref-in-Println.result.now c.in-Println.is c.deref-in-Println.ensures.value))
 
-pub class_of-returns-in-Alter : goal.class_of-returns-in-Alter
-class_of-returns-in-Alter t c =
+pub class_of-returns-in-Update : goal.class_of-returns-in-Update
+class_of-returns-in-Update t c =
     let ks = known_as c.args.signatures.now in
-    c.join-in-Alter.ensures ∙ ap (λ x. joined (record { inside = true; outside = false; pure = false }) x) (c.join-parts.ensures ∙ (λ i. joined (c.class_of-in-Alter.ensures i) (c.class_of_all-in-Alter.ensures i))) ∙ sym (ap (λ e. class_in ks e) (alter_node c.args.node.now c.in-Alter.cell c.in-Alter.field-1 c.in-Alter.args c.deref-in-Alter.result.now c.deref-in-Alter-2.result.now c.in-Alter.is c.deref-in-Alter.ensures c.deref-in-Alter-2.ensures.value))
+    c.join-in-Update.ensures ∙ (λ i. joined (c.class_of_form-in-Update.ensures i) (c.join-parts-in-Update.ensures i))
+    ∙ ap (λ x. joined (class_standing (rule (form_of.Update c.in-Update.form)).stands) x) (λ i. joined (c.class_of-in-Update.ensures i) (c.class_of_all-in-Update.ensures i))
+    ∙ sym (ap (λ e. class_in ks e) (update_node c.args.node.now c.in-Update.form c.in-Update.cell c.in-Update.field-2 c.in-Update.args c.deref-in-Update.result.now c.deref-in-Update-2.result.now c.in-Update.is c.deref-in-Update.ensures c.deref-in-Update-2.ensures.value))
+
+pub class_of-returns-in-Send : goal.class_of-returns-in-Send
+class_of-returns-in-Send t c =
+    let ks = known_as c.args.signatures.now in
+    c.join-in-Send.ensures ∙ (λ i. joined (c.class_of_form-in-Send.ensures i) (c.join-parts-in-Send.ensures i))
+    ∙ ap (λ x. joined (class_standing (rule form_of.Send).stands) x) (λ i. joined (c.class_of-in-Send.ensures i) (c.class_of_all-in-Send.ensures i))
+    ∙ sym (ap (λ e. class_in ks e) (send_node c.args.node.now c.in-Send.agent c.in-Send.field-1 c.in-Send.args c.deref-in-Send.result.now c.deref-in-Send-2.result.now c.in-Send.is c.deref-in-Send.ensures c.deref-in-Send-2.ensures.value))

@@ -2,7 +2,7 @@ use Rattle.std.proofs.Common.{◌≡◌, ◌<◌, ◌-◌, ◌+◌, None, MatchO
 use Rattle.txs_tree.specs.Sound.{nodes, nodes_in}
 use Rattle.txs_tree.specs.View.{tree_of, trees_of}
 use Rattle.txs_check.proofs.Counting.{nodes-some, counted, counted-two}
-use Rattle.txs_tree.proofs.Trees.{do_node, let_node, loop_node, recur_node, core_node, call_node, vector_node, println_node, alter_node}
+use Rattle.txs_tree.proofs.Trees.{do_node, let_node, loop_node, recur_node, core_node, call_node, vector_node, println_node, update_node, send_node}
 use Rattle.txs_check.proofs.size.+nodes.Goals as goal
 
 pub nodes_left-returns-then-limit-eq0 : goal.nodes_left-returns-then-limit-eq0
@@ -72,9 +72,16 @@ nodes_left-returns-in-Println t c =
     counted c.all_nodes_left-in-Println.result (nodes (tree_of c.args.node.now)) (nodes_in (trees_of c.deref-in-Println.result.now)) c.args.limit
     (ap nodes (println_node c.args.node.now c.in-Println.args c.deref-in-Println.result.now c.in-Println.is c.deref-in-Println.ensures.value)) c.if-limit-eq0.false c.all_nodes_left-in-Println.ensures
 
-pub nodes_left-returns-in_ok-left-in-Alter : goal.nodes_left-returns-in_ok-left-in-Alter
-nodes_left-returns-in_ok-left-in-Alter t c =
-    let b = c.deref-in-Alter.result.now in
-    let ns = c.deref-in-Alter-2.result.now in
-    counted-two c.all_nodes_left-in-Alter.result (nodes (tree_of c.args.node.now)) (nodes (tree_of b)) (nodes_in (trees_of ns)) c.in_ok-left-in-Alter.left c.args.limit
-    (ap nodes (alter_node c.args.node.now c.in-Alter.cell c.in-Alter.field-1 c.in-Alter.args b ns c.in-Alter.is c.deref-in-Alter.ensures c.deref-in-Alter-2.ensures.value)) c.if-limit-eq0.false c.in_ok-left-in-Alter.ensures c.all_nodes_left-in-Alter.ensures
+pub nodes_left-returns-in_ok-left-in-Update : goal.nodes_left-returns-in_ok-left-in-Update
+nodes_left-returns-in_ok-left-in-Update t c =
+    let b = c.deref-in-Update.result.now in
+    let ns = c.deref-in-Update-2.result.now in
+    counted-two c.all_nodes_left-in-Update.result (nodes (tree_of c.args.node.now)) (nodes (tree_of b)) (nodes_in (trees_of ns)) c.in_ok-left-in-Update.left c.args.limit
+    (ap nodes (update_node c.args.node.now c.in-Update.field-0 c.in-Update.cell c.in-Update.field-2 c.in-Update.args b ns c.in-Update.is c.deref-in-Update.ensures c.deref-in-Update-2.ensures.value)) c.if-limit-eq0.false c.in_ok-left-in-Update.ensures c.all_nodes_left-in-Update.ensures
+
+pub nodes_left-returns-in_ok-left-in-Send : goal.nodes_left-returns-in_ok-left-in-Send
+nodes_left-returns-in_ok-left-in-Send t c =
+    let b = c.deref-in-Send.result.now in
+    let ns = c.deref-in-Send-2.result.now in
+    counted-two c.all_nodes_left-in-Send.result (nodes (tree_of c.args.node.now)) (nodes (tree_of b)) (nodes_in (trees_of ns)) c.in_ok-left-in-Send.left c.args.limit
+    (ap nodes (send_node c.args.node.now c.in-Send.agent c.in-Send.field-1 c.in-Send.args b ns c.in-Send.is c.deref-in-Send.ensures c.deref-in-Send-2.ensures.value)) c.if-limit-eq0.false c.in_ok-left-in-Send.ensures c.all_nodes_left-in-Send.ensures

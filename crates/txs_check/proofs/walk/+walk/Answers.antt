@@ -1,11 +1,11 @@
-use Rattle.std.proofs.Common.{rules, ◌≡◌, true, length, [], ◌∷◌, ◌++◌, Err, refl, sym, ap, ◌∙◌}
+use Rattle.std.proofs.Common.{rules, ◌≡◌, true, false, length, [], ◌∷◌, ◌++◌, Err, refl, sym, ap, ◌∙◌}
 use Rattle.txs_tree.specs.Tree.{count}
-use Rattle.txs_tree.specs.View.{tree_of, trees_of}
+use Rattle.txs_tree.specs.View.{mark_of, tree_of, trees_of}
 use Rattle.txs_check.specs.declared.place.Target.TheVariants.{Nearest}
-use Rattle.txs_check.specs.Refused.{◌>>◌, here, inner, checked, checked_all, checked_do}
+use Rattle.txs_check.specs.Refused.{◌>>◌, here, inner, in_turn, turned, checked, checked_all, checked_do}
 use Rattle.txs_check.specs.Signatures.{known_as}
-use Rattle.txs_check.proofs.Lists.{count_nodes, do_nothing, do_parts}
-use Rattle.txs_tree.proofs.Trees.{do_node, let_node, loop_node, recur_node, core_node, call_node, vector_node, println_node, alter_node}
+use Rattle.txs_check.proofs.Lists.{count_nodes, branches_in_turn, do_nothing, do_parts}
+use Rattle.txs_tree.proofs.Trees.{if_node, do_node, let_node, loop_node, recur_node, core_node, call_node, vector_node, println_node, update_node, send_node}
 use Rattle.txs_check.proofs.walk.+walk.Goals as goal
 
 pub check_node-returns-in-Recur : goal.check_node-returns-in-Recur
@@ -17,7 +17,7 @@ check_node-returns-in-Recur t c =
     let es = trees_of c.deref-in-Recur.result.now in
     let parts = checked_all ks z (inner t0) es in
     let own = c.in_ok-check_here.ensures ∙ ap (λ x. here ks z t0 x) e in
-    c.check_all-in-Recur.ensures ∙ ap (λ i. checked_all ks z i es) c.inner-in-Recur.ensures ∙ ap (λ x. x >> parts) own ∙ sym (ap (λ x. checked ks z t0 x) e)
+    c.check_all-in-Recur.ensures ∙ ap (λ i. checked_all ks z i es) c.inner-inner.ensures ∙ ap (λ x. x >> parts) own ∙ sym (ap (λ x. checked ks z t0 x) e)
 
 pub check_node-returns-in-Core : goal.check_node-returns-in-Core
 check_node-returns-in-Core t c =
@@ -28,7 +28,7 @@ check_node-returns-in-Core t c =
     let es = trees_of c.deref-in-Core.result.now in
     let parts = checked_all ks z (inner t0) es in
     let own = c.in_ok-check_here.ensures ∙ ap (λ x. here ks z t0 x) e in
-    c.check_all-in-Core.ensures ∙ ap (λ i. checked_all ks z i es) c.inner-in-Core.ensures ∙ ap (λ x. x >> parts) own ∙ sym (ap (λ x. checked ks z t0 x) e)
+    c.check_all-in-Core.ensures ∙ ap (λ i. checked_all ks z i es) c.inner-inner.ensures ∙ ap (λ x. x >> parts) own ∙ sym (ap (λ x. checked ks z t0 x) e)
 
 pub check_node-returns-in-Call : goal.check_node-returns-in-Call
 check_node-returns-in-Call t c =
@@ -39,7 +39,7 @@ check_node-returns-in-Call t c =
     let es = trees_of c.deref-in-Call.result.now in
     let parts = checked_all ks z (inner t0) es in
     let own = c.in_ok-check_here.ensures ∙ ap (λ x. here ks z t0 x) e in
-    c.check_all-in-Call.ensures ∙ ap (λ i. checked_all ks z i es) c.inner-in-Call.ensures ∙ ap (λ x. x >> parts) own ∙ sym (ap (λ x. checked ks z t0 x) e)
+    c.check_all-in-Call.ensures ∙ ap (λ i. checked_all ks z i es) c.inner-inner.ensures ∙ ap (λ x. x >> parts) own ∙ sym (ap (λ x. checked ks z t0 x) e)
 
 pub check_node-returns-in-Println : goal.check_node-returns-in-Println
 check_node-returns-in-Println t c =
@@ -50,7 +50,7 @@ check_node-returns-in-Println t c =
     let es = trees_of c.deref-in-Println.result.now in
     let parts = checked_all ks z (inner t0) es in
     let own = c.in_ok-check_here.ensures ∙ ap (λ x. here ks z t0 x) e in
-    c.check_all-in-Println.ensures ∙ ap (λ i. checked_all ks z i es) c.inner-in-Println.ensures ∙ ap (λ x. x >> parts) own ∙ sym (ap (λ x. checked ks z t0 x) e)
+    c.check_all-in-Println.ensures ∙ ap (λ i. checked_all ks z i es) c.inner-inner.ensures ∙ ap (λ x. x >> parts) own ∙ sym (ap (λ x. checked ks z t0 x) e)
 
 pub check_node-returns-in-Vector : goal.check_node-returns-in-Vector
 check_node-returns-in-Vector t c =
@@ -59,7 +59,7 @@ check_node-returns-in-Vector t c =
     let t0 = c.args.target in
     let e = vector_node c.args.node.now c.in-Vector.items c.deref-in-Vector.result.now c.in-Vector.is c.deref-in-Vector.ensures.value in
     let es = trees_of c.deref-in-Vector.result.now in
-    c.check_all-in-Vector.ensures ∙ ap (λ i. checked_all ks z i es) c.inner-in-Vector.ensures ∙ sym (ap (λ x. checked ks z t0 x) e)
+    c.check_all-in-Vector.ensures ∙ ap (λ i. checked_all ks z i es) c.inner-inner.ensures ∙ sym (ap (λ x. checked ks z t0 x) e)
 
 pub check_node-returns-in_err-check_all-in-Let : goal.check_node-returns-in_err-check_all-in-Let
 check_node-returns-in_err-check_all-in-Let t c =
@@ -70,7 +70,7 @@ check_node-returns-in_err-check_all-in-Let t c =
     let es = trees_of c.deref-in-Let.result.now in
     let body = checked ks z (t0) (tree_of c.in-Let.body.value) in
     let refused : c.from_residual-in_err-check_all-in-Let.result ≡ Err c.in_err-check_all-in-Let.field-0.0 = search rules in
-    refused ∙ ap (λ x. x >> body) (c.in_err-check_all-in-Let.ensures ∙ ap (λ i. checked_all ks z i es) c.inner-in-Let.ensures) ∙ sym (ap (λ x. checked ks z t0 x) e)
+    refused ∙ ap (λ x. x >> body) (c.in_err-check_all-in-Let.ensures ∙ ap (λ i. checked_all ks z i es) c.inner-inner.ensures) ∙ sym (ap (λ x. checked ks z t0 x) e)
 
 pub check_node-returns-in_err-check_all-in-Loop : goal.check_node-returns-in_err-check_all-in-Loop
 check_node-returns-in_err-check_all-in-Loop t c =
@@ -81,7 +81,7 @@ check_node-returns-in_err-check_all-in-Loop t c =
     let es = trees_of c.deref-in-Loop.result.now in
     let body = checked ks z (Nearest (count es) true) (tree_of c.in-Loop.body.value) in
     let refused : c.from_residual-in_err-check_all-in-Loop.result ≡ Err c.in_err-check_all-in-Loop.field-0.0 = search rules in
-    refused ∙ ap (λ x. x >> body) (c.in_err-check_all-in-Loop.ensures ∙ ap (λ i. checked_all ks z i es) c.inner-in-Loop.ensures) ∙ sym (ap (λ x. checked ks z t0 x) e)
+    refused ∙ ap (λ x. x >> body) (c.in_err-check_all-in-Loop.ensures ∙ ap (λ i. checked_all ks z i es) c.inner-inner.ensures) ∙ sym (ap (λ x. checked ks z t0 x) e)
 
 pub check_node-returns-in_ok-check_all-in-Let : goal.check_node-returns-in_ok-check_all-in-Let
 check_node-returns-in_ok-check_all-in-Let t c =
@@ -92,7 +92,7 @@ check_node-returns-in_ok-check_all-in-Let t c =
     let e = let_node c.args.node.now c.in-Let.values c.in-Let.body c.deref-in-Let.result.now c.deref-in-Let-2.result.now c.in-Let.is c.deref-in-Let.ensures.value c.deref-in-Let-2.ensures in
     let es = trees_of c.deref-in-Let.result.now in
     let body = checked ks z t0 (tree_of b) in
-    c.check_node-in-Let.ensures ∙ ap (λ x. x >> body) (c.in_ok-check_all-in-Let.ensures ∙ ap (λ i. checked_all ks z i es) c.inner-in-Let.ensures) ∙ sym (ap (λ x. checked ks z t0 x) e)
+    c.check_node-in-Let.ensures ∙ ap (λ x. x >> body) (c.in_ok-check_all-in-Let.ensures ∙ ap (λ i. checked_all ks z i es) c.inner-inner.ensures) ∙ sym (ap (λ x. checked ks z t0 x) e)
 
 pub check_node-returns-in_ok-check_all-in-Loop : goal.check_node-returns-in_ok-check_all-in-Loop
 check_node-returns-in_ok-check_all-in-Loop t c =
@@ -106,7 +106,7 @@ check_node-returns-in_ok-check_all-in-Loop t c =
     let many : c.len.result ≡ length c.in-Loop.values.items = search rules in
     let same : c.len.result ≡ count es = many ∙ sym (ap length c.deref-in-Loop.ensures.value) ∙ sym (count_nodes ns) in
     let body = checked ks z (Nearest (count es) true) (tree_of b) in
-    c.check_node-in-Loop.ensures ∙ ap (λ n. checked ks z (Nearest n true) (tree_of b)) same ∙ ap (λ x. x >> body) (c.in_ok-check_all-in-Loop.ensures ∙ ap (λ i. checked_all ks z i es) c.inner-in-Loop.ensures) ∙ sym (ap (λ x. checked ks z t0 x) e)
+    c.check_node-in-Loop.ensures ∙ ap (λ n. checked ks z (Nearest n true) (tree_of b)) same ∙ ap (λ x. x >> body) (c.in_ok-check_all-in-Loop.ensures ∙ ap (λ i. checked_all ks z i es) c.inner-inner.ensures) ∙ sym (ap (λ x. checked ks z t0 x) e)
 
 pub check_node-returns-in-None : goal.check_node-returns-in-None
 check_node-returns-in-None t c =
@@ -130,7 +130,7 @@ check_node-returns-in_err-check_all-in-Some t c =
     let end = checked ks z t0 (tree_of last) in
     let whole = ap (λ x. checked ks z t0 x) e ∙ ap (λ l. checked_do ks z t0 (trees_of l)) parts ∙ do_parts ks z t0 before last in
     let refused : c.from_residual-in_err-check_all-in-Some.result ≡ Err c.in_err-check_all-in-Some.field-0.0 = search rules in
-    refused ∙ ap (λ x. x >> end) (c.in_err-check_all-in-Some.ensures ∙ ap (λ i. checked_all ks z i (trees_of before)) c.inner-in-Some.ensures) ∙ sym whole
+    refused ∙ ap (λ x. x >> end) (c.in_err-check_all-in-Some.ensures ∙ ap (λ i. checked_all ks z i (trees_of before)) c.inner-inner.ensures) ∙ sym whole
 
 pub check_node-returns-in_ok-check_all-in-Some : goal.check_node-returns-in_ok-check_all-in-Some
 check_node-returns-in_ok-check_all-in-Some t c =
@@ -144,20 +144,72 @@ check_node-returns-in_ok-check_all-in-Some t c =
     let parts : ns ≡ before ++ last ∷ [] = c.in-Some.ensures.cases.0 in
     let end = checked ks z t0 (tree_of last) in
     let whole = ap (λ x. checked ks z t0 x) e ∙ ap (λ l. checked_do ks z t0 (trees_of l)) parts ∙ do_parts ks z t0 before last in
-    c.check_node-in-Some.ensures ∙ ap (λ x. x >> end) (c.in_ok-check_all-in-Some.ensures ∙ ap (λ i. checked_all ks z i (trees_of before)) c.inner-in-Some.ensures) ∙ sym whole
+    c.check_node-in-Some.ensures ∙ ap (λ x. x >> end) (c.in_ok-check_all-in-Some.ensures ∙ ap (λ i. checked_all ks z i (trees_of before)) c.inner-inner.ensures) ∙ sym whole
 
-pub check_node-returns-in_ok-check_node-in-Alter : goal.check_node-returns-in_ok-check_node-in-Alter
-check_node-returns-in_ok-check_node-in-Alter t c =
+pub check_node-returns-in_ok-check_node-in-Update : goal.check_node-returns-in_ok-check_node-in-Update
+check_node-returns-in_ok-check_node-in-Update t c =
     let ks = known_as c.args.signatures.now in
     let z = c.args.zone in
     let t0 = c.args.target in
-    let b = c.deref-in-Alter.result.now in
-    let ns = c.deref-in-Alter-2.result.now in
-    let e = alter_node c.args.node.now c.in-Alter.cell c.in-Alter.field-1 c.in-Alter.args b ns c.in-Alter.is c.deref-in-Alter.ensures c.deref-in-Alter-2.ensures.value in
+    let b = c.deref-in-Update.result.now in
+    let ns = c.deref-in-Update-2.result.now in
+    let e = update_node c.args.node.now c.in-Update.field-0 c.in-Update.cell c.in-Update.field-2 c.in-Update.args b ns c.in-Update.is c.deref-in-Update.ensures c.deref-in-Update-2.ensures.value in
     let es = trees_of ns in
     let own = c.in_ok-check_here.ensures ∙ ap (λ x. here ks z t0 x) e in
     let args = checked_all ks z (inner t0) es in
-    c.check_all-in-Alter.ensures ∙ ap (λ i. checked_all ks z i es) c.inner-in-Alter-2.ensures
-    ∙ ap (λ x. x >> args) (c.in_ok-check_node-in-Alter.ensures ∙ ap (λ i. checked ks z i (tree_of b)) c.inner-in-Alter.ensures)
+    c.check_all-in-Update.ensures ∙ ap (λ i. checked_all ks z i es) c.inner-inner.ensures
+    ∙ ap (λ x. x >> args) (c.in_ok-check_node-in-Update.ensures ∙ ap (λ i. checked ks z i (tree_of b)) c.inner-inner.ensures)
     ∙ ap (λ x. x >> (checked ks z (inner t0) (tree_of b) >> args)) own
     ∙ sym (ap (λ x. checked ks z t0 x) e)
+
+pub check_node-returns-in_ok-check_node-in-Send : goal.check_node-returns-in_ok-check_node-in-Send
+check_node-returns-in_ok-check_node-in-Send t c =
+    let ks = known_as c.args.signatures.now in
+    let z = c.args.zone in
+    let t0 = c.args.target in
+    let b = c.deref-in-Send.result.now in
+    let ns = c.deref-in-Send-2.result.now in
+    let e = send_node c.args.node.now c.in-Send.agent c.in-Send.field-1 c.in-Send.args b ns c.in-Send.is c.deref-in-Send.ensures c.deref-in-Send-2.ensures.value in
+    let es = trees_of ns in
+    let own = c.in_ok-check_here.ensures ∙ ap (λ x. here ks z t0 x) e in
+    let args = checked_all ks z (inner t0) es in
+    c.check_all-in-Send.ensures ∙ ap (λ i. checked_all ks z i es) c.inner-inner.ensures
+    ∙ ap (λ x. x >> args) (c.in_ok-check_node-in-Send.ensures ∙ ap (λ i. checked ks z i (tree_of b)) c.inner-inner.ensures)
+    ∙ ap (λ x. x >> (checked ks z (inner t0) (tree_of b) >> args)) own
+    ∙ sym (ap (λ x. checked ks z t0 x) e)
+
+pub check_node-returns-in_err-check_node-in-If-2 : goal.check_node-returns-in_err-check_node-in-If-2
+check_node-returns-in_err-check_node-in-If-2 t c =
+    let ks = known_as c.args.signatures.now in
+    let z = c.args.zone in
+    let t0 = c.args.target in
+    let n = c.args.node.now in
+    let a = c.deref.result.now in
+    let one = c.deref-in-If.result.now in
+    let other = c.deref-then-is_turned.result.now in
+    let e = if_node n c.in-If.test c.in-If.first c.in-If.second a one other c.in-If.is c.deref.ensures c.deref-in-If.ensures c.deref-then-is_turned.ensures in
+    let x = checked ks z t0 (tree_of one) in
+    let y = checked ks z t0 (tree_of other) in
+    let turn = c.if-is_turned.ensures ∙ ap (λ k. turned n.span.from one.span.from k.span.from) (c.deref-in-If-2.ensures ∙ sym c.deref-then-is_turned.ensures) in
+    let refused : c.from_residual-in_err-check_node-in-If-2.result ≡ Err c.in_err-check_node-in-If-2.field-0.0 = search rules in
+    let tested = c.in_ok-check_node-in-If.ensures ∙ ap (λ i. checked ks z i (tree_of a)) c.inner-inner.ensures in
+    refused ∙ ap (λ w. w >> x) c.in_err-check_node-in-If-2.ensures ∙ ap (λ w. w >> in_turn true x y) tested
+    ∙ sym (branches_in_turn ks z t0 (mark_of n.span n.wanted) (tree_of a) one other true turn) ∙ sym (ap (λ w. checked ks z t0 w) e)
+
+pub check_node-returns-in_err-check_node-in-If-3 : goal.check_node-returns-in_err-check_node-in-If-3
+check_node-returns-in_err-check_node-in-If-3 t c =
+    let ks = known_as c.args.signatures.now in
+    let z = c.args.zone in
+    let t0 = c.args.target in
+    let n = c.args.node.now in
+    let a = c.deref.result.now in
+    let one = c.deref-else-is_turned.result.now in
+    let other = c.deref-in-If-2.result.now in
+    let e = if_node n c.in-If.test c.in-If.first c.in-If.second a one other c.in-If.is c.deref.ensures c.deref-else-is_turned.ensures c.deref-in-If-2.ensures in
+    let x = checked ks z t0 (tree_of one) in
+    let y = checked ks z t0 (tree_of other) in
+    let turn = c.if-is_turned.ensures ∙ ap (λ k. turned n.span.from k.span.from other.span.from) (c.deref-in-If.ensures ∙ sym c.deref-else-is_turned.ensures) in
+    let refused : c.from_residual-in_err-check_node-in-If-3.result ≡ Err c.in_err-check_node-in-If-3.field-0.0 = search rules in
+    let tested = c.in_ok-check_node-in-If.ensures ∙ ap (λ i. checked ks z i (tree_of a)) c.inner-inner.ensures in
+    refused ∙ ap (λ w. w >> y) c.in_err-check_node-in-If-3.ensures ∙ ap (λ w. w >> in_turn false x y) tested
+    ∙ sym (branches_in_turn ks z t0 (mark_of n.span n.wanted) (tree_of a) one other false turn) ∙ sym (ap (λ w. checked ks z t0 w) e)

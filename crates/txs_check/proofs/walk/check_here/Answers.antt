@@ -1,10 +1,11 @@
 use Rattle.std.proofs.Common.{rules, ◌≡◌, suc, length, refl, sym, ap, ◌∙◌}
+use Rattle.txs_value.specs.declared.form.CellForm.TheVariants as form_of
 use Rattle.txs_tree.specs.Tree.{count}
 use Rattle.txs_tree.specs.View.{trees_of}
-use Rattle.txs_check.specs.Refused.{alter_here, calls, here, operates, recurs}
+use Rattle.txs_check.specs.Refused.{applied, calls, here, operates, recurs}
 use Rattle.txs_check.specs.Signatures.{known_as}
 use Rattle.txs_check.proofs.Lists.{count_nodes}
-use Rattle.txs_tree.proofs.Trees.{recur_node, core_node, call_node, alter_node}
+use Rattle.txs_tree.proofs.Trees.{recur_node, core_node, call_node, update_node, send_node}
 use Rattle.txs_check.proofs.walk.check_here.Goals as goal
 
 pub returns-in-Recur : goal.returns-in-Recur
@@ -31,9 +32,16 @@ returns-in-Call c =
     let same : c.len-in-Call.result ≡ count (trees_of ns) = many ∙ sym (count_nodes ns) in
     c.check_call.ensures ∙ ap (λ n. calls ks c.args.zone c.in-Call.number n c.args.node.now.span) same ∙ sym (ap (λ e. here ks c.args.zone c.args.target e) (call_node c.args.node.now c.in-Call.number c.in-Call.args ns c.in-Call.is refl))
 
-pub returns-in-Alter : goal.returns-in-Alter
-returns-in-Alter c =
+pub returns-in-Update : goal.returns-in-Update
+returns-in-Update c =
     let ks = known_as c.args.signatures.now in
     let ns = c.deref.result.now in
-    c.check_alter.ensures ∙ ap (λ n. alter_here ks c.args.zone c.in-Alter.callee (suc n) c.args.node.now.span) (sym (count_nodes ns))
-    ∙ sym (ap (λ e. here ks c.args.zone c.args.target e) (alter_node c.args.node.now c.in-Alter.field-0 c.in-Alter.callee c.in-Alter.args c.in-Alter.field-0.value ns c.in-Alter.is refl c.deref.ensures.value))
+    c.check_applied.ensures ∙ ap (λ n. applied ks c.args.zone (form_of.Update c.in-Update.form) c.in-Update.callee (suc n) c.args.node.now.span) (sym (count_nodes ns))
+    ∙ sym (ap (λ e. here ks c.args.zone c.args.target e) (update_node c.args.node.now c.in-Update.form c.in-Update.field-1 c.in-Update.callee c.in-Update.args c.in-Update.field-1.value ns c.in-Update.is refl c.deref.ensures.value))
+
+pub returns-in-Send : goal.returns-in-Send
+returns-in-Send c =
+    let ks = known_as c.args.signatures.now in
+    let ns = c.deref-in-Send.result.now in
+    c.check_applied-in-Send.ensures ∙ ap (λ n. applied ks c.args.zone form_of.Send c.in-Send.callee (suc n) c.args.node.now.span) (sym (count_nodes ns))
+    ∙ sym (ap (λ e. here ks c.args.zone c.args.target e) (send_node c.args.node.now c.in-Send.field-0 c.in-Send.callee c.in-Send.args c.in-Send.field-0.value ns c.in-Send.is refl c.deref-in-Send.ensures.value))

@@ -1,4 +1,4 @@
-use Rattle.std.proofs.Common.{◌≡◌, ◌<◌, ◌-◌, ◌+◌, bytes_eq, ℕ, Bool, List, [], length, Option, Some, cond, map, take, reverse, get_or, sym, ap, ◌∙◌, arith}
+use Rattle.std.proofs.Common.{◌≡◌, ◌<◌, ◌-◌, ◌+◌, bytes_eq, ℕ, List, [], length, Some, cond, map, take, reverse, get_or, sym, ap, ◌∙◌, arith}
 use Rattle.std.specs.Borrow.{Bor}
 use Rattle.txs_names.specs.Scope.{number_in}
 use Rattle.txs_names.proofs.Scopes.{local_more}

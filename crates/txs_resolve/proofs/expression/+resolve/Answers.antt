@@ -1,20 +1,24 @@
-use Rattle.std.proofs.Common.{◌≡◌, ◌<◌, ◌≤◌, ◌+◌, ◌-◌, ◌∷◌, [], ◌++◌, ℕ, Bool, true, List, length, drop, append-nil, append_assoc, sym, ap, ◌∙◌, subst, arith}
+use Rattle.std.proofs.Common.{◌≡◌, ◌<◌, ◌≤◌, ◌+◌, ◌-◌, ◌∷◌, [], ◌++◌, ℕ, suc, Bool, true, List, Ok, Err, length, drop, append-nil, append_assoc, sym, ap, ◌∙◌, subst, arith}
 use Rattle.std.proofs.lemmas.Result.{err_from_is_err_and}
 use Rattle.txs_reader.specs.declared.form.Form.{Form}
 use Rattle.txs_reader.specs.Tree.{tree}
 use Rattle.txs_tree.specs.declared.node.Node.{Node}
+use Rattle.txs_tree.specs.View.{trees_of}
 use Rattle.txs_names.specs.Scope.{Scope, with_local, with_locals}
 use Rattle.txs_resolve.specs.declared.nodes.Spot.{Spot}
 use Rattle.txs_resolve.specs.declared.parts.Part.TheVariants as part
 use Rattle.txs_resolve.specs.declared.parts.Special.TheVariants as special
 use Rattle.txs_resolve.specs.Answers.{◌>>=◌}
-use Rattle.txs_resolve.specs.Expressions.{bound_name, flag, made, named, named_all, named_bindings, put_together, spot_at, spot_mark}
+use Rattle.txs_resolve.specs.Expressions.{bound_name, flag, made, named, named_all, named_bindings, narrow, put_together, spot_at, spot_mark}
 use Rattle.txs_resolve.specs.Given.{Fills, IsWithin, Pushes}
 use Rattle.txs_resolve.specs.Parts.{core_form, part_form, plain, special_form}
 use Rattle.txs_resolve.proofs.Building.{all_end, all_step, bindings_end, bindings_step, bindings_unvalued, bound_after, within_push}
-use Rattle.txs_resolve.proofs.Fillings.{bound_filled, change_filled, choice_filled, hidden_filled, hidden_full, hidden_stops, hidden_whole, named_part, narrow_ok, passed_bound, passed_filling, reading_filled, remade, row_filled, transaction_filled}
+use Rattle.txs_resolve.proofs.Fillings.{args_then, bound_filled, changed_whole, choice_filled, hidden_filled, hidden_full, hidden_stops, hidden_whole, named_part, narrow_ok, pair_filled, pair_stops, passed_bound, passed_filling, passed_items, remade, row_filled, single_filled}
 use Rattle.txs_resolve.proofs.Stops.{bound_nil, full_stop}
 use Rattle.txs_resolve.proofs.expression.+resolve.Goals as goal
+
+counted : (before now : List Node) (n : Node) (k : ℕ) → before ≡ [] → now ≡ before ++ n ∷ [] → length now + k ≡ suc k
+counted before now n k empty is = omega (arith, ap (λ (l : List Node). length l) (is ∙ ap (λ (l : List Node). l ++ n ∷ []) empty))
 
 -- ---- forms
 
@@ -49,6 +53,44 @@ expression-returns-in-Parted-clause-node t c =
     (sym (whole ∙ ap (λ o. o >>= made (named (s.room - 1)) scope s) (sym c.in_ok-whole.ensures.core) ∙ ap (λ k. made (named (s.room - 1)) scope s (core_form s.span k)) c.in-Parted.is))
     c.parted.ensures.node
 
+pub expression-returns-in-Changing-clause-node : goal.expression-returns-in-Changing-clause-node
+expression-returns-in-Changing-clause-node t c =
+    let s = c.at-spot.result in
+    let scope = c.args.scope.now in
+    let whole = named_part c.args.spot.span c.args.spot.room scope c.args.spot.wanted c.args.part c.alone-part.result s (c.alone-part.ensures.form c.args.spot.span)
+    (c.at-spot.ensures ∙ ap (λ at. spot_at c.args.spot.room at c.args.spot.wanted) c.span.ensures) in
+    subst (Pushes c.changed.result c.args.nodes.now.items c.changed.new.nodes.items)
+    (sym (whole ∙ ap (λ o. o >>= made (named (s.room - 1)) scope s) (sym c.in_ok-whole.ensures.core) ∙ ap (λ k. made (named (s.room - 1)) scope s (core_form s.span k)) c.in-Changing.is))
+    c.changed.ensures.node
+
+pub changed-returns-in_err-items-clause-node : goal.changed-returns-in_err-items-clause-node
+changed-returns-in_err-items-clause-node t c =
+    let p = err_from_is_err_and c.from_residual-in_err-items.result c.from_residual-in_err-items.ensures.1 in
+    let s = c.args.spot in
+    let scope = c.args.scope.now in
+    let n = c.in_ok-expression.ensures.node in
+    let one = c.expression.new.scope in
+    let count : length c.expression.new.nodes.items + length c.args.args.now ≡ suc (length c.args.args.now) = counted c.new-parts.result.items c.expression.new.nodes.items n.0 (length c.args.args.now) c.new-parts.ensures.items n.1 in
+    rw (p.1, p.2) (passed_items c.in_err-items.field-0.0 c.expression.new.nodes.items c.items.new.nodes.items c.args.nodes.now.items c.args.nodes.now.items
+    (narrow (length c.expression.new.nodes.items + length c.args.args.now) s (named_all (named (s.room - 1)) one true true (plain c.args.args.now)))
+    (changed_whole s scope c.if-spot-eq0.false c.args.change c.args.cell c.args.function c.args.args) c.in_err-items.ensures.nodes
+    (λ e stopped. args_then s scope c.if-spot-eq0.false c.args.change c.args.cell c.args.function c.args.args c.inner.result c.inner.ensures n.0 n.2 one c.in_ok-expression.ensures.kept
+    c.in_ok-callee.callee (Err e) (length c.expression.new.nodes.items + length c.args.args.now) (sym c.in_ok-callee.ensures) count stopped))
+
+pub changed-returns-clause-node : goal.changed-returns-clause-node
+changed-returns-clause-node t c =
+    let s = c.args.spot in
+    let scope = c.args.scope.now in
+    let n = c.in_ok-expression.ensures.node in
+    let all = c.in_ok-items.ensures.nodes in
+    let one = c.expression.new.scope in
+    let row : c.items.new.nodes.items ≡ n.0 ∷ all.0 = all.1 ∙ ap (λ (l : List Node). l ++ all.0) (n.1 ∙ ap (λ (l : List Node). l ++ n.0 ∷ []) c.new-parts.ensures.items) in
+    let count : length c.expression.new.nodes.items + length c.args.args.now ≡ suc (length c.args.args.now) = counted c.new-parts.result.items c.expression.new.nodes.items n.0 (length c.args.args.now) c.new-parts.ensures.items n.1 in
+    subst (Pushes c.build_change.result c.args.nodes.now.items c.build_change.new.nodes.items)
+    (sym (args_then s scope c.if-spot-eq0.false c.args.change c.args.cell c.args.function c.args.args c.inner.result c.inner.ensures n.0 n.2 one c.in_ok-expression.ensures.kept
+    c.in_ok-callee.callee (Ok (trees_of all.0)) (length c.expression.new.nodes.items + length c.args.args.now) (sym c.in_ok-callee.ensures) count all.2))
+    (c.build_change.ensures n.0 all.0 row)
+
 pub parted-build-requires : goal.parted-build-requires
 parted-build-requires t c m =
     let made = c.in_ok-children.ensures.nodes in
@@ -62,40 +104,37 @@ children-returns-in-Row-clause-nodes t c =
     subst (λ f. Fills c.items.result f c.items.new.nodes.items (spot_mark s) (put_together (named (s.room - 1)) c.args.scope.now s (special_form s.span f))) (sym c.in-Row.is)
     (row_filled s c.args.scope.now c.items.result c.in-Row.kind c.in-Row.forms c.args.parts.now.items c.items.new.nodes.items c.are_wanted-wanted.result c.last_wanted-last.result c.are_wanted-wanted.ensures c.last_wanted-last.ensures c.requires.empty c.items.ensures.nodes)
 
-pub children-returns-in-Reading-clause-nodes : goal.children-returns-in-Reading-clause-nodes
-children-returns-in-Reading-clause-nodes t c =
+pub children-returns-in-Single-clause-nodes : goal.children-returns-in-Single-clause-nodes
+children-returns-in-Single-clause-nodes t c =
     let s = c.args.spot in
-    subst (λ f. Fills c.expression.result f c.expression.new.nodes.items (spot_mark s) (put_together (named (s.room - 1)) c.args.scope.now s (special_form s.span f))) (sym c.in-Reading.is)
-    (reading_filled s c.args.scope.now c.expression.result c.in-Reading.cell c.args.parts.now.items c.expression.new.nodes.items c.inner-value.result c.inner-value.ensures c.requires.empty c.expression.ensures.node)
+    let e = c.expression in
+    subst (λ f. Fills e.result f e.new.nodes.items (spot_mark s) (put_together (named (s.room - 1)) c.args.scope.now s (special_form s.span f))) (sym c.in-Single.is)
+    (single_filled s c.args.scope.now e.result c.in-Single.single c.in-Single.part c.args.parts.now.items e.new.nodes.items c.inner-inner.result c.part_wanted.result c.part_wanted.ensures c.inner-inner.ensures c.requires.empty e.ensures.node)
 
-pub children-returns-in-Transaction-clause-nodes : goal.children-returns-in-Transaction-clause-nodes
-children-returns-in-Transaction-clause-nodes t c =
+pub pair-returns-in_err-expression-clause-nodes : goal.pair-returns-in_err-expression-clause-nodes
+pair-returns-in_err-expression-clause-nodes t c =
+    let p = err_from_is_err_and c.from_residual.result c.from_residual.ensures.1 in
     let s = c.args.spot in
-    let e = c.expression-in-Transaction in
-    subst (λ f. Fills e.result f e.new.nodes.items (spot_mark s) (put_together (named (s.room - 1)) c.args.scope.now s (special_form s.span f))) (sym c.in-Transaction.is)
-    (transaction_filled s c.args.scope.now e.result c.in-Transaction.body c.args.parts.now.items e.new.nodes.items c.inner-branch.result c.inner-branch.ensures c.requires.empty e.ensures.node)
+    let scope = c.args.scope.now in
+    let i = c.inner-inner.result in
+    rw (p.1, p.2) (passed_filling c.in_err-expression.field-0.0 (special.Pair c.args.couple c.args.first c.args.second) c.args.parts.now.items c.expression.new.nodes.items c.expression.new.nodes.items (spot_mark s)
+    (named i.room scope i.wanted (part_form i.span c.args.first)) (put_together (named (s.room - 1)) scope s (special_form s.span (special.Pair c.args.couple c.args.first c.args.second))) c.in_err-expression.ensures.node
+    (λ e stopped. pair_stops s scope c.args.couple c.args.first c.args.second i e c.inner-inner.ensures stopped))
 
-pub children-returns-in_ok-expression-in-Choice-2-clause-nodes : goal.children-returns-in_ok-expression-in-Choice-2-clause-nodes
-children-returns-in_ok-expression-in-Choice-2-clause-nodes t c =
-    let s = c.args.spot in
-    let a = c.in_ok-expression-in-Choice.ensures in
-    let b = c.in_ok-expression-in-Choice-2.ensures in
-    let e = c.expression-in-Choice-3 in
-    subst (λ f. Fills e.result f e.new.nodes.items (spot_mark s) (put_together (named (s.room - 1)) c.args.scope.now s (special_form s.span f))) (sym c.in-Choice.is)
-    (choice_filled s c.args.scope.now e.result c.in-Choice.field-0 c.in-Choice.test c.in-Choice.one c.in-Choice.other c.expression-in-Choice.new.scope c.expression-in-Choice-2.new.scope
-    c.args.parts.now.items c.expression-in-Choice.new.nodes.items c.expression-in-Choice-2.new.nodes.items e.new.nodes.items c.inner-value.result c.inner-branch.result a.node.0 b.node.0
-    c.inner-value.ensures c.inner-branch.ensures a.kept b.kept c.requires.empty a.node.1 b.node.1 a.node.2 b.node.2 e.ensures.node)
+pub pair-returns-clause-nodes : goal.pair-returns-clause-nodes
+pair-returns-clause-nodes t c =
+    let a = c.in_ok-expression.ensures in
+    let e = c.expression-2 in
+    pair_filled c.args.spot c.args.scope.now e.result c.args.couple c.args.first c.args.second c.expression.new.scope c.args.parts.now.items c.expression.new.nodes.items e.new.nodes.items c.inner-inner.result a.node.0
+    c.inner-inner.ensures a.kept c.requires.empty a.node.1 a.node.2 e.ensures.node
 
-pub children-returns-in_ok-callee-in-Change-clause-nodes : goal.children-returns-in_ok-callee-in-Change-clause-nodes
-children-returns-in_ok-callee-in-Change-clause-nodes t c =
-    let s = c.args.spot in
-    let a = c.in_ok-expression-in-Change.ensures in
-    let e = c.items-in-Change in
-    let callee = c.in_ok-callee-in-Change.field-0 in
-    subst (λ f. Fills e.result f e.new.nodes.items (spot_mark s) (put_together (named (s.room - 1)) c.args.scope.now s (special_form s.span f)))
-    (sym (c.in-Change.is ∙ ap (λ o. special.Change c.in-Change.cell o c.in-Change.args) c.in_ok-callee-in-Change.was))
-    (change_filled s c.args.scope.now e.result c.in-Change.cell callee c.in-Change.args c.expression-in-Change.new.scope c.args.parts.now.items c.expression-in-Change.new.nodes.items e.new.nodes.items c.inner-value.result a.node.0
-    c.inner-value.ensures a.kept c.requires.empty a.node.1 a.node.2 e.ensures.nodes)
+pub choice-returns-clause-nodes : goal.choice-returns-clause-nodes
+choice-returns-clause-nodes t c =
+    let a = c.in_ok-expression.ensures in
+    let b = c.in_ok-expression-2.ensures in
+    let e = c.expression-3 in
+    choice_filled c.args.spot c.args.scope.now e.result c.args.turned c.args.test c.args.one c.args.other c.expression.new.scope c.expression-2.new.scope c.args.parts.now.items c.expression.new.nodes.items c.expression-2.new.nodes.items e.new.nodes.items
+    c.inner.result c.inner-branch.result a.node.0 b.node.0 c.inner.ensures c.inner-branch.ensures a.kept b.kept c.requires.empty a.node.1 b.node.1 a.node.2 b.node.2 e.ensures.node
 
 pub bound-returns-clause-nodes : goal.bound-returns-clause-nodes
 bound-returns-clause-nodes t c =

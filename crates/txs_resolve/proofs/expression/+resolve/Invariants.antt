@@ -32,8 +32,17 @@ decreases-expression l = 8 * l.spot.room + 6
 abbrev pub decreases-parted : goal.decreases-parted
 decreases-parted l = 8 * l.spot.room + 5
 
+abbrev pub decreases-changed : goal.decreases-changed
+decreases-changed l = 8 * l.spot.room + 5
+
 abbrev pub decreases-children : goal.decreases-children
 decreases-children l = 8 * l.spot.room + 4
+
+abbrev pub decreases-pair : goal.decreases-pair
+decreases-pair l = 8 * l.spot.room + 3
+
+abbrev pub decreases-choice : goal.decreases-choice
+decreases-choice l = 8 * l.spot.room + 3
 
 abbrev pub decreases-bound : goal.decreases-bound
 decreases-bound l = 8 * l.spot.room + 3

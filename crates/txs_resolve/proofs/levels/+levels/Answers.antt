@@ -1,6 +1,6 @@
 use Rattle.std.proofs.Common.{refl, ap, arith, rules}
 use Rattle.txs_tree.specs.declared.node.NodeKind.{the_lemmas}
-use Rattle.txs_tree.proofs.Trees.{do_node, let_node, loop_node, recur_node, core_node, call_node, vector_node, println_node, alter_node}
+use Rattle.txs_tree.proofs.Trees.{do_node, let_node, loop_node, recur_node, core_node, call_node, vector_node, println_node, update_node, send_node}
 use Rattle.txs_resolve.specs.Depths.{depths}
 use Rattle.txs_resolve.proofs.levels.+levels.Goals as goal
 
@@ -124,17 +124,32 @@ levels-returns-in-Println t c =
     let e = ap (depths c.args.known.now) (println_node c.args.node.now c.in-Println.args c.deref-in-Println.result.now c.in-Println.is c.deref-in-Println.ensures.value) in
     omega (arith, e, c.most_levels-in-Println.ensures)
 
-pub levels-most_levels-requires-in-Alter : goal.levels-most_levels-requires-in-Alter
-levels-most_levels-requires-in-Alter t c =
-    let e = ap (depths c.args.known.now) (alter_node c.args.node.now c.in-Alter.cell c.in-Alter.callee c.in-Alter.args c.deref-in-Alter.result.now c.deref-in-Alter-2.result.now c.in-Alter.is c.deref-in-Alter.ensures c.deref-in-Alter-2.ensures.value) in
+pub levels-most_levels-requires-in-Update : goal.levels-most_levels-requires-in-Update
+levels-most_levels-requires-in-Update t c =
+    let e = ap (depths c.args.known.now) (update_node c.args.node.now c.in-Update.field-0 c.in-Update.cell c.in-Update.callee c.in-Update.args c.deref-in-Update.result.now c.deref-in-Update-2.result.now c.in-Update.is c.deref-in-Update.ensures c.deref-in-Update-2.ensures.value) in
     (search (rules, the_lemmas), omega (arith, e, c.requires))
 
-pub levels-overflow_add-result-in-Alter : goal.levels-overflow_add-result-in-Alter
-levels-overflow_add-result-in-Alter t c =
-    let e = ap (depths c.args.known.now) (alter_node c.args.node.now c.in-Alter.cell c.in-Alter.callee c.in-Alter.args c.deref-in-Alter.result.now c.deref-in-Alter-2.result.now c.in-Alter.is c.deref-in-Alter.ensures c.deref-in-Alter-2.ensures.value) in
-    omega (arith, e, c.requires, c.levels-in-Alter.ensures, c.most_levels-in-Alter.ensures, c.max-parts.ensures, c.of_callee.ensures, c.max-in-Alter.ensures)
+pub levels-overflow_add-result-in-Update : goal.levels-overflow_add-result-in-Update
+levels-overflow_add-result-in-Update t c =
+    let e = ap (depths c.args.known.now) (update_node c.args.node.now c.in-Update.field-0 c.in-Update.cell c.in-Update.callee c.in-Update.args c.deref-in-Update.result.now c.deref-in-Update-2.result.now c.in-Update.is c.deref-in-Update.ensures c.deref-in-Update-2.ensures.value) in
+    omega (arith, e, c.requires, c.levels-in-Update.ensures, c.most_levels-in-Update.ensures, c.max-parts.ensures, c.of_callee.ensures, c.max-in-Update.ensures)
 
-pub levels-returns-in-Alter : goal.levels-returns-in-Alter
-levels-returns-in-Alter t c =
-    let e = ap (depths c.args.known.now) (alter_node c.args.node.now c.in-Alter.cell c.in-Alter.callee c.in-Alter.args c.deref-in-Alter.result.now c.deref-in-Alter-2.result.now c.in-Alter.is c.deref-in-Alter.ensures c.deref-in-Alter-2.ensures.value) in
-    omega (arith, e, c.levels-in-Alter.ensures, c.most_levels-in-Alter.ensures, c.max-parts.ensures, c.of_callee.ensures, c.max-in-Alter.ensures)
+pub levels-returns-in-Update : goal.levels-returns-in-Update
+levels-returns-in-Update t c =
+    let e = ap (depths c.args.known.now) (update_node c.args.node.now c.in-Update.field-0 c.in-Update.cell c.in-Update.callee c.in-Update.args c.deref-in-Update.result.now c.deref-in-Update-2.result.now c.in-Update.is c.deref-in-Update.ensures c.deref-in-Update-2.ensures.value) in
+    omega (arith, e, c.levels-in-Update.ensures, c.most_levels-in-Update.ensures, c.max-parts.ensures, c.of_callee.ensures, c.max-in-Update.ensures)
+
+pub levels-most_levels-requires-in-Send : goal.levels-most_levels-requires-in-Send
+levels-most_levels-requires-in-Send t c =
+    let e = ap (depths c.args.known.now) (send_node c.args.node.now c.in-Send.cell c.in-Send.callee c.in-Send.args c.deref-in-Send.result.now c.deref-in-Send-2.result.now c.in-Send.is c.deref-in-Send.ensures c.deref-in-Send-2.ensures.value) in
+    (search (rules, the_lemmas), omega (arith, e, c.requires))
+
+pub levels-overflow_add-result-in-Send : goal.levels-overflow_add-result-in-Send
+levels-overflow_add-result-in-Send t c =
+    let e = ap (depths c.args.known.now) (send_node c.args.node.now c.in-Send.cell c.in-Send.callee c.in-Send.args c.deref-in-Send.result.now c.deref-in-Send-2.result.now c.in-Send.is c.deref-in-Send.ensures c.deref-in-Send-2.ensures.value) in
+    omega (arith, e, c.requires, c.levels-in-Send.ensures, c.most_levels-in-Send.ensures, c.max-parts-in-Send.ensures, c.of_callee-in-Send.ensures, c.max-in-Send.ensures)
+
+pub levels-returns-in-Send : goal.levels-returns-in-Send
+levels-returns-in-Send t c =
+    let e = ap (depths c.args.known.now) (send_node c.args.node.now c.in-Send.cell c.in-Send.callee c.in-Send.args c.deref-in-Send.result.now c.deref-in-Send-2.result.now c.in-Send.is c.deref-in-Send.ensures c.deref-in-Send-2.ensures.value) in
+    omega (arith, e, c.levels-in-Send.ensures, c.most_levels-in-Send.ensures, c.max-parts-in-Send.ensures, c.of_callee-in-Send.ensures, c.max-in-Send.ensures)

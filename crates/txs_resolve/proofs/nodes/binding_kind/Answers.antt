@@ -1,7 +1,8 @@
 use Rattle.std.proofs.Common.{sym, ap, ◌∙◌}
 use Rattle.txs_tree.specs.View.{tree_of, trees_of}
 use Rattle.txs_resolve.specs.Expressions.{binding_node}
-use Rattle.txs_resolve.proofs.NodeTrees.{binding_same, let_tree, loop_tree}
+use Rattle.txs_tree.proofs.Trees.{let_tree, loop_tree}
+use Rattle.txs_resolve.proofs.NodeTrees.{binding_same}
 use Rattle.txs_resolve.proofs.nodes.binding_kind.Goals as goal
 
 pub returns-then-is_loop : goal.returns-then-is_loop

@@ -1,7 +1,7 @@
 use Rattle.std.proofs.Common.{sym, ap, ◌∙◌}
 use Rattle.txs_tree.specs.View.{trees_of}
 use Rattle.txs_resolve.specs.Expressions.{sequence_node}
-use Rattle.txs_resolve.proofs.NodeTrees.{do_tree, recur_tree, println_tree, vector_tree, core_tree, call_tree}
+use Rattle.txs_tree.proofs.Trees.{do_tree, recur_tree, println_tree, vector_tree, core_tree, call_tree}
 use Rattle.txs_resolve.proofs.nodes.row_kind.Goals as goal
 
 pub returns-in-Do : goal.returns-in-Do

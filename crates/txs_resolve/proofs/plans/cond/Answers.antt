@@ -1,4 +1,4 @@
-use Rattle.std.proofs.Common.{◌∷◌, List, Err, sym, ap, ◌∙◌}
+use Rattle.std.proofs.Common.{◌∷◌, List, sym, ap, ◌∙◌}
 use Rattle.txs_reader.specs.declared.form.Form.{Form}
 use Rattle.txs_names.specs.declared.names.FormName.TheVariants as kind
 use Rattle.txs_resolve.specs.Parts.{plain, table}
@@ -6,12 +6,11 @@ use Rattle.txs_resolve.proofs.Tables.{cond_even, cond_odd}
 use Rattle.txs_resolve.proofs.plans.cond.Goals as goal
 
 pub returns-then-rest-ne0-clause-core : goal.returns-then-rest-ne0-clause-core
-returns-then-rest-ne0-clause-core c scope =
-    ap (λ e. Err e) c.bad_form-then-rest-ne0.ensures
-    ∙ cond_odd scope c.args.spot c.in-Some.test.now c.in-Some-split_first.one.now c.in-Some-split_first.rest.now c.if-rest-ne0.true
-    ∙ sym (ap (λ (l : List Form). table kind.Cond scope c.args.spot (plain l)) (c.in-Some.ensures.cases.0 ∙ ap (λ (l : List Form). c.in-Some.test.now ∷ l) c.in-Some-split_first.ensures.cases.0))
+returns-then-rest-ne0-clause-core c scope s =
+    cond_odd scope s c.in-Some.test.now c.in_ok-one.one.now c.in_ok-one.rest.now c.if-rest-ne0.true
+    ∙ sym (ap (λ (l : List Form). table kind.Cond scope s (plain l)) (c.in-Some.ensures.cases.0 ∙ ap (λ (l : List Form). c.in-Some.test.now ∷ l) c.in_ok-one.ensures.cases.0))
 
 pub returns-clause-core : goal.returns-clause-core
-returns-clause-core c scope =
-    cond_even scope c.args.spot c.in-Some.test.now c.in-Some-split_first.one.now c.in-Some-split_first.rest.now c.if-rest-ne0.false
-    ∙ sym (ap (λ (l : List Form). table kind.Cond scope c.args.spot (plain l)) (c.in-Some.ensures.cases.0 ∙ ap (λ (l : List Form). c.in-Some.test.now ∷ l) c.in-Some-split_first.ensures.cases.0))
+returns-clause-core c scope s =
+    cond_even scope s c.in-Some.test.now c.in_ok-one.one.now c.in_ok-one.rest.now c.if-rest-ne0.false
+    ∙ sym (ap (λ (l : List Form). table kind.Cond scope s (plain l)) (c.in-Some.ensures.cases.0 ∙ ap (λ (l : List Form). c.in-Some.test.now ∷ l) c.in_ok-one.ensures.cases.0))

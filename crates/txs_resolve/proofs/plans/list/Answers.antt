@@ -10,9 +10,12 @@ use Rattle.txs_resolve.proofs.plans.list.Goals as goal
 
 pub returns-in-Some-form_at-clause-core : goal.returns-in-Some-form_at-clause-core
 returns-in-Some-form_at-clause-core c =
-    c.special.ensures.core
+    c.shaped.ensures.core c.args.scope.now
     ∙ sym (ap (λ (l : List Form). core_of c.args.scope.now c.args.spot (expand_once (group Round (plain l) c.args.spot.span))) c.in-Some.ensures.cases.0
     ∙ list_table c.args.scope.now c.args.spot c.in-Some-form_at.name (tree c.in-Some.head.now) (plain c.in-Some.args.now) (sym c.form_at.ensures ∙ c.in-Some-form_at.is))
 
 pub returns-in-Core-clause-fits : goal.returns-in-Core-clause-fits
 returns-in-Core-clause-fits c = c.operation.ensures.fits c.args.scope.now
+
+pub returns-in-Some-form_at-clause-fits : goal.returns-in-Some-form_at-clause-fits
+returns-in-Some-form_at-clause-fits c = c.shaped.ensures.fits c.args.scope.now

@@ -5,6 +5,6 @@ use Rattle.txs_resolve.proofs.Tables.{logic_some}
 use Rattle.txs_resolve.proofs.plans.logic.Goals as goal
 
 pub returns-clause-core : goal.returns-clause-core
-returns-clause-core c scope =
-    logic_some scope c.args.spot c.args.is_or c.in-Some.value.now c.in-Some.rest.now c.if-rest-eq0.false
-    ∙ sym (ap (λ (l : List Form). table (logic_name c.args.is_or) scope c.args.spot (plain l)) c.in-Some.ensures.cases.0)
+returns-clause-core c scope s =
+    logic_some scope s c.args.is_or c.in-Some.value.now c.in-Some.rest.now c.if-rest-eq0.false
+    ∙ sym (ap (λ (l : List Form). table (logic_name c.args.is_or) scope s (plain l)) c.in-Some.ensures.cases.0)

@@ -5,7 +5,7 @@ use Rattle.txs_names.specs.Scope.{Scope}
 use Rattle.txs_resolve.specs.Scripts.{ScopedState, state_of}
 use Rattle.txs_resolve.proofs.Scoping.{one_more}
 use Rattle.txs_resolve.proofs.ScopedScripts.{cell_scoped}
-use Rattle.txs_resolve.proofs.script.with_ref.Goals as goal
+use Rattle.txs_resolve.proofs.script.with_cell.Goals as goal
 
 pub returns-clause-next : goal.returns-clause-next
 returns-clause-next c =
@@ -18,5 +18,5 @@ returns-clause-next c =
       outside = ap (λ x. x.locals) e ∙ c.requires.script.outside;
       idle = ap (λ x. x.current) e ∙ c.requires.script.idle;
       levels = c.requires.script.levels;
-      scoped = subst ScopedState (ap defined (sym e) ∙ ap counted (one_more s.defs)) (cell_scoped (state_of s) cells c.args.name.now c.len-number.result c.requires.script.scoped c.requires.room (omega (arith, c.in_ok-push.ensures.len)));
+      scoped = subst ScopedState (ap defined (sym e) ∙ ap counted (one_more s.defs)) (cell_scoped (state_of s) cells c.args.name.now (record { kind = c.args.sort.kind; number = c.len-number.result }) c.requires.script.scoped c.requires.room (omega (arith, c.in_ok-push.ensures.len)));
     }
