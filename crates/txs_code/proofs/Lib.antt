@@ -1,3 +1,5 @@
 pub mod Acts
 pub mod Alike
 pub mod Later
+pub mod Once
+mod Rows

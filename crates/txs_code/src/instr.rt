@@ -1,9 +1,20 @@
 //! Instructions.
 
-use txs_value::Op;
+use txs_value::{Callee, LookForm, Op, PutForm, UpdateForm};
+
+/// What an open begins, with the callee that it names; that of `alter` names none.
+#[derive(Clone, Copy)]
+pub enum OpenForm {
+    /// `alter`
+    Alter,
+    /// `commute`
+    Commute(Callee),
+    /// `swap!`
+    Swap(Callee),
+}
 
 /// An instruction. Its places are numbers of instructions of the same body, from 0.
-#[derive(Clone, Copy, Debug)]
+#[derive(Clone, Copy)]
 pub enum Instr {
     /// Pushes a constant, by its number.
     Const(u32),
@@ -28,16 +39,22 @@ pub enum Instr {
     Vector(u16),
     /// Prints so many values at the top of the stack as a line, with nil in their place.
     Print(u16),
-    /// The value of the cell at the top of the stack, in its place.
-    Deref,
+    /// Reads the cell at the top of the stack, with its value in its place.
+    Look(LookForm),
+    /// Gives the cell below the top of the stack the value at the top, which stands then in the place of both.
+    Put(PutForm),
     /// A transaction begins, or joins the one that runs.
     TxBegin,
     /// A transaction ends, or leaves the one that runs.
     TxEnd,
-    /// The value of the ref that stands below so many values, between it and them.
-    AlterOpen(u16),
-    /// The value at the top of the stack becomes that of the ref below it, in whose place it stands then.
-    AlterClose,
+    /// The value of the cell that stands below so many values, between it and them. At once behind it stand the operation or call
+    /// of the callee, on that value and those, and the close.
+    Open(OpenForm, u16),
+    /// The value at the top of the stack becomes that of the cell below it, in whose place it stands then.
+    Close(UpdateForm),
+    /// Sends the agent that stands below so many values an action: the callee, which is to be called on the agent's state and
+    /// these values. The agent stands in the place of all.
+    Send(Callee, u16),
     /// Ends a thread.
     Halt,
 }

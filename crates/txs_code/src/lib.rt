@@ -1,15 +1,15 @@
 //! Code: the instructions of functions and threads with their spans, the cells and constants that they name, and what makes code well
-//! typed: tables of the stack's depth and of the transactions at each place that it comes to. What the
-//! machine does with code is told by the definitions, by cases on instructions, and so is what an actor's
-//! state is.
+//! typed: lawful instructions, and tables of the stack's depth and of the transactions and open forms at each place that it comes to.
+//! What the machine does with code is told by the definitions, by cases on instructions, and so is what an actor's state is.
 #![tactic(auto)]
 
 pub mod code;
 pub mod fusing;
 pub mod instr;
+pub mod law;
 pub mod verified;
 
 pub use code::{Body, Code};
 pub use fusing::{Arithmetic, Comparison, Fused};
-pub use instr::Instr;
+pub use instr::{Instr, OpenForm};
 pub use verified::Verified;
