@@ -2,7 +2,7 @@
 use Rattle.std.proofs.Common.{◌≡◌, ℕ, zero, suc, List, [], ◌∷◌, length, map, Option, Some, None, refl, sym, ap, subst}
 use Rattle.txs_value.specs.Places.{nth}
 use Rattle.txs_tree.specs.Known.{Known, known}
-use Rattle.txs_tree.specs.Sound.{SoundThread, SoundThreads}
+use Rattle.txs_tree.specs.Sound.{SoundThread, SoundThreads, SoundSource}
 use Rattle.txs_tree.specs.Tree.{PlainThread}
 use Rattle.txs_code.specs.Machine.{ThreadCode}
 use Rattle.txs_follows.specs.Behaves.{Behaves}
@@ -23,7 +23,9 @@ sound_at ks (u ∷ ts) (suc i) t h e = sound_at ks ts i t h.1 e
 pub sound_follows_all : SoundFollowsAll
 sound_follows_all codes p sound behaves = record {
   as_many = behaves.as_many;
-  each = λ i c t e f. behaves_follows c (source_of p t) (behaves.each i c t e f) (ever_meant (source_of p t) (record { functions = sound.functions; main = (sound_at (known p.functions) p.threads i t sound.threads f).0 }));
+  each = λ i c t e f.
+      let one : SoundSource (source_of p t) = record { functions = sound.functions; main = (sound_at (known p.functions) p.threads i t sound.threads f).0 } in
+      behaves_follows c (source_of p t) (behaves.each i c t e f) one (ever_meant (source_of p t) one);
 }
 
 length_map : {A B : Type 0} (f : A → B) (xs : List A) → length (map f xs) ≡ length xs
@@ -44,5 +46,7 @@ generated_follows g behaves p sound =
     let f : PlainThread → ThreadCode = λ t. g (source_of p t) in
     sound_follows_all (map f p.threads) p sound (record {
       as_many = length_map f p.threads;
-      each = λ i c t e k. image_at (λ x u. Behaves x (source_of p u)) f (λ u. behaves (source_of p u)) p.threads i c t e k;
+      each = λ i c t e k.
+          image_at (λ x u. SoundThread (known p.functions) u → Behaves x (source_of p u)) f (λ u s. behaves (source_of p u) (record { functions = sound.functions; main = s.0 })) p.threads i c t e k
+          (sound_at (known p.functions) p.threads i t sound.threads k);
     })

@@ -9,19 +9,20 @@ use Rattle.txs_follows.proofs.Grows.{GrowsTo}
 use Rattle.txs_follows.proofs.Loops.{loops_too}
 use Rattle.txs_follows.proofs.MoreEvents.{settled_same, needs_before}
 use Rattle.txs_follows.proofs.More.{more_turns}
-use Rattle.txs_follows.proofs.Threads.{tree_follows}
+use Rattle.txs_follows.proofs.Follow.{tree_follows}
 use Rattle.txs_follows.proofs.Whole.{explained, nothing_after, grown, ends, over_explained}
 use Rattle.txs_code.specs.Opening.{opening, target}
 use Rattle.txs_follows.specs.Behaves.{source, IsMeant, HasEnded, outcome_of, IsOver, Behaves}
 use Rattle.txs_follows.specs.EndsSo.{NeedsTurns, HasSettled, in_hand, EndsSo}
 use Rattle.txs_follows.specs.Follows.{Follows, IsEverMeant}
-use Rattle.txs_follows.specs.OnReplies.{settled}
 use Rattle.txs_follows.specs.RepliesFit.{Phase, Out, Agrees, Explained, Consumed}
 use Rattle.txs_follows.specs.RepliesFitTo.{RepliesFitTo}
 use Rattle.txs_tree.specs.Meaning.{Completion, Completes, Recurs, Faults, Retries, Waits, OutOfTurns, Invalid}
 use Rattle.txs_asks.specs.SeenEvent.{SeenEvent}
 use Rattle.txs_tree.specs.Thread.{thread_meaning}
+use Rattle.txs_tree.specs.Sound.{SoundSource}
 use Rattle.txs_tree.specs.Tree.{ThreadSource}
+use Rattle.txs_value.specs.Cells.{World}
 use Rattle.txs_asks.specs.Ask.{Exchange}
 use Rattle.txs_value.specs.declared.value.Value.{Value}
 
@@ -48,23 +49,23 @@ consumed_over code todo m j o over f c =
     (λ le. consumed_later code todo m j (target code m todo) o le refl f c)
     (cases_lt j m)
 
-module _ (code : ThreadCode) (p : ThreadSource) (behaves : Behaves code p) (todo : List Exchange) (es : List SeenEvent) (end : Phase) (m n k b : ℕ)
-    (m_below : m ≤ b) (n_below : n ≤ b) (k_below : k ≤ b) (f : RepliesFitTo Out todo es end) (c : Consumed (target code m todo))
-    (settled : HasSettled (thread_meaning p n es)) (enough : NeedsTurns (thread_meaning p k (es ++ in_hand end)) → ⊥) where
-  over_so : (x : Completion ActorState Value) → source p b todo ≡ x → HasEnded x → IsOver (outcome_of x) → Agrees x (thread_meaning p n es) → (j : ℕ) × IsOver (target code j todo) × Explained (target code j todo) (thread_meaning p n es)
+module _ (code : ThreadCode) (p : ThreadSource) (behaves : Behaves code p) (sound : SoundSource p) (todo : List Exchange) (es : List SeenEvent) (end : Phase) (Q : World) (m n k b : ℕ)
+    (m_below : m ≤ b) (n_below : n ≤ b) (k_below : k ≤ b) (f : RepliesFitTo p.cells Out todo es end) (c : Consumed (target code m todo))
+    (settled : HasSettled (thread_meaning p n es)) (enough : NeedsTurns (thread_meaning p k (es ++ in_hand p.cells Q end)) → ⊥) where
+  over_so : (x : Completion ActorState Value) → source p b todo ≡ x → HasEnded x → IsOver (outcome_of x) → Agrees p.cells x (thread_meaning p n es) → (j : ℕ) × IsOver (target code j todo) × Explained (target code j todo) (thread_meaning p n es)
   over_so x q t over a =
-      let r = ends code p behaves todo b x q t in
+      let r = ends code p behaves sound todo b x q t in
       let o = outcome_of x in
-      (r.0, subst IsOver (sym r.1) over, subst (λ u. Explained u (thread_meaning p n es)) (sym r.1) (over_explained x (thread_meaning p n es) t a (consumed_over code todo m r.0 o over r.1 c)))
+      (r.0, subst IsOver (sym r.1) over, subst (λ u. Explained u (thread_meaning p n es)) (sym r.1) (over_explained p.cells x (thread_meaning p n es) t a (consumed_over code todo m r.0 o over r.1 c)))
 
   -- the tree has turns enough
   never_short : (s : ActorState) → source p b todo ≡ OutOfTurns s → ⊥
   never_short s q =
       let r = behaves.goes_on todo b s q in
       let none_left : s.todo ≡ [] = consumed_later code todo m r.0 (target code m todo) (Unfinished s) (omega (arith, m_below, r.1)) refl r.2 c in
-      enough (needs_before p (es ++ in_hand end) k b k_below (loops_too p b todo es end s f q none_left))
+      enough (needs_before p sound (es ++ in_hand p.cells Q end) k b k_below (loops_too p b todo es end Q sound s f q none_left))
 
-  ended_so : (x : Completion ActorState Value) → source p b todo ≡ x → IsMeant x → Agrees x (thread_meaning p n es) → (j : ℕ) × IsOver (target code j todo) × Explained (target code j todo) (thread_meaning p n es)
+  ended_so : (x : Completion ActorState Value) → source p b todo ≡ x → IsMeant x → Agrees p.cells x (thread_meaning p n es) → (j : ℕ) × IsOver (target code j todo) × Explained (target code j todo) (thread_meaning p n es)
   ended_so (Completes v s) q t a = over_so (Completes v s) q tt tt a
   ended_so (Recurs vs s) q t a = absurd t
   ended_so (Faults g s) q t a = over_so (Faults g s) q tt tt a
@@ -73,17 +74,17 @@ module _ (code : ThreadCode) (p : ThreadSource) (behaves : Behaves code p) (todo
   ended_so (OutOfTurns s) q t a = absurd (never_short s q)
   ended_so Invalid q t a = absurd t
 
-ends_so : (code : ThreadCode) (p : ThreadSource) → Behaves code p → IsEverMeant p → EndsSo code p
-ends_so code p behaves meant todo es end m n k f c settled enough =
+ends_so : (code : ThreadCode) (p : ThreadSource) → Behaves code p → SoundSource p → IsEverMeant p → EndsSo code p
+ends_so code p behaves sound meant todo es end Q m n k f c settled enough =
     let b = m + (n + k) in
-    let fit = fits_of Out todo es end f in
-    ended_so code p behaves todo es end m n k b (omega arith) (omega arith) (omega arith) f c settled enough (source p b todo) refl (meant b todo es fit)
-    (subst (λ y. Agrees (source p b todo) y) (settled_same p es n b (omega arith) settled) (tree_follows p b todo es fit))
+    let fit = fits_of p.cells Out todo es end f in
+    ended_so code p behaves sound todo es end Q m n k b (omega arith) (omega arith) (omega arith) f c settled enough (source p b todo) refl (meant b todo es fit)
+    (subst (λ y. Agrees p.cells (source p b todo) y) (settled_same p sound es n b (omega arith) settled) (tree_follows p b todo es sound fit))
 
 -- code that behaves as a thread's tree follows the thread, where no answer of the tree is invalid
-pub behaves_follows : (code : ThreadCode) (p : ThreadSource) → Behaves code p → IsEverMeant p → Follows code p
-behaves_follows code p behaves meant = record {
-  explained = λ todo es m f c. explained code p behaves todo es m (target code m todo) refl f (meant m todo es f) c;
-  reaches = λ todo es n k f t le. (behaves.follows todo n t, subst (λ x. Agrees x (thread_meaning p k es)) (more_turns p todo n k le t) (tree_follows p k todo es f));
-  ends_so = ends_so code p behaves meant;
+pub behaves_follows : (code : ThreadCode) (p : ThreadSource) → Behaves code p → SoundSource p → IsEverMeant p → Follows code p
+behaves_follows code p behaves sound meant = record {
+  explained = λ todo es m f c. explained code p behaves sound todo es m (target code m todo) refl f (meant m todo es f) c;
+  reaches = λ todo es n k f t le. (behaves.follows todo n t, subst (λ x. Agrees p.cells x (thread_meaning p k es)) (more_turns p sound todo n k le t) (tree_follows p k todo es sound f));
+  ends_so = ends_so code p behaves sound meant;
 }

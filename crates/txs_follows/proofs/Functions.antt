@@ -2,10 +2,14 @@
 -- function may stand in, a thread or transaction that calls it may.
 use Rattle.std.proofs.Common.{◌≡◌, ℕ, zero, suc, ◌+◌, ◌<◌, Bool, true, false, ◌&&◌, ◌||◌, List, [], ◌∷◌, ◌++◌, length, length-append, Option, Some, None, refl, sym, ap, ◌∙◌, subst, arith}
 use Rattle.std.proofs.lemmas.Bool.{false≢true}
-use Rattle.txs_tree.specs.Known.{Known, is_inside, is_outside, is_pure, inside_in, any_inside, outside_in, any_outside, pure_in, all_pure, known_of, known_from, known}
-use Rattle.txs_tree.specs.Sound.{in_function, in_thread, in_dosync, SoundCall, SoundTree, SoundAll, SoundLet, SoundDo, SoundFunction, SoundFunctions}
-use Rattle.txs_tree.specs.Tree.{Tree, Const, Local, If, Do, Let, Loop, Recur, Core, Call, VectorOf, Println, Dosync, Deref, Alter, Trees, none, more, count, PlainFunction}
+use Rattle.txs_tree.specs.Known.{Known, only_inside, only_outside, is_inside, is_outside, is_pure, inside_in, any_inside, outside_in, any_outside, pure_in, all_pure, known_of, known_from, known}
+use Rattle.txs_tree.specs.Sound.{MayStand, in_function, in_thread, in_dosync, SoundCall, SoundTree, SoundAll, SoundLet, SoundDo, SoundFunction, SoundFunctions}
+use Rattle.txs_tree.specs.Tree.{Tree, Const, Local, If, Do, Let, Loop, Recur, Core, Call, VectorOf, Println, Dosync, Look, Put, Update, Send, Trees, none, more, count, PlainFunction}
+use Rattle.txs_value.specs.Forms.{rule}
 use Rattle.txs_value.specs.Places.{nth}
+use Rattle.txs_value.specs.declared.form.CellForm.TheVariants as form_of
+use Rattle.txs_value.specs.declared.form.Standing.{Standing}
+use Rattle.txs_value.specs.declared.form.Standing.TheVariants.{Anywhere, Inside, Outside}
 
 abbrev IsThere : {A : Type 0} → Option A → Type 0
 IsThere None = ⊥
@@ -33,6 +37,18 @@ and_second false b e = absurd (false≢true e)
 none_of : (a b : Bool) → a ≡ false → b ≡ false → (a || b) ≡ false
 none_of true b e f = e
 none_of false b e f = f
+
+-- what is not for transactions alone may stand in a thread
+thread_stands : (s : Standing) → only_inside s ≡ false → MayStand in_thread s
+thread_stands Anywhere e = tt
+thread_stands Inside e = absurd (true_false e)
+thread_stands Outside e = tt
+
+-- what is not for outside alone may stand in a transaction
+dosync_stands : (s : Standing) → only_outside s ≡ false → MayStand in_dosync s
+dosync_stands Anywhere e = tt
+dosync_stands Inside e = tt
+dosync_stands Outside e = absurd (true_false e)
 
 -- a function that is for no transaction may be called in a thread
 thread_call : (ks : List Known) (f n : ℕ) → SoundCall ks in_function f n → is_inside (nth ks f) ≡ false → SoundCall ks in_thread f n
@@ -66,8 +82,19 @@ mutual
   thread_sound ks (VectorOf items m) d tail h o = (h.0, thread_all ks items d h.1 o)
   thread_sound ks (Println args m) d tail h o = (tt, h.1, thread_all ks args d h.2 o)
   thread_sound ks (Dosync body m) d tail h o = h
-  thread_sound ks (Deref cell m) d tail h o = thread_sound ks cell d None h o
-  thread_sound ks (Alter cell callee args m) d tail h o = absurd (true_false o)
+  thread_sound ks (Look form cell m) d tail h o =
+      let here = only_inside (rule (form_of.Look form)).stands in
+      (thread_stands (rule (form_of.Look form)).stands (or_first here (inside_in ks cell) o), thread_sound ks cell d None h.1 (or_second here (inside_in ks cell) o))
+  thread_sound ks (Put form cell value m) d tail h o =
+      let here = only_inside (rule (form_of.Put form)).stands in
+      let rest = or_second here (inside_in ks cell || inside_in ks value) o in
+      (thread_stands (rule (form_of.Put form)).stands (or_first here (inside_in ks cell || inside_in ks value) o), thread_sound ks cell d None h.1 (or_first (inside_in ks cell) (inside_in ks value) rest), thread_sound ks value d None h.2 (or_second (inside_in ks cell) (inside_in ks value) rest))
+  thread_sound ks (Update form cell callee args m) d tail h o =
+      let here = only_inside (rule (form_of.Update form)).stands in
+      let rest = or_second here (inside_in ks cell || any_inside ks args) o in
+      (thread_stands (rule (form_of.Update form)).stands (or_first here (inside_in ks cell || any_inside ks args) o), thread_sound ks cell d None h.1 (or_first (inside_in ks cell) (any_inside ks args) rest), h.2, thread_all ks args d h.3 (or_second (inside_in ks cell) (any_inside ks args) rest))
+  thread_sound ks (Send cell callee args m) d tail h o =
+      (thread_sound ks cell d None h.0 (or_first (inside_in ks cell) (any_inside ks args) o), h.1, thread_all ks args d h.2 (or_second (inside_in ks cell) (any_inside ks args) o))
 
   pub thread_all : (ks : List Known) (es : Trees) (d : ℕ) → SoundAll ks in_function d es → any_inside ks es ≡ false → SoundAll ks in_thread d es
   thread_all ks none d h o = tt
@@ -117,9 +144,19 @@ mutual
   dosync_sound ks (VectorOf items m) d tail h o = (h.0, dosync_all ks items d h.1 o)
   dosync_sound ks (Println args m) d tail h o = absurd (true_false o)
   dosync_sound ks (Dosync body m) d tail h o = h
-  dosync_sound ks (Deref cell m) d tail h o = dosync_sound ks cell d None h o
-  dosync_sound ks (Alter cell callee args m) d tail h o =
-      (tt, dosync_sound ks cell d None h.1 (or_first (outside_in ks cell) (any_outside ks args) o), h.2, dosync_all ks args d h.3 (or_second (outside_in ks cell) (any_outside ks args) o))
+  dosync_sound ks (Look form cell m) d tail h o =
+      let here = only_outside (rule (form_of.Look form)).stands in
+      (dosync_stands (rule (form_of.Look form)).stands (or_first here (outside_in ks cell) o), dosync_sound ks cell d None h.1 (or_second here (outside_in ks cell) o))
+  dosync_sound ks (Put form cell value m) d tail h o =
+      let here = only_outside (rule (form_of.Put form)).stands in
+      let rest = or_second here (outside_in ks cell || outside_in ks value) o in
+      (dosync_stands (rule (form_of.Put form)).stands (or_first here (outside_in ks cell || outside_in ks value) o), dosync_sound ks cell d None h.1 (or_first (outside_in ks cell) (outside_in ks value) rest), dosync_sound ks value d None h.2 (or_second (outside_in ks cell) (outside_in ks value) rest))
+  dosync_sound ks (Update form cell callee args m) d tail h o =
+      let here = only_outside (rule (form_of.Update form)).stands in
+      let rest = or_second here (outside_in ks cell || any_outside ks args) o in
+      (dosync_stands (rule (form_of.Update form)).stands (or_first here (outside_in ks cell || any_outside ks args) o), dosync_sound ks cell d None h.1 (or_first (outside_in ks cell) (any_outside ks args) rest), h.2, dosync_all ks args d h.3 (or_second (outside_in ks cell) (any_outside ks args) rest))
+  dosync_sound ks (Send cell callee args m) d tail h o =
+      (dosync_sound ks cell d None h.0 (or_first (outside_in ks cell) (any_outside ks args) o), h.1, dosync_all ks args d h.2 (or_second (outside_in ks cell) (any_outside ks args) o))
 
   dosync_all : (ks : List Known) (es : Trees) (d : ℕ) → SoundAll ks in_function d es → any_outside ks es ≡ false → SoundAll ks in_dosync d es
   dosync_all ks none d h o = tt
@@ -180,8 +217,10 @@ mutual
   free_tree ks w (VectorOf items m) p = free_all ks w items p
   free_tree ks w (Println args m) p = absurd (false≢true p)
   free_tree ks w (Dosync body m) p = absurd (false≢true p)
-  free_tree ks w (Deref cell m) p = absurd (false≢true p)
-  free_tree ks w (Alter cell callee args m) p = absurd (false≢true p)
+  free_tree ks w (Look form cell m) p = absurd (false≢true p)
+  free_tree ks w (Put form cell value m) p = absurd (false≢true p)
+  free_tree ks w (Update form cell callee args m) p = absurd (false≢true p)
+  free_tree ks w (Send cell callee args m) p = absurd (false≢true p)
 
   free_all : (ks : List Known) → AreFree ks → (es : Trees) → all_pure ks es ≡ true → (any_inside ks es ≡ false) × (any_outside ks es ≡ false)
   free_all ks w none p = (refl, refl)

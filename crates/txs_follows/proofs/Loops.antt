@@ -1,230 +1,41 @@
--- Where the tree needs turns and has consumed all replies, the thread needs turns on the events and an end of the try in hand.
-use Rattle.std.proofs.Common.{ℕ, zero, suc, Bool, true, false, List, [], Result, Ok, Err, refl, sym, ap, subst, length, inl, ◌≡◌, ◌∷◌, ◌++◌, ◌∙◌, if◌then◌else◌}
-use Rattle.std.proofs.lemmas.Bool.{false≢true}
-use Rattle.txs_code.specs.ActorState.{ActorState, Replied, asks, begun, begin, failed, fail, committed, commit, peeked, peek, print}
-use Rattle.txs_follows.proofs.Related.{Link, CompletesAs, FaultsAs, Related, closed_related, Alike, eval_related, calls_related}
-use Rattle.txs_follows.proofs.Worlds.{Fitting, Splits, IsShort, answered, tx_link, tx_related}
-use Rattle.txs_code.specs.Opening.{fresh}
+-- Where the tree needs turns and has consumed all replies, the thread needs turns on the events and an end of what is in hand.
+use Rattle.std.proofs.Common.{ℕ, List, [], sym, subst, ◌≡◌, ◌++◌}
+use Rattle.txs_asks.specs.Ask.{Exchange}
+use Rattle.txs_asks.specs.SeenEvent.{SeenEvent}
+use Rattle.txs_value.specs.Cells.{World}
+use Rattle.txs_value.specs.declared.cell.CellDefinition.{CellDefinition}
+use Rattle.txs_value.specs.declared.value.Value.{Value}
+use Rattle.txs_code.specs.ActorState.{ActorState}
+use Rattle.txs_tree.specs.Meaning.{Completion, Completes, Recurs, Faults, Retries, Waits, OutOfTurns, Invalid}
+use Rattle.txs_tree.specs.Sound.{SoundSource}
+use Rattle.txs_tree.specs.Thread.{ThreadState, thread_meaning}
+use Rattle.txs_tree.specs.Tree.{ThreadSource}
+use Rattle.txs_follows.proofs.Account.{Account, account_link}
+use Rattle.txs_follows.proofs.Fitted.{if_belongs}
+use Rattle.txs_follows.proofs.Related.{Related}
+use Rattle.txs_follows.proofs.Threads.{thread_related}
+use Rattle.txs_follows.proofs.Worlds.{IsShort}
 use Rattle.txs_follows.specs.Behaves.{source}
 use Rattle.txs_follows.specs.EndsSo.{NeedsTurns, in_hand}
-use Rattle.txs_follows.specs.OnReplies.{res, met, settled, retrying, tries, on_replies}
-use Rattle.txs_follows.specs.RepliesFit.{Phase, Out, In, ReplyFits, halted}
+use Rattle.txs_follows.specs.RepliesFit.{Phase, Out, belongs, PhaseFits, halted}
 use Rattle.txs_follows.specs.RepliesFitTo.{RepliesFitTo}
-use Rattle.txs_tree.specs.Meaning.{Completion, Completes, Recurs, Faults, Retries, Waits, OutOfTurns, Invalid, closed, eval, call_at}
-use Rattle.txs_asks.specs.SeenEvent.{SeenEvent, Read, Committed, Retried, Aborted}
-use Rattle.txs_tree.specs.Thread.{ThreadState, eats_read, reads, commits, aborts, eats_tx, on_events, thread_meaning}
-use Rattle.txs_tree.specs.Transaction.{TxState, tx_meaning}
-use Rattle.txs_tree.specs.Tree.{Tree, PlainFunction, ThreadSource}
-use Rattle.txs_asks.proofs.AskLemmas.{same_writes-itself}
-use Rattle.txs_value.proofs.SameLemmas.{same_cell-itself}
-use Rattle.txs_asks.specs.Ask.{Exchange, same_cell, same_writes}
-use Rattle.txs_value.specs.Cells.{World, any_cell}
-use Rattle.txs_value.specs.Limits.{reruns}
-use Rattle.txs_value.specs.Printed.{printed_line}
-use Rattle.txs_asks.specs.declared.ask.Ask.TheVariants.{Begin, Commit, Fail, Peek}
-use Rattle.txs_asks.specs.declared.ask.Reply.TheVariants.{At, Is, Done, Retry, Full, Memory}
-use Rattle.txs_asks.specs.declared.ask.Reply.{Reply}
-use Rattle.txs_value.specs.declared.fault.Fault.{Fault}
-use Rattle.txs_value.specs.declared.fault.FaultKind.{FaultKind}
-use Rattle.txs_value.specs.declared.fault.Span.{Span}
-use Rattle.txs_value.specs.declared.value.CellId.{CellId}
-use Rattle.txs_value.specs.declared.value.Value.TheVariants.{Nil}
-use Rattle.txs_value.specs.declared.value.Value.{Value}
 
--- the exchanges fit, and the phase after them is the given one
-abbrev To : Phase → Fitting
-To end ph xs es = RepliesFitTo ph xs es end
-
-to_splits : (end : Phase) → Splits (To end)
-to_splits end ph x xs es h = h
-
-abbrev loop_link : Phase → Link ActorState ThreadState
-loop_link end = record {
-  rel = λ s t. (t.printed ≡ s.printed) × (es : List SeenEvent) × (t.todo ≡ es ++ in_hand end) × To end Out s.todo es;
+-- exchanges up to a phase, and behind their events an end of what is in hand there
+abbrev up_to : (cells : List CellDefinition) → Phase → World → Account cells
+up_to cells end Q = record {
+  fits = λ ph xs es. RepliesFitTo cells ph xs es end;
+  splits = λ ph x xs es h. if_belongs (belongs ph x.ask) (PhaseFits cells ph x.ask x.reply (λ ph1 es1. RepliesFitTo cells ph1 xs es1 end) es) h.1;
+  tail = in_hand cells Q end;
   waits = λ s o. Unit {0};
-  out_of_turns = λ s o. s.todo ≡ [] → IsShort o;
-  retries = λ s o. Unit {0};
+  short = λ s o. s.todo ≡ [] → IsShort o;
   waits_loose = λ s h o. tt;
-  out_of_turns_loose = λ s h o e. absurd (h e);
-  retries_loose = λ s h o. tt;
-  out_of_turns_of = λ s t r e. tt;
-  invalid = λ b. Unit {0};
-  invalid_both = tt;
-  invalid_loose = λ h b. tt;
+  short_loose = λ s h o e. absurd (h e);
+  short_here = λ s t es f q pr e. tt;
+  waiting = λ ph s es y f eaten. tt;
+  shortage = λ ph s es y f eaten h e.
+      let z : (es ≡ []) × (ph ≡ end) = subst (λ l. RepliesFitTo cells ph l es end) e f in
+      subst (λ l. IsShort (halted (y (l ++ in_hand cells Q end)))) (sym z.0) (subst (λ q. IsShort (halted (y (in_hand cells Q q)))) z.1 (h Q));
 }
-
--- a try that needs turns needs them whatever ends it
-aborts_short : (x : Completion TxState Value) (t : ThreadState) → IsShort (halted x) → IsShort (halted (aborts x t))
-aborts_short (Completes v x) t h = absurd h
-aborts_short (Recurs vs x) t h = absurd h
-aborts_short (Faults f x) t h = absurd h
-aborts_short (Retries x) t h = absurd h
-aborts_short (Waits x) t h = absurd h
-aborts_short (OutOfTurns x) t h = tt
-aborts_short Invalid t h = absurd h
-
-module _ (end : Phase) (k : ℕ) (span : Span) (body : ActorState → Completion ActorState Value) (txm : World → Completion TxState Value)
-    (next : (s : ActorState) (es : List SeenEvent) (out : List ℕ) → out ≡ s.printed → To end Out s.todo es → Related (loop_link end) (tries k span body s) (eats_tx k span txm (es ++ in_hand end) out)) where
-  commit_answered : (R : World) (v w : Value) (s : ActorState) (t : TxState) (es : List SeenEvent) (out : List ℕ) (r : Reply) (xs : List Exchange) → txm R ≡ Completes w t → v ≡ w → s.writes ≡ t.writes → out ≡ s.printed → ReplyFits (In R) (Commit s.at s.writes) r (λ ph1 es1. To end ph1 xs es1) es →
-      Related (loop_link end) (retrying (met (committed (Replied r (record s { todo = xs }))) (λ s1. Completes v s1) (λ s1. Retries s1)) (tries k span body)) (eats_tx (suc k) span txm (es ++ in_hand end) out)
-  commit_answered R v w s t es out (At p) xs y vw own pr m = tt
-  commit_answered R v w s t es out (Is x) xs y vw own pr m = tt
-  commit_answered R v w s t es out Full xs y vw own pr m = tt
-  commit_answered R v w s t es out Memory xs y vw own pr m = tt
-  commit_answered R v w s t (Retried ∷ es) out (Retry c0) xs y vw own pr m = next (record s { todo = xs }) es out pr m
-  commit_answered R v w s t (Committed R1 ws ∷ es) out (Retry c0) xs y vw own pr m = absurd m
-  commit_answered R v w s t (Read c C ∷ es) out (Retry c0) xs y vw own pr m = absurd m
-  commit_answered R v w s t (Aborted R1 ∷ es) out (Retry c0) xs y vw own pr m = absurd m
-  commit_answered R v w s t [] out (Retry c0) xs y vw own pr m = absurd m
-  commit_answered R v w s t (Committed R1 ws ∷ es) out Done xs y vw own pr m =
-      let t1 : ThreadState = record { todo = es ++ in_hand end; printed = out } in
-      let same : same_writes t.writes ws ≡ true = ap (λ l. same_writes l ws) (sym own ∙ m.1) ∙ same_writes-itself ws in
-      let gives : commits (txm R1) ws t1 ≡ Completes w t1 = ap (λ x. commits x ws t1) (ap txm (sym m.0) ∙ y) ∙ ap (λ b. if b then Completes w t1 else Invalid) same in
-      subst (λ q. Related (loop_link end) (Completes v (record s { todo = xs })) q) (sym gives) (vw, (pr, es, refl, m.2))
-  commit_answered R v w s t (Retried ∷ es) out Done xs y vw own pr m = absurd m
-  commit_answered R v w s t (Read c C ∷ es) out Done xs y vw own pr m = absurd m
-  commit_answered R v w s t (Aborted R1 ∷ es) out Done xs y vw own pr m = absurd m
-  commit_answered R v w s t [] out Done xs y vw own pr m = absurd m
-
-  fail_answered : (R : World) (f g : Fault) (s : ActorState) (t : TxState) (es : List SeenEvent) (out : List ℕ) (r : Reply) (xs : List Exchange) → txm R ≡ Faults g t → f ≡ g → out ≡ s.printed → ReplyFits (In R) (Fail s.at) r (λ ph1 es1. To end ph1 xs es1) es →
-      Related (loop_link end) (retrying (met (failed (Replied r (record s { todo = xs }))) (λ s1. Faults f s1) (λ s1. Invalid)) (tries k span body)) (eats_tx (suc k) span txm (es ++ in_hand end) out)
-  fail_answered R f g s t es out (At p) xs y fg pr m = tt
-  fail_answered R f g s t es out (Is x) xs y fg pr m = tt
-  fail_answered R f g s t es out Full xs y fg pr m = tt
-  fail_answered R f g s t es out Memory xs y fg pr m = tt
-  fail_answered R f g s t es out (Retry c0) xs y fg pr m = tt
-  fail_answered R f g s t (Aborted R1 ∷ es) out Done xs y fg pr m =
-      let t1 : ThreadState = record { todo = es ++ in_hand end; printed = out } in
-      let faults : aborts (txm R1) t1 ≡ Faults g t1 = ap (λ x. aborts x t1) (ap txm (sym m.0) ∙ y) in
-      subst (λ q. Related (loop_link end) (Faults f (record s { todo = xs })) q) (sym faults) (fg, (pr, es, refl, m.1))
-  fail_answered R f g s t (Committed R1 ws ∷ es) out Done xs y fg pr m = absurd m
-  fail_answered R f g s t (Retried ∷ es) out Done xs y fg pr m = absurd m
-  fail_answered R f g s t (Read c C ∷ es) out Done xs y fg pr m = absurd m
-  fail_answered R f g s t [] out Done xs y fg pr m = absurd m
-
-  -- the end of a try
-  completes_settled : (R : World) (v : Value) (s : ActorState) (y : Completion TxState Value) (es : List SeenEvent) (out : List ℕ) → txm R ≡ y → CompletesAs (tx_link (To end) R es out) v s y → Related (loop_link end) (retrying (settled (Completes v s)) (tries k span body)) (eats_tx (suc k) span txm (es ++ in_hand end) out)
-  unfolding commit
-  completes_settled R v s (Completes w t) es out e h =
-      answered (To end) (to_splits end) (In R) es (Commit s.at s.writes) s (λ x. Related (loop_link end) (retrying (met (committed x) (λ s1. Completes v s1) (λ s1. Retries s1)) (tries k span body)) (eats_tx (suc k) span txm (es ++ in_hand end) out)) h.1.1
-      tt
-      (λ r xs m. commit_answered R v w s t es out r xs e h.0 h.1.0 (sym h.1.2) m)
-  completes_settled R v s (Recurs vs t) es out e h = absurd h
-  completes_settled R v s (Faults f t) es out e h = absurd h
-  completes_settled R v s (Retries t) es out e h = absurd h
-  completes_settled R v s (Waits t) es out e h = absurd h
-  completes_settled R v s (OutOfTurns t) es out e h = absurd h
-  completes_settled R v s Invalid es out e h = absurd h
-
-  faults_settled : (R : World) (f : Fault) (s : ActorState) (y : Completion TxState Value) (es : List SeenEvent) (out : List ℕ) → txm R ≡ y → FaultsAs (tx_link (To end) R es out) f s y → Related (loop_link end) (retrying (settled (Faults f s)) (tries k span body)) (eats_tx (suc k) span txm (es ++ in_hand end) out)
-  unfolding fail
-  faults_settled R f s (Faults g t) es out e h =
-      answered (To end) (to_splits end) (In R) es (Fail s.at) s (λ x. Related (loop_link end) (retrying (met (failed x) (λ s1. Faults f s1) (λ s1. Invalid)) (tries k span body)) (eats_tx (suc k) span txm (es ++ in_hand end) out)) h.1.1
-      tt
-      (λ r xs m. fail_answered R f g s t es out r xs e h.0 (sym h.1.2) m)
-  faults_settled R f s (Recurs vs t) es out e h = absurd h
-  faults_settled R f s (Completes v t) es out e h = absurd h
-  faults_settled R f s (Retries t) es out e h = absurd h
-  faults_settled R f s (Waits t) es out e h = absurd h
-  faults_settled R f s (OutOfTurns t) es out e h = absurd h
-  faults_settled R f s Invalid es out e h = absurd h
-
-  settled_related : (R : World) (x : Completion ActorState Value) (es : List SeenEvent) (out : List ℕ) → Related (tx_link (To end) R es out) x (txm R) → Related (loop_link end) (retrying (settled x) (tries k span body)) (eats_tx (suc k) span txm (es ++ in_hand end) out)
-  settled_related R (Completes v s) es out h = completes_settled R v s (txm R) es out refl h
-  settled_related R (Recurs vs s) es out h = tt
-  settled_related R (Faults f s) es out h = faults_settled R f s (txm R) es out refl h
-  settled_related R (Retries s) es out h =
-      subst (λ l. Related (loop_link end) (tries k span body s) (eats_tx (suc k) span txm (l ++ in_hand end) out)) (sym h.1) (next s h.0 out (sym h.3) h.2)
-  settled_related R (Waits s) es out h = tt
-  settled_related R (OutOfTurns s) es out h =
-      λ e. let z : (es ≡ []) × (In R ≡ end) = subst (λ l. To end (In R) l es) e h.1 in
-      subst (λ q. IsShort (halted (eats_tx (suc k) span txm (es ++ in_hand q) out))) z.1
-      (subst (λ l. IsShort (halted (eats_tx (suc k) span txm (l ++ in_hand (In R)) out))) (sym z.0) (aborts_short (txm R) (record { todo = []; printed = out }) h.0))
-  settled_related R Invalid es out h = tt
-
-  begin_answered : (body_related : (R : World) (s : ActorState) (es : List SeenEvent) (out : List ℕ) → s.writes ≡ [] → To end (In R) s.todo es → s.printed ≡ out → Related (tx_link (To end) R es out) (body s) (txm R))
-      (s : ActorState) (es : List SeenEvent) (out : List ℕ) (r : Reply) (xs : List Exchange) → out ≡ s.printed → ReplyFits Out Begin r (λ ph1 es1. To end ph1 xs es1) es →
-      Related (loop_link end) (retrying (met (begun (Replied r (record s { todo = xs }))) (λ s1. settled (body s1)) (λ s1. Invalid)) (tries k span body)) (eats_tx (suc k) span txm (es ++ in_hand end) out)
-  begin_answered br s es out (At p) xs pr m =
-      settled_related m.0 (body (record { todo = xs; printed = s.printed; at = p; writes = []; wants = s.wants })) es out
-      (br m.0 (record { todo = xs; printed = s.printed; at = p; writes = []; wants = s.wants }) es out refl m.1 (sym pr))
-  begin_answered br s es out (Is v) xs pr m = tt
-  begin_answered br s es out Done xs pr m = tt
-  begin_answered br s es out (Retry c0) xs pr m = tt
-  begin_answered br s es out Full xs pr m = tt
-  begin_answered br s es out Memory xs pr m = tt
-
-  attempt_related : (body_related : (R : World) (s : ActorState) (es : List SeenEvent) (out : List ℕ) → s.writes ≡ [] → To end (In R) s.todo es → s.printed ≡ out → Related (tx_link (To end) R es out) (body s) (txm R))
-      (s : ActorState) (es : List SeenEvent) (out : List ℕ) → out ≡ s.printed → To end Out s.todo es → Related (loop_link end) (tries (suc k) span body s) (eats_tx (suc k) span txm (es ++ in_hand end) out)
-  unfolding begin
-  attempt_related br s es out pr f =
-      answered (To end) (to_splits end) Out es Begin s (λ x. Related (loop_link end) (retrying (met (begun x) (λ s1. settled (body s1)) (λ s1. Invalid)) (tries k span body)) (eats_tx (suc k) span txm (es ++ in_hand end) out)) f
-      tt
-      (λ r xs m. begin_answered br s es out r xs pr m)
-
-tries_related : (end : Phase) (k : ℕ) (span : Span) (body : ActorState → Completion ActorState Value) (txm : World → Completion TxState Value) (body_related : (R : World) (s : ActorState) (es : List SeenEvent) (out : List ℕ) → s.writes ≡ [] → To end (In R) s.todo es → s.printed ≡ out → Related (tx_link (To end) R es out) (body s) (txm R))
-    (s : ActorState) (es : List SeenEvent) (out : List ℕ) → out ≡ s.printed → To end Out s.todo es → Related (loop_link end) (tries k span body s) (eats_tx k span txm (es ++ in_hand end) out)
-tries_related end zero span body txm br s es out pr f = (refl, (pr, es, refl, f))
-tries_related end (suc k) span body txm br s es out pr f = attempt_related end k span body txm (λ s1 es1 out1 pr1 f1. tries_related end k span body txm br s1 es1 out1 pr1 f1) br s es out pr f
-
--- a read outside
-peek_answered : (end : Phase) (c : CellId) (s : ActorState) (t : ThreadState) (es : List SeenEvent) (r : Reply) (xs : List Exchange) → t.printed ≡ s.printed → ReplyFits Out (Peek c) r (λ ph1 es1. To end ph1 xs es1) es → Related (loop_link end) (res (peeked (Replied r (record s { todo = xs })))) (eats_read c (es ++ in_hand end) t)
-peek_answered end c s t es (At p) xs pr m = tt
-peek_answered end c s t es Done xs pr m = tt
-peek_answered end c s t es (Retry c0) xs pr m = tt
-peek_answered end c s t es Full xs pr m = tt
-peek_answered end c s t es Memory xs pr m = tt
-peek_answered end c s t (Read d C ∷ es) (Is v) xs pr m =
-    let t1 : ThreadState = record t { todo = es ++ in_hand end } in
-    subst (λ b. Related (loop_link end) (Completes v (record s { todo = xs })) (if b then Completes (C c.number) t1 else Invalid)) (sym (ap (λ x. same_cell c x) (sym m.0) ∙ same_cell-itself c)) (sym m.1, (pr, es, refl, m.2))
-peek_answered end c s t (Committed R1 ws ∷ es) (Is v) xs pr m = absurd m
-peek_answered end c s t (Retried ∷ es) (Is v) xs pr m = absurd m
-peek_answered end c s t (Aborted R1 ∷ es) (Is v) xs pr m = absurd m
-peek_answered end c s t [] (Is v) xs pr m = absurd m
-
-peek_related : (end : Phase) (span : Span) (rc : Result CellId FaultKind) (s : ActorState) (t : ThreadState) → (loop_link end).rel s t → Related (loop_link end) (res (peek span rc s)) (reads span rc t)
-unfolding peek
-peek_related end span (Err k) s t r = (refl, r)
-peek_related end span (Ok c) s t r =
-    subst (λ l. Related (loop_link end) (res (peeked (asks (Peek c) s))) (eats_read c l t)) (sym r.2)
-    (answered (To end) (to_splits end) Out r.1 (Peek c) s (λ h. Related (loop_link end) (res (peeked h)) (eats_read c (r.1 ++ in_hand end) t)) r.3 tt
-    (λ rep xs m. peek_answered end c s t r.1 rep xs r.0 m))
-
-print_related : (end : Phase) (vs : List Value) (s : ActorState) (t : ThreadState) → (loop_link end).rel s t → Related (loop_link end) (res (print vs s)) (Completes Nil (record t { printed = t.printed ++ printed_line vs }))
-unfolding print
-print_related end vs s t r = (refl, (ap (λ l. l ++ printed_line vs) r.0, r.1, r.2, r.3))
-
-loop_alike : (end : Phase) (n : ℕ) (functions : List PlainFunction) (d : ℕ) → Alike ActorState ThreadState (loop_link end) on_replies (on_events n functions d) (call_at (λ e. on_replies) n functions d) (call_at (on_events n functions) n functions d) n n (λ i. i ≡ false)
-loop_alike end n functions d = record {
-  print = th_print;
-  deref = th_deref;
-  alter = th_alter;
-  dosync = th_dosync;
-}
-  where
-    true_false : true ≡ false → ⊥
-    true_false e = false≢true (sym e)
-
-    th_print : (inside : Bool) (vs : List Value) (s : ActorState) (t : ThreadState) → inside ≡ false → (loop_link end).rel s t → Related (loop_link end) (on_replies.print inside vs s) ((on_events n functions d).print inside vs t)
-    th_print true vs s t m r = absurd (true_false m)
-    th_print false vs s t m r = print_related end vs s t r
-
-    th_deref : (inside : Bool) (span : Span) (c : Value) (s : ActorState) (t : ThreadState) → inside ≡ false → (loop_link end).rel s t → Related (loop_link end) (on_replies.deref inside span c s) ((on_events n functions d).deref inside span c t)
-    th_deref true span c s t m r = absurd (true_false m)
-    th_deref false span c s t m r = peek_related end span (any_cell c) s t r
-
-    th_alter : (inside : Bool) (span : Span) (c : Value) (f : Value → ActorState → Completion ActorState Value) (g : Value → ThreadState → Completion ThreadState Value) (s : ActorState) (t : ThreadState) → inside ≡ false → ((v : Value) (s1 : ActorState) (t1 : ThreadState) → (loop_link end).rel s1 t1 → Related (loop_link end) (f v s1) (g v t1)) → (loop_link end).rel s t → Related (loop_link end) (on_replies.alter inside span c f s) ((on_events n functions d).alter inside span c g t)
-    th_alter true span c f g s t m h r = absurd (true_false m)
-    th_alter false span c f g s t m h r = tt
-
-    th_dosync : (inside : Bool) (span : Span) (e : Tree) (env : List Value) (s : ActorState) (t : ThreadState) → inside ≡ false →
-        (true ≡ false → (s1 : ActorState) (t1 : ThreadState) → (loop_link end).rel s1 t1 → Related (loop_link end) (closed (eval on_replies (call_at (λ x. on_replies) n functions d) n true e env s1)) (closed (eval (on_events n functions d) (call_at (on_events n functions) n functions d) n true e env t1))) → (loop_link end).rel s t →
-        Related (loop_link end) (on_replies.dosync inside span e env (λ s1. closed (eval on_replies (call_at (λ x. on_replies) n functions d) n true e env s1)) s) ((on_events n functions d).dosync inside span e env (λ t1. closed (eval (on_events n functions d) (call_at (on_events n functions) n functions d) n true e env t1)) t)
-    th_dosync true span e env s t m h r = absurd (true_false m)
-    th_dosync false span e env s t m h r =
-        subst (λ l. Related (loop_link end) (tries (suc reruns) span (λ s1. closed (eval on_replies (call_at (λ x. on_replies) n functions d) n true e env s1)) s) (eats_tx (suc reruns) span (tx_meaning n functions d e env) l t.printed)) (sym r.2)
-        (tries_related end (suc reruns) span (λ s1. closed (eval on_replies (call_at (λ x. on_replies) n functions d) n true e env s1)) (tx_meaning n functions d e env)
-        (λ R s1 es out own f pr. tx_related (To end) (to_splits end) R out es n functions d e env s1 own f pr) s r.1 t.printed r.0 r.3)
 
 needs_turns : (y : Completion ThreadState Value) → IsShort (halted y) → NeedsTurns y
 needs_turns (Completes v t) h = absurd h
@@ -235,16 +46,8 @@ needs_turns (Waits t) h = absurd h
 needs_turns (OutOfTurns t) h = tt
 needs_turns Invalid h = absurd h
 
-pub loops_too : (p : ThreadSource) (n : ℕ) (todo : List Exchange) (es : List SeenEvent) (end : Phase) (s : ActorState) → RepliesFitTo Out todo es end → source p n todo ≡ OutOfTurns s → s.todo ≡ [] → NeedsTurns (thread_meaning p n (es ++ in_hand end))
-loops_too p n todo es end s f e z =
-    let d = length p.functions in
-    let cf = call_at (λ x. on_replies) n p.functions d in
-    let gx = on_events n p.functions d in
-    let cg = call_at (on_events n p.functions) n p.functions d in
-    let t0 : ThreadState = record { todo = es ++ in_hand end; printed = [] } in
-    let y = thread_meaning p n (es ++ in_hand end) in
-    let related = closed_related ActorState ThreadState (loop_link end) (eval on_replies cf n false p.main [] (fresh todo)) (eval gx cg n false p.main [] t0)
-    (eval_related ActorState ThreadState (loop_link end) on_replies gx cf cg n n (λ i. i ≡ false) (inl refl) (loop_alike end n p.functions d)
-    (calls_related ActorState ThreadState (loop_link end) (λ x. on_replies) (on_events n p.functions) n n p.functions (λ i. i ≡ false) (inl refl) (loop_alike end n p.functions) d)
-    p.main false [] (fresh todo) t0 refl (refl, es, refl, f)) in
-    needs_turns y (subst (λ x. Related (loop_link end) x y) e related z)
+-- a tree that needs turns, where no exchange is left
+pub loops_too : (p : ThreadSource) (n : ℕ) (todo : List Exchange) (es : List SeenEvent) (end : Phase) (Q : World) → SoundSource p → (s : ActorState) → RepliesFitTo p.cells Out todo es end → source p n todo ≡ OutOfTurns s → s.todo ≡ [] → NeedsTurns (thread_meaning p n (es ++ in_hand p.cells Q end))
+loops_too p n todo es end Q sound s f e z =
+    let y = thread_meaning p n (es ++ in_hand p.cells Q end) in
+    needs_turns y (subst (λ x. Related (account_link p.cells (up_to p.cells end Q)) x y) e (thread_related p sound (up_to p.cells end Q) n todo es f) z)

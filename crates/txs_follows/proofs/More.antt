@@ -1,131 +1,174 @@
--- More turns change nothing of an answer that needs none.
-use Rattle.std.proofs.Common.{ℕ, zero, suc, Bool, true, false, List, [], refl, sym, ap, subst, length, inr, ◌≡◌, ◌≤◌, ◌∙◌}
-use Rattle.txs_code.specs.ActorState.{ActorState, Passage, Passed, Again, Pending, Unlawful, begin, put_write, opens}
-use Rattle.txs_follows.proofs.Related.{Link, Related, bind_related, closed_related, Alike, eval_related, calls_related}
-use Rattle.txs_code.specs.Opening.{fresh}
-use Rattle.txs_follows.specs.Behaves.{source, HasEnded}
-use Rattle.txs_follows.specs.OnReplies.{res, met, settled, attempt, retrying, tries, joined, allowed, on_replies}
-use Rattle.txs_follows.specs.RepliesFit.{Halt, Stopped, Rerun}
-use Rattle.txs_tree.specs.Meaning.{Completion, Completes, Recurs, Faults, Retries, Waits, OutOfTurns, Invalid, bind, closed, eval, call_at}
-use Rattle.txs_tree.specs.Tree.{PlainFunction, ThreadSource}
-use Rattle.txs_asks.specs.Ask.{Exchange}
-use Rattle.txs_value.specs.Cells.{ref_cell}
+-- More turns change nothing of a tree's answer on replies that needs none.
+use Rattle.std.proofs.Common.{ℕ, zero, suc, Bool, true, false, List, [], ◌∷◌, None, refl, subst, length, inr, ◌≡◌, ◌≤◌, not}
+use Rattle.std.proofs.lemmas.Bool.{false≢true}
+use Rattle.txs_asks.specs.Ask.{Writes, Exchange}
+use Rattle.txs_frame.specs.Frame.{commuted, phase_work}
 use Rattle.txs_value.specs.Limits.{reruns}
 use Rattle.txs_value.specs.declared.fault.Span.{Span}
+use Rattle.txs_value.specs.declared.form.UpdateForm.{UpdateForm}
+use Rattle.txs_value.specs.declared.form.UpdateForm.TheVariants.{Alter, Commute, Swap}
+use Rattle.txs_value.specs.declared.op.Callee.{Callee}
+use Rattle.txs_value.specs.declared.value.CellId.{CellId}
 use Rattle.txs_value.specs.declared.value.Value.{Value}
+use Rattle.txs_tree.specs.Known.{known}
+use Rattle.txs_tree.specs.Meaning.{Completion, Completes, Recurs, Faults, Retries, Waits, OutOfTurns, Invalid, bind, allowed, Applies, eval, call_at}
+use Rattle.txs_tree.specs.Sound.{SoundSource, in_thread}
+use Rattle.txs_tree.specs.Transaction.{redone}
+use Rattle.txs_tree.specs.Tree.{PlainFunction, ThreadSource}
+use Rattle.txs_code.specs.ActorState.{ActorState, StepResult, begin, fail, view, Verdict, Landed, Outdated, Undone, Denied, commit, open_swap, close_swap, break_swap, RefUpdate, Alters, Commutes, open_update, close_update}
+use Rattle.txs_code.specs.Opening.{fresh}
+use Rattle.txs_follows.proofs.Callees.{pure_callees, callees_in, function_callees}
+use Rattle.txs_follows.proofs.Related.{Related, Turns, bind_related, closed_related, Applied, Alike, eval_related, calls_related}
+use Rattle.txs_follows.proofs.Same.{same_link, itself, from_same, from_alike, bind_same, redone_alike, IsLong, same_long}
+use Rattle.txs_follows.specs.Behaves.{source, HasEnded}
+use Rattle.txs_follows.specs.OnReplies.{res, telling, Start, Anew, Behind, concludes, lands_on, closing, attempt, retrying, tries, joined, swap_concludes, swaps_on, updates_ref, updates, on_replies}
 
-abbrev SameWait : ActorState → Halt ActorState → Type 0
-SameWait s (Stopped t) = s ≡ t
-SameWait s _ = ⊥
+-- two parts that are alike from each state
+abbrev BothAlike : (ActorState → Completion ActorState Value) → (ActorState → Completion ActorState Value) → Type 0
+BothAlike f g = (s : ActorState) → Related (same_link ActorState) (f s) (g s)
 
-abbrev SameRerun : ActorState → Halt ActorState → Type 0
-SameRerun s (Rerun t) = s ≡ t
-SameRerun s _ = ⊥
+telling_alike : {A : Type 0} (ask : ActorState → StepResult (Unit {0})) (x y : Completion ActorState A) (f g : A → ActorState → Completion ActorState Value) → Related (same_link ActorState) x y → ((a : A) → BothAlike (f a) (g a)) → Related (same_link ActorState) (telling ask x f) (telling ask y g)
+telling_alike ask (Completes a s) (Completes b t) f g h k = subst (λ c. Related (same_link ActorState) (f a s) (g c t)) h.0 (from_alike ActorState (f a) (g a) (k a) s t h.1)
+telling_alike ask (Completes a s) _ f g h k = absurd h
+telling_alike ask (Recurs vs s) (Recurs us t) f g h k = refl
+telling_alike ask (Recurs vs s) _ f g h k = absurd h
+telling_alike ask (Faults e s) (Faults d t) f g h k =
+    subst (λ c. Related (same_link ActorState) (telling ask (Faults e s) f) (telling ask (Faults c t) g)) h.0
+    (subst (λ u. Related (same_link ActorState) (telling ask (Faults e s) f) (telling ask (Faults e u) g)) h.1 (itself ActorState (bind (res (ask s)) (λ u s1. Faults e s1))))
+telling_alike ask (Faults e s) _ f g h k = absurd h
+telling_alike ask (Retries s) (Retries t) f g h k = h
+telling_alike ask (Retries s) _ f g h k = absurd h
+telling_alike ask (Waits s) (Waits t) f g h k = h
+telling_alike ask (Waits s) _ f g h k = absurd h
+telling_alike ask (OutOfTurns s) y f g h k = tt
+telling_alike ask Invalid Invalid f g h k = refl
+telling_alike ask Invalid _ f g h k = absurd (false≢true h)
 
-abbrev same_link : Link ActorState ActorState
-same_link = record {
-  rel = λ s t. s ≡ t;
-  waits = SameWait;
-  out_of_turns = λ s o. Unit {0};
-  retries = SameRerun;
-  waits_loose = λ s h o. absurd h;
-  out_of_turns_loose = λ s h o. tt;
-  retries_loose = λ s h o. absurd h;
-  out_of_turns_of = λ s t r. tt;
-  invalid = λ b. Unit {0};
-  invalid_both = tt;
-  invalid_loose = λ h b. tt;
-}
-
-itself : {A : Type 0} (x : Completion ActorState A) → Related same_link x x
-itself (Completes a s) = (refl, refl)
-itself (Recurs vs s) = (refl, refl)
-itself (Faults f s) = (refl, refl)
-itself (Retries s) = refl
-itself (Waits s) = refl
-itself (OutOfTurns s) = tt
-itself Invalid = tt
-
-settled_alike : (x y : Completion ActorState Value) → Related same_link x y → Related same_link (settled x) (settled y)
-settled_alike (Completes v s) (Completes w t) h =
-    subst (λ u. Related same_link (settled (Completes v s)) (settled (Completes u t))) h.0 (subst (λ u. Related same_link (settled (Completes v s)) (settled (Completes v u))) h.1 (itself (settled (Completes v s))))
-settled_alike (Completes v s) _ h = absurd h
-settled_alike (Recurs vs s) y h = tt
-settled_alike (Faults f s) (Faults g t) h =
-    subst (λ u. Related same_link (settled (Faults f s)) (settled (Faults u t))) h.0 (subst (λ u. Related same_link (settled (Faults f s)) (settled (Faults f u))) h.1 (itself (settled (Faults f s))))
-settled_alike (Faults f s) _ h = absurd h
-settled_alike (Retries s) (Retries t) h = h
-settled_alike (Retries s) _ h = absurd h
-settled_alike (Waits s) (Waits t) h = h
-settled_alike (Waits s) _ h = absurd h
-settled_alike (OutOfTurns s) y h = tt
-settled_alike Invalid y h = tt
-
-retrying_alike : (x y : Completion ActorState Value) (f g : ActorState → Completion ActorState Value) → Related same_link x y → ((s : ActorState) → Related same_link (f s) (g s)) → Related same_link (retrying x f) (retrying y g)
+retrying_alike : (x y : Completion ActorState Value) (f g : ActorState → Completion ActorState Value) → Related (same_link ActorState) x y → BothAlike f g → Related (same_link ActorState) (retrying x f) (retrying y g)
 retrying_alike (Completes v s) (Completes w t) f g h k = h
 retrying_alike (Completes v s) _ f g h k = absurd h
-retrying_alike (Recurs vs s) y f g h k = tt
+retrying_alike (Recurs vs s) (Recurs us t) f g h k = refl
+retrying_alike (Recurs vs s) _ f g h k = absurd h
 retrying_alike (Faults x s) (Faults y t) f g h k = h
 retrying_alike (Faults x s) _ f g h k = absurd h
-retrying_alike (Retries s) (Retries t) f g h k = subst (λ u. Related same_link (f s) (g u)) h (k s)
+retrying_alike (Retries s) (Retries t) f g h k = from_alike ActorState f g k s t h
 retrying_alike (Retries s) _ f g h k = absurd h
 retrying_alike (Waits s) (Waits t) f g h k = h
 retrying_alike (Waits s) _ f g h k = absurd h
 retrying_alike (OutOfTurns s) y f g h k = tt
-retrying_alike Invalid y f g h k = tt
+retrying_alike Invalid Invalid f g h k = refl
+retrying_alike Invalid _ f g h k = absurd (false≢true h)
 
-met_alike : (x : Passage) (f g : ActorState → Completion ActorState Value) → ((s : ActorState) → Related same_link (f s) (g s)) → Related same_link (met x f (λ s. Invalid)) (met x g (λ s. Invalid))
-met_alike (Passed s) f g h = h s
-met_alike (Again s) f g h = tt
-met_alike (Pending s) f g h = refl
-met_alike Unlawful f g h = tt
+-- ---- tries
 
-tries_alike : (k : ℕ) (span : Span) (f g : ActorState → Completion ActorState Value) → ((s : ActorState) → Related same_link (f s) (g s)) → (s : ActorState) → Related same_link (tries k span f s) (tries k span g s)
-tries_alike zero span f g h s = (refl, refl)
-tries_alike (suc k) span f g h s =
-    retrying_alike (attempt f s) (attempt g s) (tries k span f) (tries k span g)
-    (met_alike (begin s) (λ s1. settled (f s1)) (λ s1. settled (g s1)) (λ s1. settled_alike (f s1) (g s1) (h s1)))
-    (tries_alike k span f g h)
+abbrev GoesAlike : (Start → ActorState → Completion ActorState Value) → (Start → ActorState → Completion ActorState Value) → Type 0
+GoesAlike go go1 = (from : Start) → BothAlike (go from) (go1 from)
 
-allowed_alike : (b : Bool) (x y : Completion ActorState Value) → Related same_link x y → Related same_link (allowed b x) (allowed b y)
+concludes_alike : (d : Verdict) (span : Span) (v : Value) (go go1 : Start → ActorState → Completion ActorState Value) → GoesAlike go go1 → BothAlike (concludes d span v go) (concludes d span v go1)
+concludes_alike Landed span v go go1 h s = (refl, refl)
+concludes_alike Outdated span v go go1 h s = h (Behind v) s
+concludes_alike Undone span v go go1 h s = refl
+concludes_alike Denied span v go go1 h s = (refl, refl)
+
+lands_alike : (span : Span) (v : Value) (go go1 : Start → ActorState → Completion ActorState Value) → GoesAlike go go1 → (ws : Writes) → BothAlike (lands_on span v go ws) (lands_on span v go1 ws)
+lands_alike span v go go1 h ws s = bind_same ActorState (res (commit ws s)) (λ d s1. concludes d span v go s1) (λ d s1. concludes d span v go1 s1) (λ d s1. concludes_alike d span v go go1 h s1)
+
+closing_alike : (cs : List CellId) (span : Span) (f g : Applies ActorState) → Applied ActorState ActorState (same_link ActorState) f g → (v : Value) (go go1 : Start → ActorState → Completion ActorState Value) → GoesAlike go go1 → BothAlike (closing cs span f v go) (closing cs span g v go1)
+closing_alike [] span f g a v go go1 h s = lands_alike span v go go1 h [] s
+closing_alike (c ∷ cs) span f g a v go go1 h s =
+    bind_same ActorState (res (view s)) (λ ws s1. telling fail (redone f (phase_work s1.done) ws s1) (λ xs s2. lands_on span v go xs s2)) (λ ws s1. telling fail (redone g (phase_work s1.done) ws s1) (λ xs s2. lands_on span v go1 xs s2))
+    (λ ws s1. telling_alike fail (redone f (phase_work s1.done) ws s1) (redone g (phase_work s1.done) ws s1) (λ xs s2. lands_on span v go xs s2) (λ xs s2. lands_on span v go1 xs s2)
+    (redone_alike ActorState f g a (phase_work s1.done) ws s1) (λ xs s2. lands_alike span v go go1 h xs s2))
+
+attempt_alike : (from : Start) (span : Span) (x y : ActorState → Completion ActorState Value) → BothAlike x y → (f g : Applies ActorState) → Applied ActorState ActorState (same_link ActorState) f g → (go go1 : Start → ActorState → Completion ActorState Value) → GoesAlike go go1 → BothAlike (attempt from span x f go) (attempt from span y g go1)
+attempt_alike Anew span x y b f g a go go1 h s =
+    bind_same ActorState (res (begin s)) (λ u s1. telling fail (x s1) (λ v s2. closing (commuted s2.done) span f v go s2)) (λ u s1. telling fail (y s1) (λ v s2. closing (commuted s2.done) span g v go1 s2))
+    (λ u s1. telling_alike fail (x s1) (y s1) (λ v s2. closing (commuted s2.done) span f v go s2) (λ v s2. closing (commuted s2.done) span g v go1 s2) (b s1) (λ v s2. closing_alike (commuted s2.done) span f g a v go go1 h s2))
+attempt_alike (Behind v) span x y b f g a go go1 h s = closing_alike (commuted s.done) span f g a v go go1 h s
+
+-- tries whose bodies and callees are alike
+tries_alike : (k : ℕ) (span : Span) (x y : ActorState → Completion ActorState Value) → BothAlike x y → (f g : Applies ActorState) → Applied ActorState ActorState (same_link ActorState) f g → GoesAlike (tries k span x f) (tries k span y g)
+tries_alike zero span x y b f g a from s = (refl, refl)
+tries_alike (suc k) span x y b f g a from s =
+    retrying_alike (attempt from span x f (tries k span x f) s) (attempt from span y g (tries k span y g) s) (tries k span x f Anew) (tries k span y g Anew)
+    (attempt_alike from span x y b f g a (tries k span x f) (tries k span y g) (tries_alike k span x y b f g a) s)
+    (tries_alike k span x y b f g a Anew)
+
+joined_alike : (inside : Bool) (k : ℕ) (span : Span) (x y : ActorState → Completion ActorState Value) → BothAlike x y → (f g : Applies ActorState) → Applied ActorState ActorState (same_link ActorState) f g → BothAlike (joined inside k span x f) (joined inside k span y g)
+joined_alike true k span x y b f g a s = b s
+joined_alike false k span x y b f g a s = tries_alike k span x y b f g a Anew s
+
+-- ---- updates
+
+swap_concludes_alike : (d : Verdict) (w : Value) (go go1 : ActorState → Completion ActorState Value) → BothAlike go go1 → BothAlike (swap_concludes d w go) (swap_concludes d w go1)
+swap_concludes_alike Landed w go go1 h s = (refl, refl)
+swap_concludes_alike Outdated w go go1 h s = h s
+swap_concludes_alike Undone w go go1 h s = refl
+swap_concludes_alike Denied w go go1 h s = refl
+
+-- swaps whose callees are alike
+swaps_alike : (k : ℕ) (span : Span) (c : Value) (f g : Value → ActorState → Completion ActorState Value) → ((v : Value) → BothAlike (f v) (g v)) → BothAlike (swaps_on k span c f) (swaps_on k span c g)
+swaps_alike zero span c f g h s = refl
+swaps_alike (suc k) span c f g h s =
+    bind_same ActorState (res (open_swap false span c s))
+    (λ o s1. telling (break_swap o.0) (f o.1 s1) (λ w s2. bind (res (close_swap o.0 w s2)) (λ d s3. swap_concludes d w (swaps_on k span c f) s3)))
+    (λ o s1. telling (break_swap o.0) (g o.1 s1) (λ w s2. bind (res (close_swap o.0 w s2)) (λ d s3. swap_concludes d w (swaps_on k span c g) s3)))
+    (λ o s1. telling_alike (break_swap o.0) (f o.1 s1) (g o.1 s1)
+    (λ w s2. bind (res (close_swap o.0 w s2)) (λ d s3. swap_concludes d w (swaps_on k span c f) s3)) (λ w s2. bind (res (close_swap o.0 w s2)) (λ d s3. swap_concludes d w (swaps_on k span c g) s3)) (h o.1 s1)
+    (λ w s2. bind_same ActorState (res (close_swap o.0 w s2)) (λ d s3. swap_concludes d w (swaps_on k span c f) s3) (λ d s3. swap_concludes d w (swaps_on k span c g) s3)
+    (λ d s3. swap_concludes_alike d w (swaps_on k span c f) (swaps_on k span c g) (swaps_alike k span c f g h) s3)))
+
+updates_ref_alike : (u : RefUpdate) (inside : Bool) (span : Span) (c : Value) (callee : Callee) (vs : List Value) (f g : Applies ActorState) → Applied ActorState ActorState (same_link ActorState) f g → BothAlike (updates_ref u inside span c callee vs f) (updates_ref u inside span c callee vs g)
+updates_ref_alike u inside span c callee vs f g a s =
+    bind_same ActorState (res (open_update u inside span c vs s)) (λ v s1. bind (f callee (v ∷ vs) s1) (λ w s2. res (close_update span c w s2))) (λ v s1. bind (g callee (v ∷ vs) s1) (λ w s2. res (close_update span c w s2)))
+    (λ v s1. bind_related ActorState ActorState (same_link ActorState) (f callee (v ∷ vs) s1) (g callee (v ∷ vs) s1) (λ w s2. res (close_update span c w s2)) (λ w s2. res (close_update span c w s2)) (a callee (v ∷ vs) s1 s1 refl)
+    (λ w s2 t2 r2. from_same ActorState (λ u1. res (close_update span c w u1)) s2 t2 r2))
+
+allowed_alike : (b : Bool) (x y : Completion ActorState Value) → Related (same_link ActorState) x y → Related (same_link ActorState) (allowed b x) (allowed b y)
 allowed_alike true x y h = h
-allowed_alike false x y h = tt
+allowed_alike false x y h = refl
 
-joined_alike : (b : Bool) (span : Span) (f g : ActorState → Completion ActorState Value) → ((s : ActorState) → Related same_link (f s) (g s)) → (s : ActorState) → Related same_link (joined b span f s) (joined b span g s)
-joined_alike true span f g h s = h s
-joined_alike false span f g h s = tries_alike (suc reruns) span f g h s
+updates_alike : (form : UpdateForm) (inside : Bool) (span : Span) (c : Value) (callee : Callee) (vs : List Value) (f g : Applies ActorState) → Applied ActorState ActorState (same_link ActorState) f g → BothAlike (updates form inside span c callee vs f) (updates form inside span c callee vs g)
+updates_alike Alter inside span c callee vs f g a s = updates_ref_alike Alters inside span c callee vs f g a s
+updates_alike Commute inside span c callee vs f g a s = updates_ref_alike (Commutes callee) inside span c callee vs f g a s
+updates_alike Swap inside span c callee vs f g a s =
+    allowed_alike (not inside) (swaps_on (suc (length s.todo)) span c (λ v s1. f callee (v ∷ vs) s1) s) (swaps_on (suc (length s.todo)) span c (λ v s1. g callee (v ∷ vs) s1) s)
+    (swaps_alike (suc (length s.todo)) span c (λ v s1. f callee (v ∷ vs) s1) (λ v s1. g callee (v ∷ vs) s1) (λ v s1. a callee (v ∷ vs) s1 s1 refl) s)
 
-replies_alike : (nl nr : ℕ) (functions : List PlainFunction) (d : ℕ) → Alike ActorState ActorState same_link on_replies on_replies (call_at (λ e. on_replies) nl functions d) (call_at (λ e. on_replies) nr functions d) nl nr (λ i. Unit {0})
-replies_alike nl nr functions d = record {
-  print = λ inside vs s t m r. subst (λ u. Related same_link (on_replies.print inside vs s) (on_replies.print inside vs u)) r (itself (on_replies.print inside vs s));
-  deref = λ inside span c s t m r. subst (λ u. Related same_link (on_replies.deref inside span c s) (on_replies.deref inside span c u)) r (itself (on_replies.deref inside span c s));
-  alter = λ inside span c f g s t m h r. subst (λ u. Related same_link (on_replies.alter inside span c f s) (on_replies.alter inside span c g u)) r
-      (allowed_alike inside _ _ (bind_related ActorState ActorState same_link (res (opens inside span c s)) (res (opens inside span c s)) (λ v s1. bind (f v s1) (λ w s2. res (put_write (ref_cell c) w s2))) (λ v s1. bind (g v s1) (λ w s2. res (put_write (ref_cell c) w s2))) (itself (res (opens inside span c s)))
-      (λ v s1 t1 r1. bind_related ActorState ActorState same_link (f v s1) (g v t1) (λ w s2. res (put_write (ref_cell c) w s2)) (λ w s2. res (put_write (ref_cell c) w s2)) (h v s1 t1 r1)
-      (λ w s2 t2 r2. subst (λ u. Related same_link (res (put_write (ref_cell c) w s2)) (res (put_write (ref_cell c) w u))) r2 (itself (res (put_write (ref_cell c) w s2)))))));
-  dosync = λ inside span e env s t m h r. subst (λ u. Related same_link (on_replies.dosync inside span e env (λ s1. closed (eval on_replies (call_at (λ x. on_replies) nl functions d) nl true e env s1)) s) (on_replies.dosync inside span e env (λ s1. closed (eval on_replies (call_at (λ x. on_replies) nr functions d) nr true e env s1)) u)) r
-      (joined_alike inside span (λ s1. closed (eval on_replies (call_at (λ x. on_replies) nl functions d) nl true e env s1)) (λ s1. closed (eval on_replies (call_at (λ x. on_replies) nr functions d) nr true e env s1)) (λ s1. h tt s1 s1 refl) s);
-}
+-- ---- threads
 
-same_end : (x y : Completion ActorState Value) → Related same_link x y → HasEnded x → y ≡ x
-same_end (Completes v s) (Completes w t) h e = ap (λ u. Completes u t) (sym h.0) ∙ ap (λ u. Completes v u) (sym h.1)
-same_end (Completes v s) _ h e = absurd h
-same_end (Recurs vs s) y h e = absurd e
-same_end (Faults f s) (Faults g t) h e = ap (λ u. Faults u t) (sym h.0) ∙ ap (λ u. Faults f u) (sym h.1)
-same_end (Faults f s) _ h e = absurd h
-same_end (Retries s) y h e = absurd e
-same_end (Waits s) (Waits t) h e = ap Waits (sym h)
-same_end (Waits s) _ h e = absurd h
-same_end (OutOfTurns s) y h e = absurd e
-same_end Invalid y h e = absurd e
+module _ (nl nr : ℕ) (functions : List PlainFunction) where
+  -- the forms on replies, whose callees may have more turns
+  replies_alike : (d : ℕ) → Alike ActorState ActorState (same_link ActorState) on_replies on_replies (call_at (λ e. on_replies) nl functions d) (call_at (λ e. on_replies) nr functions d) nl nr (λ i. Unit {0}) (pure_callees (known functions))
+  replies_alike d = record {
+    print = λ inside vs s t m r. from_same ActorState (λ u. on_replies.print inside vs u) s t r;
+    look = λ form inside m c s t may i r. from_same ActorState (λ u. on_replies.look form inside m c u) s t r;
+    put = λ form inside m c w s t may i r. from_same ActorState (λ u. on_replies.put form inside m c w u) s t r;
+    update = λ form inside m c callee vs s t may i p a r. from_alike ActorState _ _ (updates_alike form inside m.span c callee vs _ _ (a (λ f. tt))) s t r;
+    send = λ inside m c callee vs s t i p r. from_same ActorState (λ u. on_replies.send inside m c callee vs u) s t r;
+    dosync = λ inside m e env s t i p b a r. from_alike ActorState _ _ (joined_alike inside (suc reruns) m.span _ _ (λ s1. b tt s1 s1 refl) _ _ (a (λ f. tt) tt)) s t r;
+  }
 
-pub more_turns : (p : ThreadSource) (todo : List Exchange) (nl nr : ℕ) → nl ≤ nr → HasEnded (source p nl todo) → source p nr todo ≡ source p nl todo
-more_turns p todo nl nr le e =
+long_ended : (x : Completion ActorState Value) → HasEnded x → IsLong ActorState x
+long_ended (Completes v s) e = tt
+long_ended (Recurs vs s) e = tt
+long_ended (Faults f s) e = tt
+long_ended (Retries s) e = tt
+long_ended (Waits s) e = tt
+long_ended (OutOfTurns s) e = e
+long_ended Invalid e = tt
+
+-- an end of the tree is its end with more turns
+pub more_turns : (p : ThreadSource) → SoundSource p → (todo : List Exchange) (nl nr : ℕ) → nl ≤ nr → HasEnded (source p nl todo) → source p nr todo ≡ source p nl todo
+more_turns p sound todo nl nr le e =
     let d = length p.functions in
+    let w = pure_callees (known p.functions) in
     let cf = call_at (λ x. on_replies) nl p.functions d in
     let cg = call_at (λ x. on_replies) nr p.functions d in
-    same_end (source p nl todo) (source p nr todo)
-    (closed_related ActorState ActorState same_link (eval on_replies cf nl false p.main [] (fresh todo)) (eval on_replies cg nr false p.main [] (fresh todo))
-    (eval_related ActorState ActorState same_link on_replies on_replies cf cg nl nr (λ i. Unit {0}) (inr (le, λ s t r o. tt)) (replies_alike nl nr p.functions d)
-    (calls_related ActorState ActorState same_link (λ x. on_replies) (λ x. on_replies) nl nr p.functions (λ i. Unit {0}) (inr (le, λ s t r o. tt)) (replies_alike nl nr p.functions) d)
-    p.main false [] (fresh todo) (fresh todo) tt refl)) e
+    let more : Turns ActorState ActorState (same_link ActorState) nl nr = inr (le, λ s t r o. tt) in
+    same_long ActorState (source p nl todo) (source p nr todo)
+    (closed_related ActorState ActorState (same_link ActorState) (eval on_replies cf nl false p.main [] (fresh todo)) (eval on_replies cg nr false p.main [] (fresh todo))
+    (eval_related ActorState ActorState (same_link ActorState) on_replies on_replies cf cg nl nr (λ i. Unit {0}) w more (replies_alike nl nr p.functions d)
+    (calls_related ActorState ActorState (same_link ActorState) (λ x. on_replies) (λ x. on_replies) nl nr p.functions (λ i. Unit {0}) w more (replies_alike nl nr p.functions) (function_callees p.functions sound.functions) d)
+    p.main false [] (fresh todo) (fresh todo) (callees_in (known p.functions) p.main in_thread false 0 None sound.main) tt refl))
+    (long_ended (source p nl todo) e)

@@ -5,14 +5,16 @@ use Rattle.txs_code.specs.ActorState.{ActorState}
 use Rattle.txs_code.specs.Machine.{ThreadCode, Ended, Failed, Asking, Unfinished, Stuck, Outcome}
 use Rattle.txs_follows.proofs.Longer.{longer}
 use Rattle.txs_follows.proofs.Grows.{GrowsTo, Later, later}
-use Rattle.txs_follows.proofs.Threads.{tree_follows}
+use Rattle.txs_follows.proofs.Follow.{tree_follows}
 use Rattle.txs_code.specs.Opening.{opening, target}
 use Rattle.txs_follows.specs.Behaves.{source, IsMeant, HasEnded, outcome_of, IsOver, Behaves}
-use Rattle.txs_follows.specs.RepliesFit.{Out, RepliesFit, halted, HasEaten, Agrees, HasEatenAll, Explained, Consumed}
+use Rattle.txs_follows.specs.RepliesFit.{Phase, Out, RepliesFit, halted, HasEaten, Agrees, HasEatenAll, Explained, Consumed}
 use Rattle.txs_tree.specs.Meaning.{Completion, Completes, Recurs, Faults, Retries, Waits, OutOfTurns, Invalid}
 use Rattle.txs_asks.specs.SeenEvent.{SeenEvent}
 use Rattle.txs_tree.specs.Thread.{ThreadState, thread_meaning}
+use Rattle.txs_tree.specs.Sound.{SoundSource}
 use Rattle.txs_tree.specs.Tree.{ThreadSource}
+use Rattle.txs_value.specs.declared.cell.CellDefinition.{CellDefinition}
 use Rattle.txs_asks.specs.Ask.{Exchange}
 use Rattle.txs_value.specs.declared.value.Value.{Value}
 
@@ -21,8 +23,8 @@ pub nothing_after : {A : Type 0} (xs ys : List A) → xs ++ ys ≡ [] → ys ≡
 nothing_after [] ys e = e
 nothing_after (x ∷ xs) ys e = absurd (subst (λ l. elim l as (λ m. Type 0) [ [] ↦ ⊥ | y ∷ m ↦ Unit {0} ]) e tt)
 
-fits_nothing : (todo : List Exchange) (es : List SeenEvent) → todo ≡ [] → RepliesFit Out todo es → es ≡ []
-fits_nothing todo es e f = subst (λ l. RepliesFit Out l es) e f
+fits_nothing : (cells : List CellDefinition) (ph : Phase) (todo : List Exchange) (es : List SeenEvent) → todo ≡ [] → RepliesFit cells ph todo es → es ≡ []
+fits_nothing cells ph todo es e f = subst (λ l. RepliesFit cells ph l es) e f
 
 halted_all : (out : List ℕ) (r : Completion ThreadState Value) → HasEaten out (halted r) → HasEatenAll out r
 halted_all out (Completes v t) h = absurd h
@@ -34,22 +36,22 @@ halted_all out (OutOfTurns t) h = h
 halted_all out Invalid h = absurd h
 
 -- the tree's answer, with all exchanges consumed, as the thread's
-agreed : (x : Completion ActorState Value) (r : Completion ThreadState Value) → IsMeant x → Agrees x r → (s : ActorState) → GrowsTo s (outcome_of x) → s.todo ≡ [] → (rest : List ℕ) × HasEatenAll (s.printed ++ rest) r
-agreed (Completes v u) r t a s g e =
+agreed : (cells : List CellDefinition) (x : Completion ActorState Value) (r : Completion ThreadState Value) → IsMeant x → Agrees cells x r → (s : ActorState) → GrowsTo s (outcome_of x) → s.todo ≡ [] → (rest : List ℕ) × HasEatenAll (s.printed ++ rest) r
+agreed cells (Completes v u) r t a s g e =
     let z = nothing_after g.done u.todo (sym g.eats ∙ e) in
-    (g.more, subst (HasEatenAll (s.printed ++ g.more)) (sym a.1) (fits_nothing u.todo a.0.todo z a.3, a.2 ∙ g.prints))
-agreed (Recurs vs u) r t a s g e = absurd t
-agreed (Faults f u) r t a s g e =
+    (g.more, subst (HasEatenAll (s.printed ++ g.more)) (sym a.1) (fits_nothing cells Out u.todo a.0.todo z a.3, a.2 ∙ g.prints))
+agreed cells (Recurs vs u) r t a s g e = absurd t
+agreed cells (Faults f u) r t a s g e =
     let z = nothing_after g.done u.todo (sym g.eats ∙ e) in
-    (g.more, subst (HasEatenAll (s.printed ++ g.more)) (sym a.1) (fits_nothing u.todo a.0.todo z a.3, a.2 ∙ g.prints))
-agreed (Retries u) r t a s g e = absurd t
-agreed (Waits u) r t a s g e =
-    let z = nothing_after g.done u.todo (sym g.eats ∙ e) in
-    (g.more, subst (λ o. HasEatenAll o r) g.prints (halted_all u.printed r (a z)))
-agreed (OutOfTurns u) r t a s g e =
+    (g.more, subst (HasEatenAll (s.printed ++ g.more)) (sym a.1) (fits_nothing cells a.3.0 u.todo a.0.todo z a.3.1, a.2 ∙ g.prints))
+agreed cells (Retries u) r t a s g e = absurd t
+agreed cells (Waits u) r t a s g e =
     let z = nothing_after g.done u.todo (sym g.eats ∙ e) in
     (g.more, subst (λ o. HasEatenAll o r) g.prints (halted_all u.printed r (a z)))
-agreed Invalid r t a s g e = absurd t
+agreed cells (OutOfTurns u) r t a s g e =
+    let z = nothing_after g.done u.todo (sym g.eats ∙ e) in
+    (g.more, subst (λ o. HasEatenAll o r) g.prints (halted_all u.printed r (a z)))
+agreed cells Invalid r t a s g e = absurd t
 
 -- a run that goes on at m has, at m or later, grown to what it reaches
 pub grown : (code : ThreadCode) (todo : List Exchange) (m k : ℕ) (s : ActorState) (o : Outcome) → m ≤ k → target code m todo ≡ Unfinished s → target code k todo ≡ o → GrowsTo s o
@@ -69,14 +71,14 @@ grown_over : (code : ThreadCode) (todo : List Exchange) (m : ℕ) (s : ActorStat
 grown_over code todo m s o over e r = grown code todo m r.0 s o (not_before code todo m r.0 s o over e r.1) e r.1
 
 -- an outcome that is the tree's, with all exchanges consumed
-pub over_explained : (x : Completion ActorState Value) (r : Completion ThreadState Value) → HasEnded x → Agrees x r → Consumed (outcome_of x) → Explained (outcome_of x) r
-over_explained (Completes v s) r t a e = (v, a.0, a.1, fits_nothing s.todo a.0.todo e a.3, a.2)
-over_explained (Recurs vs s) r t a e = absurd t
-over_explained (Faults f s) r t a e = (a.0, a.1, fits_nothing s.todo a.0.todo e a.3, a.2)
-over_explained (Retries s) r t a e = absurd t
-over_explained (Waits s) r t a e = a e
-over_explained (OutOfTurns s) r t a e = absurd t
-over_explained Invalid r t a e = absurd t
+pub over_explained : (cells : List CellDefinition) (x : Completion ActorState Value) (r : Completion ThreadState Value) → HasEnded x → Agrees cells x r → Consumed (outcome_of x) → Explained (outcome_of x) r
+over_explained cells (Completes v s) r t a e = (v, a.0, a.1, fits_nothing cells Out s.todo a.0.todo e a.3, a.2)
+over_explained cells (Recurs vs s) r t a e = absurd t
+over_explained cells (Faults f s) r t a e = (a.0, a.1, fits_nothing cells a.3.0 s.todo a.0.todo e a.3.1, a.2)
+over_explained cells (Retries s) r t a e = absurd t
+over_explained cells (Waits s) r t a e = a e
+over_explained cells (OutOfTurns s) r t a e = absurd t
+over_explained cells Invalid r t a e = absurd t
 
 -- a tree's answer that the machine ends with needs no turns
 ended_of : (x : Completion ActorState Value) (o : Outcome) → IsMeant x → outcome_of x ≡ o → IsOver o → HasEnded x
@@ -88,7 +90,7 @@ ended_of (Waits s) o t e over = tt
 ended_of (OutOfTurns s) o t e over = subst IsOver (sym e) over
 ended_of Invalid o t e over = absurd t
 
-module _ (code : ThreadCode) (p : ThreadSource) (behaves : Behaves code p) where
+module _ (code : ThreadCode) (p : ThreadSource) (behaves : Behaves code p) (sound : SoundSource p) where
   pub ends : (todo : List Exchange) (m : ℕ) (x : Completion ActorState Value) → source p m todo ≡ x → HasEnded x → (j : ℕ) × (target code j todo ≡ outcome_of x)
   ends todo m x q t = subst (λ y. (j : ℕ) × (target code j todo ≡ outcome_of y)) q (behaves.follows todo m (subst HasEnded (sym q) t))
 
@@ -103,15 +105,15 @@ module _ (code : ThreadCode) (p : ThreadSource) (behaves : Behaves code p) where
       grown code todo m r.0 s (Unfinished u) r.1 e r.2
   grown_to todo m s Invalid q t e = absurd t
 
-  over : (todo : List Exchange) (es : List SeenEvent) (m : ℕ) (o : Outcome) → target code m todo ≡ o → RepliesFit Out todo es → IsMeant (source p m todo) → Consumed o → IsOver o → Explained o (thread_meaning p m es)
+  over : (todo : List Exchange) (es : List SeenEvent) (m : ℕ) (o : Outcome) → target code m todo ≡ o → RepliesFit p.cells Out todo es → IsMeant (source p m todo) → Consumed o → IsOver o → Explained o (thread_meaning p m es)
   over todo es m o e f t c ov =
       let same = behaves.only todo m o ov e t in
       subst (λ u. Explained u (thread_meaning p m es)) same
-      (over_explained (source p m todo) (thread_meaning p m es) (ended_of (source p m todo) o t same ov) (tree_follows p m todo es f) (subst Consumed (sym same) c))
+      (over_explained p.cells (source p m todo) (thread_meaning p m es) (ended_of (source p m todo) o t same ov) (tree_follows p m todo es sound f) (subst Consumed (sym same) c))
 
-  pub explained : (todo : List Exchange) (es : List SeenEvent) (m : ℕ) (o : Outcome) → target code m todo ≡ o → RepliesFit Out todo es → IsMeant (source p m todo) → Consumed o → Explained o (thread_meaning p m es)
+  pub explained : (todo : List Exchange) (es : List SeenEvent) (m : ℕ) (o : Outcome) → target code m todo ≡ o → RepliesFit p.cells Out todo es → IsMeant (source p m todo) → Consumed o → Explained o (thread_meaning p m es)
   explained todo es m (Unfinished s) e f t c =
-      agreed (source p m todo) (thread_meaning p m es) t (tree_follows p m todo es f) s (grown_to todo m s (source p m todo) refl t e) c
+      agreed p.cells (source p m todo) (thread_meaning p m es) t (tree_follows p m todo es sound f) s (grown_to todo m s (source p m todo) refl t e) c
   explained todo es m (Ended s) e f t c = over todo es m (Ended s) e f t c tt
   explained todo es m (Failed x s) e f t c = over todo es m (Failed x s) e f t c tt
   explained todo es m (Asking s) e f t c = over todo es m (Asking s) e f t c tt

@@ -1,5 +1,5 @@
 -- The code of a thread does what its tree does, on any replies.
-use Rattle.std.specs.Prelude.{◌≡◌, false, ℕ, ◌≤◌, List, [], length, Some, None}
+use Rattle.std.specs.Prelude.{◌≡◌, false, ℕ, ◌≤◌, List, [], length}
 use Rattle.txs_asks.specs.Ask.{Exchange}
 use Rattle.txs_value.specs.declared.value.Value.{Value}
 use Rattle.txs_tree.specs.Meaning.{Completion, Completes, Recurs, Faults, Retries, Waits, OutOfTurns, Invalid, eval, closed, call_at}

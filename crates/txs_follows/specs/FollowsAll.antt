@@ -1,15 +1,15 @@
 -- What it is that the code of all threads follows a program.
 use Rattle.std.specs.Prelude.{◌≡◌, ℕ, List, length, map, Some}
 use Rattle.txs_value.specs.Places.{nth}
-use Rattle.txs_tree.specs.Sound.{Sound}
+use Rattle.txs_tree.specs.Sound.{Sound, SoundSource}
 use Rattle.txs_tree.specs.Tree.{PlainThread, PlainProgram, ThreadSource}
 use Rattle.txs_code.specs.Machine.{ThreadCode}
 use Rattle.txs_follows.specs.Behaves.{Behaves}
 use Rattle.txs_follows.specs.Follows.{Follows}
 
--- a thread of a program, with the functions that it may call
+-- a thread of a program, with the functions that it may call and the definitions of cells
 abbrev pub source_of : PlainProgram → PlainThread → ThreadSource
-source_of p t = record { functions = p.functions; main = t.body }
+source_of p t = record { functions = p.functions; cells = p.cells; main = t.body }
 
 -- the code of each thread does what the thread's tree does, on any replies
 pub record BehavesAll (codes : List ThreadCode) (p : PlainProgram) : Type 0 where
@@ -25,6 +25,6 @@ pub record FollowsAll (codes : List ThreadCode) (p : PlainProgram) : Type 0 wher
 abbrev pub SoundFollowsAll : Type 0
 SoundFollowsAll = (codes : List ThreadCode) (p : PlainProgram) → Sound p → BehavesAll codes p → FollowsAll codes p
 
--- where each thread's code is generated so that it behaves as the thread's tree, the code of a sound program follows it
+-- where the code of each sound thread is generated so that it behaves as the thread's tree, the code of a sound program follows it
 abbrev pub GeneratedFollows : Type 0
-GeneratedFollows = (g : ThreadSource → ThreadCode) → ((q : ThreadSource) → Behaves (g q) q) → (p : PlainProgram) → Sound p → FollowsAll (map (λ t. g (source_of p t)) p.threads) p
+GeneratedFollows = (g : ThreadSource → ThreadCode) → ((q : ThreadSource) → SoundSource q → Behaves (g q) q) → (p : PlainProgram) → Sound p → FollowsAll (map (λ t. g (source_of p t)) p.threads) p

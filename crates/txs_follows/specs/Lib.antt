@@ -1,6 +1,8 @@
+pub mod ActionsBehave
 pub mod Behaves
 pub mod EndsSo
 pub mod Follows
+pub mod FollowsAgent
 pub mod FollowsAll
 pub mod OnReplies
 pub mod RepliesFit

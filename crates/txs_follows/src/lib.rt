@@ -1,8 +1,10 @@
 //! What it is that code follows a program: after any number of turns, on replies that fit a thread's
 //! events, the thread's meaning eats those events with what the code printed, and ends as the code has.
+//! An agent's code hands in what an action means.
 //! Each law stands on a function of its own, which does nothing when it runs.
 #![tactic(auto)]
 
+ghost use Rattle.txs_follows.specs.ActionsBehave.{SoundFollowsAgents};
 ghost use Rattle.txs_follows.specs.FollowsAll.{GeneratedFollows, SoundFollowsAll};
 ghost use Rattle.txs_follows.specs.Follows.{SoundFollows};
 ghost use Rattle.txs_follows.specs.RepliesFitTo.{FittingToFits, OneMoreFits};
@@ -33,4 +35,10 @@ pub fn sound_follows_all()
 /// a sound program follows the program.
 pub fn generated_follows()
     ensures { GeneratedFollows }
+{}
+
+/// Code of sound functions that does what they mean where actions call them follows the actions of
+/// each agent.
+pub fn sound_follows_agents()
+    ensures { SoundFollowsAgents }
 {}

@@ -3,4 +3,4 @@ use Rattle.txs_follows.proofs.Ends.{behaves_follows}
 use Rattle.txs_follows.proofs.sound_code_follows.Goals as goal
 
 pub returns : goal.returns
-returns c = λ code p behaves sound. behaves_follows code p behaves (ever_meant p sound)
+returns c = λ code p behaves sound. behaves_follows code p behaves sound (ever_meant p sound)
