@@ -13,7 +13,7 @@ use Rattle.txs_gen.proofs.Ends.{code_behaves}
 abbrev with_main : List PlainBody → PlainBody → ThreadCode
 with_main fs b = record { functions = fs; main = b }
 
-functions_are : (ps : List ℕ) (cs : List Value) (bs : List CodeBody) (fs : List PlainFunction) → AreFunctionsOf ps cs bs fs → plain_bodies ps cs bs ≡ functions_code fs
+pub functions_are : (ps : List ℕ) (cs : List Value) (bs : List CodeBody) (fs : List PlainFunction) → AreFunctionsOf ps cs bs fs → plain_bodies ps cs bs ≡ functions_code fs
 functions_are ps cs [] [] h = refl
 functions_are ps cs [] (f ∷ fs) h = absurd h
 functions_are ps cs (b ∷ bs) [] h = absurd h

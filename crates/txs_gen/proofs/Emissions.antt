@@ -5,18 +5,22 @@ use Rattle.std.proofs.Math.Seq.{drop-cons}
 use Rattle.std.proofs.lemmas.List.{append-nil, drop_all}
 use Rattle.std.proofs.lemmas.Bool.Decides.{nat_tests}
 use Rattle.txs_value.specs.declared.fault.Span.{Span}
+use Rattle.txs_value.specs.declared.form.LookForm.{LookForm}
+use Rattle.txs_value.specs.declared.form.PutForm.{PutForm}
+use Rattle.txs_value.specs.declared.form.UpdateForm.{UpdateForm}
 use Rattle.txs_value.specs.declared.op.Callee.{Callee}
 use Rattle.txs_value.specs.declared.op.Callee.TheVariants.{Core as CoreOp, Function}
 use Rattle.txs_value.specs.declared.op.Op.{Op}
 use Rattle.txs_value.specs.declared.value.Value.{Value}
 use Rattle.txs_tree.specs.Sound.{nodes, nodes_in, SoundCallee, SoundLet, SoundDo}
-use Rattle.txs_tree.specs.Tree.{Mark, Tree, Const, Local, If, Do, Let, Loop, Recur, Core, Call, VectorOf, Println, Dosync, Deref, Alter, Trees, none, more, count, is_none}
+use Rattle.txs_tree.specs.Tree.{Mark, Tree, Const, Local, If, Do, Let, Loop, Recur, Core, Call, VectorOf, Println, Dosync, Look, Put, Update, Send, Trees, none, more, count, is_none}
 use Rattle.txs_tree.specs.View.{tree_of, trees_of}
 use Rattle.txs_tree.specs.declared.node.Node.{Node}
 use Rattle.txs_code.specs.declared.instr.Instr.{Instr}
 use Rattle.txs_code.specs.declared.instr.Instr.TheVariants as instr
 use Rattle.txs_gen.specs.Generated.{copies, spans_of, spans_of_all, spans_of_let, spans_of_do, constants_of, constants_in}
-use Rattle.txs_gen.specs.Emission.{Emission, then_instrs, if_instrs, stores_from, callee_instrs, instrs_of, instrs_of_all, instrs_of_let, instrs_of_do, stored, stored_in, stored_let, top, top_in, top_args, emits, emits_all, emits_let, emits_do, emits_if, emits_loop, emits_dosync, emits_alter, emits_recur, with_instr, with_constant, with_room, with_locals, with_pop, with_stores, with_call, with_set, Place, IsWithin, IsPlaced, IsPlacedDo}
+use Rattle.txs_gen.specs.Gen.{opening}
+use Rattle.txs_gen.specs.Emission.{Emission, above, then_instrs, if_instrs, stores_from, callee_instrs, update_instrs, instrs_of, instrs_of_all, instrs_of_let, instrs_of_do, stored, stored_in, stored_let, top, top_in, top_args, emits, emits_all, emits_let, emits_do, emits_if, emits_bound, emits_loop, emits_dosync, emits_update, emits_recur, with_instr, with_constant, with_room, with_locals, with_pop, with_stores, with_call, with_update, with_set, Place, IsWithin, IsPlaced, IsPlacedDo}
 use Rattle.txs_gen.specs.declared.emit.Around.{Around}
 
 abbrev pub make : List Instr → List Span → List Value → ℕ → ℕ → Emission
@@ -150,10 +154,10 @@ pub emits_recur_is : (ts : Trees) (m : Mark) (at : Around) (e : Emission) → em
 unfolding emits emits_recur
 emits_recur_is ts m at e = refl
 
-pub emits_core : (op : Op) (ts : Trees) (m : Mark) (at : Around) (e : Emission) → with_instr (instr.Core op (count ts)) m.span (emits_all ts at e) ≡ emits (Core op ts m) at e
+pub emits_core : (op : Op) (ts : Trees) (m : Mark) (at : Around) (e : Emission) → with_instr (instr.Core op (count ts)) m.span (with_room 0 (emits_all ts at e)) ≡ emits (Core op ts m) at e
 unfolding emits emits_all
 emits_core op ts m at e =
-    same _ _ _ _ _ _ _ _ _ _ (append_assoc e.instrs (instrs_of_all ts at.depth at.base at.start (length e.instrs) (length e.constants)) (instr.Core op (count ts) ∷ [])) (append_assoc e.spans (spans_of_all ts) (m.span ∷ [])) refl refl refl
+    same _ _ _ _ _ _ _ _ _ _ (append_assoc e.instrs (instrs_of_all ts at.depth at.base at.start (length e.instrs) (length e.constants)) (instr.Core op (count ts) ∷ [])) (append_assoc e.spans (spans_of_all ts) (m.span ∷ [])) refl refl (max-zero (max e.room (top_args ts at.height)))
 
 pub emits_call : (f : ℕ) (ts : Trees) (m : Mark) (at : Around) (e : Emission) → with_instr (instr.Call f) m.span (with_room (at.height + 1) (emits_all ts at e)) ≡ emits (Call f ts m) at e
 unfolding emits emits_all
@@ -173,14 +177,18 @@ emits_println ts m at e =
     let r : max (max e.room (top_args ts at.height)) (at.height + 1) ≡ max e.room (max (top_args ts at.height) (at.height + 1)) = omega arith in
     same _ _ _ _ _ _ _ _ _ _ (append_assoc e.instrs (instrs_of_all ts at.depth at.base at.start (length e.instrs) (length e.constants)) (instr.Print (count ts) ∷ [])) (append_assoc e.spans (spans_of_all ts) (m.span ∷ [])) refl refl r
 
-pub emits_let_is : (ts : Trees) (body : Tree) (m : Mark) (at : Around) (e : Emission) → emits body (around (at.depth + count ts) at.height at.base at.start) (emits_let ts m.span at e) ≡ emits (Let ts body m) at e
-unfolding emits emits_let
-emits_let_is ts body m at e =
+pub emits_bound_is : (ts : Trees) (body : Tree) (m : Mark) (at : Around) (e : Emission) → emits_bound ts body m.span at e ≡ emits (Let ts body m) at e
+unfolding emits emits_bound
+emits_bound_is ts body m at e = refl
+
+pub bound_made : (ts : Trees) (body : Tree) (span : Span) (at : Around) (e : Emission) → emits body (around (at.depth + count ts) at.height at.base at.start) (emits_let ts span at e) ≡ emits_bound ts body span at e
+unfolding emits emits_let emits_bound
+bound_made ts body span at e =
     let l : max (max e.locals (stored_let ts at.depth)) (stored body (at.depth + count ts)) ≡ max e.locals (max (stored_let ts at.depth) (stored body (at.depth + count ts))) = omega arith in
     let r : max (max e.room (top_in ts at.height)) (top body at.height) ≡ max e.room (max (top_in ts at.height) (top body at.height)) = omega arith in
     same _ _ _ _ _ _ _ _ _ _
     (then_made e.instrs (instrs_of_let ts at.depth at.base at.start (length e.instrs) (length e.constants)) e.constants (constants_in ts) (instrs_of body (at.depth + count ts) at.base at.start))
-    (append_assoc e.spans (spans_of_let m.span ts) (spans_of body)) (append_assoc e.constants (constants_in ts) (constants_of body)) l r
+    (append_assoc e.spans (spans_of_let span ts) (spans_of body)) (append_assoc e.constants (constants_in ts) (constants_of body)) l r
 
 pub loop_made : (ts : Trees) (body : Tree) (span : Span) (at : Around) (e : Emission) → emits body (around (at.depth + count ts) at.height at.depth (length (emits_let ts span at e).instrs)) (emits_let ts span at e) ≡ emits_loop ts body span at e
 unfolding emits emits_let emits_loop
@@ -206,14 +214,25 @@ pub emits_dosync_is : (body : Tree) (m : Mark) (at : Around) (e : Emission) → 
 unfolding emits emits_dosync
 emits_dosync_is body m at e = refl
 
-pub emits_alter_is : (cell : Tree) (callee : Callee) (args : Trees) (m : Mark) (at : Around) (e : Emission) → emits_alter cell callee args m.span at e ≡ emits (Alter cell callee args m) at e
-unfolding emits emits_alter
-emits_alter_is cell callee args m at e = refl
-
-pub emits_deref : (cell : Tree) (m : Mark) (at : Around) (e : Emission) → with_instr instr.Deref m.span (emits cell at e) ≡ emits (Deref cell m) at e
+pub emits_look : (form : LookForm) (cell : Tree) (m : Mark) (at : Around) (e : Emission) → with_instr (instr.Look form) m.span (emits cell at e) ≡ emits (Look form cell m) at e
 unfolding emits
-emits_deref cell m at e =
-    same _ _ _ _ _ _ _ _ _ _ (append_assoc e.instrs (instrs_of cell at.depth at.base at.start (length e.instrs) (length e.constants)) (instr.Deref ∷ [])) (append_assoc e.spans (spans_of cell) (m.span ∷ [])) refl refl refl
+emits_look form cell m at e =
+    same _ _ _ _ _ _ _ _ _ _ (append_assoc e.instrs (instrs_of cell at.depth at.base at.start (length e.instrs) (length e.constants)) (instr.Look form ∷ [])) (append_assoc e.spans (spans_of cell) (m.span ∷ [])) refl refl refl
+
+pub emits_put : (form : PutForm) (cell value : Tree) (m : Mark) (at : Around) (e : Emission) → with_instr (instr.Put form) m.span (emits value (above at) (emits cell at e)) ≡ emits (Put form cell value m) at e
+unfolding emits
+emits_put form cell value m at e =
+    let d = at.depth in
+    let is = instrs_of cell d at.base at.start (length e.instrs) (length e.constants) in
+    let xs = e.instrs ++ is in
+    let js = instrs_of value d at.base at.start (length xs) (length (e.constants ++ constants_of cell)) in
+    let last = instr.Put form ∷ [] in
+    let l : max (max e.locals (stored cell d)) (stored value d) ≡ max e.locals (max (stored cell d) (stored value d)) = omega arith in
+    let r : max (max e.room (top cell at.height)) (top value (at.height + 1)) ≡ max e.room (max (top cell at.height) (top value (at.height + 1))) = omega arith in
+    same _ _ _ _ _ _ _ _ _ _
+    (append_assoc xs js last ∙ then_made e.instrs is e.constants (constants_of cell) (λ p k. instrs_of value d at.base at.start p k ++ last))
+    (append_assoc (e.spans ++ spans_of cell) (spans_of value) (m.span ∷ []) ∙ append_assoc e.spans (spans_of cell) (spans_of value ++ m.span ∷ []))
+    (append_assoc e.constants (constants_of cell) (constants_of value)) l r
 
 pub dosync_made : (body : Tree) (span : Span) (at : Around) (e : Emission) → with_instr instr.TxEnd span (emits body at (with_instr instr.TxBegin span e)) ≡ emits_dosync body span at e
 unfolding emits emits_dosync
@@ -228,27 +247,53 @@ dosync_made body span at e =
     (append_assoc (e.spans ++ span ∷ []) (spans_of body) (span ∷ []) ∙ append_assoc e.spans (span ∷ []) (spans_of body ++ span ∷ []))
     refl refl refl
 
-pub alter_made : (cell : Tree) (callee : Callee) (args : Trees) (span : Span) (at : Around) (e : Emission) →
-    with_instr instr.AlterClose span (with_call callee (suc (count args)) span (with_instr (instr.AlterOpen (count args)) span (with_room (at.height + count args + 2) (emits_all args (around at.depth (at.height + 1) at.base at.start) (emits cell at e)))))
-    ≡ emits_alter cell callee args span at e
-unfolding emits emits_all emits_alter
-alter_made cell callee args span at e =
+pub emits_update_is : (form : UpdateForm) (cell : Tree) (callee : Callee) (args : Trees) (m : Mark) (at : Around) (e : Emission) → emits_update form cell callee args m.span at e ≡ emits (Update form cell callee args m) at e
+unfolding emits emits_update
+emits_update_is form cell callee args m at e = refl
+
+pub whole_update : (form : UpdateForm) (cell : Tree) (callee : Callee) (args : Trees) (span : Span) (at : Around) (e : Emission) → with_update form callee (count args) span (with_room (at.height + count args + 2) (emits_all args (above at) (emits cell at e))) ≡ emits_update form cell callee args span at e
+unfolding emits emits_all emits_update
+whole_update form cell callee args span at e =
     let d = at.depth in
     let h = at.height in
     let is = instrs_of cell d at.base at.start (length e.instrs) (length e.constants) in
     let xs = e.instrs ++ is in
     let js = instrs_of_all args d at.base at.start (length xs) (length (e.constants ++ constants_of cell)) in
-    let opening = instr.AlterOpen (count args) in
-    let call = callee_instrs callee (suc (count args)) in
-    let close = instr.AlterClose ∷ [] in
+    let us = update_instrs form callee (count args) in
     let spans = e.spans ++ spans_of cell in
     let l : max (max e.locals (stored cell d)) (stored_in args d) ≡ max e.locals (max (stored cell d) (stored_in args d)) = omega arith in
     let r : max (max (max e.room (top cell h)) (top_args args (h + 1))) (h + count args + 2) ≡ max e.room (max (top cell h) (max (top_args args (h + 1)) (h + count args + 2))) = omega arith in
     same _ _ _ _ _ _ _ _ _ _
-    (append_assoc ((xs ++ js) ++ opening ∷ []) call close ∙ middle xs js opening (call ++ close)
-    ∙ then_made e.instrs is e.constants (constants_of cell) (λ p k. instrs_of_all args d at.base at.start p k ++ opening ∷ (call ++ close)))
-    (append_assoc ((spans ++ spans_of_all args) ++ span ∷ []) (span ∷ []) (span ∷ []) ∙ middle spans (spans_of_all args) span (span ∷ span ∷ []) ∙ append_assoc e.spans (spans_of cell) (spans_of_all args ++ span ∷ span ∷ span ∷ []))
+    (append_assoc xs js us ∙ then_made e.instrs is e.constants (constants_of cell) (λ p k. instrs_of_all args d at.base at.start p k ++ us))
+    (append_assoc spans (spans_of_all args) (copies 3 span) ∙ append_assoc e.spans (spans_of cell) (spans_of_all args ++ copies 3 span))
     (append_assoc e.constants (constants_of cell) (constants_in args)) l r
+
+pub emits_send : (cell : Tree) (callee : Callee) (args : Trees) (m : Mark) (at : Around) (e : Emission) → with_instr (instr.Send callee (count args)) m.span (with_room 0 (emits_all args (above at) (emits cell at e))) ≡ emits (Send cell callee args m) at e
+unfolding emits emits_all
+emits_send cell callee args m at e =
+    let d = at.depth in
+    let h = at.height in
+    let is = instrs_of cell d at.base at.start (length e.instrs) (length e.constants) in
+    let xs = e.instrs ++ is in
+    let js = instrs_of_all args d at.base at.start (length xs) (length (e.constants ++ constants_of cell)) in
+    let last = instr.Send callee (count args) ∷ [] in
+    let l : max (max e.locals (stored cell d)) (stored_in args d) ≡ max e.locals (max (stored cell d) (stored_in args d)) = omega arith in
+    let r : max (max (max e.room (top cell h)) (top_args args (h + 1))) 0 ≡ max e.room (max (top cell h) (top_args args (h + 1))) = omega arith in
+    same _ _ _ _ _ _ _ _ _ _
+    (append_assoc xs js last ∙ then_made e.instrs is e.constants (constants_of cell) (λ p k. instrs_of_all args d at.base at.start p k ++ last))
+    (append_assoc (e.spans ++ spans_of cell) (spans_of_all args) (m.span ∷ []) ∙ append_assoc e.spans (spans_of cell) (spans_of_all args ++ m.span ∷ []))
+    (append_assoc e.constants (constants_of cell) (constants_in args)) l r
+
+-- the open, the call and the close of an update, one after the other
+pub update_made : (form : UpdateForm) (callee : Callee) (n : ℕ) (span : Span) (e : Emission) → with_instr (instr.Close form) span (with_call callee (suc n) span (with_instr (instr.Open (opening form callee) n) span e)) ≡ with_update form callee n span e
+update_made form callee n span e =
+    let first = instr.Open (opening form callee) n in
+    let call = callee_instrs callee (suc n) in
+    let close = instr.Close form ∷ [] in
+    same _ _ _ _ _ _ _ _ _ _
+    (append_assoc (e.instrs ++ first ∷ []) call close ∙ append_assoc e.instrs (first ∷ []) (call ++ close))
+    (append_assoc (e.spans ++ span ∷ []) (span ∷ []) (span ∷ []) ∙ append_assoc e.spans (span ∷ []) (span ∷ span ∷ []))
+    refl refl refl
 
 -- the test of a choice, and the jump past its first branch, as yet to nowhere
 abbrev pub if_tested : Tree → Span → Around → Emission → Emission
@@ -382,8 +427,10 @@ nodes_positive (Call f args m) = omega arith
 nodes_positive (VectorOf items m) = omega arith
 nodes_positive (Println args m) = omega arith
 nodes_positive (Dosync body m) = omega arith
-nodes_positive (Deref cell m) = omega arith
-nodes_positive (Alter cell callee args m) = omega arith
+nodes_positive (Look form cell m) = omega arith
+nodes_positive (Put form cell value m) = omega arith
+nodes_positive (Update form cell callee args m) = omega arith
+nodes_positive (Send cell callee args m) = omega arith
 
 mutual
   pub constants_nodes : (t : Tree) → length (constants_of t) ≤ nodes t
@@ -399,8 +446,10 @@ mutual
   constants_nodes (VectorOf items m) = omega (arith, constants_nodes_in items)
   constants_nodes (Println args m) = omega (arith, constants_nodes_in args)
   constants_nodes (Dosync body m) = omega (arith, constants_nodes body)
-  constants_nodes (Deref cell m) = omega (arith, constants_nodes cell)
-  constants_nodes (Alter cell callee args m) = omega (arith, length-append (constants_of cell) (constants_in args), constants_nodes cell, constants_nodes_in args)
+  constants_nodes (Look form cell m) = omega (arith, constants_nodes cell)
+  constants_nodes (Put form cell value m) = omega (arith, length-append (constants_of cell) (constants_of value), constants_nodes cell, constants_nodes value)
+  constants_nodes (Update form cell callee args m) = omega (arith, length-append (constants_of cell) (constants_in args), constants_nodes cell, constants_nodes_in args)
+  constants_nodes (Send cell callee args m) = omega (arith, length-append (constants_of cell) (constants_in args), constants_nodes cell, constants_nodes_in args)
 
   pub constants_nodes_in : (ts : Trees) → length (constants_in ts) ≤ nodes_in ts
   constants_nodes_in none = omega arith
@@ -455,22 +504,32 @@ mutual
   instrs_nodes (VectorOf items m) d base start at k = omega (arith, length-append (instrs_of_all items d base start at k) (instr.Vector (count items) ∷ []), instrs_nodes_all items d base start at k)
   instrs_nodes (Println args m) d base start at k = omega (arith, length-append (instrs_of_all args d base start at k) (instr.Print (count args) ∷ []), instrs_nodes_all args d base start at k)
   instrs_nodes (Dosync body m) d base start at k = omega (arith, length-append (instrs_of body d base start (at + 1) k) (instr.TxEnd ∷ []), instrs_nodes body d base start (at + 1) k)
-  instrs_nodes (Deref cell m) d base start at k = omega (arith, length-append (instrs_of cell d base start at k) (instr.Deref ∷ []), instrs_nodes cell d base start at k)
-  instrs_nodes (Alter cell callee args m) d base start at k =
+  instrs_nodes (Look form cell m) d base start at k = omega (arith, length-append (instrs_of cell d base start at k) (instr.Look form ∷ []), instrs_nodes cell d base start at k)
+  instrs_nodes (Put form cell value m) d base start at k =
+      let is = instrs_of cell d base start at k in
+      let kc = k + length (constants_of cell) in
+      let js = instrs_of value d base start (at + length is) kc in
+      omega (arith, length-append is (js ++ instr.Put form ∷ []), length-append js (instr.Put form ∷ []), instrs_nodes cell d base start at k, instrs_nodes value d base start (at + length is) kc)
+  instrs_nodes (Update form cell callee args m) d base start at k =
       let is = instrs_of cell d base start at k in
       let kc = k + length (constants_of cell) in
       let js = instrs_of_all args d base start (at + length is) kc in
       let call = callee_instrs callee (suc (count args)) in
-      let rest = instr.AlterOpen (count args) ∷ (call ++ instr.AlterClose ∷ []) in
+      let rest = update_instrs form callee (count args) in
       omega (
         arith,
         length-append is (js ++ rest),
         length-append js rest,
-        length-append call (instr.AlterClose ∷ []),
+        length-append call (instr.Close form ∷ []),
         callee_length callee (suc (count args)),
         instrs_nodes cell d base start at k,
         instrs_nodes_all args d base start (at + length is) kc,
       )
+  instrs_nodes (Send cell callee args m) d base start at k =
+      let is = instrs_of cell d base start at k in
+      let kc = k + length (constants_of cell) in
+      let js = instrs_of_all args d base start (at + length is) kc in
+      omega (arith, length-append is (js ++ instr.Send callee (count args) ∷ []), length-append js (instr.Send callee (count args) ∷ []), instrs_nodes cell d base start at k, instrs_nodes_all args d base start (at + length is) kc)
 
   instrs_nodes_all : (ts : Trees) (d base start at k : ℕ) → length (instrs_of_all ts d base start at k) + count ts ≤ 3 * nodes_in ts
   instrs_nodes_all none d base start at k = omega arith

@@ -1,9 +1,14 @@
+pub mod Actions
 pub mod Bodies
+pub mod Calls
 pub mod CodesFollow
 pub mod Emissions
 pub mod Ends
 pub mod Generation
+pub mod Kept
 pub mod Lists
 pub mod Segments
 pub mod Simulates
 pub mod Steps
+pub mod Today
+pub mod Tries

@@ -2,7 +2,7 @@
 use Rattle.std.proofs.Common.{◌≡◌, ℕ, zero, suc, ◌+◌, ◌<◌, List, [], ◌∷◌, ◌++◌, length, Option, Some, None, refl, sym, ap, ◌∙◌, subst, arith, ⊎_elim, inl, inr, ◌⊎◌}
 use Rattle.txs_value.specs.Places.{nth}
 use Rattle.txs_value.specs.declared.value.Value.{Value}
-use Rattle.txs_code.specs.Machine.{PlainInstr, PlainBody, ThreadCode, Outcome, locals_of, fetch, put, push_all, on_args}
+use Rattle.txs_code.specs.Machine.{PlainInstr, PlainBody, ThreadCode, Turned, locals_of, fetch, put, push_all, on_args}
 
 pub append_nil : {A : Type 0} (xs : List A) → xs ++ [] ≡ xs
 append_nil [] = refl
@@ -92,13 +92,13 @@ holds_write base vs L h i w e =
     (nth_cases base vs i w e)
 
 -- the topmost values are taken as they were pushed
-pub args_back : (vs : List Value) (m : ℕ) (stack acc : List Value) (go : List Value → List Value → Outcome) → on_args (length vs + m) (push_all vs stack) acc go ≡ on_args m stack (vs ++ acc) go
+pub args_back : {U : Type 0} (vs : List Value) (m : ℕ) (stack acc : List Value) (go : List Value → List Value → Turned U) → on_args (length vs + m) (push_all vs stack) acc go ≡ on_args m stack (vs ++ acc) go
 args_back [] m stack acc go = ap (λ k. on_args k stack acc go) (omega arith)
 args_back (v ∷ vs) m stack acc go =
     let e : length (v ∷ vs) + m ≡ length vs + suc m = omega arith in
     ap (λ k. on_args k (push_all vs (v ∷ stack)) acc go) e ∙ args_back vs (suc m) (v ∷ stack) acc go
 
-pub args_taken : (vs : List Value) (n : ℕ) (stack : List Value) (go : List Value → List Value → Outcome) → length vs ≡ n → on_args n (push_all vs stack) [] go ≡ go vs stack
+pub args_taken : {U : Type 0} (vs : List Value) (n : ℕ) (stack : List Value) (go : List Value → List Value → Turned U) → length vs ≡ n → on_args n (push_all vs stack) [] go ≡ go vs stack
 args_taken vs n stack go len =
     let e : n ≡ length vs + 0 = omega (arith, len) in
     ap (λ k. on_args k (push_all vs stack) [] go) e ∙ args_back vs 0 stack [] go ∙ ap (λ l. go l stack) (append_nil vs)

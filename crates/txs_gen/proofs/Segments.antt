@@ -1,15 +1,18 @@
 -- A run of instructions: what the machine sees of it, its constants, and its depths.
-use Rattle.std.proofs.Common.{◌≡◌, ℕ, zero, suc, ◌+◌, ◌<◌, ◌≤◌, Bool, List, [], ◌∷◌, ◌++◌, length, refl, sym, ap, ◌∙◌, subst, length-append, arith, Option, Some, slice_index_or}
+use Rattle.std.proofs.Common.{◌⊎◌, ⊎_elim, inl, inr, append_assoc, ◌≡◌, ℕ, zero, suc, ◌+◌, ◌<◌, ◌≤◌, List, [], ◌∷◌, ◌++◌, length, refl, sym, ap, ◌∙◌, subst, length-append, arith, Option, Some, slice_index_or}
+use Rattle.std.proofs.lemmas.Bool.{cases_lt}
 use Rattle.std.specs.List.{range_with_len}
 use Rattle.txs_value.specs.Places.{nth}
 use Rattle.txs_value.specs.declared.fault.Span.{Span}
 use Rattle.txs_value.specs.declared.value.Value.{Value}
 use Rattle.txs_value.specs.declared.value.Value.TheVariants.{Nil}
 use Rattle.txs_code.specs.declared.instr.Instr.{Instr}
-use Rattle.txs_code.specs.declared.instr.Instr.TheVariants.{Const, Local, Store, Pop, Jump, JumpFalse, Core, Call, Return, Vector, Print, Deref, TxBegin, TxEnd, AlterOpen, AlterClose, Halt}
+use Rattle.txs_code.specs.declared.instr.Instr.TheVariants.{Const, Local, Store, Pop, Jump, JumpFalse, Core, Call, Return, Vector, Print, Look, Put, TxBegin, TxEnd, Open, Close, Send, Halt}
+use Rattle.txs_value.specs.declared.form.UpdateForm.{UpdateForm}
+use Rattle.txs_code.specs.declared.instr.OpenForm.{OpenForm}
 use Rattle.txs_code.specs.Machine.{PlainInstr}
 use Rattle.txs_code.specs.PlainCode.{CodeBody, plain_instr, plain_instrs}
-use Rattle.txs_code.specs.WellTyped.{Functions, Owner, Depths, depth_at, Stage, plain, Stages, stage_at, IsLawful, Fits, FitsStage, WellTypedBody}
+use Rattle.txs_code.specs.WellTyped.{Functions, Owner, Depths, depth_at, Stage, plain, opened, applied, Stages, stage_at, LeadsTo, MayJump, IsLawful, Fits, FitsStage, WellTypedBody}
 use Rattle.txs_gen.specs.Gen.{then_code}
 use Rattle.txs_gen.specs.Generated.{numbers_in}
 
@@ -109,13 +112,12 @@ pub tables_on : (hs : List State) → On (depths_of hs) (stages_of hs) 0 hs
 tables_on [] = tt
 tables_on (h ∷ hs) = ((refl, refl), on_cons (Some h.depth) (Some h.stage) (depths_of hs) (stages_of hs) 0 hs (tables_on hs))
 
--- what is known of the functions, whose body the instructions are of, how many functions it may call, whether it runs in
--- transactions alone, the constants, the body, the room for its stack, and tables for it
+-- what is known of the functions, whose body the instructions are of, how many functions it may call, the constants, the body, the
+-- room for its stack, and tables for it
 pub record Setting : Type 0 where
   pub functions : Functions
   pub owner : Owner
   pub callable : ℕ
-  pub inside : Bool
   pub constants : List Value
   pub body : CodeBody
   pub most : ℕ
@@ -125,7 +127,7 @@ pub record Setting : Type 0 where
 -- the instruction at this place fits the tables
 abbrev pub StandsAt : Setting → ℕ → Instr → Type 0
 StandsAt x at i =
-    ((d : ℕ) × (depth_at x.depths at ≡ Some d) × (d ≤ x.most) × Fits x.owner x.functions.parameters x.depths x.most at d i) × ((s : Stage) × (stage_at x.stages at ≡ Some s) × FitsStage x.functions x.inside x.stages at s i)
+    ((d : ℕ) × (depth_at x.depths at ≡ Some d) × (d ≤ x.most) × Fits x.owner x.functions.parameters x.depths x.most at d i) × ((s : Stage) × (stage_at x.stages at ≡ Some s) × FitsStage x.functions x.owner x.stages at s i)
 
 -- the instructions from this place on fit the tables
 abbrev pub Stand : Setting → ℕ → List Instr → Type 0
@@ -153,19 +155,128 @@ stand_at x is at p l =
     let r = stand_from x 0 is at p l in
     (r.0, r.1, subst (λ n. StandsAt x n r.0) e r.2)
 
+-- these instructions stand in the body from this place on
+abbrev pub Within : Setting → ℕ → List Instr → Type 0
+Within x at [] = Unit {0}
+Within x at (i ∷ is) = (nth x.body.instrs at ≡ Some i) × Within x (at + 1) is
+
+pub within_first : (x : Setting) (at : ℕ) (is js : List Instr) → Within x at (is ++ js) → Within x at is
+within_first x at [] js p = tt
+within_first x at (i ∷ is) js p = (p.0, within_first x (at + 1) is js p.1)
+
+pub within_rest : (x : Setting) (at : ℕ) (is js : List Instr) → Within x at (is ++ js) → Within x (at + length is) js
+within_rest x at [] js p = let e : at ≡ at + 0 = omega arith in subst (λ n. Within x n js) e p
+within_rest x at (i ∷ is) js p =
+    let e : at + 1 + length is ≡ at + suc (length is) = omega arith in subst (λ n. Within x n js) e (within_rest x (at + 1) is js p.1)
+
+nth_seam : {A : Type 0} (pre is : List A) (i : A) → nth (pre ++ i ∷ is) (length pre) ≡ Some i
+nth_seam [] is i = refl
+nth_seam (x ∷ pre) is i = nth_seam pre is i
+
+within_from : (x : Setting) (pre is : List Instr) → x.body.instrs ≡ pre ++ is → Within x (length pre) is
+within_from x pre [] e = tt
+within_from x pre (i ∷ is) e =
+    let n : length (pre ++ i ∷ []) ≡ length pre + 1 = omega (arith, length-append pre (i ∷ [])) in
+    (ap (λ l. nth l (length pre)) e ∙ nth_seam pre is i, subst (λ k. Within x k is) n (within_from x (pre ++ i ∷ []) is (e ∙ sym (append_assoc pre (i ∷ []) is))))
+
+pub within_all : (x : Setting) → Within x 0 x.body.instrs
+within_all x = within_from x [] x.body.instrs refl
+
+-- the tables have an entry for each instruction of the body, and fit it
+pub record Whole (x : Setting) : Type 0 where
+  pub same : length x.depths ≡ length x.body.instrs
+  pub alike : length x.stages ≡ length x.body.instrs
+  pub stand : Stand x 0 x.body.instrs
+
+some_stage : (s z : Stage) → Some s ≡ Some z → s ≡ z
+some_stage s z e = cc
+
+some_instr : (i j : Instr) → Some i ≡ Some j → i ≡ j
+some_instr i j e = cc
+
+abbrev IsPlain : Stage → Type 0
+IsPlain (plain t) = Unit {0}
+IsPlain (opened t n by) = ⊥
+IsPlain (applied t by) = ⊥
+
+-- what stands behind an open leads to the close
+opened_leads : (fs : Functions) (owner : Owner) (ss : Stages) (at t n : ℕ) (by : OpenForm) (i : Instr) → FitsStage fs owner ss at (opened t n by) i → (form : UpdateForm) × LeadsTo ss (at + 1) (applied t form)
+opened_leads fs owner ss at t n by (Const k) p = absurd p
+opened_leads fs owner ss at t n by (Local i) p = absurd p
+opened_leads fs owner ss at t n by (Store i) p = absurd p
+opened_leads fs owner ss at t n by Pop p = absurd p
+opened_leads fs owner ss at t n by (Jump to) p = absurd p
+opened_leads fs owner ss at t n by (JumpFalse to) p = absurd p
+opened_leads fs owner ss at t n by (Core op m) p = (_, p.2)
+opened_leads fs owner ss at t n by (Call f) p = (_, p.3)
+opened_leads fs owner ss at t n by Return p = absurd p
+opened_leads fs owner ss at t n by (Vector m) p = absurd p
+opened_leads fs owner ss at t n by (Print m) p = absurd p
+opened_leads fs owner ss at t n by (Look form) p = absurd p
+opened_leads fs owner ss at t n by (Put form) p = absurd p
+opened_leads fs owner ss at t n by TxBegin p = absurd p
+opened_leads fs owner ss at t n by TxEnd p = absurd p
+opened_leads fs owner ss at t n by (Open form m) p = absurd p
+opened_leads fs owner ss at t n by (Close form) p = absurd p
+opened_leads fs owner ss at t n by (Send callee m) p = absurd p
+opened_leads fs owner ss at t n by Halt p = absurd p
+
+-- an open leads to its call
+open_leads : (fs : Functions) (owner : Owner) (ss : Stages) (at n : ℕ) (by : OpenForm) (s : Stage) → FitsStage fs owner ss at s (Open by n) → (t : ℕ) × LeadsTo ss (at + 1) (opened t n by)
+open_leads fs owner ss at n by (plain t) p = (t, p.1)
+open_leads fs owner ss at n by (opened t m form) p = absurd p
+open_leads fs owner ss at n by (applied t form) p = absurd p
+
+plain_not : (ss : Stages) (at u : ℕ) (s : Stage) → stage_at ss at ≡ Some (plain u) → stage_at ss at ≡ Some s → (IsPlain s → ⊥) → ⊥
+plain_not ss at u s e f never = never (subst IsPlain (some_stage (plain u) s (sym e ∙ f)) tt)
+
+next_or_second : (from to : ℕ) → from < to → to ≤ from + 2 → (from + 1 ≡ to) ⊎ (from + 1 + 1 ≡ to)
+next_or_second from to l m = ⊎_elim (λ e. inl (omega (arith, l, e))) (λ e. inr (omega (arith, m, e))) (cases_lt to (from + 2))
+
+-- where the code is in the middle of nothing a jump may lead
+pub may_jump : (x : Setting) → Whole x → (to d u : ℕ) → Here x.depths x.stages to d (plain u) → MayJump x.body.instrs to
+may_jump x w to d u h = (
+  omega (arith, w.same, depth_within x.depths to d h.0),
+  λ b.
+      let r = stand_at x x.body.instrs b.from w.stand (omega (arith, b.behind, w.same, depth_within x.depths to d h.0)) in
+      let is_open = some_instr r.0 (Open b.opened b.arguments) (sym r.1 ∙ b.first) in
+      let z = r.2.1 in
+      let first = open_leads x.functions x.owner x.stages b.from b.arguments b.opened z.0 (subst (λ i. FitsStage x.functions x.owner x.stages b.from z.0 i) is_open z.2) in
+      let q = stand_at x x.body.instrs (b.from + 1) w.stand (omega (arith, w.alike, stage_within x.stages (b.from + 1) (opened first.0 b.arguments b.opened) first.1)) in
+      let y = q.2.1 in
+      let so = some_stage y.0 (opened first.0 b.arguments b.opened) (sym y.1 ∙ first.1) in
+      let second = opened_leads x.functions x.owner x.stages (b.from + 1) first.0 b.arguments b.opened q.0 (subst (λ s. FitsStage x.functions x.owner x.stages (b.from + 1) s q.0) so y.2) in
+      ⊎_elim
+      (λ (e : b.from + 1 ≡ to). plain_not x.stages (b.from + 1) u (opened first.0 b.arguments b.opened) (subst (λ k. stage_at x.stages k ≡ Some (plain u)) (sym e) h.1) first.1 (λ p. p))
+      (λ (e : b.from + 1 + 1 ≡ to). plain_not x.stages (b.from + 1 + 1) u (applied first.0 second.0) (subst (λ k. stage_at x.stages k ≡ Some (plain u)) (sym e) h.1) second.1 (λ p. p))
+      (next_or_second b.from to b.behind b.within),
+)
+
 -- each instruction is lawful
-abbrev pub Lawful : ℕ → List Value → CodeBody → List Instr → Type 0
-Lawful n ks b [] = Unit {0}
-Lawful n ks b (i ∷ is) = IsLawful n ks b i × Lawful n ks b is
+abbrev pub Lawful : Setting → ℕ → List Instr → Type 0
+Lawful x at [] = Unit {0}
+Lawful x at (i ∷ is) = IsLawful x.callable x.functions.parameters x.constants x.body at i × Lawful x (at + 1) is
 
-pub lawful_append : (n : ℕ) (ks : List Value) (b : CodeBody) (is js : List Instr) → Lawful n ks b is → Lawful n ks b js → Lawful n ks b (is ++ js)
-lawful_append n ks b [] js p q = q
-lawful_append n ks b (i ∷ is) js p q = (p.0, lawful_append n ks b is js p.1 q)
+pub lawful_append : (x : Setting) (at : ℕ) (is js : List Instr) → Lawful x at is → Lawful x (at + length is) js → Lawful x at (is ++ js)
+lawful_append x at [] js p q = let e : at + 0 ≡ at = omega arith in subst (λ n. Lawful x n js) e q
+lawful_append x at (i ∷ is) js p q =
+    let e : at + suc (length is) ≡ at + 1 + length is = omega arith in
+    (p.0, lawful_append x (at + 1) is js p.1 (subst (λ n. Lawful x n js) e q))
 
-pub lawful_at : (n : ℕ) (ks : List Value) (b : CodeBody) (is : List Instr) → Lawful n ks b is → (at : ℕ) (i : Instr) → nth is at ≡ Some i → IsLawful n ks b i
-lawful_at n ks b [] p at i e = cc
-lawful_at n ks b (j ∷ is) p zero i e = let f : j ≡ i = cc in subst (λ x. IsLawful n ks b x) f p.0
-lawful_at n ks b (j ∷ is) p (suc at) i e = lawful_at n ks b is p.1 at i e
+lawful_from : (x : Setting) (from : ℕ) (is : List Instr) → Lawful x from is → (at : ℕ) (i : Instr) → nth is at ≡ Some i → IsLawful x.callable x.functions.parameters x.constants x.body (from + at) i
+lawful_from x from [] p at i e = cc
+lawful_from x from (j ∷ is) p zero i e =
+    let f : j ≡ i = cc in
+    let z : from ≡ from + 0 = omega arith in
+    subst (λ n. IsLawful x.callable x.functions.parameters x.constants x.body n i) z (subst (λ y. IsLawful x.callable x.functions.parameters x.constants x.body from y) f p.0)
+lawful_from x from (j ∷ is) p (suc at) i e =
+    let z : from + 1 + at ≡ from + suc at = omega arith in
+    subst (λ n. IsLawful x.callable x.functions.parameters x.constants x.body n i) z (lawful_from x (from + 1) is p.1 at i e)
+
+pub lawful_at : (x : Setting) → Lawful x 0 x.body.instrs → (at : ℕ) (i : Instr) → nth x.body.instrs at ≡ Some i → IsLawful x.callable x.functions.parameters x.constants x.body at i
+lawful_at x p at i e =
+    let z : 0 + at ≡ at = omega arith in
+    subst (λ n. IsLawful x.callable x.functions.parameters x.constants x.body n i) z (lawful_from x 0 x.body.instrs p at i e)
 
 pub plain_append : (ps : List ℕ) (ks : List Value) (is js : List Instr) (ss ts : List Span) → length ss ≡ length is → plain_instrs ps ks (is ++ js) (ss ++ ts) ≡ plain_instrs ps ks is ss ++ plain_instrs ps ks js ts
 plain_append ps ks [] js [] ts e = refl
@@ -186,11 +297,13 @@ numbers_append (Call f ∷ is) js = numbers_append is js
 numbers_append (Return ∷ is) js = numbers_append is js
 numbers_append (Vector n ∷ is) js = numbers_append is js
 numbers_append (Print n ∷ is) js = numbers_append is js
-numbers_append (Deref ∷ is) js = numbers_append is js
+numbers_append (Look form ∷ is) js = numbers_append is js
+numbers_append (Put form ∷ is) js = numbers_append is js
 numbers_append (TxBegin ∷ is) js = numbers_append is js
 numbers_append (TxEnd ∷ is) js = numbers_append is js
-numbers_append (AlterOpen n ∷ is) js = numbers_append is js
-numbers_append (AlterClose ∷ is) js = numbers_append is js
+numbers_append (Open form n ∷ is) js = numbers_append is js
+numbers_append (Close form ∷ is) js = numbers_append is js
+numbers_append (Send callee n ∷ is) js = numbers_append is js
 numbers_append (Halt ∷ is) js = numbers_append is js
 
 pub range_append : (k m n : ℕ) → range_with_len k m ++ range_with_len (k + m) n ≡ range_with_len k (m + n)
@@ -211,7 +324,7 @@ pub record Segment (x : Setting) (k n at to : ℕ) (z : Stage) (hs : List State)
   pub stand : Stand x at is
   pub leaves : Here x.depths x.stages (at + length is) to z
   pub high : to ≤ x.most
-  pub lawful : length x.depths ≡ length x.body.instrs → Lawful x.callable x.constants x.body is
+  pub lawful : Whole x → Within x at is → Lawful x at is
 
 pub segment_nil : (x : Setting) (k at to : ℕ) (z : Stage) → Here x.depths x.stages at to z → to ≤ x.most → Segment x k 0 at to z [] [] [] []
 segment_nil x k at to z e l =
@@ -224,13 +337,13 @@ segment_nil x k at to z e l =
       stand = tt;
       leaves = subst (λ n. Here x.depths x.stages n to z) f e;
       high = l;
-      lawful = λ same. tt;
+      lawful = λ w p. tt;
     }
 
 -- an instruction that pushes these constants
 pub segment_one : (x : Setting) (k n at d to : ℕ) (z y : Stage) (i : Instr) (s : Span) →
-    numbers_in (i ∷ []) ≡ range_with_len k n → Here x.depths x.stages at d z → d ≤ x.most → Fits x.owner x.functions.parameters x.depths x.most at d i → FitsStage x.functions x.inside x.stages at z i →
-    Here x.depths x.stages (at + 1) to y → to ≤ x.most → (length x.depths ≡ length x.body.instrs → IsLawful x.callable x.constants x.body i) →
+    numbers_in (i ∷ []) ≡ range_with_len k n → Here x.depths x.stages at d z → d ≤ x.most → Fits x.owner x.functions.parameters x.depths x.most at d i → FitsStage x.functions x.owner x.stages at z i →
+    Here x.depths x.stages (at + 1) to y → to ≤ x.most → (Whole x → IsLawful x.callable x.functions.parameters x.constants x.body at i) →
     Segment x k n at to y (state to y ∷ []) (i ∷ []) (s ∷ []) (plain_instr x.functions.parameters x.constants i s ∷ [])
 segment_one x k n at d to z y i s numbers e l fits stage f g w = record {
   as_many = refl;
@@ -240,13 +353,13 @@ segment_one x k n at d to z y i s numbers e l fits stage f g w = record {
   stand = (((d, e.0, l, fits), (z, e.1, stage)), tt);
   leaves = f;
   high = g;
-  lawful = λ same. (w same, tt);
+  lawful = λ whole p. (w whole, tt);
 }
 
 -- an instruction that pushes no constant, and then more
 pub segment_cons : (x : Setting) (k n at d mid to : ℕ) (z u y : Stage) (i : Instr) (gs : List State) (js : List Instr) (s : Span) (ts : List Span) (c : List PlainInstr) →
-    numbers_in (i ∷ js) ≡ numbers_in js → Here x.depths x.stages at d z → d ≤ x.most → Fits x.owner x.functions.parameters x.depths x.most at d i → FitsStage x.functions x.inside x.stages at z i →
-    (length x.depths ≡ length x.body.instrs → IsLawful x.callable x.constants x.body i) →
+    numbers_in (i ∷ js) ≡ numbers_in js → Here x.depths x.stages at d z → d ≤ x.most → Fits x.owner x.functions.parameters x.depths x.most at d i → FitsStage x.functions x.owner x.stages at z i →
+    (Whole x → IsLawful x.callable x.functions.parameters x.constants x.body at i) →
     Segment x k n (at + 1) to y gs js ts c → Segment x k n at to y (state mid u ∷ gs) (i ∷ js) (s ∷ ts) (plain_instr x.functions.parameters x.constants i s ∷ c)
 segment_cons x k n at d mid to z u y i gs js s ts c numbers e l fits stage w q =
     let f : at + 1 + length js ≡ at + suc (length js) = omega arith in
@@ -258,7 +371,7 @@ segment_cons x k n at d mid to z u y i gs js s ts c numbers e l fits stage w q =
       stand = (((d, e.0, l, fits), (z, e.1, stage)), q.stand);
       leaves = subst (λ n'. Here x.depths x.stages n' to y) f q.leaves;
       high = q.high;
-      lawful = λ same. (w same, q.lawful same);
+      lawful = λ whole p. (w whole, q.lawful whole p.1);
     }
 
 -- one after the other
@@ -274,7 +387,7 @@ segment_join x k m n at mid to z y hs gs is js ss ts c e p q =
       stand = stand_append x at is js p.stand q.stand;
       leaves = subst (λ n'. Here x.depths x.stages n' to y) f q.leaves;
       high = q.high;
-      lawful = λ same. lawful_append x.callable x.constants x.body is js (p.lawful same) (q.lawful same);
+      lawful = λ whole r. lawful_append x at is js (p.lawful whole (within_first x at is js r)) (q.lawful whole (within_rest x at is js r));
     }
 
 -- the same segment, counted and seen otherwise
@@ -315,25 +428,25 @@ some_same : {A : Type 0} (m n : A) → Some m ≡ Some n → m ≡ n
 some_same m n e = cc
 
 -- instructions that fit tables of their length are well typed
-pub stand_well_typed : (x : Setting) → length x.depths ≡ length x.body.instrs → length x.stages ≡ length x.body.instrs → Here x.depths x.stages 0 0 (plain 0) →
-    Stand x 0 x.body.instrs → Lawful x.callable x.constants x.body x.body.instrs → WellTypedBody x.functions x.owner x.callable x.inside x.constants x.body x.most
-stand_well_typed x same alike first p w =
-    let found = λ (at : ℕ) (l : at < length x.body.instrs). stand_at x x.body.instrs at p l in
+pub stand_well_typed : (x : Setting) → Whole x → x.body.parameters ≤ x.body.locals → Here x.depths x.stages 0 0 (plain 0) → Lawful x 0 x.body.instrs → WellTypedBody x.functions x.owner x.callable x.constants x.body x.most
+stand_well_typed x whole few first w =
+    let found = λ (at : ℕ) (l : at < length x.body.instrs). stand_at x x.body.instrs at whole.stand l in
     record {
-      lawful = lawful_at x.callable x.constants x.body x.body.instrs w;
+      parameters = few;
+      lawful = lawful_at x w;
       table = (
         x.depths,
         record {
           first = first.0;
-          within = λ at d e. let r = found at (omega (arith, same, depth_within x.depths at d e)) in let f : r.2.0.0 ≡ d = some_same r.2.0.0 d (sym r.2.0.1 ∙ e) in omega (arith, f, r.2.0.2);
-          fits = λ at d e. let r = found at (omega (arith, same, depth_within x.depths at d e)) in let f : r.2.0.0 ≡ d = some_same r.2.0.0 d (sym r.2.0.1 ∙ e) in (r.0, r.1, subst (λ n. Fits x.owner x.functions.parameters x.depths x.most at n r.0) f r.2.0.3);
+          within = λ at d e. let r = found at (omega (arith, whole.same, depth_within x.depths at d e)) in let f : r.2.0.0 ≡ d = some_same r.2.0.0 d (sym r.2.0.1 ∙ e) in omega (arith, f, r.2.0.2);
+          fits = λ at d e. let r = found at (omega (arith, whole.same, depth_within x.depths at d e)) in let f : r.2.0.0 ≡ d = some_same r.2.0.0 d (sym r.2.0.1 ∙ e) in (r.0, r.1, subst (λ n. Fits x.owner x.functions.parameters x.depths x.most at n r.0) f r.2.0.3);
         },
       );
       staging = (
         x.stages,
         record {
           first = first.1;
-          fits = λ at s e. let r = found at (omega (arith, alike, stage_within x.stages at s e)) in let f : r.2.1.0 ≡ s = some_same r.2.1.0 s (sym r.2.1.1 ∙ e) in (r.0, r.1, subst (λ n. FitsStage x.functions x.inside x.stages at n r.0) f r.2.1.2);
+          fits = λ at s e. let r = found at (omega (arith, whole.alike, stage_within x.stages at s e)) in let f : r.2.1.0 ≡ s = some_stage r.2.1.0 s (sym r.2.1.1 ∙ e) in (r.0, r.1, subst (λ n. FitsStage x.functions x.owner x.stages at n r.0) f r.2.1.2);
         },
       );
     }

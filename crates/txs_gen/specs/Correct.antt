@@ -1,8 +1,9 @@
 -- The generated code does what the tree does.
+use Rattle.txs_tree.specs.Sound.{SoundSource}
 use Rattle.txs_tree.specs.Tree.{ThreadSource}
 use Rattle.txs_follows.specs.Behaves.{Behaves}
 use Rattle.txs_gen.specs.Gen.{generated}
 
--- the code of a thread does what its tree does, on any replies
+-- the code of a sound thread does what its tree does, on any replies
 abbrev pub CodeBehaves : Type 0
-CodeBehaves = (p : ThreadSource) → Behaves (generated p) p
+CodeBehaves = (p : ThreadSource) → SoundSource p → Behaves (generated p) p

@@ -2,15 +2,17 @@
 use Rattle.std.specs.Prelude.{◌≡◌, ℕ, zero, suc, ◌+◌, ◌≤◌, max, Bool, true, false, List, [], ◌∷◌, ◌++◌, length, Option, Some, None, slice_set}
 use Rattle.txs_value.specs.Limits.{most_locals, most_parameters}
 use Rattle.txs_value.specs.declared.fault.Span.{Span}
+use Rattle.txs_value.specs.declared.form.UpdateForm.{UpdateForm}
 use Rattle.txs_value.specs.declared.op.Callee.{Callee}
 use Rattle.txs_value.specs.declared.op.Callee.TheVariants.{Core as CoreOp, Function}
 use Rattle.txs_value.specs.declared.value.Value.{Value}
 use Rattle.txs_value.specs.Places.{nth}
 use Rattle.txs_tree.specs.Known.{Known}
 use Rattle.txs_tree.specs.Sound.{Zone, in_dosync, SoundTree, SoundAll, SoundLet, SoundDo}
-use Rattle.txs_tree.specs.Tree.{Tree, Const, Local, If, Do, Let, Loop, Recur, Core, Call, VectorOf, Println, Dosync, Deref, Alter, Trees, none, more, count}
+use Rattle.txs_tree.specs.Tree.{Tree, Const, Local, If, Do, Let, Loop, Recur, Core, Call, VectorOf, Println, Dosync, Look, Put, Update, Send, Trees, none, more, count}
 use Rattle.txs_code.specs.declared.instr.Instr.{Instr}
 use Rattle.txs_code.specs.declared.instr.Instr.TheVariants as instr
+use Rattle.txs_gen.specs.Gen.{opening}
 use Rattle.txs_gen.specs.Generated.{copies, spans_of, spans_of_all, spans_of_let, spans_of_do, constants_of, constants_in}
 use Rattle.txs_gen.specs.declared.emit.Around.{Around}
 use Rattle.txs_gen.specs.declared.emit.Emitter.{Emitter}
@@ -76,10 +78,14 @@ abbrev pub stores_from : ℕ → ℕ → List Instr
 stores_from i zero = []
 stores_from i (suc n) = instr.Store (i + n) ∷ stores_from i n
 
--- what an alter calls, on so many values
+-- what an update calls, on so many values
 abbrev pub callee_instrs : Callee → ℕ → List Instr
 callee_instrs (CoreOp op) n = instr.Core op n ∷ []
 callee_instrs (Function f) n = instr.Call f ∷ []
+
+-- an update of a cell that stands below so many arguments: its open, the operation or call of its callee, and its close
+abbrev pub update_instrs : UpdateForm → Callee → ℕ → List Instr
+update_instrs form callee n = instr.Open (opening form callee) n ∷ (callee_instrs callee (suc n) ++ instr.Close form ∷ [])
 
 -- The instructions of a tree with so many locals, from a place of the body on. base and start: the first local of the
 -- nearest loop or function, and the place of its body. So many constants are there already.
@@ -105,10 +111,15 @@ abbrev mutual
   instrs_of (VectorOf items m) d base start pc k = instrs_of_all items d base start pc k ++ instr.Vector (count items) ∷ []
   instrs_of (Println args m) d base start pc k = instrs_of_all args d base start pc k ++ instr.Print (count args) ∷ []
   instrs_of (Dosync body m) d base start pc k = instr.TxBegin ∷ (instrs_of body d base start (pc + 1) k ++ instr.TxEnd ∷ [])
-  instrs_of (Deref cell m) d base start pc k = instrs_of cell d base start pc k ++ instr.Deref ∷ []
-  instrs_of (Alter cell callee args m) d base start pc k =
+  instrs_of (Look form cell m) d base start pc k = instrs_of cell d base start pc k ++ instr.Look form ∷ []
+  instrs_of (Put form cell value m) d base start pc k =
+      then_instrs pc (instrs_of cell d base start pc k) (λ p. instrs_of value d base start p (k + length (constants_of cell)) ++ instr.Put form ∷ [])
+  instrs_of (Update form cell callee args m) d base start pc k =
       then_instrs pc (instrs_of cell d base start pc k) (λ p.
-      instrs_of_all args d base start p (k + length (constants_of cell)) ++ (instr.AlterOpen (count args) ∷ (callee_instrs callee (suc (count args)) ++ instr.AlterClose ∷ [])))
+      instrs_of_all args d base start p (k + length (constants_of cell)) ++ update_instrs form callee (count args))
+  instrs_of (Send cell callee args m) d base start pc k =
+      then_instrs pc (instrs_of cell d base start pc k) (λ p.
+      instrs_of_all args d base start p (k + length (constants_of cell)) ++ instr.Send callee (count args) ∷ [])
 
   -- the instructions of these, one tree's after another's
   pub instrs_of_all : Trees → ℕ → ℕ → ℕ → ℕ → ℕ → List Instr
@@ -146,8 +157,10 @@ abbrev mutual
   stored (VectorOf items m) d = stored_in items d
   stored (Println args m) d = stored_in args d
   stored (Dosync body m) d = stored body d
-  stored (Deref cell m) d = stored cell d
-  stored (Alter cell callee args m) d = max (stored cell d) (stored_in args d)
+  stored (Look form cell m) d = stored cell d
+  stored (Put form cell value m) d = max (stored cell d) (stored value d)
+  stored (Update form cell callee args m) d = max (stored cell d) (stored_in args d)
+  stored (Send cell callee args m) d = max (stored cell d) (stored_in args d)
 
   -- one past the last local that is stored in these
   pub stored_in : Trees → ℕ → ℕ
@@ -175,8 +188,10 @@ abbrev mutual
   top (VectorOf items m) h = max (top_args items h) (h + 1)
   top (Println args m) h = max (top_args args h) (h + 1)
   top (Dosync body m) h = top body h
-  top (Deref cell m) h = top cell h
-  top (Alter cell callee args m) h = max (top cell h) (max (top_args args (h + 1)) (h + count args + 2))
+  top (Look form cell m) h = top cell h
+  top (Put form cell value m) h = max (top cell h) (top value (h + 1))
+  top (Update form cell callee args m) h = max (top cell h) (max (top_args args (h + 1)) (h + count args + 2))
+  top (Send cell callee args m) h = max (top cell h) (top_args args (h + 1))
 
   -- one after another
   pub top_in : Trees → ℕ → ℕ
@@ -187,6 +202,10 @@ abbrev mutual
   pub top_args : Trees → ℕ → ℕ
   top_args none h = 0
   top_args (more e rest) h = max (top e h) (top_args rest (h + 1))
+
+-- the same place with one value more on the stack
+abbrev pub above : Around → Around
+above at = record at { height = at.height + 1 }
 
 -- what there is with so much more
 unfoldable pub emits : Tree → Around → Emission → Emission
@@ -228,9 +247,13 @@ emits_do ts span at e = record {
   room = max e.room (top_in ts at.height);
 }
 
--- what there is with the code of a choice; here and in the four after it, whether the result is wanted changes nothing
+-- what there is with the code of a choice; here and in the five after it, whether the result is wanted changes nothing
 unfoldable pub emits_if : Tree → Tree → Tree → Span → Around → Emission → Emission
 emits_if c a b span at e = emits (If c a b (record { span = span; wanted = true })) at e
+
+-- what there is with the code of values that become locals, and of a body that has them
+unfoldable pub emits_bound : Trees → Tree → Span → Around → Emission → Emission
+emits_bound values body span at e = emits (Let values body (record { span = span; wanted = true })) at e
 
 -- what there is with the code of a loop
 unfoldable pub emits_loop : Trees → Tree → Span → Around → Emission → Emission
@@ -240,9 +263,9 @@ emits_loop values body span at e = emits (Loop values body (record { span = span
 unfoldable pub emits_dosync : Tree → Span → Around → Emission → Emission
 emits_dosync body span at e = emits (Dosync body (record { span = span; wanted = true })) at e
 
--- what there is with the code of an alter
-unfoldable pub emits_alter : Tree → Callee → Trees → Span → Around → Emission → Emission
-emits_alter cell callee args span at e = emits (Alter cell callee args (record { span = span; wanted = true })) at e
+-- what there is with the code of an update
+unfoldable pub emits_update : UpdateForm → Tree → Callee → Trees → Span → Around → Emission → Emission
+emits_update form cell callee args span at e = emits (Update form cell callee args (record { span = span; wanted = true })) at e
 
 -- what there is with the code of a recur
 unfoldable pub emits_recur : Trees → Span → Around → Emission → Emission
@@ -273,9 +296,13 @@ with_pop false span e = with_instr instr.Pop span e
 abbrev pub with_stores : ℕ → ℕ → Span → Emission → Emission
 with_stores i n span e = record e { instrs = e.instrs ++ stores_from i n; spans = e.spans ++ copies n span }
 
--- a call of what an alter names
+-- a call of what an update names
 abbrev pub with_call : Callee → ℕ → Span → Emission → Emission
 with_call callee n span e = record e { instrs = e.instrs ++ callee_instrs callee n; spans = e.spans ++ span ∷ [] }
+
+-- an update of a cell that stands below so many arguments
+abbrev pub with_update : UpdateForm → Callee → ℕ → Span → Emission → Emission
+with_update form callee n span e = record e { instrs = e.instrs ++ update_instrs form callee n; spans = e.spans ++ copies 3 span }
 
 -- another instruction at a place
 abbrev pub with_set : ℕ → Instr → Emission → Emission

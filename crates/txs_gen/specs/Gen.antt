@@ -3,8 +3,12 @@ use Rattle.std.specs.Prelude.{ℕ, zero, suc, ◌+◌, max, Bool, true, false, L
 use Rattle.txs_value.specs.declared.fault.Span.{Span}
 use Rattle.txs_value.specs.declared.op.Callee.{Callee}
 use Rattle.txs_value.specs.declared.op.Callee.TheVariants.{Core as CoreOp, Function}
-use Rattle.txs_tree.specs.Tree.{Tree, Const, Local, If, Do, Let, Loop, Recur, Core, Call, VectorOf, Println, Dosync, Deref, Alter, Trees, none, more, count, is_none, PlainFunction, ThreadSource}
-use Rattle.txs_code.specs.Machine.{PlainInstr, Push, Load, Store, Pop, Jump, JumpFalse, CoreOf, CallOf, Return, MakeVector, PrintOf, DerefOf, TxBegin, TxEnd, AlterOpen, AlterClose, Halt, PlainBody, ThreadCode}
+use Rattle.txs_value.specs.declared.form.UpdateForm.{UpdateForm}
+use Rattle.txs_value.specs.declared.form.UpdateForm.TheVariants as update
+use Rattle.txs_tree.specs.Tree.{Tree, Const, Local, If, Do, Let, Loop, Recur, Core, Call, VectorOf, Println, Dosync, Look, Put, Update, Send, Trees, none, more, count, is_none, PlainFunction, ThreadSource}
+use Rattle.txs_code.specs.declared.instr.OpenForm.{OpenForm}
+use Rattle.txs_code.specs.declared.instr.OpenForm.TheVariants as open_form
+use Rattle.txs_code.specs.Machine.{PlainInstr, Push, Load, Store, Pop, Jump, JumpFalse, CoreOf, CallOf, Return, MakeVector, PrintOf, TxBegin, TxEnd, LookOf, PutOf, OpenOf, CloseOf, SendOf, Halt, PlainBody, ThreadCode}
 
 -- code that begins at a place, and what follows it
 abbrev pub then_code : ℕ → List PlainInstr → (ℕ → List PlainInstr) → List PlainInstr
@@ -25,7 +29,13 @@ abbrev pub do_code : Bool → ℕ → List PlainInstr → (ℕ → List PlainIns
 do_code true pc a rest = a
 do_code false pc a rest = then_code pc a (λ p. Pop ∷ rest (p + 1))
 
--- what an alter calls, on so many values
+-- what an update opens with: the form, and the callee where the machine has to know it before it is applied
+abbrev pub opening : UpdateForm → Callee → OpenForm
+opening update.Alter callee = open_form.Alter
+opening update.Commute callee = open_form.Commute callee
+opening update.Swap callee = open_form.Swap callee
+
+-- what an update calls, on so many values
 abbrev pub callee_code : Callee → ℕ → Span → PlainInstr
 callee_code (CoreOp op) args span = CoreOf op args span
 callee_code (Function f) args span = CallOf f args
@@ -49,10 +59,14 @@ abbrev mutual
   gen (VectorOf items m) depth base start pc = gen_all items depth base start pc ++ MakeVector (count items) m.span ∷ []
   gen (Println args m) depth base start pc = gen_all args depth base start pc ++ PrintOf (count args) ∷ []
   gen (Dosync body m) depth base start pc = TxBegin m.span ∷ (gen body depth base start (pc + 1) ++ TxEnd ∷ [])
-  gen (Deref cell m) depth base start pc = gen cell depth base start pc ++ DerefOf m.span ∷ []
-  gen (Alter cell callee args m) depth base start pc =
+  gen (Look form cell m) depth base start pc = gen cell depth base start pc ++ LookOf form m.span ∷ []
+  gen (Put form cell value m) depth base start pc =
+      then_code pc (gen cell depth base start pc) (λ p. gen value depth base start p ++ PutOf form m.span ∷ [])
+  gen (Update form cell callee args m) depth base start pc =
       then_code pc (gen cell depth base start pc) (λ p.
-      gen_all args depth base start p ++ (AlterOpen (count args) m.span ∷ callee_code callee (suc (count args)) m.span ∷ AlterClose ∷ []))
+      gen_all args depth base start p ++ (OpenOf (opening form callee) (count args) m.span ∷ callee_code callee (suc (count args)) m.span ∷ CloseOf form m.span ∷ []))
+  gen (Send cell callee args m) depth base start pc =
+      then_code pc (gen cell depth base start pc) (λ p. gen_all args depth base start p ++ SendOf callee (count args) m.span ∷ [])
 
   -- the code of these, one after another
   pub gen_all : Trees → ℕ → ℕ → ℕ → ℕ → List PlainInstr
@@ -85,8 +99,10 @@ abbrev mutual
   locals_in (VectorOf items m) d = locals_in_all items d
   locals_in (Println args m) d = locals_in_all args d
   locals_in (Dosync body m) d = locals_in body d
-  locals_in (Deref cell m) d = locals_in cell d
-  locals_in (Alter cell callee args m) d = max (locals_in cell d) (locals_in_all args d)
+  locals_in (Look form cell m) d = locals_in cell d
+  locals_in (Put form cell value m) d = max (locals_in cell d) (locals_in value d)
+  locals_in (Update form cell callee args m) d = max (locals_in cell d) (locals_in_all args d)
+  locals_in (Send cell callee args m) d = max (locals_in cell d) (locals_in_all args d)
 
   -- how many locals are live at once in these, which stand beside one another
   pub locals_in_all : Trees → ℕ → ℕ

@@ -3,7 +3,7 @@ use Rattle.std.specs.Prelude.{◌≡◌, ℕ, zero, suc, List, [], ◌∷◌, �
 use Rattle.std.specs.List.{range_with_len}
 use Rattle.txs_value.specs.declared.fault.Span.{Span}
 use Rattle.txs_value.specs.declared.value.Value.{Value}
-use Rattle.txs_tree.specs.Tree.{Tree, Const, Local, If, Do, Let, Loop, Recur, Core, Call, VectorOf, Println, Dosync, Deref, Alter, Trees, none, more, count, PlainFunction, PlainThread, PlainProgram}
+use Rattle.txs_tree.specs.Tree.{Tree, Const, Local, If, Do, Let, Loop, Recur, Core, Call, VectorOf, Println, Dosync, Look, Put, Update, Send, Trees, none, more, count, PlainFunction, PlainThread, PlainProgram}
 use Rattle.txs_code.specs.declared.instr.Instr.{Instr}
 use Rattle.txs_code.specs.declared.instr.Instr.TheVariants as instr
 use Rattle.txs_code.specs.PlainCode.{CodeBody, PlainCode, parameters_of, plain_body}
@@ -30,8 +30,10 @@ abbrev mutual
   spans_of (VectorOf items m) = spans_of_all items ++ m.span ∷ []
   spans_of (Println args m) = spans_of_all args ++ m.span ∷ []
   spans_of (Dosync body m) = m.span ∷ (spans_of body ++ m.span ∷ [])
-  spans_of (Deref cell m) = spans_of cell ++ m.span ∷ []
-  spans_of (Alter cell callee args m) = spans_of cell ++ (spans_of_all args ++ copies 3 m.span)
+  spans_of (Look form cell m) = spans_of cell ++ m.span ∷ []
+  spans_of (Put form cell value m) = spans_of cell ++ (spans_of value ++ m.span ∷ [])
+  spans_of (Update form cell callee args m) = spans_of cell ++ (spans_of_all args ++ copies 3 m.span)
+  spans_of (Send cell callee args m) = spans_of cell ++ (spans_of_all args ++ m.span ∷ [])
 
   -- the spans of these, one tree's after another's
   pub spans_of_all : Trees → List Span
@@ -64,8 +66,10 @@ abbrev mutual
   constants_of (VectorOf items m) = constants_in items
   constants_of (Println args m) = constants_in args
   constants_of (Dosync body m) = constants_of body
-  constants_of (Deref cell m) = constants_of cell
-  constants_of (Alter cell callee args m) = constants_of cell ++ constants_in args
+  constants_of (Look form cell m) = constants_of cell
+  constants_of (Put form cell value m) = constants_of cell ++ constants_of value
+  constants_of (Update form cell callee args m) = constants_of cell ++ constants_in args
+  constants_of (Send cell callee args m) = constants_of cell ++ constants_in args
 
   -- the constants of these, one tree's after another's
   pub constants_in : Trees → List Value
@@ -96,11 +100,13 @@ numbers_in (instr.Call f ∷ is) = numbers_in is
 numbers_in (instr.Return ∷ is) = numbers_in is
 numbers_in (instr.Vector n ∷ is) = numbers_in is
 numbers_in (instr.Print n ∷ is) = numbers_in is
-numbers_in (instr.Deref ∷ is) = numbers_in is
+numbers_in (instr.Look form ∷ is) = numbers_in is
+numbers_in (instr.Put form ∷ is) = numbers_in is
 numbers_in (instr.TxBegin ∷ is) = numbers_in is
 numbers_in (instr.TxEnd ∷ is) = numbers_in is
-numbers_in (instr.AlterOpen n ∷ is) = numbers_in is
-numbers_in (instr.AlterClose ∷ is) = numbers_in is
+numbers_in (instr.Open form n ∷ is) = numbers_in is
+numbers_in (instr.Close form ∷ is) = numbers_in is
+numbers_in (instr.Send callee n ∷ is) = numbers_in is
 numbers_in (instr.Halt ∷ is) = numbers_in is
 
 -- the numbers of the constants that bodies push, one body's after another's

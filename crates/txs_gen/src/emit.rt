@@ -4,13 +4,14 @@ ghost use Rattle.std.specs.Prelude.{◌≡◌, ◌+◌, ◌*◌, ◌<◌, ◌≤
 ghost use Rattle.txs_tree.specs.Sound.{nodes, nodes_in};
 ghost use Rattle.txs_tree.specs.Tree.{count};
 ghost use Rattle.txs_tree.specs.View.{tree_of, trees_of};
-ghost use Rattle.txs_gen.specs.Emission.{emission, emits, emits_all, emits_do, emits_let, emits_if, emits_loop, emits_dosync, emits_alter, emits_recur, IsWithin, IsPlaced, IsPlacedAll, IsPlacedDo, IsPlacedLet, with_call, with_constant, with_instr, with_locals, with_pop, with_room, with_set, with_stores};
+ghost use Rattle.txs_gen.specs.Emission.{emission, above, emits, emits_all, emits_do, emits_let, emits_if, emits_bound, emits_loop, emits_dosync, emits_update, emits_recur, IsWithin, IsPlaced, IsPlacedAll, IsPlacedDo, IsPlacedLet, with_call, with_constant, with_instr, with_locals, with_pop, with_room, with_set, with_stores, with_update};
+ghost use Rattle.txs_gen.specs.Gen.{opening};
 ghost use Rattle.txs_value.specs.Limits.{most_items, most_locals, most_nodes};
 
 use std::alloc::AllocError;
-use txs_code::Instr;
+use txs_code::{Instr, OpenForm};
 use txs_tree::{Node, NodeKind};
-use txs_value::{Callee, Span, Value, copy_value};
+use txs_value::{Callee, Span, UpdateForm, Value, copy_value};
 
 /// Where a node's code stands: how many locals there are, how many values are on the stack, and what a
 /// recur does there: from which local on it stores its values, and where it goes on.
@@ -43,14 +44,23 @@ impl Emitter {
         Ok(())
     }
 
-    /// A push of a constant, with an entry of its own.
-    fn constant(&mut self, value: &Value, span: Span) -> Result<(), AllocError>
+    /// A push of a constant, with an entry of its own, and with room for so many values on the stack.
+    fn constant(&mut self, value: &Value, room: u32, span: Span) -> Result<(), AllocError>
         requires { length self.old.constants.items < most_nodes }
-        ensures { OnOk result (emission self.new ≡ with_instr (Instr.Const (length self.old.constants.items)) span (with_constant value.now (emission self.old))) }
+        ensures { OnOk result (emission self.new ≡ with_instr (Instr.Const (length self.old.constants.items)) span (with_constant value.now (with_room room (emission self.old)))) }
     {
+        self.rise(room);
         let number = self.constants.len() as u32;
         self.constants.push(copy_value(value)?)?;
         self.put(Instr::Const(number), span)
+    }
+
+    /// A push of a local, with room for so many values on the stack.
+    fn local(&mut self, local: u8, room: u32, span: Span) -> Result<(), AllocError>
+        ensures { OnOk result (emission self.new ≡ with_instr (Instr.Local local) span (with_room room (emission self.old))) }
+    {
+        self.rise(room);
+        self.put(Instr::Local(local), span)
     }
 
     /// A store into a local.
@@ -86,7 +96,7 @@ impl Emitter {
         Ok(())
     }
 
-    /// A call of what an alter names, on so many values.
+    /// A call of what an update names, on so many values.
     fn call(&mut self, callee: Callee, count: u16, span: Span) -> Result<(), AllocError>
         ensures { OnOk result (emission self.new ≡ with_call callee count span (emission self.old)) }
     {
@@ -94,6 +104,22 @@ impl Emitter {
             Callee::Core(op) => self.put(Instr::Core(op, count), span),
             Callee::Function(function) => self.put(Instr::Call(function), span),
         }
+    }
+
+    /// An update of a cell that stands below so many arguments: its open, its call, and its close.
+    fn update(
+        &mut self,
+        form: UpdateForm,
+        callee: Callee,
+        count: u16,
+        span: Span,
+    ) -> Result<(), AllocError>
+        requires { count < most_items }
+        ensures { OnOk result (emission self.new ≡ with_update form callee count span (emission self.old)) }
+    {
+        self.put(Instr::Open(open_form(form, callee), count), span)?;
+        self.call(callee, count + 1, span)?;
+        self.put(Instr::Close(form), span)
     }
 
     /// The place of the next instruction.
@@ -120,6 +146,17 @@ impl Emitter {
     }
 }
 
+/// What an update opens with.
+fn open_form(form: UpdateForm, callee: Callee) -> OpenForm
+    ensures { result ≡ opening form callee }
+{
+    match form {
+        UpdateForm::Alter => OpenForm::Alter,
+        UpdateForm::Commute => OpenForm::Commute(callee),
+        UpdateForm::Swap => OpenForm::Swap(callee),
+    }
+}
+
 /// The code of a node.
 #[cycle(emit)]
 pub fn emit(to: &mut Emitter, node: &Node, at: Around) -> Result<(), AllocError>
@@ -130,48 +167,40 @@ pub fn emit(to: &mut Emitter, node: &Node, at: Around) -> Result<(), AllocError>
     ensures { OnOk result (emission to.new ≡ emits (tree_of node.now) at (emission to.old)) }
 {
     match &node.kind {
-        NodeKind::Const(value) => {
-            to.rise(at.height + 1);
-            to.constant(value, node.span)
-        }
-        NodeKind::Local(local) => {
-            to.rise(at.height + 1);
-            to.put(Instr::Local(*local), node.span)
-        }
+        NodeKind::Const(value) => to.constant(value, at.height + 1, node.span),
+        NodeKind::Local(local) => to.local(*local, at.height + 1, node.span),
         NodeKind::If(test, first, second) => { emit_if(to, test, first, second, node.span, at) }
         NodeKind::Do(items) => emit_do(to, items, node.span, at),
-        NodeKind::Let(values, body) => {
-            let depth = emit_let(to, values, node.span, at)?;
-            emit(to, body, Around { depth, ..at })
-        }
+        NodeKind::Let(values, body) => emit_bound(to, values, body, node.span, at),
         NodeKind::Loop(values, body) => emit_loop(to, values, body, node.span, at),
         NodeKind::Recur(values) => emit_recur(to, values, node.span, at),
         NodeKind::Core(op, args) => {
-            emit_all(to, args, at)?;
-            to.put(Instr::Core(*op, args.len() as u16), node.span)
+            let instr = Instr::Core(*op, args.len() as u16);
+            emit_applied(to, args, instr, 0, node.span, at)
         }
         NodeKind::Call(function, args) => {
-            emit_all(to, args, at)?;
-            to.rise(at.height + 1);
-            to.put(Instr::Call(*function), node.span)
+            let instr = Instr::Call(*function);
+            emit_applied(to, args, instr, at.height + 1, node.span, at)
         }
         NodeKind::Vector(items) => {
-            emit_all(to, items, at)?;
-            to.rise(at.height + 1);
-            to.put(Instr::Vector(items.len() as u16), node.span)
+            let instr = Instr::Vector(items.len() as u16);
+            emit_applied(to, items, instr, at.height + 1, node.span, at)
         }
         NodeKind::Println(args) => {
-            emit_all(to, args, at)?;
-            to.rise(at.height + 1);
-            to.put(Instr::Print(args.len() as u16), node.span)
+            let instr = Instr::Print(args.len() as u16);
+            emit_applied(to, args, instr, at.height + 1, node.span, at)
         }
         NodeKind::Dosync(body) => emit_dosync(to, body, node.span, at),
-        NodeKind::Deref(cell) => {
-            emit(to, cell, at)?;
-            to.put(Instr::Deref, node.span)
+        NodeKind::Look(form, cell) => emit_then(to, cell, Instr::Look(*form), node.span, at),
+        NodeKind::Put(form, cell, value) => {
+            emit_put(to, cell, value, Instr::Put(*form), node.span, at)
         }
-        NodeKind::Alter(cell, callee, args) => {
-            emit_alter(to, cell, *callee, args, node.span, at)
+        NodeKind::Update(form, cell, callee, args) => {
+            emit_update(to, *form, cell, *callee, args, node.span, at)
+        }
+        NodeKind::Send(cell, callee, args) => {
+            let instr = Instr::Send(*callee, args.len() as u16);
+            emit_send(to, cell, args, instr, node.span, at)
         }
     }
 }
@@ -260,6 +289,26 @@ fn emit_if(
     Ok(())
 }
 
+/// The code of values that become locals, and of a body that has them.
+#[cycle(emit)]
+fn emit_bound(
+    to: &mut Emitter,
+    values: &[Node],
+    body: &Node,
+    span: Span,
+    at: Around,
+) -> Result<(), AllocError>
+    requires part { IsPlacedLet at.depth (trees_of values.now) }
+    requires body { IsPlaced (at.depth + count (trees_of values.now)) at.base (tree_of body.now) }
+    requires few_constants { length to.old.constants.items + (nodes_in (trees_of values.now) + nodes (tree_of body.now)) < most_nodes }
+    requires few_instrs { length to.old.instrs.items + 3 * (nodes_in (trees_of values.now) + nodes (tree_of body.now)) < 599998 }
+    requires low { at.height + (nodes_in (trees_of values.now) + nodes (tree_of body.now)) < most_nodes }
+    ensures { OnOk result (emission to.new ≡ emits_bound (trees_of values.now) (tree_of body.now) span at (emission to.old)) }
+{
+    let depth = emit_let(to, values, span, at)?;
+    emit(to, body, Around { depth, ..at })
+}
+
 /// The code of a loop: its values become locals, and what follows them is where a recur goes on.
 #[cycle(emit)]
 fn emit_loop(
@@ -312,15 +361,77 @@ fn emit_dosync(to: &mut Emitter, body: &Node, span: Span, at: Around) -> Result<
     ensures { OnOk result (emission to.new ≡ emits_dosync (tree_of body.now) span at (emission to.old)) }
 {
     to.put(Instr::TxBegin, span)?;
-    emit(to, body, at)?;
-    to.put(Instr::TxEnd, span)
+    emit_then(to, body, Instr::TxEnd, span, at)
 }
 
-/// The code of an `alter`: the ref and the arguments, between which its value is put, then the call, and
-/// the store of what it gives.
+/// The code of arguments and an instruction that takes their values, with room for so many on the stack.
 #[cycle(emit)]
-fn emit_alter(
+fn emit_applied(
     to: &mut Emitter,
+    args: &[Node],
+    instr: Instr,
+    room: u32,
+    span: Span,
+    at: Around,
+) -> Result<(), AllocError>
+    requires part { IsPlacedAll at.depth (trees_of args.now) }
+    requires few_constants { length to.old.constants.items + nodes_in (trees_of args.now) ≤ most_nodes }
+    requires few_instrs { length to.old.instrs.items + 3 * nodes_in (trees_of args.now) ≤ 600000 }
+    requires low { at.height + nodes_in (trees_of args.now) ≤ most_nodes }
+    ensures { OnOk result (emission to.new ≡ with_instr instr span (with_room room (emits_all (trees_of args.now) at (emission to.old)))) }
+{
+    emit_all(to, args, at)?;
+    to.rise(room);
+    to.put(instr, span)
+}
+
+/// The code of a node and an instruction that takes its value.
+#[cycle(emit)]
+fn emit_then(
+    to: &mut Emitter,
+    node: &Node,
+    instr: Instr,
+    span: Span,
+    at: Around,
+) -> Result<(), AllocError>
+    requires part { IsPlaced at.depth at.base (tree_of node.now) }
+    requires few_constants { length to.old.constants.items + nodes (tree_of node.now) ≤ most_nodes }
+    requires few_instrs { length to.old.instrs.items + 3 * nodes (tree_of node.now) ≤ 600000 }
+    requires low { at.height + nodes (tree_of node.now) ≤ most_nodes }
+    ensures { OnOk result (emission to.new ≡ with_instr instr span (emits (tree_of node.now) at (emission to.old))) }
+{
+    emit(to, node, at)?;
+    to.put(instr, span)
+}
+
+/// The code of a cell and of a value above it, and an instruction that takes both.
+#[cycle(emit)]
+fn emit_put(
+    to: &mut Emitter,
+    cell: &Node,
+    value: &Node,
+    instr: Instr,
+    span: Span,
+    at: Around,
+) -> Result<(), AllocError>
+    requires cell { IsPlaced at.depth at.base (tree_of cell.now) }
+    requires part { IsPlaced at.depth at.base (tree_of value.now) }
+    requires few_constants { length to.old.constants.items + (nodes (tree_of cell.now) + nodes (tree_of value.now)) < most_nodes }
+    requires few_instrs { length to.old.instrs.items + 3 * (nodes (tree_of cell.now) + nodes (tree_of value.now)) < 599998 }
+    requires low { at.height + (nodes (tree_of cell.now) + nodes (tree_of value.now)) < most_nodes }
+    ensures { OnOk result (emission to.new ≡ with_instr instr span (emits (tree_of value.now) (above at) (emits (tree_of cell.now) at (emission to.old)))) }
+{
+    emit(to, cell, at)?;
+    let height = at.height + 1;
+    emit_then(to, value, instr, span, Around { height, ..at })
+}
+
+/// The code of an update: the cell and the arguments, between which its value is put, then the call, and the
+/// close with what the callee gives.
+#[cycle(emit)]
+fn emit_update(
+    to: &mut Emitter,
+    form: UpdateForm,
     cell: &Node,
     callee: Callee,
     args: &[Node],
@@ -333,14 +444,34 @@ fn emit_alter(
     requires few_constants { length to.old.constants.items + (nodes (tree_of cell.now) + nodes_in (trees_of args.now)) < most_nodes }
     requires few_instrs { length to.old.instrs.items + 3 * (nodes (tree_of cell.now) + nodes_in (trees_of args.now)) < 599998 }
     requires low { at.height + (nodes (tree_of cell.now) + nodes_in (trees_of args.now)) < most_nodes }
-    ensures { OnOk result (emission to.new ≡ emits_alter (tree_of cell.now) callee (trees_of args.now) span at (emission to.old)) }
+    ensures { OnOk result (emission to.new ≡ emits_update form (tree_of cell.now) callee (trees_of args.now) span at (emission to.old)) }
 {
     let count = args.len() as u16;
     emit(to, cell, at)?;
     let height = at.height + 1;
     emit_all(to, args, Around { height, ..at })?;
     to.rise(at.height + u32::from(count) + 2);
-    to.put(Instr::AlterOpen(count), span)?;
-    to.call(callee, count + 1, span)?;
-    to.put(Instr::AlterClose, span)
+    to.update(form, callee, count, span)
+}
+
+/// The code of an agent and of the arguments above it, and an instruction that takes them all.
+#[cycle(emit)]
+fn emit_send(
+    to: &mut Emitter,
+    cell: &Node,
+    args: &[Node],
+    instr: Instr,
+    span: Span,
+    at: Around,
+) -> Result<(), AllocError>
+    requires cell { IsPlaced at.depth at.base (tree_of cell.now) }
+    requires part { IsPlacedAll at.depth (trees_of args.now) }
+    requires few_constants { length to.old.constants.items + (nodes (tree_of cell.now) + nodes_in (trees_of args.now)) < most_nodes }
+    requires few_instrs { length to.old.instrs.items + 3 * (nodes (tree_of cell.now) + nodes_in (trees_of args.now)) < 599998 }
+    requires low { at.height + (nodes (tree_of cell.now) + nodes_in (trees_of args.now)) < most_nodes }
+    ensures { OnOk result (emission to.new ≡ with_instr instr span (with_room 0 (emits_all (trees_of args.now) (above at) (emits (tree_of cell.now) at (emission to.old))))) }
+{
+    emit(to, cell, at)?;
+    let height = at.height + 1;
+    emit_applied(to, args, instr, 0, span, Around { height, ..at })
 }

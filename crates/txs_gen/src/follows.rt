@@ -1,8 +1,9 @@
-//! The law of a program's code: it follows the program.
+//! The laws of a program's code: it follows the program, and the actions of its agents.
 
+ghost use Rattle.txs_gen.specs.Agents.{AgentsFollow};
 ghost use Rattle.txs_gen.specs.CodeFollows.{CodeFollows};
 
-use txs_follows::generated_follows;
+use txs_follows::{generated_follows, sound_follows_agents};
 
 /// The code of a sound program follows it: on replies that fit a thread's events, the thread's meaning
 /// eats those events with what the code printed, and ends as the code has.
@@ -10,4 +11,13 @@ pub fn code_of_program_follows()
     ensures { CodeFollows }
 {
     generated_follows();
+}
+
+/// The code of a sound program's functions follows the actions of each agent: of an action that it took
+/// the agent hands in the action's meaning and nothing else, and it does so where that meaning is there
+/// for some bound on loops.
+pub fn code_of_agents_follows()
+    ensures { AgentsFollow }
+{
+    sound_follows_agents();
 }

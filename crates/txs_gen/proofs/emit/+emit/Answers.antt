@@ -1,12 +1,12 @@
-use Rattle.std.proofs.Common.{arith, ◌≡◌, ◌+◌, ◌-◌, suc, Some, None, [], ◌∷◌, eqb, length, drop, refl, sym, ap, ◌∙◌, subst, OnOk, length-drop, length-append}
+use Rattle.std.proofs.Common.{arith, ◌≡◌, ◌+◌, ◌-◌, Some, None, [], ◌∷◌, eqb, length, drop, refl, sym, ap, ◌∙◌, subst, OnOk, length-drop, length-append}
 use Rattle.txs_tree.specs.Sound.{nodes, nodes_in}
 use Rattle.txs_tree.specs.Tree.{count, is_none}
 use Rattle.txs_tree.specs.View.{tree_of, trees_of, mark_of}
 use Rattle.txs_code.specs.declared.instr.Instr.TheVariants as instr
-use Rattle.txs_gen.specs.Emission.{Emission, emission, emits, emits_all, emits_do, emits_let, in_transaction, IsPlaced, IsPlacedAll, IsPlacedLet, IsWithin, with_instr, with_constant, with_locals, with_pop, with_room, with_set, with_stores, with_call}
-use Rattle.txs_gen.proofs.Emissions.{IsPlacedLeft, around, emits_const, emits_local, emits_do_is, emits_core, emits_call, emits_vector, emits_println, emits_let_is, emits_if_is, emits_loop_is, emits_dosync_is, emits_deref, emits_alter_is, emits_recur_is, emits_all_none, emits_all_more, emits_let_none, emits_let_more, emits_do_none, emits_do_more, is_none_trees, left_placed, left_first, left_rest, within_more, nodes_positive, emits_constants, emits_let_constants, emits_instrs, emits_let_instrs, let_locals, left_is, nothing_left, nodes_left, pop_constants, pop_instrs, put_instrs, set_instrs, emits_grows, if_tested, if_first, if_else, if_made, loop_made, dosync_made, alter_made, recur_made, callee_few}
+use Rattle.txs_gen.specs.Emission.{Emission, emission, above, emits, emits_all, emits_do, emits_let, in_transaction, IsPlaced, IsPlacedAll, IsPlacedLet, IsWithin, with_instr, with_constant, with_locals, with_pop, with_room, with_set, with_stores, with_update}
+use Rattle.txs_gen.proofs.Emissions.{IsPlacedLeft, around, emits_const, emits_local, emits_do_is, emits_core, emits_call, emits_vector, emits_println, emits_bound_is, bound_made, emits_if_is, emits_loop_is, emits_dosync_is, emits_look, emits_put, emits_update_is, whole_update, emits_send, emits_recur_is, emits_all_none, emits_all_more, emits_let_none, emits_let_more, emits_do_none, emits_do_more, is_none_trees, left_placed, left_first, left_rest, within_more, nodes_positive, emits_constants, emits_let_constants, emits_instrs, emits_let_instrs, let_locals, left_is, nothing_left, nodes_left, pop_constants, pop_instrs, put_instrs, set_instrs, emits_grows, if_tested, if_first, if_else, if_made, loop_made, dosync_made, recur_made, callee_few}
 use Rattle.txs_tree.proofs.Soundness.{count-trees_of}
-use Rattle.txs_tree.proofs.Trees.{const_node, local_node, if_node, do_node, let_node, loop_node, recur_node, core_node, call_node, vector_node, println_node, dosync_node, deref_node, alter_node}
+use Rattle.txs_tree.proofs.Trees.{const_node, local_node, if_node, do_node, let_node, loop_node, recur_node, core_node, call_node, vector_node, println_node, dosync_node, look_node, put_node, update_node, send_node}
 use Rattle.txs_gen.proofs.emit.+emit.Goals as goal
 
 pub emit_do-loop-item-init : goal.emit_do-loop-item-init
@@ -25,28 +25,6 @@ emit-emit_do-requires t c =
     let n = ap nodes e in
     let p = subst (λ x. IsPlaced c.args.at.depth c.args.at.base x) e c.requires.part in
     (omega (arith, n), (p, (omega (arith, n, c.requires.few_constants), (omega (arith, n, c.requires.few_instrs), omega (arith, n, c.requires.low)))))
-
-pub emit-emit_let-requires : goal.emit-emit_let-requires
-emit-emit_let-requires t c =
-    let e = let_node c.args.node.now c.in-Let.values c.in-Let.body c.deref-in-Let.result.now c.in-Let.body.value c.in-Let.is c.deref-in-Let.ensures.value refl in
-    let n = ap nodes e in
-    let p = subst (λ x. IsPlaced c.args.at.depth c.args.at.base x) e c.requires.part in
-    (omega (arith, n), ((p.0, p.3.0), (omega (arith, n, c.requires.few_constants), (omega (arith, n, c.requires.few_instrs), omega (arith, n, c.requires.low)))))
-
-pub emit-emit-requires : goal.emit-emit-requires
-emit-emit-requires t c =
-    let xs = c.deref-in-Let.result.now in
-    let b = c.deref-in-Let-2.result.now in
-    let at = c.args.at in
-    let e = let_node c.args.node.now c.in-Let.values c.in-Let.body xs b c.in-Let.is c.deref-in-Let.ensures.value c.deref-in-Let-2.ensures in
-    let n = ap nodes e in
-    let p = subst (λ x. IsPlaced at.depth at.base x) e c.requires.part in
-    let q : IsPlaced (at.depth + count (trees_of xs)) at.base (tree_of b) = (p.0, p.1, within_more at.base p.1 at.depth (count (trees_of xs)) (let_locals (trees_of xs) p.0 at.depth p.3.0) p.2, p.3.1) in
-    let k = ap (λ (x : Emission). length x.constants) c.in_ok-depth-in-Let.ensures.code in
-    let l = ap (λ (x : Emission). length x.instrs) c.in_ok-depth-in-Let.ensures.code in
-    let m = emits_let_constants (trees_of xs) c.args.node.now.span at (emission c.args.to.now) in
-    let o = emits_let_instrs (trees_of xs) c.args.node.now.span at (emission c.args.to.now) in
-    (omega (arith, n), (subst (λ d. IsPlaced d at.base (tree_of b)) (sym c.in_ok-depth-in-Let.ensures.locals) q, (omega (arith, n, k, m, c.requires.few_constants), (omega (arith, n, l, o, c.requires.few_instrs), omega (arith, n, c.requires.low)))))
 
 pub emit-emit_if-requires : goal.emit-emit_if-requires
 emit-emit_if-requires t c =
@@ -78,70 +56,6 @@ emit-emit_recur-requires t c =
     let w = subst (λ l. IsWithin at.base l at.depth) p.3.0 p.2 in
     (omega (arith, n), ((p.0, p.3.1), (w, (omega (arith, n, c.requires.few_constants), (omega (arith, n, c.requires.few_instrs), omega (arith, n, c.requires.low))))))
 
-pub emit-emit_all-requires : goal.emit-emit_all-requires
-emit-emit_all-requires t c =
-    let e = core_node c.args.node.now c.in-Core.op c.in-Core.args c.deref-in-Core.result.now c.in-Core.is c.deref-in-Core.ensures.value in
-    let n = ap nodes e in
-    let p = subst (λ x. IsPlaced c.args.at.depth c.args.at.base x) e c.requires.part in
-    (omega (arith, n), ((p.0, p.3.1), (omega (arith, n, c.requires.few_constants), (omega (arith, n, c.requires.few_instrs), omega (arith, n, c.requires.low)))))
-
-pub emit-overflow_cast-len : goal.emit-overflow_cast-len
-emit-overflow_cast-len t c =
-    let e = core_node c.args.node.now c.in-Core.op c.in-Core.args c.deref-in-Core.result.now c.in-Core.is c.deref-in-Core.ensures.value in
-    let p = subst (λ x. IsPlaced c.args.at.depth c.args.at.base x) e c.requires.part in
-    omega (arith, p.3.0.1, count-trees_of c.deref-in-Core.result.now, ap length c.deref-in-Core.ensures.value)
-
-pub emit-emit_all-requires-in-Call : goal.emit-emit_all-requires-in-Call
-emit-emit_all-requires-in-Call t c =
-    let e = call_node c.args.node.now c.in-Call.function c.in-Call.args c.deref-in-Call.result.now c.in-Call.is c.deref-in-Call.ensures.value in
-    let n = ap nodes e in
-    let p = subst (λ x. IsPlaced c.args.at.depth c.args.at.base x) e c.requires.part in
-    (omega (arith, n), ((p.0, p.3.1), (omega (arith, n, c.requires.few_constants), (omega (arith, n, c.requires.few_instrs), omega (arith, n, c.requires.low)))))
-
-pub emit-emit_all-requires-in-Vector : goal.emit-emit_all-requires-in-Vector
-emit-emit_all-requires-in-Vector t c =
-    let e = vector_node c.args.node.now c.in-Vector.items c.deref-in-Vector.result.now c.in-Vector.is c.deref-in-Vector.ensures.value in
-    let n = ap nodes e in
-    let p = subst (λ x. IsPlaced c.args.at.depth c.args.at.base x) e c.requires.part in
-    (omega (arith, n), ((p.0, p.3.1), (omega (arith, n, c.requires.few_constants), (omega (arith, n, c.requires.few_instrs), omega (arith, n, c.requires.low)))))
-
-pub emit-overflow_cast-len-in-Vector : goal.emit-overflow_cast-len-in-Vector
-emit-overflow_cast-len-in-Vector t c =
-    let e = vector_node c.args.node.now c.in-Vector.items c.deref-in-Vector.result.now c.in-Vector.is c.deref-in-Vector.ensures.value in
-    let p = subst (λ x. IsPlaced c.args.at.depth c.args.at.base x) e c.requires.part in
-    omega (arith, p.3.0, count-trees_of c.deref-in-Vector.result.now, ap length c.deref-in-Vector.ensures.value)
-
-pub emit-emit_all-requires-in-Println : goal.emit-emit_all-requires-in-Println
-emit-emit_all-requires-in-Println t c =
-    let e = println_node c.args.node.now c.in-Println.args c.deref-in-Println.result.now c.in-Println.is c.deref-in-Println.ensures.value in
-    let n = ap nodes e in
-    let p = subst (λ x. IsPlaced c.args.at.depth c.args.at.base x) e c.requires.part in
-    (omega (arith, n), ((p.0, p.3.2), (omega (arith, n, c.requires.few_constants), (omega (arith, n, c.requires.few_instrs), omega (arith, n, c.requires.low)))))
-
-pub emit-overflow_cast-len-in-Println : goal.emit-overflow_cast-len-in-Println
-emit-overflow_cast-len-in-Println t c =
-    let e = println_node c.args.node.now c.in-Println.args c.deref-in-Println.result.now c.in-Println.is c.deref-in-Println.ensures.value in
-    let p = subst (λ x. IsPlaced c.args.at.depth c.args.at.base x) e c.requires.part in
-    omega (arith, p.3.1, count-trees_of c.deref-in-Println.result.now, ap length c.deref-in-Println.ensures.value)
-
-pub emit-returns-in-Const : goal.emit-returns-in-Const
-emit-returns-in-Const t c =
-    let e = const_node c.args.node.now c.in-Const.value c.in-Const.is in
-    let m = mark_of c.args.node.now.span c.args.node.now.wanted in
-    let f = ap (λ (x : Emission). with_instr (instr.Const (length x.constants)) m.span (with_constant c.in-Const.value x)) c.rise.ensures in
-    subst (λ l. OnOk c.constant.result (emission c.constant.new.self ≡ l))
-    (f ∙ emits_const c.in-Const.value m c.args.at (emission c.args.to.now) ∙ ap (λ x. emits x c.args.at (emission c.args.to.now)) (sym e))
-    c.constant.ensures
-
-pub emit-returns-in-Local : goal.emit-returns-in-Local
-emit-returns-in-Local t c =
-    let e = local_node c.args.node.now c.in-Local.local c.in-Local.is in
-    let m = mark_of c.args.node.now.span c.args.node.now.wanted in
-    let f = ap (λ (x : Emission). with_instr (instr.Local c.in-Local.local) m.span x) c.rise-in-Local.ensures in
-    subst (λ l. OnOk c.put.result (emission c.put.new.self ≡ l))
-    (f ∙ emits_local c.in-Local.local m c.args.at (emission c.args.to.now) ∙ ap (λ x. emits x c.args.at (emission c.args.to.now)) (sym e))
-    c.put.ensures
-
 pub emit-returns-in-If : goal.emit-returns-in-If
 emit-returns-in-If t c =
     let x = c.deref.result.now in
@@ -162,19 +76,6 @@ emit-returns-in-Do t c =
     (emits_do_is (trees_of xs) m c.args.at (emission c.args.to.now) ∙ ap (λ x. emits x c.args.at (emission c.args.to.now)) (sym e))
     c.emit_do.ensures
 
-pub emit-returns-in_ok-depth-in-Let : goal.emit-returns-in_ok-depth-in-Let
-emit-returns-in_ok-depth-in-Let t c =
-    let xs = c.deref-in-Let.result.now in
-    let b = tree_of c.deref-in-Let-2.result.now in
-    let at = c.args.at in
-    let e = let_node c.args.node.now c.in-Let.values c.in-Let.body xs c.deref-in-Let-2.result.now c.in-Let.is c.deref-in-Let.ensures.value c.deref-in-Let-2.ensures in
-    let m = mark_of c.args.node.now.span c.args.node.now.wanted in
-    subst (λ l. OnOk c.emit.result (emission c.emit.new.to ≡ l))
-    (ap (λ d. emits b (around d at.height at.base at.start) (emission c.emit_let.new.to)) c.in_ok-depth-in-Let.ensures.locals
-    ∙ ap (λ x. emits b (around (at.depth + count (trees_of xs)) at.height at.base at.start) x) c.in_ok-depth-in-Let.ensures.code
-    ∙ emits_let_is (trees_of xs) b m at (emission c.args.to.now) ∙ ap (λ x. emits x at (emission c.args.to.now)) (sym e))
-    c.emit.ensures
-
 pub emit-returns-in-Loop : goal.emit-returns-in-Loop
 emit-returns-in-Loop t c =
     let xs = c.deref-in-Loop.result.now in
@@ -193,56 +94,6 @@ emit-returns-in-Recur t c =
     subst (λ l. OnOk c.emit_recur.result (emission c.emit_recur.new.to ≡ l))
     (emits_recur_is (trees_of xs) m c.args.at (emission c.args.to.now) ∙ ap (λ x. emits x c.args.at (emission c.args.to.now)) (sym e))
     c.emit_recur.ensures
-
-pub emit-returns-in_ok-emit_all-in-Core : goal.emit-returns-in_ok-emit_all-in-Core
-emit-returns-in_ok-emit_all-in-Core t c =
-    let xs = c.deref-in-Core.result.now in
-    let e = core_node c.args.node.now c.in-Core.op c.in-Core.args xs c.in-Core.is c.deref-in-Core.ensures.value in
-    let m = mark_of c.args.node.now.span c.args.node.now.wanted in
-    let k : c.len.result ≡ count (trees_of xs) = omega (arith, count-trees_of xs, ap length c.deref-in-Core.ensures.value) in
-    subst (λ l. OnOk c.put-in-Core.result (emission c.put-in-Core.new.self ≡ l))
-    (ap (λ n. with_instr (instr.Core c.in-Core.op n) m.span (emission c.emit_all.new.to)) k
-    ∙ ap (λ x. with_instr (instr.Core c.in-Core.op (count (trees_of xs))) m.span x) c.in_ok-emit_all-in-Core.ensures
-    ∙ emits_core c.in-Core.op (trees_of xs) m c.args.at (emission c.args.to.now) ∙ ap (λ x. emits x c.args.at (emission c.args.to.now)) (sym e))
-    c.put-in-Core.ensures
-
-pub emit-returns-in_ok-emit_all-in-Call : goal.emit-returns-in_ok-emit_all-in-Call
-emit-returns-in_ok-emit_all-in-Call t c =
-    let f = c.in-Call.function in
-    let xs = c.deref-in-Call.result.now in
-    let e = call_node c.args.node.now f c.in-Call.args xs c.in-Call.is c.deref-in-Call.ensures.value in
-    let m = mark_of c.args.node.now.span c.args.node.now.wanted in
-    subst (λ l. OnOk c.put-in-Call.result (emission c.put-in-Call.new.self ≡ l))
-    (ap (λ x. with_instr (instr.Call f) m.span x) c.rise-in-Call.ensures
-    ∙ ap (λ x. with_instr (instr.Call f) m.span (with_room (c.args.at.height + 1) x)) c.in_ok-emit_all-in-Call.ensures
-    ∙ emits_call f (trees_of xs) m c.args.at (emission c.args.to.now) ∙ ap (λ x. emits x c.args.at (emission c.args.to.now)) (sym e))
-    c.put-in-Call.ensures
-
-pub emit-returns-in_ok-emit_all-in-Vector : goal.emit-returns-in_ok-emit_all-in-Vector
-emit-returns-in_ok-emit_all-in-Vector t c =
-    let xs = c.deref-in-Vector.result.now in
-    let e = vector_node c.args.node.now c.in-Vector.items xs c.in-Vector.is c.deref-in-Vector.ensures.value in
-    let m = mark_of c.args.node.now.span c.args.node.now.wanted in
-    let k : c.len-in-Vector.result ≡ count (trees_of xs) = omega (arith, count-trees_of xs, ap length c.deref-in-Vector.ensures.value) in
-    subst (λ l. OnOk c.put-in-Vector.result (emission c.put-in-Vector.new.self ≡ l))
-    (ap (λ n. with_instr (instr.Vector n) m.span (emission c.rise-in-Vector.new.self)) k
-    ∙ ap (λ x. with_instr (instr.Vector (count (trees_of xs))) m.span x) c.rise-in-Vector.ensures
-    ∙ ap (λ x. with_instr (instr.Vector (count (trees_of xs))) m.span (with_room (c.args.at.height + 1) x)) c.in_ok-emit_all-in-Vector.ensures
-    ∙ emits_vector (trees_of xs) m c.args.at (emission c.args.to.now) ∙ ap (λ x. emits x c.args.at (emission c.args.to.now)) (sym e))
-    c.put-in-Vector.ensures
-
-pub emit-returns-in_ok-emit_all-in-Println : goal.emit-returns-in_ok-emit_all-in-Println
-emit-returns-in_ok-emit_all-in-Println t c =
-    let xs = c.deref-in-Println.result.now in
-    let e = println_node c.args.node.now c.in-Println.args xs c.in-Println.is c.deref-in-Println.ensures.value in
-    let m = mark_of c.args.node.now.span c.args.node.now.wanted in
-    let k : c.len-in-Println.result ≡ count (trees_of xs) = omega (arith, count-trees_of xs, ap length c.deref-in-Println.ensures.value) in
-    subst (λ l. OnOk c.put-in-Println.result (emission c.put-in-Println.new.self ≡ l))
-    (ap (λ n. with_instr (instr.Print n) m.span (emission c.rise-in-Println.new.self)) k
-    ∙ ap (λ x. with_instr (instr.Print (count (trees_of xs))) m.span x) c.rise-in-Println.ensures
-    ∙ ap (λ x. with_instr (instr.Print (count (trees_of xs))) m.span (with_room (c.args.at.height + 1) x)) c.in_ok-emit_all-in-Println.ensures
-    ∙ emits_println (trees_of xs) m c.args.at (emission c.args.to.now) ∙ ap (λ x. emits x c.args.at (emission c.args.to.now)) (sym e))
-    c.put-in-Println.ensures
 
 pub emit_all-emit-requires : goal.emit_all-emit-requires
 emit_all-emit-requires t c =
@@ -590,22 +441,6 @@ emit-emit_dosync-requires t c =
     let p = subst (λ x. IsPlaced c.args.at.depth c.args.at.base x) e c.requires.part in
     (omega (arith, n), ((in_transaction p.0, None, tt, p.3), (omega (arith, n, c.requires.few_constants), (omega (arith, n, c.requires.few_instrs), omega (arith, n, c.requires.low)))))
 
-pub emit-emit-requires-in-Deref : goal.emit-emit-requires-in-Deref
-emit-emit-requires-in-Deref t c =
-    let e = deref_node c.args.node.now c.in-Deref.cell c.deref-in-Deref.result.now c.in-Deref.is c.deref-in-Deref.ensures in
-    let n = ap nodes e in
-    let p = subst (λ x. IsPlaced c.args.at.depth c.args.at.base x) e c.requires.part in
-    (omega (arith, n), ((p.0, None, tt, p.3), (omega (arith, n, c.requires.few_constants), (omega (arith, n, c.requires.few_instrs), omega (arith, n, c.requires.low)))))
-
-pub emit-emit_alter-requires : goal.emit-emit_alter-requires
-emit-emit_alter-requires t c =
-    let x = c.deref-in-Alter.result.now in
-    let xs = c.deref-in-Alter-2.result.now in
-    let e = alter_node c.args.node.now c.in-Alter.cell c.in-Alter.callee c.in-Alter.args x xs c.in-Alter.is c.deref-in-Alter.ensures c.deref-in-Alter-2.ensures.value in
-    let n = ap nodes e in
-    let p = subst (λ l. IsPlaced c.args.at.depth c.args.at.base l) e c.requires.part in
-    (omega (arith, n), ((p.0, None, tt, p.3.1), (callee_few p.0 c.in-Alter.callee (count (trees_of xs)) p.3.2, ((p.0, p.3.3), (omega (arith, n, c.requires.few_constants), (omega (arith, n, c.requires.few_instrs), omega (arith, n, c.requires.low)))))))
-
 pub emit-returns-in-Dosync : goal.emit-returns-in-Dosync
 emit-returns-in-Dosync t c =
     let x = c.deref-in-Dosync.result.now in
@@ -615,33 +450,198 @@ emit-returns-in-Dosync t c =
     (emits_dosync_is (tree_of x) m c.args.at (emission c.args.to.now) ∙ ap (λ x. emits x c.args.at (emission c.args.to.now)) (sym e))
     c.emit_dosync.ensures
 
-pub emit-returns-in_ok-emit-in-Deref : goal.emit-returns-in_ok-emit-in-Deref
-emit-returns-in_ok-emit-in-Deref t c =
-    let x = c.deref-in-Deref.result.now in
-    let e = deref_node c.args.node.now c.in-Deref.cell x c.in-Deref.is c.deref-in-Deref.ensures in
+pub emit-overflow_cast-instr : goal.emit-overflow_cast-instr
+emit-overflow_cast-instr t c =
+    let xs = c.in-Core.args.items in
+    let e = core_node c.args.node.now c.in-Core.op c.in-Core.args xs c.in-Core.is refl in
+    let p = subst (λ x. IsPlaced c.args.at.depth c.args.at.base x) e c.requires.part in
+    omega (arith, p.3.0.1, count-trees_of xs)
+
+pub emit-emit_applied-requires : goal.emit-emit_applied-requires
+emit-emit_applied-requires t c =
+    let e = core_node c.args.node.now c.in-Core.op c.in-Core.args c.deref-in-Core.result.now c.in-Core.is c.deref-in-Core.ensures.value in
+    let n = ap nodes e in
+    let p = subst (λ x. IsPlaced c.args.at.depth c.args.at.base x) e c.requires.part in
+    (omega (arith, n), ((p.0, p.3.1), (omega (arith, n, c.requires.few_constants), (omega (arith, n, c.requires.few_instrs), omega (arith, n, c.requires.low)))))
+
+pub emit-emit_applied-requires-in-Call : goal.emit-emit_applied-requires-in-Call
+emit-emit_applied-requires-in-Call t c =
+    let e = call_node c.args.node.now c.in-Call.function c.in-Call.args c.deref-in-Call.result.now c.in-Call.is c.deref-in-Call.ensures.value in
+    let n = ap nodes e in
+    let p = subst (λ x. IsPlaced c.args.at.depth c.args.at.base x) e c.requires.part in
+    (omega (arith, n), ((p.0, p.3.1), (omega (arith, n, c.requires.few_constants), (omega (arith, n, c.requires.few_instrs), omega (arith, n, c.requires.low)))))
+
+pub emit-overflow_cast-instr-in-Vector : goal.emit-overflow_cast-instr-in-Vector
+emit-overflow_cast-instr-in-Vector t c =
+    let xs = c.in-Vector.items.items in
+    let e = vector_node c.args.node.now c.in-Vector.items xs c.in-Vector.is refl in
+    let p = subst (λ x. IsPlaced c.args.at.depth c.args.at.base x) e c.requires.part in
+    omega (arith, p.3.0, count-trees_of xs)
+
+pub emit-emit_applied-requires-in-Vector : goal.emit-emit_applied-requires-in-Vector
+emit-emit_applied-requires-in-Vector t c =
+    let e = vector_node c.args.node.now c.in-Vector.items c.deref-in-Vector.result.now c.in-Vector.is c.deref-in-Vector.ensures.value in
+    let n = ap nodes e in
+    let p = subst (λ x. IsPlaced c.args.at.depth c.args.at.base x) e c.requires.part in
+    (omega (arith, n), ((p.0, p.3.1), (omega (arith, n, c.requires.few_constants), (omega (arith, n, c.requires.few_instrs), omega (arith, n, c.requires.low)))))
+
+pub emit-overflow_cast-instr-in-Println : goal.emit-overflow_cast-instr-in-Println
+emit-overflow_cast-instr-in-Println t c =
+    let xs = c.in-Println.args.items in
+    let e = println_node c.args.node.now c.in-Println.args xs c.in-Println.is refl in
+    let p = subst (λ x. IsPlaced c.args.at.depth c.args.at.base x) e c.requires.part in
+    omega (arith, p.3.1, count-trees_of xs)
+
+pub emit-emit_applied-requires-in-Println : goal.emit-emit_applied-requires-in-Println
+emit-emit_applied-requires-in-Println t c =
+    let e = println_node c.args.node.now c.in-Println.args c.deref-in-Println.result.now c.in-Println.is c.deref-in-Println.ensures.value in
+    let n = ap nodes e in
+    let p = subst (λ x. IsPlaced c.args.at.depth c.args.at.base x) e c.requires.part in
+    (omega (arith, n), ((p.0, p.3.2), (omega (arith, n, c.requires.few_constants), (omega (arith, n, c.requires.few_instrs), omega (arith, n, c.requires.low)))))
+
+pub emit-returns-in-Core : goal.emit-returns-in-Core
+emit-returns-in-Core t c =
+    let xs = c.deref-in-Core.result.now in
+    let e = core_node c.args.node.now c.in-Core.op c.in-Core.args xs c.in-Core.is c.deref-in-Core.ensures.value in
     let m = mark_of c.args.node.now.span c.args.node.now.wanted in
-    subst (λ l. OnOk c.put-in-Deref.result (emission c.put-in-Deref.new.self ≡ l))
-    (ap (λ x. with_instr instr.Deref m.span x) c.in_ok-emit-in-Deref.ensures
-    ∙ emits_deref (tree_of x) m c.args.at (emission c.args.to.now) ∙ ap (λ x. emits x c.args.at (emission c.args.to.now)) (sym e))
-    c.put-in-Deref.ensures
+    let k : c.len.result ≡ count (trees_of xs) = omega (arith, count-trees_of xs, ap length c.deref-in-Core.ensures.value) in
+    subst (λ l. OnOk c.emit_applied.result (emission c.emit_applied.new.to ≡ l))
+    (ap (λ n. with_instr (instr.Core c.in-Core.op n) m.span (with_room 0 (emits_all (trees_of xs) c.args.at (emission c.args.to.now)))) k
+    ∙ emits_core c.in-Core.op (trees_of xs) m c.args.at (emission c.args.to.now) ∙ ap (λ x. emits x c.args.at (emission c.args.to.now)) (sym e))
+    c.emit_applied.ensures
 
-pub emit-returns-in-Alter : goal.emit-returns-in-Alter
-emit-returns-in-Alter t c =
-    let x = c.deref-in-Alter.result.now in
-    let xs = c.deref-in-Alter-2.result.now in
-    let e = alter_node c.args.node.now c.in-Alter.cell c.in-Alter.callee c.in-Alter.args x xs c.in-Alter.is c.deref-in-Alter.ensures c.deref-in-Alter-2.ensures.value in
+pub emit-returns-in-Call : goal.emit-returns-in-Call
+emit-returns-in-Call t c =
+    let xs = c.deref-in-Call.result.now in
+    let e = call_node c.args.node.now c.in-Call.function c.in-Call.args xs c.in-Call.is c.deref-in-Call.ensures.value in
     let m = mark_of c.args.node.now.span c.args.node.now.wanted in
-    subst (λ l. OnOk c.emit_alter.result (emission c.emit_alter.new.to ≡ l))
-    (emits_alter_is (tree_of x) c.in-Alter.callee (trees_of xs) m c.args.at (emission c.args.to.now) ∙ ap (λ l. emits l c.args.at (emission c.args.to.now)) (sym e))
-    c.emit_alter.ensures
+    subst (λ l. OnOk c.emit_applied-in-Call.result (emission c.emit_applied-in-Call.new.to ≡ l))
+    (emits_call c.in-Call.function (trees_of xs) m c.args.at (emission c.args.to.now) ∙ ap (λ x. emits x c.args.at (emission c.args.to.now)) (sym e))
+    c.emit_applied-in-Call.ensures
 
-pub emit_alter-overflow_cast-count : goal.emit_alter-overflow_cast-count
-emit_alter-overflow_cast-count t c =
-    let xs = c.args.args.now in
-    omega (arith, c.requires.few_args, count-trees_of xs)
+pub emit-returns-in-Vector : goal.emit-returns-in-Vector
+emit-returns-in-Vector t c =
+    let xs = c.deref-in-Vector.result.now in
+    let e = vector_node c.args.node.now c.in-Vector.items xs c.in-Vector.is c.deref-in-Vector.ensures.value in
+    let m = mark_of c.args.node.now.span c.args.node.now.wanted in
+    let k : c.len-in-Vector.result ≡ count (trees_of xs) = omega (arith, count-trees_of xs, ap length c.deref-in-Vector.ensures.value) in
+    subst (λ l. OnOk c.emit_applied-in-Vector.result (emission c.emit_applied-in-Vector.new.to ≡ l))
+    (ap (λ n. with_instr (instr.Vector n) m.span (with_room (c.args.at.height + 1) (emits_all (trees_of xs) c.args.at (emission c.args.to.now)))) k
+    ∙ emits_vector (trees_of xs) m c.args.at (emission c.args.to.now) ∙ ap (λ x. emits x c.args.at (emission c.args.to.now)) (sym e))
+    c.emit_applied-in-Vector.ensures
 
-pub emit_alter-emit_all-requires : goal.emit_alter-emit_all-requires
-emit_alter-emit_all-requires t c =
+pub emit-returns-in-Println : goal.emit-returns-in-Println
+emit-returns-in-Println t c =
+    let xs = c.deref-in-Println.result.now in
+    let e = println_node c.args.node.now c.in-Println.args xs c.in-Println.is c.deref-in-Println.ensures.value in
+    let m = mark_of c.args.node.now.span c.args.node.now.wanted in
+    let k : c.len-in-Println.result ≡ count (trees_of xs) = omega (arith, count-trees_of xs, ap length c.deref-in-Println.ensures.value) in
+    subst (λ l. OnOk c.emit_applied-in-Println.result (emission c.emit_applied-in-Println.new.to ≡ l))
+    (ap (λ n. with_instr (instr.Print n) m.span (with_room (c.args.at.height + 1) (emits_all (trees_of xs) c.args.at (emission c.args.to.now)))) k
+    ∙ emits_println (trees_of xs) m c.args.at (emission c.args.to.now) ∙ ap (λ x. emits x c.args.at (emission c.args.to.now)) (sym e))
+    c.emit_applied-in-Println.ensures
+
+pub emit-emit_then-requires : goal.emit-emit_then-requires
+emit-emit_then-requires t c =
+    let e = look_node c.args.node.now c.in-Look.form c.in-Look.cell c.deref-in-Look.result.now c.in-Look.is c.deref-in-Look.ensures in
+    let n = ap nodes e in
+    let p = subst (λ x. IsPlaced c.args.at.depth c.args.at.base x) e c.requires.part in
+    (omega (arith, n), ((p.0, None, tt, p.3.1), (omega (arith, n, c.requires.few_constants), (omega (arith, n, c.requires.few_instrs), omega (arith, n, c.requires.low)))))
+
+pub emit-emit_put-requires : goal.emit-emit_put-requires
+emit-emit_put-requires t c =
+    let x = c.deref-in-Put.result.now in
+    let y = c.deref-in-Put-2.result.now in
+    let e = put_node c.args.node.now c.in-Put.form c.in-Put.cell c.in-Put.value x y c.in-Put.is c.deref-in-Put.ensures c.deref-in-Put-2.ensures in
+    let n = ap nodes e in
+    let p = subst (λ l. IsPlaced c.args.at.depth c.args.at.base l) e c.requires.part in
+    (omega (arith, n), ((p.0, None, tt, p.3.1), ((p.0, None, tt, p.3.2), (omega (arith, n, c.requires.few_constants), (omega (arith, n, c.requires.few_instrs), omega (arith, n, c.requires.low))))))
+
+pub emit-emit_update-requires : goal.emit-emit_update-requires
+emit-emit_update-requires t c =
+    let x = c.deref-in-Update.result.now in
+    let xs = c.deref-in-Update-2.result.now in
+    let e = update_node c.args.node.now c.in-Update.form c.in-Update.cell c.in-Update.callee c.in-Update.args x xs c.in-Update.is c.deref-in-Update.ensures c.deref-in-Update-2.ensures.value in
+    let n = ap nodes e in
+    let p = subst (λ l. IsPlaced c.args.at.depth c.args.at.base l) e c.requires.part in
+    (omega (arith, n), ((p.0, None, tt, p.3.1), (callee_few p.0 c.in-Update.callee (count (trees_of xs)) p.3.2, ((p.0, p.3.3), (omega (arith, n, c.requires.few_constants), (omega (arith, n, c.requires.few_instrs), omega (arith, n, c.requires.low)))))))
+
+pub emit-overflow_cast-instr-in-Send : goal.emit-overflow_cast-instr-in-Send
+emit-overflow_cast-instr-in-Send t c =
+    let xs = c.in-Send.args.items in
+    let e = send_node c.args.node.now c.in-Send.cell c.in-Send.callee c.in-Send.args c.in-Send.cell.value xs c.in-Send.is refl refl in
+    let p = subst (λ x. IsPlaced c.args.at.depth c.args.at.base x) e c.requires.part in
+    omega (arith, callee_few p.0 c.in-Send.callee (count (trees_of xs)) p.3.1, count-trees_of xs)
+
+pub emit-emit_send-requires : goal.emit-emit_send-requires
+emit-emit_send-requires t c =
+    let x = c.deref-in-Send.result.now in
+    let xs = c.deref-in-Send-2.result.now in
+    let e = send_node c.args.node.now c.in-Send.cell c.in-Send.callee c.in-Send.args x xs c.in-Send.is c.deref-in-Send.ensures c.deref-in-Send-2.ensures.value in
+    let n = ap nodes e in
+    let p = subst (λ l. IsPlaced c.args.at.depth c.args.at.base l) e c.requires.part in
+    (omega (arith, n), ((p.0, None, tt, p.3.0), ((p.0, p.3.2), (omega (arith, n, c.requires.few_constants), (omega (arith, n, c.requires.few_instrs), omega (arith, n, c.requires.low))))))
+
+pub emit-returns-in-Look : goal.emit-returns-in-Look
+emit-returns-in-Look t c =
+    let form = c.in-Look.form in
+    let x = c.deref-in-Look.result.now in
+    let e = look_node c.args.node.now form c.in-Look.cell x c.in-Look.is c.deref-in-Look.ensures in
+    let m = mark_of c.args.node.now.span c.args.node.now.wanted in
+    subst (λ l. OnOk c.emit_then.result (emission c.emit_then.new.to ≡ l))
+    (emits_look form (tree_of x) m c.args.at (emission c.args.to.now) ∙ ap (λ x. emits x c.args.at (emission c.args.to.now)) (sym e))
+    c.emit_then.ensures
+
+pub emit-returns-in-Put : goal.emit-returns-in-Put
+emit-returns-in-Put t c =
+    let at = c.args.at in
+    let form = c.in-Put.form in
+    let x = c.deref-in-Put.result.now in
+    let y = c.deref-in-Put-2.result.now in
+    let e = put_node c.args.node.now form c.in-Put.cell c.in-Put.value x y c.in-Put.is c.deref-in-Put.ensures c.deref-in-Put-2.ensures in
+    let m = mark_of c.args.node.now.span c.args.node.now.wanted in
+    subst (λ l. OnOk c.emit_put.result (emission c.emit_put.new.to ≡ l))
+    (emits_put form (tree_of x) (tree_of y) m at (emission c.args.to.now) ∙ ap (λ l. emits l at (emission c.args.to.now)) (sym e))
+    c.emit_put.ensures
+
+pub emit-returns-in-Update : goal.emit-returns-in-Update
+emit-returns-in-Update t c =
+    let at = c.args.at in
+    let form = c.in-Update.form in
+    let callee = c.in-Update.callee in
+    let x = c.deref-in-Update.result.now in
+    let xs = c.deref-in-Update-2.result.now in
+    let e = update_node c.args.node.now form c.in-Update.cell callee c.in-Update.args x xs c.in-Update.is c.deref-in-Update.ensures c.deref-in-Update-2.ensures.value in
+    let m = mark_of c.args.node.now.span c.args.node.now.wanted in
+    subst (λ l. OnOk c.emit_update.result (emission c.emit_update.new.to ≡ l))
+    (emits_update_is form (tree_of x) callee (trees_of xs) m at (emission c.args.to.now) ∙ ap (λ l. emits l at (emission c.args.to.now)) (sym e))
+    c.emit_update.ensures
+
+pub emit-returns-in-Send : goal.emit-returns-in-Send
+emit-returns-in-Send t c =
+    let at = c.args.at in
+    let callee = c.in-Send.callee in
+    let x = c.deref-in-Send.result.now in
+    let xs = c.deref-in-Send-2.result.now in
+    let ts = trees_of xs in
+    let e = send_node c.args.node.now c.in-Send.cell callee c.in-Send.args x xs c.in-Send.is c.deref-in-Send.ensures c.deref-in-Send-2.ensures.value in
+    let m = mark_of c.args.node.now.span c.args.node.now.wanted in
+    let k : c.len-in-Send.result ≡ count ts = omega (arith, count-trees_of xs, ap length c.deref-in-Send-2.ensures.value) in
+    subst (λ l. OnOk c.emit_send.result (emission c.emit_send.new.to ≡ l))
+    (ap (λ n. with_instr (instr.Send callee n) m.span (with_room 0 (emits_all ts (above at) (emits (tree_of x) at (emission c.args.to.now))))) k
+    ∙ emits_send (tree_of x) callee ts m at (emission c.args.to.now) ∙ ap (λ l. emits l at (emission c.args.to.now)) (sym e))
+    c.emit_send.ensures
+
+pub emit_dosync-returns : goal.emit_dosync-returns
+emit_dosync-returns t c =
+    let b = tree_of c.args.body.now in
+    let span = c.args.span in
+    subst (λ l. OnOk c.emit_then.result (emission c.emit_then.new.to ≡ l))
+    (ap (λ f. with_instr instr.TxEnd span (emits b c.args.at f)) c.in_ok-put.ensures ∙ dosync_made b span c.args.at (emission c.args.to.now))
+    c.emit_then.ensures
+
+pub emit_put-emit_then-requires : goal.emit_put-emit_then-requires
+emit_put-emit_then-requires t c =
     let x = tree_of c.args.cell.now in
     let l = ap (λ (e : Emission). length e.instrs) c.in_ok-emit.ensures in
     let k = ap (λ (e : Emission). length e.constants) c.in_ok-emit.ensures in
@@ -649,53 +649,112 @@ emit_alter-emit_all-requires t c =
     let m = emits_constants x c.args.at (emission c.args.to.now) in
     (omega arith, (c.requires.part, (omega (arith, k, m, c.requires.few_constants), (omega (arith, l, o, c.requires.few_instrs), omega (arith, nodes_positive x, c.requires.low)))))
 
-pub emit_alter-overflow_add-at : goal.emit_alter-overflow_add-at
-emit_alter-overflow_add-at t c =
-    let xs = c.args.args.now in
-    omega (arith, c.from.ensures, c.requires.few_args, count-trees_of xs, c.requires.low)
+pub emit_send-emit_applied-requires : goal.emit_send-emit_applied-requires
+emit_send-emit_applied-requires t c =
+    let x = tree_of c.args.cell.now in
+    let l = ap (λ (e : Emission). length e.instrs) c.in_ok-emit.ensures in
+    let k = ap (λ (e : Emission). length e.constants) c.in_ok-emit.ensures in
+    let o = emits_instrs x c.args.at (emission c.args.to.now) in
+    let m = emits_constants x c.args.at (emission c.args.to.now) in
+    (omega arith, (c.requires.part, (omega (arith, k, m, c.requires.few_constants), (omega (arith, l, o, c.requires.few_instrs), omega (arith, nodes_positive x, c.requires.low)))))
 
-pub emit_alter-overflow_add-at-2 : goal.emit_alter-overflow_add-at-2
-emit_alter-overflow_add-at-2 t c =
-    let xs = c.args.args.now in
-    omega (arith, c.from.ensures, c.requires.few_args, count-trees_of xs, c.requires.low)
+pub emit_update-overflow_cast-count : goal.emit_update-overflow_cast-count
+emit_update-overflow_cast-count t c = omega (arith, c.requires.few_args, count-trees_of c.args.args.now)
 
-pub emit_alter-overflow_add-count : goal.emit_alter-overflow_add-count
-emit_alter-overflow_add-count t c =
-    let xs = c.args.args.now in
-    omega (arith, c.requires.few_args, count-trees_of xs)
+pub emit_update-emit_all-requires : goal.emit_update-emit_all-requires
+emit_update-emit_all-requires t c =
+    let x = tree_of c.args.cell.now in
+    let l = ap (λ (e : Emission). length e.instrs) c.in_ok-emit.ensures in
+    let k = ap (λ (e : Emission). length e.constants) c.in_ok-emit.ensures in
+    let o = emits_instrs x c.args.at (emission c.args.to.now) in
+    let m = emits_constants x c.args.at (emission c.args.to.now) in
+    (omega arith, (c.requires.part, (omega (arith, k, m, c.requires.few_constants), (omega (arith, l, o, c.requires.few_instrs), omega (arith, nodes_positive x, c.requires.low)))))
 
-pub emit_alter-returns : goal.emit_alter-returns
-emit_alter-returns t c =
+pub emit_update-overflow_add-at : goal.emit_update-overflow_add-at
+emit_update-overflow_add-at t c = omega (arith, c.from.ensures, c.requires.few_args, count-trees_of c.args.args.now, c.requires.low)
+
+pub emit_update-overflow_add-at-2 : goal.emit_update-overflow_add-at-2
+emit_update-overflow_add-at-2 t c = omega (arith, c.from.ensures, c.requires.few_args, count-trees_of c.args.args.now, c.requires.low)
+
+pub emit_update-update-requires : goal.emit_update-update-requires
+emit_update-update-requires t c = omega (arith, c.requires.few_args, count-trees_of c.args.args.now)
+
+pub emit_update-returns : goal.emit_update-returns
+emit_update-returns t c =
     let at = c.args.at in
     let span = c.args.span in
+    let form = c.args.form in
     let callee = c.args.callee in
     let xs = c.args.args.now in
     let ts = trees_of xs in
     let x = tree_of c.args.cell.now in
-    let next = around at.depth (at.height + 1) at.base at.start in
     let n : length xs ≡ count ts = sym (count-trees_of xs) in
-    let m : length xs + 1 ≡ suc (count ts) = omega (arith, n) in
-    let closed = λ (f : Emission). with_instr instr.AlterClose span (with_call callee (suc (count ts)) span f) in
-    let opened = λ (f : Emission). closed (with_instr (instr.AlterOpen (count ts)) span f) in
-    let risen = λ (f : Emission). opened (with_room (at.height + count ts + 2) f) in
-    subst (λ l. OnOk c.put-2.result (emission c.put-2.new.self ≡ l))
-    (ap (λ f. with_instr instr.AlterClose span f) c.in_ok-call.ensures
-    ∙ ap (λ k. with_instr instr.AlterClose span (with_call callee k span (emission c.put.new.self))) m
-    ∙ ap (λ f. closed f) c.in_ok-put.ensures
-    ∙ ap (λ k. closed (with_instr (instr.AlterOpen k) span (emission c.rise.new.self))) n
-    ∙ ap (λ f. opened f) c.rise.ensures
-    ∙ ap (λ k. opened (with_room (at.height + k + 2) (emission c.emit_all.new.to))) (c.from.ensures ∙ n)
+    let updated = λ (f : Emission). with_update form callee (count ts) span f in
+    let risen = λ (f : Emission). updated (with_room (at.height + count ts + 2) f) in
+    subst (λ l. OnOk c.update.result (emission c.update.new.self ≡ l))
+    (ap (λ k. with_update form callee k span (emission c.rise.new.self)) n
+    ∙ ap (λ f. updated f) c.rise.ensures
+    ∙ ap (λ k. updated (with_room (at.height + k + 2) (emission c.emit_all.new.to))) (c.from.ensures ∙ n)
     ∙ ap (λ f. risen f) c.in_ok-emit_all.ensures
-    ∙ ap (λ f. risen (emits_all ts next f)) c.in_ok-emit.ensures
-    ∙ alter_made x callee ts span at (emission c.args.to.now))
-    c.put-2.ensures
+    ∙ ap (λ f. risen (emits_all ts (above at) f)) c.in_ok-emit.ensures
+    ∙ whole_update form x callee ts span at (emission c.args.to.now))
+    c.update.ensures
 
-pub emit_dosync-returns : goal.emit_dosync-returns
-emit_dosync-returns t c =
+pub emit-returns-in-Const : goal.emit-returns-in-Const
+emit-returns-in-Const t c =
+    let e = const_node c.args.node.now c.in-Const.value c.in-Const.is in
+    let m = mark_of c.args.node.now.span c.args.node.now.wanted in
+    subst (λ l. OnOk c.constant.result (emission c.constant.new.self ≡ l))
+    (emits_const c.in-Const.value m c.args.at (emission c.args.to.now) ∙ ap (λ x. emits x c.args.at (emission c.args.to.now)) (sym e))
+    c.constant.ensures
+
+pub emit-returns-in-Local : goal.emit-returns-in-Local
+emit-returns-in-Local t c =
+    let e = local_node c.args.node.now c.in-Local.local c.in-Local.is in
+    let m = mark_of c.args.node.now.span c.args.node.now.wanted in
+    subst (λ l. OnOk c.local.result (emission c.local.new.self ≡ l))
+    (emits_local c.in-Local.local m c.args.at (emission c.args.to.now) ∙ ap (λ x. emits x c.args.at (emission c.args.to.now)) (sym e))
+    c.local.ensures
+
+pub emit-emit_bound-requires : goal.emit-emit_bound-requires
+emit-emit_bound-requires t c =
+    let xs = c.deref-in-Let.result.now in
+    let b = c.deref-in-Let-2.result.now in
+    let at = c.args.at in
+    let e = let_node c.args.node.now c.in-Let.values c.in-Let.body xs b c.in-Let.is c.deref-in-Let.ensures.value c.deref-in-Let-2.ensures in
+    let n = ap nodes e in
+    let p = subst (λ x. IsPlaced at.depth at.base x) e c.requires.part in
+    let q : IsPlaced (at.depth + count (trees_of xs)) at.base (tree_of b) = (p.0, p.1, within_more at.base p.1 at.depth (count (trees_of xs)) (let_locals (trees_of xs) p.0 at.depth p.3.0) p.2, p.3.1) in
+    (omega (arith, n), ((p.0, p.3.0), (q, (omega (arith, n, c.requires.few_constants), (omega (arith, n, c.requires.few_instrs), omega (arith, n, c.requires.low))))))
+
+pub emit-returns-in-Let : goal.emit-returns-in-Let
+emit-returns-in-Let t c =
+    let xs = c.deref-in-Let.result.now in
+    let b = c.deref-in-Let-2.result.now in
+    let e = let_node c.args.node.now c.in-Let.values c.in-Let.body xs b c.in-Let.is c.deref-in-Let.ensures.value c.deref-in-Let-2.ensures in
+    let m = mark_of c.args.node.now.span c.args.node.now.wanted in
+    subst (λ l. OnOk c.emit_bound.result (emission c.emit_bound.new.to ≡ l))
+    (emits_bound_is (trees_of xs) (tree_of b) m c.args.at (emission c.args.to.now) ∙ ap (λ x. emits x c.args.at (emission c.args.to.now)) (sym e))
+    c.emit_bound.ensures
+
+pub emit_bound-emit-requires : goal.emit_bound-emit-requires
+emit_bound-emit-requires t c =
+    let at = c.args.at in
+    let ts = trees_of c.args.values.now in
     let b = tree_of c.args.body.now in
-    let span = c.args.span in
-    subst (λ l. OnOk c.put-2.result (emission c.put-2.new.self ≡ l))
-    (ap (λ f. with_instr instr.TxEnd span f) c.in_ok-emit.ensures
-    ∙ ap (λ f. with_instr instr.TxEnd span (emits b c.args.at f)) c.in_ok-put.ensures
-    ∙ dosync_made b span c.args.at (emission c.args.to.now))
-    c.put-2.ensures
+    let l = ap (λ (x : Emission). length x.instrs) c.in_ok-depth.ensures.code in
+    let o = emits_let_instrs ts c.args.span at (emission c.args.to.now) in
+    let k = ap (λ (x : Emission). length x.constants) c.in_ok-depth.ensures.code in
+    let m = emits_let_constants ts c.args.span at (emission c.args.to.now) in
+    (omega arith, (subst (λ d. IsPlaced d at.base b) (sym c.in_ok-depth.ensures.locals) c.requires.body, (omega (arith, k, m, c.requires.few_constants), (omega (arith, l, o, c.requires.few_instrs), omega (arith, c.requires.low)))))
+
+pub emit_bound-returns : goal.emit_bound-returns
+emit_bound-returns t c =
+    let at = c.args.at in
+    let ts = trees_of c.args.values.now in
+    let b = tree_of c.args.body.now in
+    subst (λ l. OnOk c.emit.result (emission c.emit.new.to ≡ l))
+    (ap (λ m. emits b (around m at.height at.base at.start) (emission c.emit_let.new.to)) c.in_ok-depth.ensures.locals
+    ∙ ap (λ x. emits b (around (at.depth + count ts) at.height at.base at.start) x) c.in_ok-depth.ensures.code
+    ∙ bound_made ts b c.args.span at (emission c.args.to.now))
+    c.emit.ensures

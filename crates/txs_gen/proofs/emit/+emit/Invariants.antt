@@ -36,28 +36,43 @@ invariant-emit_let-loop-value l = record {
 }
 
 abbrev pub decreases-emit : goal.decreases-emit
-decreases-emit l = 3 * nodes (tree_of l.node.now)
+decreases-emit l = 5 * nodes (tree_of l.node.now)
 
 abbrev pub decreases-emit_all : goal.decreases-emit_all
-decreases-emit_all l = 3 * nodes_in (trees_of l.args.now) + 1
+decreases-emit_all l = 5 * nodes_in (trees_of l.args.now) + 1
 
 abbrev pub decreases-emit_do : goal.decreases-emit_do
-decreases-emit_do l = 3 * nodes_in (trees_of l.items.now) + 1
+decreases-emit_do l = 5 * nodes_in (trees_of l.items.now) + 1
 
 abbrev pub decreases-emit_let : goal.decreases-emit_let
-decreases-emit_let l = 3 * nodes_in (trees_of l.values.now) + 1
+decreases-emit_let l = 5 * nodes_in (trees_of l.values.now) + 1
 
 abbrev pub decreases-emit_if : goal.decreases-emit_if
-decreases-emit_if l = 3 * (nodes (tree_of l.test.now) + (nodes (tree_of l.first.now) + nodes (tree_of l.second.now))) + 1
+decreases-emit_if l = 5 * (nodes (tree_of l.test.now) + (nodes (tree_of l.first.now) + nodes (tree_of l.second.now))) + 1
+
+abbrev pub decreases-emit_bound : goal.decreases-emit_bound
+decreases-emit_bound l = 5 * (nodes_in (trees_of l.values.now) + nodes (tree_of l.body.now)) + 2
 
 abbrev pub decreases-emit_loop : goal.decreases-emit_loop
-decreases-emit_loop l = 3 * (nodes_in (trees_of l.values.now) + nodes (tree_of l.body.now)) + 2
+decreases-emit_loop l = 5 * (nodes_in (trees_of l.values.now) + nodes (tree_of l.body.now)) + 2
 
 abbrev pub decreases-emit_recur : goal.decreases-emit_recur
-decreases-emit_recur l = 3 * nodes_in (trees_of l.values.now) + 2
+decreases-emit_recur l = 5 * nodes_in (trees_of l.values.now) + 2
 
 abbrev pub decreases-emit_dosync : goal.decreases-emit_dosync
-decreases-emit_dosync l = 3 * nodes (tree_of l.body.now) + 1
+decreases-emit_dosync l = 5 * nodes (tree_of l.body.now) + 2
 
-abbrev pub decreases-emit_alter : goal.decreases-emit_alter
-decreases-emit_alter l = 3 * (nodes (tree_of l.cell.now) + nodes_in (trees_of l.args.now)) + 2
+abbrev pub decreases-emit_applied : goal.decreases-emit_applied
+decreases-emit_applied l = 5 * nodes_in (trees_of l.args.now) + 2
+
+abbrev pub decreases-emit_then : goal.decreases-emit_then
+decreases-emit_then l = 5 * nodes (tree_of l.node.now) + 1
+
+abbrev pub decreases-emit_put : goal.decreases-emit_put
+decreases-emit_put l = 5 * (nodes (tree_of l.cell.now) + nodes (tree_of l.value.now)) + 2
+
+abbrev pub decreases-emit_update : goal.decreases-emit_update
+decreases-emit_update l = 5 * (nodes (tree_of l.cell.now) + nodes_in (trees_of l.args.now)) + 2
+
+abbrev pub decreases-emit_send : goal.decreases-emit_send
+decreases-emit_send l = 5 * (nodes (tree_of l.cell.now) + nodes_in (trees_of l.args.now)) + 3

@@ -2,10 +2,12 @@ use Rattle.std.proofs.Common.{◌≡◌, Result, Ok, Err, IfOk, arith, ◌+◌, 
 use Rattle.txs_tree.specs.Known.{known}
 use Rattle.txs_tree.specs.Sound.{SoundFunctions, SoundThreads, nodes_of_functions, nodes_of_all}
 use Rattle.txs_tree.specs.View.{functions_of, threads_of, program_of}
+use Rattle.txs_code.specs.RunsToday.{RunsToday}
 use Rattle.txs_code.specs.WellTyped.{WellTyped}
 use Rattle.txs_gen.specs.Bodies.{functions_from, function_rooms, threads_from, thread_rooms}
 use Rattle.txs_gen.specs.Generated.{constants_of_functions, constants_of_threads, IsCodeOf}
 use Rattle.txs_gen.proofs.Bodies.{code_from, code_is, code_right, code_well_typed, functions_nodes, lawful_none, lawful_from}
+use Rattle.txs_gen.proofs.Today.{code_runs_today}
 use Rattle.txs_gen.proofs.threads.generate.Goals as goal
 
 pub functions_code-requires : goal.functions_code-requires
@@ -43,9 +45,12 @@ seal-requires c =
     let functions = a.bodies ∙ ap (λ l. functions_from l 0) f in
     let threads = b.bodies ∙ ap (λ l. threads_from (threads_of c.threads-threads.result.now) (length l)) before ∙ ap (λ l. threads_from l (length (constants_of_functions fs))) t in
     let code = c.new-code.ensures ∙ code_is _ zs _ (constants_of_functions fs ++ constants_of_threads ts) _ (functions_from fs 0) _ (threads_from ts (length (constants_of_functions fs))) (c.in_ok-cells.ensures ∙ c.cells.ensures) constants functions threads in
-    subst (λ x. WellTyped x c.in_ok-of_functions.of_functions.rooms.items c.in_ok-of_threads.of_threads.rooms.items) (sym code)
-    (subst (λ r. WellTyped (code_from zs fs ts) r c.in_ok-of_threads.of_threads.rooms.items) (sym (a.rooms ∙ ap function_rooms f))
-    (subst (λ r. WellTyped (code_from zs fs ts) (function_rooms fs) r) (sym (b.rooms ∙ ap thread_rooms t)) (code_well_typed zs fs ts sound.functions sound.threads)))
+    record {
+      typed = subst (λ x. WellTyped x c.in_ok-of_functions.of_functions.rooms.items c.in_ok-of_threads.of_threads.rooms.items) (sym code)
+          (subst (λ r. WellTyped (code_from zs fs ts) r c.in_ok-of_threads.of_threads.rooms.items) (sym (a.rooms ∙ ap function_rooms f))
+          (subst (λ r. WellTyped (code_from zs fs ts) (function_rooms fs) r) (sym (b.rooms ∙ ap thread_rooms t)) (code_well_typed zs fs ts sound.functions sound.threads)));
+      today = subst RunsToday (sym code) (code_runs_today (code_from zs fs ts) (program_of c.args.program.now) (code_right zs fs ts sound.functions sound.threads (program_of c.args.program.now) refl refl refl) c.requires.today);
+    }
 
 -- what follows from what holds of a result
 if_ok : {A B : Type 0} (P Q : A → Type 0) → ((a : A) → P a → Q a) → (r : Result A B) → IfOk r P → IfOk r Q
