@@ -1,8 +1,9 @@
 -- What a longer book leaves as it was.
 use Rattle.std.proofs.Common.{◌≡◌, ◌≤◌, ℕ, zero, suc, Bool, true, false, not, ◌&&◌, ◌||◌, ◌==◌, List, [], ◌∷◌, ◌++◌, length, refl, sym, ap, ◌∙◌, subst, arith, append_assoc}
+use Rattle.std.proofs.lemmas.Bool.{false≢true}
 use Rattle.txs_value.specs.Cells.{World}
 use Rattle.txs_asks.specs.declared.event.Event.{Event}
-use Rattle.txs_world.specs.Book.{changed, after, writes_to, written, all_before, Each}
+use Rattle.txs_world.specs.Book.{changed, after, writes_to, written, counts, all_before, Mail, mail_changed, mail_from, Each}
 use Rattle.txs_asks.specs.SeenEvent.{SeenEvent}
 use Rattle.txs_world.specs.History.{past_of, before, history_from}
 
@@ -31,6 +32,10 @@ pub after_last : (w : World) (es : List Event) (e : Event) → after w (es ++ e 
 after_last w [] e = refl
 after_last w (d ∷ es) e = after_last (changed d.kind w) es e
 
+pub neither : (a b : Bool) → (a || b) ≡ false → (a ≡ false) × (b ≡ false)
+neither true b h = absurd (false≢true (sym h))
+neither false b h = (refl, h)
+
 -- a ref that the event doesn't write
 pub unwritten_more : (k p : ℕ) (es : List Event) (e : Event) → writes_to e.kind k ≡ false → written k p (es ++ e ∷ []) ≡ written k p es
 unwritten_more k zero [] e h = ap (λ b. b || false) h
@@ -50,24 +55,37 @@ written_end k p [] le = refl
 written_end k zero (e ∷ es) le = absurd (omega (arith, le))
 written_end k (suc p) (e ∷ es) le = written_end k p es (omega (arith, le))
 
--- another actor's event leaves an actor's events where they stood
-pub before_more : (a p : ℕ) (es : List Event) (e : Event) → (e.actor == a) ≡ false → all_before a p (es ++ e ∷ []) ≡ all_before a p es
-before_more a zero [] e h = ap (λ b. not b && true) h
-before_more a (suc p) [] e h = refl
-before_more a zero (d ∷ es) e h = ap (λ b. not (d.actor == a) && b) (before_more a zero es e h)
-before_more a (suc p) (d ∷ es) e h = before_more a p es e h
+-- a cell that isn't written from a place on isn't written from a later one on
+pub unwritten_later : (k p q : ℕ) (es : List Event) → p ≤ q → written k p es ≡ false → written k q es ≡ false
+unwritten_later k p q [] le h = refl
+unwritten_later k zero zero (e ∷ es) le h = h
+unwritten_later k zero (suc q) (e ∷ es) le h = unwritten_later k zero q es (omega arith) (neither (writes_to e.kind k) (written k zero es) h).1
+unwritten_later k (suc p) zero (e ∷ es) le h = absurd (omega (arith, le))
+unwritten_later k (suc p) (suc q) (e ∷ es) le h = unwritten_later k p q es (omega (arith, le)) h
 
--- an actor's own event
-pub before_own : (a p : ℕ) (es : List Event) (e : Event) → (e.actor == a) ≡ true → p ≤ length es → all_before a p (es ++ e ∷ []) ≡ false
-before_own a zero [] e h le = ap (λ b. not b && true) h
-before_own a (suc p) [] e h le = absurd (omega (arith, le))
-before_own a zero (d ∷ es) e h le = ap (λ b. not (d.actor == a) && b) (before_own a zero es e h (omega arith)) ∙ and_false (not (d.actor == a))
-before_own a (suc p) (d ∷ es) e h le = before_own a p es e h (omega (arith, le))
+-- an event that doesn't count for an actor leaves the actor's events where they stood
+pub before_more : (all : Bool) (a p : ℕ) (es : List Event) (e : Event) → (e.actor == a && counts all e.kind) ≡ false → all_before all a p (es ++ e ∷ []) ≡ all_before all a p es
+before_more all a zero [] e h = ap (λ b. not b && true) h
+before_more all a (suc p) [] e h = refl
+before_more all a zero (d ∷ es) e h = ap (λ b. not (d.actor == a && counts all d.kind) && b) (before_more all a zero es e h)
+before_more all a (suc p) (d ∷ es) e h = before_more all a p es e h
 
-pub before_end : (a p : ℕ) (es : List Event) → length es ≤ p → all_before a p es ≡ true
-before_end a p [] le = refl
-before_end a zero (e ∷ es) le = absurd (omega (arith, le))
-before_end a (suc p) (e ∷ es) le = before_end a p es (omega (arith, le))
+-- one that counts
+pub before_own : (all : Bool) (a p : ℕ) (es : List Event) (e : Event) → (e.actor == a && counts all e.kind) ≡ true → p ≤ length es → all_before all a p (es ++ e ∷ []) ≡ false
+before_own all a zero [] e h le = ap (λ b. not b && true) h
+before_own all a (suc p) [] e h le = absurd (omega (arith, le))
+before_own all a zero (d ∷ es) e h le = ap (λ b. not (d.actor == a && counts all d.kind) && b) (before_own all a zero es e h (omega arith)) ∙ and_false (not (d.actor == a && counts all d.kind))
+before_own all a (suc p) (d ∷ es) e h le = before_own all a p es e h (omega (arith, le))
+
+pub before_end : (all : Bool) (a p : ℕ) (es : List Event) → length es ≤ p → all_before all a p es ≡ true
+before_end all a p [] le = refl
+before_end all a zero (e ∷ es) le = absurd (omega (arith, le))
+before_end all a (suc p) (e ∷ es) le = before_end all a p es (omega (arith, le))
+
+-- the mail after one more event
+pub mail_last : (goes : Bool) (k : ℕ) (m : Mail) (es : List Event) (e : Event) → mail_from goes k m (es ++ e ∷ []) ≡ mail_changed goes k e.kind (mail_from goes k m es)
+mail_last goes k m [] e = refl
+mail_last goes k m (d ∷ es) e = mail_last goes k (mail_changed goes k d.kind m) es e
 
 pub each_more : (P : List Event → Event → Type 0) (done es : List Event) (e : Event) → Each P done es → P (done ++ es) e → Each P done (es ++ e ∷ [])
 each_more P done [] e h p = (subst (λ l. P l e) (append_nil done) p, tt)

@@ -1,26 +1,32 @@
 -- The store's parts agree from its opening on, and after each event.
-use Rattle.std.proofs.Common.{◌≡◌, ◌≢◌, ◌≤◌, ◌<◌, ℕ, zero, suc, Bool, true, false, ◌&&◌, ◌==◌, nat_lt, slice_index, List, [], ◌∷◌, ◌++◌, length, get_or, set, Option, Some, None, refl, ap, subst, sym, ◌∙◌, arith, length-append, if◌then◌else◌, Fits, w32}
+use Rattle.std.proofs.Common.{◌≡◌, ◌≢◌, ◌<◌, ℕ, zero, suc, Bool, true, false, ◌&&◌, ◌==◌, nat_lt, nat_le, slice_index, List, [], ◌∷◌, ◌++◌, length, get_or, set, Option, Some, None, Result, Ok, Err, refl, ap, subst, sym, ◌∙◌, arith, length-append, if◌then◌else◌}
 use Rattle.std.proofs.lemmas.Bool.{ltb-true, false≢true}
 use Rattle.std.proofs.lemmas.Bool.Decides.{nat_tests}
 use Rattle.std.proofs.lemmas.List.{get_or-set_same, get_or-set_other, length-set}
 use Rattle.txs_asks.specs.Ask.{Writes, buffered}
+use Rattle.txs_mail.specs.Mailbox.{IsMailbox}
 use Rattle.txs_value.specs.Cells.{World}
+use Rattle.txs_value.specs.Forms.{same_kind}
 use Rattle.txs_value.specs.Places.{nth}
-use Rattle.txs_asks.specs.declared.ask.Reply.TheVariants as reply
 use Rattle.txs_asks.specs.declared.event.Event.{Event}
 use Rattle.txs_asks.specs.declared.event.EventKind.{EventKind}
-use Rattle.txs_asks.specs.declared.event.EventKind.TheVariants.{Read, Commit, Retry, Fail}
+use Rattle.txs_asks.specs.declared.event.EventKind.TheVariants.{Read, Commit, Retry, Fail, Refused, Send, SendRefused, Act, Swap, Broke}
+use Rattle.txs_value.specs.declared.action.Action.{Action}
+use Rattle.txs_value.specs.declared.fault.Fault.{Fault}
 use Rattle.txs_value.specs.declared.value.CellId.{CellId}
-use Rattle.txs_value.specs.declared.value.CellKind.TheVariants.{Ref}
+use Rattle.txs_value.specs.declared.value.CellKind.TheVariants.{Ref, Agent}
 use Rattle.txs_value.specs.declared.value.Value.{Value}
-use Rattle.txs_world.specs.Book.{same_kind, is_of_kind, opening, value_or, changed, after, is_there, writes_to, written, has_cell, has_ref, has_refs, LegalKind, Guarded}
+use Rattle.txs_world.specs.Book.{is_of_kind, goes_on, opening, are_refs, are_sends, cells_in, value_or, state_of, writes_of, changed, after, is_there, writes_to, counts, no_mail, Mail, waits, acted, mailed, sent_to, mail_after, mail_changed, has_cell, has_ref, has_agent, makes, LegalKind, Guarded}
 use Rattle.txs_value.specs.Limits.{most_events}
-use Rattle.txs_world.specs.Kept.{slot_of, no_slot, IsSlot, StandsAt, open_slots, put_all, all_below, WritesNothing, IsKept}
-use Rattle.txs_world.specs.Store.{PlainStore, store_with, event_of, looks}
+use Rattle.txs_world.specs.Inboxes.{PlainInbox, no_inbox, open_inboxes, inbox_of, mailed_all, all_sent_below, finished, fault_of, taken_up}
+use Rattle.txs_world.specs.Kept.{slot_of, no_slot, IsSlot, StandsAt, open_slots, put_all, all_below, Marked, StandAsBefore, IsInbox, ChangesNothing, IsKept}
+use Rattle.txs_world.specs.Store.{event_of}
 use Rattle.txs_world.specs.declared.cell.StoreCell.{StoreCell}
 use Rattle.txs_world.specs.declared.slot.Slot.{Slot}
-use Rattle.txs_world.proofs.Growth.{after_last, unwritten_more, written_more, written_end, before_more, before_own, before_end}
-use Rattle.txs_world.proofs.Older.{both, unset, after_unwritten}
+use Rattle.txs_world.proofs.Growth.{after_last, unwritten_more, written_more, written_end, before_more, before_own, before_end, mail_last}
+use Rattle.txs_world.proofs.Mailing.{equal, unequal, mailed_many, mailed_at, is_inbox, inbox_entered, inbox_taken, inbox_finished, no_fault, failed_is}
+use Rattle.txs_world.proofs.Merging.{both}
+use Rattle.txs_world.proofs.Older.{unset}
 use Rattle.txs_world.proofs.Serves.{keeps}
 
 -- ---- the opening
@@ -34,28 +40,42 @@ slots_open [] k = refl
 slots_open (c ∷ cs) zero = refl
 slots_open (c ∷ cs) (suc k) = slots_open cs k
 
-pub opening_kept : (cells : List StoreCell) → IsKept cells (open_slots cells) [] []
-opening_kept cells =
+inboxes_many : (cells : List StoreCell) → length (open_inboxes cells) ≡ length cells
+inboxes_many [] = refl
+inboxes_many (c ∷ cs) = ap suc (inboxes_many cs)
+
+inboxes_open : (cells : List StoreCell) (k : ℕ) → get_or (open_inboxes cells) k no_inbox ≡ inbox_of (goes_on (nth cells k)) false no_mail
+inboxes_open [] k = refl
+inboxes_open (c ∷ cs) zero = refl
+inboxes_open (c ∷ cs) (suc k) = inboxes_open cs k
+
+opening_kept : (cells : List StoreCell) (threads : ℕ) → IsKept cells threads (open_slots cells) (open_inboxes cells) [] [] []
+opening_kept cells threads =
     record {
       many = slots_many cells;
-      newest = λ k lt. subst (λ s. IsSlot (opening cells) [] k s) (sym (slots_open cells k)) (record { value = refl; since = λ p h. absurd (omega (arith, h)); not_since = λ p h. refl });
-      actors = λ a. record { stands = λ p h. refl; passed = λ p h. absurd (omega (arith, h)) };
-      legal = record { few = omega arith; each = tt };
+      as_many = inboxes_many cells;
+      values = λ k lt. subst (λ s. IsSlot (opening cells) [] k s) (sym (slots_open cells k)) (record { value = refl; since = λ p h. absurd (omega (arith, h)); not_since = λ p h. refl });
+      mail = λ k lt. subst (λ b. IsInbox (goes_on (nth cells k)) no_mail b) (sym (inboxes_open cells k)) refl;
+      all = λ a. record { stands = λ p h. refl; passed = λ p h. absurd (omega (arith, h)) };
+      some = λ a. record { stands = λ p h. refl; passed = λ p h. absurd (omega (arith, h)) };
+      legal = record { few = omega arith; made = tt; each = tt };
       undisturbed = tt;
     }
 
+pub opened_kept : (cells : List StoreCell) (threads : ℕ) (slots : List Slot) (inboxes : List PlainInbox) (views tries : List ℕ) (book : List Event) → slots ≡ open_slots cells → inboxes ≡ open_inboxes cells → views ≡ [] → tries ≡ [] → book ≡ [] → IsKept cells threads slots inboxes views tries book
+opened_kept cells threads slots inboxes views tries book is boxes no_views no_tries empty =
+    subst (λ u. IsKept cells threads u inboxes views tries book) (sym is)
+    (subst (λ u. IsKept cells threads (open_slots cells) u views tries book) (sym boxes)
+    (subst (λ u. IsKept cells threads (open_slots cells) (open_inboxes cells) u tries book) (sym no_views)
+    (subst (λ u. IsKept cells threads (open_slots cells) (open_inboxes cells) [] u book) (sym no_tries)
+    (subst (IsKept cells threads (open_slots cells) (open_inboxes cells) [] []) (sym empty) (opening_kept cells threads)))))
+
 -- ---- one more event
 
--- the slot of a ref after an event
-abbrev put_in : Option Value → ℕ → Slot → Slot
+-- the slot of a cell after an event
+abbrev pub put_in : Option Value → ℕ → Slot → Slot
 put_in None n s = s
 put_in (Some v) n s = slot_of v n
-
-abbrev pub moved : EventKind → ℕ → ℕ → Slot → Slot
-moved (Read c) n k s = s
-moved (Commit at ws) n k s = put_in (buffered ws k) n s
-moved (Retry since c) n k s = s
-moved (Fail at) n k s = s
 
 slot_same : (w : World) (es : List Event) (e : Event) (k : ℕ) (s : Slot) → writes_to e.kind k ≡ false → IsSlot w es k s → IsSlot w (es ++ e ∷ []) k s
 slot_same w es e k s off h =
@@ -74,70 +94,118 @@ slot_put w es e k v on is =
       not_since = λ p le. written_end k p (es ++ e ∷ []) (omega (arith, le, n));
     }
 
-slot_more : (w : World) (es : List Event) (a : ℕ) (d : EventKind) (k : ℕ) (s : Slot) → IsSlot w es k s → IsSlot w (es ++ event_of a d ∷ []) k (moved d (suc (length es)) k s)
-slot_more w es a (Read c) k s h = slot_same w es (event_of a (Read c)) k s refl h
-slot_more w es a (Commit at ws) k s h = go (buffered ws k) refl
+slot_more : (w : World) (es : List Event) (e : Event) (k : ℕ) (s : Slot) → IsSlot w es k s → IsSlot w (es ++ e ∷ []) k (put_in (buffered (writes_of e.kind) k) (suc (length es)) s)
+slot_more w es e k s h = go (buffered (writes_of e.kind) k) refl
   where
-    go : (o : Option Value) → buffered ws k ≡ o → IsSlot w (es ++ event_of a (Commit at ws) ∷ []) k (put_in o (suc (length es)) s)
-    go None e = slot_same w es (event_of a (Commit at ws)) k s (ap is_there e) h
-    go (Some v) e = slot_put w es (event_of a (Commit at ws)) k v (ap is_there e) (ap (λ o. value_or o (after w es (length es) k)) e)
-slot_more w es a (Retry since c) k s h = slot_same w es (event_of a (Retry since c)) k s refl h
-slot_more w es a (Fail at) k s h = slot_same w es (event_of a (Fail at)) k s refl h
+    go : (o : Option Value) → buffered (writes_of e.kind) k ≡ o → IsSlot w (es ++ e ∷ []) k (put_in o (suc (length es)) s)
+    go None q = slot_same w es e k s (ap is_there q) h
+    go (Some v) q = slot_put w es e k v (ap is_there q) (ap (λ o. value_or o (after w es (length es) k)) q)
 
-equal : (a b : ℕ) → (a == b) ≡ true → a ≡ b
-equal a b e = grind (arith, nat_tests)
-
-unequal : (a b : ℕ) → (a == b) ≡ false → a ≢ b
-unequal a b e = grind (arith, nat_tests)
-
-actor_more : (stands : List ℕ) (es : List Event) (a : ℕ) (d : EventKind) (b : ℕ) → a < length stands → StandsAt es b (slice_index stands b)
-    → StandsAt (es ++ event_of a d ∷ []) b (slice_index (set stands a (suc (length es))) b)
-actor_more stands es a d b lt h = go (a == b) refl
+pub actor_more : (all : Bool) (old new : List ℕ) (es : List Event) (a : ℕ) (d : EventKind) (b : ℕ) → Marked (counts all d) a (suc (length es)) old new → StandsAt all es b (slice_index old b) → StandsAt all (es ++ event_of a d ∷ []) b (slice_index new b)
+actor_more all old new es a d b marks h = subst (StandsAt all (es ++ event_of a d ∷ []) b) (sym (marks b)) (go (a == b && counts all d) refl)
   where
-    own : (a == b) ≡ true → StandsAt (es ++ event_of a d ∷ []) b (suc (length es))
-    own e =
+    go : (t : Bool) → (a == b && counts all d) ≡ t → StandsAt all (es ++ event_of a d ∷ []) b (if t then suc (length es) else slice_index old b)
+    go true e =
         let many = length-append es (event_of a d ∷ []) in
         record {
-          stands = λ p le. before_end b p (es ++ event_of a d ∷ []) (omega (arith, le, many));
-          passed = λ p lt. before_own b p es (event_of a d) e (omega (arith, lt));
+          stands = λ p le. before_end all b p (es ++ event_of a d ∷ []) (omega (arith, le, many));
+          passed = λ p lt. before_own all b p es (event_of a d) e (omega (arith, lt));
         }
-
-    other : (a == b) ≡ false → StandsAt (es ++ event_of a d ∷ []) b (slice_index stands b)
-    other e =
+    go false e =
         record {
-          stands = λ p le. before_more b p es (event_of a d) e ∙ h.stands p le;
-          passed = λ p lt. before_more b p es (event_of a d) e ∙ h.passed p lt;
+          stands = λ p le. before_more all b p es (event_of a d) e ∙ h.stands p le;
+          passed = λ p lt. before_more all b p es (event_of a d) e ∙ h.passed p lt;
         }
 
-    go : (t : Bool) → (a == b) ≡ t → StandsAt (es ++ event_of a d ∷ []) b (slice_index (set stands a (suc (length es))) b)
-    go true e = subst (StandsAt (es ++ event_of a d ∷ []) b) (sym (ap (slice_index (set stands a (suc (length es)))) (sym (equal a b e)) ∙ get_or-set_same stands a (suc (length es)) 0 lt)) (own e)
-    go false e = let off : b ≢ a = λ q. unequal a b e (sym q) in subst (StandsAt (es ++ event_of a d ∷ []) b) (sym (get_or-set_other stands a b (suc (length es)) 0 off)) (other e)
+-- an inbox after an event
+abbrev pub InboxMoves : List StoreCell → List PlainInbox → List PlainInbox → List Event → EventKind → Type 0
+InboxMoves cells old new book d =
+    (k : ℕ) → k < length old → IsInbox (goes_on (nth cells k)) (mail_after cells book k) (get_or old k no_inbox) → IsInbox (goes_on (nth cells k)) (mail_changed (goes_on (nth cells k)) k d (mail_after cells book k)) (get_or new k no_inbox)
 
-pub kept_more : (cells : List StoreCell) (slots now : List Slot) (stands : List ℕ) (book : List Event) (a : ℕ) (d : EventKind)
-    → IsKept cells slots stands book → length book < most_events → LegalKind cells book a d → Guarded book d → a < length stands
-    → length now ≡ length slots → ((k : ℕ) → k < length slots → get_or now k no_slot ≡ moved d (suc (length book)) k (get_or slots k no_slot))
-    → IsKept cells now (set stands a (suc (length book))) (book ++ event_of a d ∷ [])
-kept_more cells slots now stands book a d h lt l g room size is =
-    let all = keeps cells book a d (h.legal, h.undisturbed) lt l g in
-    record {
+-- a slot after an event
+abbrev pub SlotsMove : List Slot → List Slot → List Event → EventKind → Type 0
+SlotsMove old new book d = (k : ℕ) → k < length old → get_or new k no_slot ≡ put_in (buffered (writes_of d) k) (suc (length book)) (get_or old k no_slot)
+
+pub kept_more : (cells : List StoreCell) (threads : ℕ) (slots now : List Slot) (inboxes boxes : List PlainInbox) (views tries vs ts : List ℕ) (book more : List Event) (a : ℕ) (d : EventKind)
+    → IsKept cells threads slots inboxes views tries book → length book < most_events → makes cells threads a d ≡ true → LegalKind cells book a d → Guarded book d
+    → length now ≡ length slots → SlotsMove slots now book d → length boxes ≡ length inboxes → InboxMoves cells inboxes boxes book d
+    → Marked true a (suc (length book)) views vs → Marked (counts false d) a (suc (length book)) tries ts → more ≡ book ++ event_of a d ∷ []
+    → IsKept cells threads now boxes vs ts more
+kept_more cells threads slots now inboxes boxes views tries vs ts book more a d h lt by l g size slots_are boxes_size boxes_are all some is =
+    let k2 = keeps cells threads book a d (h.legal, h.undisturbed) lt by l g in
+    subst (IsKept cells threads now boxes vs ts) (sym is) (record {
       many = size ∙ h.many;
-      newest = λ k in_now. let in_slots : k < length slots = omega (arith, in_now, size) in
-          subst (λ s. IsSlot (opening cells) (book ++ event_of a d ∷ []) k s) (sym (is k in_slots)) (slot_more (opening cells) book a d k (get_or slots k no_slot) (h.newest k in_slots));
-      actors = λ b. actor_more stands book a d b room (h.actors b);
-      legal = all.0;
-      undisturbed = all.1;
-    }
+      as_many = boxes_size ∙ h.as_many;
+      values = λ k in_now. let in_slots : k < length slots = omega (arith, in_now, size) in
+          subst (λ s. IsSlot (opening cells) (book ++ event_of a d ∷ []) k s) (sym (slots_are k in_slots)) (slot_more (opening cells) book (event_of a d) k (get_or slots k no_slot) (h.values k in_slots));
+      mail = λ k in_now. let in_boxes : k < length inboxes = omega (arith, in_now, boxes_size) in
+          subst (λ m. IsInbox (goes_on (nth cells k)) m (get_or boxes k no_inbox)) (sym (mail_last (goes_on (nth cells k)) k no_mail book (event_of a d))) (boxes_are k in_boxes (h.mail k in_boxes));
+      all = λ b. actor_more true views vs book a d b all (h.all b);
+      some = λ b. actor_more false tries ts book a d b some (h.some b);
+      legal = k2.0;
+      undisturbed = k2.1;
+    })
 
--- the same of an event that writes nothing
-pub kept_quiet : (cells : List StoreCell) (slots : List Slot) (stands : List ℕ) (book : List Event) (a : ℕ) (d : EventKind)
-    → IsKept cells slots stands book → length book < most_events → LegalKind cells book a d → WritesNothing d → a < length stands
-    → IsKept cells slots (set stands a (suc (length book))) (book ++ event_of a d ∷ [])
-kept_quiet cells slots stands book a (Read c) h lt l q room = kept_more cells slots slots stands book a (Read c) h lt l tt room refl (λ k h. refl)
-kept_quiet cells slots stands book a (Commit at ws) h lt l q room = absurd q
-kept_quiet cells slots stands book a (Retry since c) h lt l q room = kept_more cells slots slots stands book a (Retry since c) h lt l tt room refl (λ k h. refl)
-kept_quiet cells slots stands book a (Fail at) h lt l q room = kept_more cells slots slots stands book a (Fail at) h lt l tt room refl (λ k h. refl)
+-- an event that changes nothing leaves slots and inboxes as they are
+quiet_slots : (slots : List Slot) (book : List Event) (d : EventKind) → ChangesNothing d → SlotsMove slots slots book d
+quiet_slots slots book (Read c) q k lt = refl
+quiet_slots slots book (Commit at view ws sends) q k lt = absurd q
+quiet_slots slots book (Retry since c commute) q k lt = refl
+quiet_slots slots book (Fail at view) q k lt = refl
+quiet_slots slots book (Refused at view g) q k lt = refl
+quiet_slots slots book (Send x) q k lt = absurd q
+quiet_slots slots book (SendRefused g) q k lt = refl
+quiet_slots slots book (Act g n new) q k lt = absurd q
+quiet_slots slots book (Swap new) q k lt = absurd q
+quiet_slots slots book (Broke at) q k lt = absurd q
 
--- ---- what a commit wrote
+quiet_inboxes : (cells : List StoreCell) (boxes : List PlainInbox) (book : List Event) (d : EventKind) → ChangesNothing d → InboxMoves cells boxes boxes book d
+quiet_inboxes cells boxes book (Read c) q k lt h = h
+quiet_inboxes cells boxes book (Commit at view ws sends) q k lt h = absurd q
+quiet_inboxes cells boxes book (Retry since c commute) q k lt h = h
+quiet_inboxes cells boxes book (Fail at view) q k lt h = h
+quiet_inboxes cells boxes book (Refused at view g) q k lt h = h
+quiet_inboxes cells boxes book (Send x) q k lt h = absurd q
+quiet_inboxes cells boxes book (SendRefused g) q k lt h = h
+quiet_inboxes cells boxes book (Act g n new) q k lt h = absurd q
+quiet_inboxes cells boxes book (Swap new) q k lt h = absurd q
+quiet_inboxes cells boxes book (Broke at) q k lt h = absurd q
+
+quiet_guarded : (book : List Event) (d : EventKind) → ChangesNothing d → Guarded book d
+quiet_guarded book (Read c) q = tt
+quiet_guarded book (Commit at view ws sends) q = absurd q
+quiet_guarded book (Retry since c commute) q = tt
+quiet_guarded book (Fail at view) q = tt
+quiet_guarded book (Refused at view g) q = tt
+quiet_guarded book (Send x) q = tt
+quiet_guarded book (SendRefused g) q = tt
+quiet_guarded book (Act g n new) q = tt
+quiet_guarded book (Swap new) q = tt
+quiet_guarded book (Broke at) q = tt
+
+pub kept_quiet : (cells : List StoreCell) (threads : ℕ) (slots : List Slot) (inboxes : List PlainInbox) (views tries vs ts : List ℕ) (book more : List Event) (a : ℕ) (d : EventKind)
+    → IsKept cells threads slots inboxes views tries book → length book < most_events → makes cells threads a d ≡ true → LegalKind cells book a d → ChangesNothing d
+    → Marked true a (suc (length book)) views vs → Marked (counts false d) a (suc (length book)) tries ts → more ≡ book ++ event_of a d ∷ []
+    → IsKept cells threads slots inboxes vs ts more
+kept_quiet cells threads slots inboxes views tries vs ts book more a d h lt by l q all some is =
+    kept_more cells threads slots slots inboxes inboxes views tries vs ts book more a d h lt by l (quiet_guarded book d q) refl (quiet_slots slots book d q) refl (quiet_inboxes cells inboxes book d q) all some is
+
+-- only where each actor stands matters
+pub same_stands : (cells : List StoreCell) (threads : ℕ) (slots : List Slot) (inboxes boxes : List PlainInbox) (views tries vs ts : List ℕ) (book more : List Event) → boxes ≡ inboxes → StandAsBefore views vs → StandAsBefore tries ts → more ≡ book
+    → IsKept cells threads slots inboxes views tries book → IsKept cells threads slots boxes vs ts more
+same_stands cells threads slots inboxes boxes views tries vs ts book more boxes_are all some is h =
+    subst (IsKept cells threads slots boxes vs ts) (sym is) (subst (λ b. IsKept cells threads slots b vs ts book) (sym boxes_are) (record {
+      many = h.many;
+      as_many = h.as_many;
+      values = h.values;
+      mail = h.mail;
+      all = λ a. subst (StandsAt true book a) (sym (all a)) (h.all a);
+      some = λ a. subst (StandsAt false book a) (sym (some a)) (h.some a);
+      legal = h.legal;
+      undisturbed = h.undisturbed;
+    }))
+
+-- ---- what an event wrote
 
 pub put_many : (n : ℕ) (slots : List Slot) (ws : Writes) → length (put_all n slots ws) ≡ length slots
 put_many n slots [] = refl
@@ -166,6 +234,11 @@ below_back n (x ∷ ws) w h =
     let r = below_back n ws w m.1 in
     (r.0, ap (λ t. t && all_below n ws) m.0 ∙ r.1)
 
+-- ---- commits, sends and actions
+
+below : (k n : ℕ) → k < n → nat_lt k n ≡ true
+below k n lt = grind (arith, nat_tests)
+
 -- a cell of the store has its number below theirs
 pub cell_in : (cells : List StoreCell) (c : CellId) → has_cell cells c ≡ true → c.number < length cells
 cell_in cells c h = go cells c.number h
@@ -178,74 +251,124 @@ cell_in cells c h = go cells c.number h
 pub ref_in : (cells : List StoreCell) (c : CellId) → has_ref cells c ≡ true → c.number < length cells
 ref_in cells c h = cell_in cells c (both (same_kind c.kind Ref) (has_cell cells c) h).1
 
-below : (k n : ℕ) → k < n → nat_lt k n ≡ true
-below k n lt = grind (arith, nat_tests)
+pub agent_in : (cells : List StoreCell) (c : CellId) → has_agent cells c ≡ true → c.number < length cells
+agent_in cells c h = cell_in cells c (both (same_kind c.kind Agent) (has_cell cells c) h).1
 
-pub refs_below : (cells : List StoreCell) (n : ℕ) (ws : Writes) → n ≡ length cells → has_refs cells ws ≡ true → all_below n ws ≡ true
-refs_below cells n [] e h = refl
-refs_below cells n (w ∷ ws) e h =
-    let m = both (has_ref cells w.0) (has_refs cells ws) h in
-    let lt = ref_in cells w.0 m.0 in
-    ap (λ t. t && all_below n ws) (below w.0.number n (omega (arith, e, lt))) ∙ refs_below cells n ws e m.1
+pub refs_below : (cells : List StoreCell) (n m : ℕ) (ws : Writes) → n ≡ length cells → are_refs cells m (cells_in ws) ≡ true → all_below n ws ≡ true
+refs_below cells n m [] e h = refl
+refs_below cells n m (w ∷ ws) e h =
+    let a = both (has_ref cells w.0) (nat_le m w.0.number && are_refs cells (suc w.0.number) (cells_in ws)) h in
+    let b = both (nat_le m w.0.number) (are_refs cells (suc w.0.number) (cells_in ws)) a.1 in
+    let lt = ref_in cells w.0 a.0 in
+    ap (λ t. t && all_below n ws) (below w.0.number n (omega (arith, e, lt))) ∙ refs_below cells n (suc w.0.number) ws e b.1
+
+pub sends_below : (cells : List StoreCell) (n : ℕ) (xs : List Action) → n ≡ length cells → are_sends cells xs ≡ true → all_sent_below n xs ≡ true
+sends_below cells n [] e h = refl
+sends_below cells n (x ∷ xs) e h =
+    let a = both (has_agent cells x.agent) (are_sends cells xs) h in
+    let lt = agent_in cells x.agent a.0 in
+    ap (λ t. t && all_sent_below n xs) (below x.agent.number n (omega (arith, e, lt))) ∙ sends_below cells n xs e a.1
+
+pub state_below : (n : ℕ) (g : CellId) (new : Result Value Fault) → g.number < n → all_below n (state_of g new) ≡ true
+state_below n g (Ok v) lt = ap (λ t. t && true) (below g.number n lt)
+state_below n g (Err f) lt = refl
+
+moves_mailed : (cells : List StoreCell) (bs : List PlainInbox) (book : List Event) (xs : List Action) (k : ℕ) → k < length bs → IsInbox (goes_on (nth cells k)) (mail_after cells book k) (get_or bs k no_inbox)
+    → IsInbox (goes_on (nth cells k)) (mailed (sent_to k xs) (mail_after cells book k)) (get_or (mailed_all bs xs) k no_inbox)
+moves_mailed cells bs book xs k lt h =
+    subst (λ b. IsInbox (goes_on (nth cells k)) (mailed (sent_to k xs) (mail_after cells book k)) b) (sym (mailed_at bs xs k lt)) (inbox_entered (goes_on (nth cells k)) (mail_after cells book k) (get_or bs k no_inbox) (sent_to k xs) h)
 
 -- one more commit
-pub kept_commit : (cells : List StoreCell) (slots : List Slot) (stands : List ℕ) (book : List Event) (a at : ℕ) (ws : Writes)
-    → IsKept cells slots stands book → length book < most_events → LegalKind cells book a (Commit at ws) → Guarded book (Commit at ws) → a < length stands
-    → IsKept cells (put_all (suc (length book)) slots ws) (set stands a (suc (length book))) (book ++ event_of a (Commit at ws) ∷ [])
-kept_commit cells slots stands book a at ws h lt l g room =
-    kept_more cells slots (put_all (suc (length book)) slots ws) stands book a (Commit at ws) h lt l g room (put_many (suc (length book)) slots ws) (put_moves (suc (length book)) slots ws)
+pub committed : (cells : List StoreCell) (threads : ℕ) (slots put : List Slot) (inboxes boxes : List PlainInbox) (views tries vs ts : List ℕ) (book more : List Event) (a n at view : ℕ) (ws : Writes) (sends : List Action)
+    → IsKept cells threads slots inboxes views tries book → length book < most_events → makes cells threads a (Commit at view ws sends) ≡ true → LegalKind cells book a (Commit at view ws sends) → Guarded book (Commit at view ws sends)
+    → Marked true a (suc (length book)) views vs → Marked true a (suc (length book)) tries ts → more ≡ book ++ event_of a (Commit at view ws sends) ∷ []
+    → n ≡ suc (length book) → put ≡ put_all n slots ws → boxes ≡ mailed_all inboxes sends → IsKept cells threads put boxes vs ts more
+committed cells threads slots put inboxes boxes views tries vs ts book more a n at view ws sends h lt by l g all some is many put_is boxes_are =
+    let to : put ≡ put_all (suc (length book)) slots ws = put_is ∙ ap (λ i. put_all i slots ws) many in
+    subst (λ u. IsKept cells threads u boxes vs ts more) (sym to)
+    (subst (λ u. IsKept cells threads (put_all (suc (length book)) slots ws) u vs ts more) (sym boxes_are)
+    (kept_more cells threads slots (put_all (suc (length book)) slots ws) inboxes (mailed_all inboxes sends) views tries vs ts book more a (Commit at view ws sends) h lt by l g
+    (put_many (suc (length book)) slots ws) (put_moves (suc (length book)) slots ws) (mailed_many inboxes sends) (λ k in_old i. moves_mailed cells inboxes book sends k in_old i) all some is))
 
--- only where each actor stands matters
-pub same_stands : (cells : List StoreCell) (slots : List Slot) (stands now : List ℕ) (book : List Event) → ((a : ℕ) → slice_index now a ≡ slice_index stands a)
-    → IsKept cells slots stands book → IsKept cells slots now book
-same_stands cells slots stands now book same h =
-    record {
+-- one more send
+pub sent : (cells : List StoreCell) (threads : ℕ) (slots : List Slot) (inboxes boxes : List PlainInbox) (views tries vs ts : List ℕ) (book more : List Event) (a : ℕ) (x : Action)
+    → IsKept cells threads slots inboxes views tries book → length book < most_events → makes cells threads a (Send x) ≡ true → LegalKind cells book a (Send x)
+    → Marked true a (suc (length book)) views vs → Marked true a (suc (length book)) tries ts → more ≡ book ++ event_of a (Send x) ∷ []
+    → boxes ≡ mailed_all inboxes (x ∷ []) → IsKept cells threads slots boxes vs ts more
+sent cells threads slots inboxes boxes views tries vs ts book more a x h lt by l all some is boxes_are =
+    subst (λ u. IsKept cells threads slots u vs ts more) (sym boxes_are)
+    (kept_more cells threads slots slots inboxes (mailed_all inboxes (x ∷ [])) views tries vs ts book more a (Send x) h lt by l tt
+    refl (λ k lt2. refl) (mailed_many inboxes (x ∷ [])) (λ k in_old i. moves_mailed cells inboxes book (x ∷ []) k in_old i) all some is)
+
+-- one more action that is over
+pub acted_on : (cells : List StoreCell) (threads : ℕ) (slots put : List Slot) (inboxes boxes : List PlainInbox) (views tries vs ts : List ℕ) (book more : List Event) (a n i : ℕ) (g : CellId) (new : Result Value Fault)
+    → IsKept cells threads slots inboxes views tries book → length book < most_events → makes cells threads a (Act g i new) ≡ true → LegalKind cells book a (Act g i new)
+    → Marked true a (suc (length book)) views vs → Marked true a (suc (length book)) tries ts → more ≡ book ++ event_of a (Act g i new) ∷ []
+    → n ≡ suc (length book) → put ≡ put_all n slots (state_of g new) → boxes ≡ set inboxes g.number (finished (fault_of new) (get_or inboxes g.number no_inbox)) → IsKept cells threads put boxes vs ts more
+acted_on cells threads slots put inboxes boxes views tries vs ts book more a n i g new h lt by l all some is many put_is boxes_are =
+    let to : put ≡ put_all (suc (length book)) slots (state_of g new) = put_is ∙ ap (λ j. put_all j slots (state_of g new)) many in
+    subst (λ u. IsKept cells threads u boxes vs ts more) (sym to)
+    (subst (λ u. IsKept cells threads (put_all (suc (length book)) slots (state_of g new)) u vs ts more) (sym boxes_are)
+    (kept_more cells threads slots (put_all (suc (length book)) slots (state_of g new)) inboxes (set inboxes g.number over) views tries vs ts book more a (Act g i new) h lt by l tt
+    (put_many (suc (length book)) slots (state_of g new)) (put_moves (suc (length book)) slots (state_of g new)) (length-set inboxes g.number over) (λ k in_old e. go k in_old e (g.number == k) refl) all some is))
+  where
+    over : PlainInbox
+    over = finished (fault_of new) (get_or inboxes g.number no_inbox)
+
+    none : (mail_after cells book g.number).fault ≡ None
+    none = no_fault (mail_after cells book g.number).fault l.1
+
+    go : (k : ℕ) → k < length inboxes → IsInbox (goes_on (nth cells k)) (mail_after cells book k) (get_or inboxes k no_inbox) → (t : Bool) → (g.number == k) ≡ t
+        → IsInbox (goes_on (nth cells k)) (if t then acted (goes_on (nth cells k)) new (mail_after cells book k) else mail_after cells book k) (get_or (set inboxes g.number over) k no_inbox)
+    go k in_old e true q =
+        let same = equal g.number k q in
+        let there : get_or (set inboxes g.number over) k no_inbox ≡ finished (fault_of new) (get_or inboxes k no_inbox) =
+        ap (λ j. get_or (set inboxes g.number over) j no_inbox) (sym same) ∙ get_or-set_same inboxes g.number over no_inbox (subst (λ j. j < length inboxes) (sym same) in_old) ∙ ap (λ j. finished (fault_of new) (get_or inboxes j no_inbox)) same in
+        let gone = subst (λ j. (mail_after cells book j).fault ≡ None) same none in
+        is_inbox (goes_on (nth cells k)) false (acted (goes_on (nth cells k)) new (mail_after cells book k)) (get_or (set inboxes g.number over) k no_inbox)
+        (there ∙ inbox_finished (goes_on (nth cells k)) (mail_after cells book k) (get_or inboxes k no_inbox) new gone e)
+    go k in_old e false q =
+        let off : k ≢ g.number = λ p. unequal g.number k q (sym p) in
+        subst (λ b. IsInbox (goes_on (nth cells k)) (mail_after cells book k) b) (sym (get_or-set_other inboxes g.number k over no_inbox off)) e
+
+-- an action that is taken
+pub taken_on : (cells : List StoreCell) (threads : ℕ) (slots : List Slot) (inboxes boxes : List PlainInbox) (views tries : List ℕ) (book : List Event) (g : CellId)
+    → IsKept cells threads slots inboxes views tries book → boxes ≡ set inboxes g.number (taken_up (get_or inboxes g.number no_inbox)) → IsKept cells threads slots boxes views tries book
+taken_on cells threads slots inboxes boxes views tries book g h boxes_are =
+    subst (λ u. IsKept cells threads slots u views tries book) (sym boxes_are) (record {
       many = h.many;
-      newest = h.newest;
-      actors = λ a. subst (StandsAt book a) (sym (same a)) (h.actors a);
+      as_many = length-set inboxes g.number up ∙ h.as_many;
+      values = h.values;
+      mail = λ k lt. let in_old : k < length inboxes = omega (arith, lt, length-set inboxes g.number up) in go k in_old (h.mail k in_old) (g.number == k) refl;
+      all = h.all;
+      some = h.some;
       legal = h.legal;
       undisturbed = h.undisturbed;
-    }
+    })
+  where
+    up : PlainInbox
+    up = taken_up (get_or inboxes g.number no_inbox)
 
--- the number of events fits a place
-pub fits_place : (n : ℕ) → n ≤ most_events → Fits w32 n
-unfolding most_events
-fits_place n le = omega arith
+    go : (k : ℕ) → k < length inboxes → IsInbox (goes_on (nth cells k)) (mail_after cells book k) (get_or inboxes k no_inbox) → (t : Bool) → (g.number == k) ≡ t
+        → IsInbox (goes_on (nth cells k)) (mail_after cells book k) (get_or (set inboxes g.number up) k no_inbox)
+    go k in_old e true q =
+        let same = equal g.number k q in
+        let there : get_or (set inboxes g.number up) k no_inbox ≡ taken_up (get_or inboxes k no_inbox) =
+        ap (λ j. get_or (set inboxes g.number up) j no_inbox) (sym same) ∙ get_or-set_same inboxes g.number up no_inbox (subst (λ j. j < length inboxes) (sym same) in_old) ∙ ap (λ j. taken_up (get_or inboxes j no_inbox)) same in
+        subst (λ b. IsInbox (goes_on (nth cells k)) (mail_after cells book k) b) (sym there) (inbox_taken (goes_on (nth cells k)) (mail_after cells book k) (get_or inboxes k no_inbox) e)
+    go k in_old e false q =
+        let off : k ≢ g.number = λ p. unequal g.number k q (sym p) in
+        subst (λ b. IsInbox (goes_on (nth cells k)) (mail_after cells book k) b) (sym (get_or-set_other inboxes g.number k up no_inbox off)) e
 
-pub pushed : (cells : List StoreCell) (slots : List Slot) (stands now : List ℕ) (book more : List Event) (a k n : ℕ) (d : EventKind)
-    → IsKept cells slots stands book → ((b : ℕ) → slice_index now b ≡ slice_index stands b) → length book < most_events → LegalKind cells book a d → WritesNothing d
-    → a < length now → k ≡ a → more ≡ book ++ event_of a d ∷ [] → n ≡ length more → IsKept cells slots (set now k n) more
-pushed cells slots stands now book more a k n d h same lt l q room here is many =
-    let m : n ≡ suc (length book) = omega (arith, many, ap length is, length-append book (event_of a d ∷ [])) in
-    subst (λ j. IsKept cells slots (set now j n) more) (sym here)
-    (subst (λ i. IsKept cells slots (set now a i) more) (sym m)
-    (subst (IsKept cells slots (set now a (suc (length book)))) (sym is)
-    (kept_quiet cells slots now book a d (same_stands cells slots stands now book same h) lt l q room)))
-
-pub committed : (cells : List StoreCell) (slots put : List Slot) (stands now : List ℕ) (book more : List Event) (a k n at : ℕ) (ws : Writes)
-    → IsKept cells slots stands book → ((b : ℕ) → slice_index now b ≡ slice_index stands b) → length book < most_events → LegalKind cells book a (Commit at ws) → Guarded book (Commit at ws)
-    → a < length now → k ≡ a → more ≡ book ++ event_of a (Commit at ws) ∷ [] → n ≡ length more → put ≡ put_all n slots ws → IsKept cells put (set now k n) more
-committed cells slots put stands now book more a k n at ws h same lt l g room here is many to =
-    let m : n ≡ suc (length book) = omega (arith, many, ap length is, length-append book (event_of a (Commit at ws) ∷ [])) in
-    subst (λ j. IsKept cells put (set now j n) more) (sym here)
-    (subst (λ i. IsKept cells put (set now a i) more) (sym m)
-    (subst (IsKept cells put (set now a (suc (length book)))) (sym is)
-    (subst (λ u. IsKept cells u (set now a (suc (length book))) (book ++ event_of a (Commit at ws) ∷ [])) (sym (to ∙ ap (λ i. put_all i slots ws) m))
-    (kept_commit cells slots now book a at ws (same_stands cells slots stands now book same h) lt l g room))))
-
-pub opened_kept : (cells : List StoreCell) (slots : List Slot) (stands : List ℕ) (book : List Event) → slots ≡ open_slots cells → stands ≡ [] → book ≡ [] → IsKept cells slots stands book
-opened_kept cells slots stands book is none empty =
-    subst (λ u. IsKept cells u stands book) (sym is) (subst (λ u. IsKept cells (open_slots cells) u book) (sym none) (subst (IsKept cells (open_slots cells) []) (sym empty) (opening_kept cells)))
-
--- an actor that has no place yet stands at the beginning
-pub no_stand : (xs : List ℕ) (k : ℕ) → length xs ≤ k → slice_index xs k ≡ 0
-no_stand [] k le = refl
-no_stand (x ∷ xs) zero le = absurd (omega (arith, le))
-no_stand (x ∷ xs) (suc k) le = no_stand xs k (omega (arith, le))
-
--- a value that is looked up
-pub looked : (s : PlainStore) (w : World) (a : ℕ) (c : CellId) (p : ℕ) (v : Value) → written c.number p s.book ≡ false → v ≡ after w s.book (length s.book) c.number
-    → (reply.Is v ≡ (looks (written c.number p s.book) w a c p s.book).reply) × (s ≡ store_with s.cells (looks (written c.number p s.book) w a c p s.book).book)
-looked s w a c p v e is =
-    let there = ap reply.Is (is ∙ after_unwritten w s.book p c.number e) in
-    subst (λ b. (reply.Is v ≡ (looks b w a c p s.book).reply) × (s ≡ store_with s.cells (looks b w a c p s.book).book)) (sym e) (there, refl)
+-- an agent whose action is taken has one, and hasn't failed
+pub taken_waits : (goes : Bool) (m : Mail) (b : PlainInbox) → b ≡ inbox_of goes b.mailbox.is_taken m → IsMailbox b.mailbox → b.mailbox.is_taken ≡ true → (is_there m.fault ≡ false) × (waits m.actions ≡ true)
+taken_waits goes m b is box taken =
+    let runs : b.mailbox.has_failed ≡ false = box.runs taken in
+    let some : 0 < length b.mailbox.actions = box.waits taken in (
+      sym (failed_is m.fault) ∙ sym (ap (λ (x : PlainInbox). x.mailbox.has_failed) is) ∙ runs,
+      go m.actions (subst (λ xs. 0 < length xs) (ap (λ (x : PlainInbox). x.mailbox.actions) is) some),
+    )
+  where
+    go : (xs : List Action) → 0 < length xs → waits xs ≡ true
+    go [] lt = absurd (omega (arith, lt))
+    go (x ∷ xs) lt = refl

@@ -1,4 +1,11 @@
+pub mod Actions
+pub mod Answering
+pub mod Atoms
 pub mod Growth
 pub mod Kept
+pub mod Mailing
+pub mod Merging
 pub mod Older
 pub mod Serves
+pub mod Sizes
+pub mod Storing

@@ -1,14 +1,19 @@
--- How a store keeps its newest values beside its book.
-use Rattle.std.specs.Prelude.{◌≡◌, ◌<◌, ◌≤◌, ℕ, true, false, Bool, ◌&&◌, nat_lt, List, [], ◌∷◌, length, map, slice_index}
+-- How a store keeps its newest values, the places of its actors and the agents' mail beside its book.
+use Rattle.std.specs.Prelude.{◌≡◌, ◌<◌, ◌≤◌, ℕ, true, false, Bool, ◌&&◌, ◌==◌, nat_lt, List, [], ◌∷◌, length, map, slice_index, Option, Some, None, if◌then◌else◌}
 use Rattle.std.proofs.Common.{get_or, set}
 use Rattle.txs_asks.specs.Ask.{Writes}
 use Rattle.txs_value.specs.Cells.{World}
+use Rattle.txs_value.specs.Places.{nth}
 use Rattle.txs_asks.specs.declared.event.Event.{Event}
 use Rattle.txs_asks.specs.declared.event.EventKind.{EventKind}
-use Rattle.txs_asks.specs.declared.event.EventKind.TheVariants.{Read, Commit, Retry, Fail}
+use Rattle.txs_asks.specs.declared.event.EventKind.TheVariants.{Read, Commit, Retry, Fail, Refused, Send, SendRefused, Act, Swap, Broke}
+use Rattle.txs_value.specs.declared.value.CellId.{CellId}
 use Rattle.txs_value.specs.declared.value.Value.{Value}
 use Rattle.txs_value.specs.declared.value.Value.TheVariants.{Nil}
-use Rattle.txs_world.specs.Book.{opening, after, written, all_before, Legal, Undisturbed}
+use Rattle.txs_world.specs.Book.{opening, newest, written, goes_on, Mail, mail_after, all_before, counts, Legal, Undisturbed}
+use Rattle.txs_world.specs.Inboxes.{PlainInbox, inbox_of, no_inbox}
+use Rattle.txs_world.specs.declared.commit.End.{End}
+use Rattle.txs_world.specs.declared.commit.End.TheVariants.{Reruns, Redoes, Refuses, Commits}
 use Rattle.txs_world.specs.declared.cell.StoreCell.{StoreCell}
 use Rattle.txs_world.specs.declared.slot.Slot.{Slot}
 
@@ -20,22 +25,22 @@ slot_of v n = record { value = v; written = n }
 abbrev pub no_slot : Slot
 no_slot = slot_of Nil 0
 
--- the newest value of a ref, and how many events there are up to the last one that wrote it
+-- the newest value of a cell, and how many events there are up to the last one that wrote it
 pub record IsSlot (w : World) (book : List Event) (k : ℕ) (s : Slot) : Type 0 where
-  pub value : s.value ≡ after w book (length book) k
+  pub value : s.value ≡ newest w book k
   pub since : (p : ℕ) → p < s.written → written k p book ≡ true
   pub not_since : (p : ℕ) → s.written ≤ p → written k p book ≡ false
 
--- how many events there are up to the actor's last one
-pub record StandsAt (book : List Event) (a n : ℕ) : Type 0 where
-  pub stands : (p : ℕ) → n ≤ p → all_before a p book ≡ true
-  pub passed : (p : ℕ) → p < n → all_before a p book ≡ false
+-- how many events there are up to the actor's last one that counts
+pub record StandsAt (all : Bool) (book : List Event) (a n : ℕ) : Type 0 where
+  pub stands : (p : ℕ) → n ≤ p → all_before all a p book ≡ true
+  pub passed : (p : ℕ) → p < n → all_before all a p book ≡ false
 
 -- the slots of cells that no event has written
 abbrev pub open_slots : List StoreCell → List Slot
 open_slots cells = map (λ c. slot_of c.opening 0) cells
 
--- the slots after a commit which is the last of so many events
+-- the slots after an event that wrote this, and is the last of so many
 abbrev pub put_all : ℕ → List Slot → Writes → List Slot
 put_all n slots [] = slots
 put_all n slots (w ∷ ws) = set (put_all n slots ws) w.0.number (slot_of w.1 n)
@@ -45,17 +50,49 @@ abbrev pub all_below : ℕ → Writes → Bool
 all_below n [] = true
 all_below n (w ∷ ws) = nat_lt w.0.number n && all_below n ws
 
--- an event that writes nothing
-abbrev pub WritesNothing : EventKind → Type 0
-WritesNothing (Read c) = Unit {0}
-WritesNothing (Commit at ws) = ⊥
-WritesNothing (Retry since c) = Unit {0}
-WritesNothing (Fail at) = Unit {0}
+-- where an actor stands after an event of this one, the last of so many, where it counts
+abbrev pub mark_at : Bool → Bool → ℕ → ℕ → ℕ
+mark_at counts own n stand = if own && counts then n else stand
+
+-- where actors stand after an event of this one, the last of so many, where it counts
+abbrev pub Marked : Bool → ℕ → ℕ → List ℕ → List ℕ → Type 0
+Marked counts a n old new = (b : ℕ) → slice_index new b ≡ mark_at counts (a == b) n (slice_index old b)
+
+-- every actor stands where it stood
+abbrev pub StandAsBefore : List ℕ → List ℕ → Type 0
+StandAsBefore old new = (b : ℕ) → slice_index new b ≡ slice_index old b
+
+-- an inbox is that of an agent with this mail
+abbrev pub IsInbox : Bool → Mail → PlainInbox → Type 0
+IsInbox goes m b = b ≡ inbox_of goes b.mailbox.is_taken m
+
+-- an event that writes nothing and changes no agent
+abbrev pub ChangesNothing : EventKind → Type 0
+ChangesNothing (Read c) = Unit {0}
+ChangesNothing (Commit at view ws sends) = ⊥
+ChangesNothing (Retry since c commute) = Unit {0}
+ChangesNothing (Fail at view) = Unit {0}
+ChangesNothing (Refused at view g) = Unit {0}
+ChangesNothing (Send x) = ⊥
+ChangesNothing (SendRefused g) = Unit {0}
+ChangesNothing (Act g n new) = ⊥
+ChangesNothing (Swap new) = ⊥
+ChangesNothing (Broke at) = ⊥
+
+-- what the tests of a commit come to, by what they found
+abbrev pub IsEnd : Option CellId → Option CellId → Option CellId → End → Type 0
+IsEnd o1 o2 o3 (Reruns c) = o1 ≡ Some c
+IsEnd o1 o2 o3 (Redoes c) = (o1 ≡ None) × (o2 ≡ Some c)
+IsEnd o1 o2 o3 (Refuses g) = (o1 ≡ None) × (o2 ≡ None) × (o3 ≡ Some g)
+IsEnd o1 o2 o3 Commits = (o1 ≡ None) × (o2 ≡ None) × (o3 ≡ None)
 
 -- a store's parts agree
-pub record IsKept (cells : List StoreCell) (slots : List Slot) (stands : List ℕ) (book : List Event) : Type 0 where
+pub record IsKept (cells : List StoreCell) (threads : ℕ) (slots : List Slot) (inboxes : List PlainInbox) (views tries : List ℕ) (book : List Event) : Type 0 where
   pub many : length slots ≡ length cells
-  pub newest : (k : ℕ) → k < length slots → IsSlot (opening cells) book k (get_or slots k no_slot)
-  pub actors : (a : ℕ) → StandsAt book a (slice_index stands a)
-  pub legal : Legal cells book
+  pub as_many : length inboxes ≡ length cells
+  pub values : (k : ℕ) → k < length slots → IsSlot (opening cells) book k (get_or slots k no_slot)
+  pub mail : (k : ℕ) → k < length inboxes → IsInbox (goes_on (nth cells k)) (mail_after cells book k) (get_or inboxes k no_inbox)
+  pub all : (a : ℕ) → StandsAt true book a (slice_index views a)
+  pub some : (a : ℕ) → StandsAt false book a (slice_index tries a)
+  pub legal : Legal cells threads book
   pub undisturbed : Undisturbed book

@@ -1,5 +1,8 @@
+pub mod Atom
 pub mod Book
 pub mod History
+pub mod Inboxes
 pub mod Kept
 pub mod Laws
+pub mod Places
 pub mod Store

@@ -1,46 +1,125 @@
 //! Which asks the store takes.
 
-ghost use Rattle.std.specs.Prelude.{◌≡◌, ◌≤◌, ◌<◌, ◌↔◌, length, true, IsTrue};
-ghost use Rattle.txs_world.specs.Book.{has_cell, has_ref, has_refs, ascend_from, all_before, may_name};
+ghost use Rattle.std.specs.Prelude.{◌≡◌, ◌≤◌, ◌<◌, ◌==◌, ◌↔◌, length, true, false, IsTrue, if◌then◌else◌};
+ghost use Rattle.txs_value.specs.Forms.{same_kind};
+ghost use Rattle.txs_value.specs.declared.value.CellKind.TheVariants as kind;
+ghost use Rattle.txs_world.specs.Book.{has_cell, has_ref, has_agent, has_readable, are_refs, has_refs, are_sends, cells_in, actor_of, agents_below, all_before, may_name, may_end};
 ghost use Rattle.txs_world.specs.Kept.{StandsAt};
-ghost use Rattle.txs_world.specs.Store.{is_lawful};
+ghost use Rattle.txs_world.specs.Store.{is_lawful, may_ask, has_named, is_taken, is_among, are_apart};
 
+use crate::cell::StoreCell;
+use crate::journal::stand_of;
 use crate::store::Store;
 use txs_asks::Ask;
-use txs_value::{CellId, CellKind, Value};
+use txs_value::{Action, CellId, CellKind, Value};
 
-/// Whether the refs' numbers ascend.
-fn ascend(writes: &[(CellId, Value)]) -> bool
-    ensures { result ≡ ascend_from 0 writes.now }
+/// Whether the cell with this number is one of these.
+fn is_among(number: u16, writes: &[(CellId, Value)]) -> bool
+    ensures { result ≡ is_among number (cells_in writes.now) }
 {
-    let mut least = 0u32;
     for write in writes {
-        let number = u32::from(write.0.number);
-        if number < least {
+        if write.0.number == number {
+            return true;
+        }
+    }
+    false
+}
+
+/// Whether none of these cells is one of the others.
+fn are_apart(commuted: &[(CellId, Value)], sets: &[(CellId, Value)]) -> bool
+    ensures { result ≡ are_apart (cells_in commuted.now) (cells_in sets.now) }
+{
+    for write in commuted {
+        if is_among(write.0.number, sets) {
             return false;
         }
-        least = number + 1;
     }
     true
 }
 
+/// How many agents there are among the cells with a lesser number.
+fn agents_below(cells: &[StoreCell], number: u16) -> usize
+    ensures count { result ≡ agents_below cells.now number }
+    ensures few { result ≤ number }
+{
+    let mut agents = 0usize;
+    for (i, cell) in cells.iter().enumerate() {
+        if i >= usize::from(number) {
+            return agents;
+        }
+        agents += agents_in(cell);
+    }
+    agents
+}
+
+/// 1 for an agent, 0 for another cell.
+fn agents_in(cell: &StoreCell) -> usize
+    ensures { result ≡ (if same_kind cell.now.kind kind.Agent then 1 else 0) }
+{
+    if cell.kind == CellKind::Agent { 1 } else { 0 }
+}
+
 impl Store {
-    /// Whether the actor may ask this of the store: the store has the cells that are named, those of a
-    /// transaction are refs, a commit's refs ascend, and each place is at most the number of events, with
-    /// all that the actor did before it.
+    /// Whether the actor may ask this of the store: it makes such asks, and the store has what it names.
     pub fn lawful(&self, actor: u16, ask: &Ask) -> bool
-        ensures { result ≡ is_lawful self.now.cells self.now.book actor ask.now }
+        ensures { result ≡ is_lawful self.now actor ask.now }
+    {
+        self.may_ask(actor, ask) && self.has_named(actor, ask)
+    }
+
+    /// Whether the actor makes such asks: a thread all but to take and to finish actions, an agent's actor these of its agent.
+    fn may_ask(&self, actor: u16, ask: &Ask) -> bool
+        ensures { result ≡ may_ask self.now.cells self.now.threads actor ask.now }
+    {
+        match ask {
+            Ask::Take { agent } => self.is_actor_of(actor, *agent),
+            Ask::Finish { agent, .. } => self.is_actor_of(actor, *agent),
+            _ => actor < self.threads,
+        }
+    }
+
+    /// Whether the store has what an actor names: the cells, each of the kind that is wanted; what is written ascends, and no ref
+    /// is both set and commuted; each place is at most the number of events, with all that the actor did before it (but for
+    /// commute phases made again, where it is a read point), and a read point is at most its view; an agent takes an action where
+    /// it has none in hand, and finishes one where it has. An atom's book takes what names an atom.
+    fn has_named(&self, actor: u16, ask: &Ask) -> bool
+        ensures { result ≡ has_named self.now actor ask.now }
     {
         match ask {
             Ask::Begin => true,
-            Ask::Look { cell, at } => self.has_ref(*cell) && self.may_name(actor, *at),
-            Ask::Commit { at, sets } => {
-                let writes = sets.as_slice();
-                self.has_refs(writes) && ascend(writes) && self.may_name(actor, *at)
+            Ask::Look { cell, at } => self.has_ref(*cell) && self.may_try(actor, *at),
+            Ask::View { cells } => self.has_refs(cells.as_slice()),
+            Ask::Commit {
+                at,
+                sets,
+                ensured,
+                view,
+                commuted,
+                sends,
+            } => {
+                let (sets, commuted) = (sets.as_slice(), commuted.as_slice());
+                self.are_written(sets)
+                    && self.has_refs(ensured.as_slice())
+                    && self.are_written(commuted)
+                    && are_apart(commuted, sets)
+                    && self.are_sends(sends.as_slice())
+                    && self.may_end(actor, *at, *view)
             }
-            Ask::Fail { at } => self.may_name(actor, *at),
-            Ask::Peek { cell } => self.has_cell(*cell),
+            Ask::Fail { at, view } => self.may_end(actor, *at, *view),
+            Ask::Peek { cell } => cell.kind != CellKind::Atom && self.has_cell(*cell),
+            Ask::Send { action } => self.has_agent(action.agent),
+            Ask::Take { agent } => self.has_agent(*agent) && !self.is_taken(*agent),
+            Ask::Finish { agent, .. } => self.has_agent(*agent) && self.is_taken(*agent),
+            Ask::OpenAt { .. } | Ask::CloseAt { .. } | Ask::Broke { .. } => false,
         }
+    }
+
+    /// Whether this is the agent's actor.
+    fn is_actor_of(&self, actor: u16, agent: CellId) -> bool
+        ensures { result ≡ (actor == actor_of self.now.threads self.now.cells agent) }
+    {
+        let agents = agents_below(self.cells.as_slice(), agent.number);
+        usize::from(actor) == usize::from(self.threads) + agents
     }
 
     /// Whether it has a cell of this kind and number.
@@ -58,35 +137,79 @@ impl Store {
         cell.kind == CellKind::Ref && self.has_cell(cell)
     }
 
-    /// Whether all that is written is a ref of the store.
-    fn has_refs(&self, writes: &[(CellId, Value)]) -> bool
-        ensures { result ≡ has_refs self.now.cells writes.now }
+    /// Whether it has this cell, and it is an agent.
+    fn has_agent(&self, cell: CellId) -> bool
+        ensures { result ≡ has_agent self.now.cells cell }
     {
-        for write in writes {
-            if !self.has_ref(write.0) {
+        cell.kind == CellKind::Agent && self.has_cell(cell)
+    }
+
+    /// Whether each of these is a ref of the store.
+    fn has_refs(&self, cells: &[CellId]) -> bool
+        ensures { result ≡ has_refs self.now.cells cells.now }
+    {
+        for cell in cells {
+            if !self.has_ref(*cell) {
                 return false;
             }
         }
         true
     }
 
-    /// How many events there are up to the actor's last one.
-    fn stand(&self, actor: u16) -> u32
-        ensures { StandsAt self.now.book actor result }
+    /// Whether what is written are refs of the store, with ascending numbers.
+    fn are_written(&self, writes: &[(CellId, Value)]) -> bool
+        ensures { result ≡ are_refs self.now.cells 0 (cells_in writes.now) }
     {
-        let actor = usize::from(actor);
-        if actor < self.stands.len() {
-            self.stands[actor]
-        } else {
-            0
+        let mut least = 0u32;
+        for write in writes {
+            if !self.has_ref(write.0) || u32::from(write.0.number) < least {
+                return false;
+            }
+            least = u32::from(write.0.number) + 1;
         }
+        true
     }
 
-    /// Whether the actor may name this place.
-    fn may_name(&self, actor: u16, place: u32) -> bool
-        ensures { result ≡ may_name self.now.book actor place }
+    /// Whether these actions are for agents of the store.
+    fn are_sends(&self, sends: &[Action]) -> bool
+        ensures { result ≡ are_sends self.now.cells sends.now }
     {
-        let stand = self.stand(actor);
-        place as usize <= self.book.len() && stand <= place
+        for action in sends {
+            if !self.has_agent(action.agent) {
+                return false;
+            }
+        }
+        true
+    }
+
+    /// Whether the agent's first action is taken.
+    fn is_taken(&self, agent: CellId) -> bool
+        ensures { result ≡ is_taken self.now.taken agent }
+    {
+        let number = usize::from(agent.number);
+        number < self.inboxes.len() && self.inboxes[number].mailbox.is_taken()
+    }
+
+    /// Whether the actor may end a transaction with this read point and this view.
+    fn may_end(&self, actor: u16, at: u32, view: u32) -> bool
+        ensures { result ≡ may_end self.now.book actor at view }
+    {
+        at <= view && self.may_try(actor, at) && self.may_view(actor, view)
+    }
+
+    /// Whether the actor may name this place as a view.
+    fn may_view(&self, actor: u16, place: u32) -> bool
+        ensures { result ≡ may_name true self.now.book actor place }
+    {
+        let stand = stand_of(self.journal.views.as_slice(), actor);
+        place as usize <= self.journal.book.len() && stand <= place
+    }
+
+    /// Whether the actor may name this place as a read point.
+    fn may_try(&self, actor: u16, place: u32) -> bool
+        ensures { result ≡ may_name false self.now.book actor place }
+    {
+        let stand = stand_of(self.journal.tries.as_slice(), actor);
+        place as usize <= self.journal.book.len() && stand <= place
     }
 }

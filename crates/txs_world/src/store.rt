@@ -1,28 +1,37 @@
-//! The store of refs, with its book.
+//! The store of refs and agents, with its book.
 
-ghost use Rattle.std.specs.Prelude.{◌≡◌, ◌↔◌, [], length, true, IsTrue, IfOk};
-ghost use Rattle.txs_world.specs.Book.{has_cell, opening, after, Legal, Undisturbed};
-ghost use Rattle.txs_world.specs.Store.{PlainStore, store_with, cells_of};
+ghost use Rattle.std.specs.Prelude.{◌≡◌, ◌↔◌, [], length, true, false, IsTrue, IfOk};
+ghost use Rattle.txs_world.specs.Book.{has_cell, has_agent, opening, newest, mail_after, Legal, Undisturbed};
+ghost use Rattle.txs_world.specs.Store.{PlainStore, store_with, cell_of, cells_of, none_taken};
 
-use crate::cell::StoreCell;
+use crate::cell::{StoreCell, continues};
+use crate::inbox::{Inbox, open_inboxes};
+use crate::journal::Journal;
 use crate::slot::{Slot, open_cells, open_slots};
 use std::alloc::{AllocError, Global};
+use std::collections::VecDeque;
 use std::marker::Model;
 use txs_asks::Event;
-use txs_value::{CellDefinition, CellId, Value, same};
+use txs_value::{Action, CellDefinition, CellId, Fault, Value, same};
 
-/// The refs that threads share, with the book of what actors did to them.
+/// The refs and agents that threads share, with the book of what actors did to them. Each atom has a book of its own.
 #[derive(Drop)]
 pub struct Store {
     pub(crate) alloc: Global,
     pub(crate) cells: Vec<StoreCell>,
+    /// How many threads there are: actors have their numbers before those of agents.
+    pub(crate) threads: u16,
     pub(crate) slots: Vec<Slot>,
-    pub(crate) stands: Vec<u32>,
-    pub(crate) book: Vec<Event>,
+    pub(crate) inboxes: Vec<Inbox>,
+    pub(crate) journal: Journal,
+    /// What an event writes, and what a commit sends: kept for their room, between events.
+    pub(crate) spare: Vec<(CellId, Value)>,
+    pub(crate) queue: VecDeque<Action>,
 }
 
 impl Model for Store {
     ghost use Rattle.txs_world.specs.Store.{PlainStore, store_with};
+    ghost use Rattle.txs_world.specs.Inboxes.{plain_inboxes, taken_of};
     ghost use Rattle.std.specs.Coded.{codes};
     ghost use Rattle.txs_value.specs.contracts.value.Value as value;
 
@@ -30,26 +39,31 @@ impl Model for Store {
 
     ghost coded = { Prim.hlevel (codes, value.the_row.coded) };
 
-    ghost view = { λ s. store_with s.cells.items s.book.items };
+    ghost view = { λ s. store_with s.cells.items s.threads s.journal.book.items (taken_of (plain_inboxes s.inboxes.items)) };
 
     ghost use Rattle.txs_world.specs.Kept.{IsKept};
 
-    ghost invariant = { λ s. IsKept s.cells.items s.slots.items s.stands.items s.book.items };
+    ghost invariant = { λ s. IsKept s.cells.items s.threads s.slots.items (plain_inboxes s.inboxes.items) s.journal.views.items s.journal.tries.items s.journal.book.items };
 }
 
 impl Store {
-    /// A store of these cells, with an empty book. It shares the opening values with their definitions.
-    pub fn open(alloc: Global, cells: &[CellDefinition]) -> Result<Store, AllocError>
-        ensures { IfOk result (λ s. s ≡ store_with (cells_of cells.now) []) }
+    /// A store of these cells for so many threads, with an empty book. It shares the opening values with their definitions. The
+    /// actors are the threads and, behind them, the agents in the order of their cells.
+    pub fn open(alloc: Global, cells: &[CellDefinition], threads: u16) -> Result<Store, AllocError>
+        ensures { IfOk result (λ s. s ≡ store_with (cells_of cells.now) threads [] (none_taken (cells_of cells.now))) }
     {
         let cells = open_cells(alloc, cells)?;
         let slots = open_slots(alloc, cells.as_slice())?;
+        let inboxes = open_inboxes(alloc, cells.as_slice())?;
         Ok(Store {
             alloc,
             cells,
+            threads,
             slots,
-            stands: Vec::new(alloc),
-            book: Vec::new(alloc),
+            inboxes,
+            journal: Journal::new(alloc),
+            spare: Vec::new(alloc),
+            queue: VecDeque::new(alloc),
         })
     }
 
@@ -60,21 +74,45 @@ impl Store {
         self.cells.as_slice()
     }
 
+    /// How many threads it was opened for.
+    pub fn threads(&self) -> u16
+        ensures { result ≡ self.now.threads }
+    {
+        self.threads
+    }
+
     /// The events so far.
     pub fn events(&self) -> &[Event]
         ensures value { result.now ≡ self.now.book }
-        ensures legal { Legal self.now.cells self.now.book }
+        ensures legal { Legal self.now.cells self.now.threads self.now.book }
         ensures undisturbed { Undisturbed self.now.book }
     {
-        self.book.as_slice()
+        self.journal.book.as_slice()
     }
 
-    /// The newest value of a cell.
+    /// The newest value of a cell: of an agent its state. Of an atom it is the value that it opened with, since the atom's book
+    /// has its newest.
     pub fn newest(&self, cell: CellId) -> &Value
         requires { has_cell self.now.cells cell ≡ true }
-        ensures { result.now ≡ after (opening self.now.cells) self.now.book (length self.now.book) cell.number }
+        ensures { result.now ≡ newest (opening self.now.cells) self.now.book cell.number }
     {
         &self.slots[usize::from(cell.number)].value
+    }
+
+    /// The fault of an agent that has failed.
+    pub fn failure(&self, agent: CellId) -> Option<Fault>
+        requires { has_agent self.now.cells agent ≡ true }
+        ensures { result ≡ (mail_after self.now.cells self.now.book agent.number).fault }
+    {
+        self.inboxes[usize::from(agent.number)].fault
+    }
+
+    /// How many actions an agent has still to run.
+    pub fn waiting(&self, agent: CellId) -> usize
+        requires { has_agent self.now.cells agent ≡ true }
+        ensures { result ≡ length (mail_after self.now.cells self.now.book agent.number).actions }
+    {
+        self.inboxes[usize::from(agent.number)].mailbox.len()
     }
 
     /// Whether the store's cells are those of these definitions.
@@ -95,7 +133,9 @@ impl Store {
 
 /// Whether a cell is of this definition.
 fn is_cell_of(cell: &StoreCell, definition: &CellDefinition) -> bool
-    ensures { IsTrue result ↔ (cell.now ≡ record { kind = definition.now.kind; opening = definition.now.opening }) }
+    ensures { IsTrue result ↔ (cell.now ≡ cell_of definition.now) }
 {
-    cell.kind == definition.kind && same(&cell.opening, &definition.opening)
+    cell.kind == definition.kind
+        && same(&cell.opening, &definition.opening)
+        && cell.goes_on == continues(definition.error_mode)
 }

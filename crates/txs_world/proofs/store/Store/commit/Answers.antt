@@ -1,19 +1,45 @@
-use Rattle.std.proofs.Common.{sym, subst, ◌∙◌, Some, None, ◌≡◌, ap}
-use Rattle.txs_world.specs.Store.{disturbed}
-use Rattle.txs_world.proofs.Serves.{Disturbs, disturbs}
+use Rattle.std.proofs.Common.{◌≡◌, sym, subst, true}
+use Rattle.txs_world.specs.Book.{cells_in, has_refs, are_sends}
+use Rattle.txs_world.specs.declared.commit.End.TheVariants.{Reruns, Redoes, Refuses, Commits}
+use Rattle.txs_world.proofs.Answering.{ended_as, commit_ends}
+use Rattle.txs_world.proofs.Merging.{refs_has}
+use Rattle.txs_world.proofs.Serves.{lawful_commit}
 use Rattle.txs_world.proofs.store.Store.commit.Goals as goal
 
-pub retry-requires : goal.retry-requires
-retry-requires c =
+pub test-end-requires : goal.test-end-requires
+test-end-requires c =
     let s = c.args.self.now in
-    let ws = c.args.sets.now in
-    let is : disturbed s.book c.args.at ws ≡ Some c.in-Some.cell = ap (disturbed s.book c.args.at) (sym c.as_slice.ensures) ∙ sym c.in-Some.ensures in
-    let d = subst (Disturbs s.cells s.book c.args.at ws) is (disturbs s.cells s.book c.args.at ws c.requires.refs) in
-    record { legal = (d.0, c.requires.place, d.1) }
+    let l = lawful_commit s c.args.actor c.args.at c.args.view c.args.sets c.args.commuted.now c.args.ensured.now c.args.sends c.requires in
+    record {
+      sets = subst (λ ws. has_refs s.cells (cells_in ws) ≡ true) (sym c.as_slice.ensures) (refs_has s.cells 0 (cells_in c.args.sets) l.refs_set);
+      ensured = l.refs_ensured;
+      commuted = refs_has s.cells 0 (cells_in c.args.commuted.now) l.refs_commuted;
+      sends = subst (λ xs. are_sends s.cells xs ≡ true) (sym c.as_slice-2.ensures) l.to_agents;
+    }
+
+pub rerun-requires-clause-legal : goal.rerun-requires-clause-legal
+rerun-requires-clause-legal c = ended_as c.args.self.now c.args.actor c.args.at c.args.view c.args.sets c.as_slice.result.now c.args.commuted.now c.args.ensured.now c.args.sends c.as_slice-2.result.now (Reruns c.in-Reruns.cell) c.requires c.as_slice.ensures c.as_slice-2.ensures c.in-Reruns.ensures
+
+pub redo-requires-clause-legal : goal.redo-requires-clause-legal
+redo-requires-clause-legal c = ended_as c.args.self.now c.args.actor c.args.at c.args.view c.args.sets c.as_slice.result.now c.args.commuted.now c.args.ensured.now c.args.sends c.as_slice-2.result.now (Redoes c.in-Redoes.cell) c.requires c.as_slice.ensures c.as_slice-2.ensures c.in-Redoes.ensures
+
+pub refuse-requires-clause-legal : goal.refuse-requires-clause-legal
+refuse-requires-clause-legal c = ended_as c.args.self.now c.args.actor c.args.at c.args.view c.args.sets c.as_slice.result.now c.args.commuted.now c.args.ensured.now c.args.sends c.as_slice-2.result.now (Refuses c.in-Refuses.agent) c.requires c.as_slice.ensures c.as_slice-2.ensures c.in-Refuses.ensures
+
+pub done-requires-clause-legal : goal.done-requires-clause-legal
+done-requires-clause-legal c = (ended_as c.args.self.now c.args.actor c.args.at c.args.view c.args.sets c.as_slice.result.now c.args.commuted.now c.args.ensured.now c.args.sends c.as_slice-2.result.now Commits c.requires c.as_slice.ensures c.as_slice-2.ensures c.in-Commits.ensures).0
 
 pub done-requires-clause-guarded : goal.done-requires-clause-guarded
-done-requires-clause-guarded c =
-    let s = c.args.self.now in
-    let ws = c.args.sets.now in
-    let is : disturbed s.book c.args.at ws ≡ None = ap (disturbed s.book c.args.at) (sym c.as_slice.ensures) ∙ sym c.in-None.ensures in
-    subst (Disturbs s.cells s.book c.args.at ws) is (disturbs s.cells s.book c.args.at ws c.requires.refs)
+done-requires-clause-guarded c = (ended_as c.args.self.now c.args.actor c.args.at c.args.view c.args.sets c.as_slice.result.now c.args.commuted.now c.args.ensured.now c.args.sends c.as_slice-2.result.now Commits c.requires c.as_slice.ensures c.as_slice-2.ensures c.in-Commits.ensures).1
+
+pub returns-in-Reruns : goal.returns-in-Reruns
+returns-in-Reruns c = commit_ends c.args.self.now c.rerun.new.self c.rerun.result c.args.actor c.args.at c.args.view c.args.sets c.as_slice.result.now c.args.commuted.now c.args.ensured.now c.args.sends c.as_slice-2.result.now (Reruns c.in-Reruns.cell) c.as_slice.ensures c.as_slice-2.ensures c.in-Reruns.ensures c.rerun.ensures
+
+pub returns-in-Redoes : goal.returns-in-Redoes
+returns-in-Redoes c = commit_ends c.args.self.now c.redo.new.self c.redo.result c.args.actor c.args.at c.args.view c.args.sets c.as_slice.result.now c.args.commuted.now c.args.ensured.now c.args.sends c.as_slice-2.result.now (Redoes c.in-Redoes.cell) c.as_slice.ensures c.as_slice-2.ensures c.in-Redoes.ensures c.redo.ensures
+
+pub returns-in-Refuses : goal.returns-in-Refuses
+returns-in-Refuses c = commit_ends c.args.self.now c.refuse.new.self c.refuse.result c.args.actor c.args.at c.args.view c.args.sets c.as_slice.result.now c.args.commuted.now c.args.ensured.now c.args.sends c.as_slice-2.result.now (Refuses c.in-Refuses.agent) c.as_slice.ensures c.as_slice-2.ensures c.in-Refuses.ensures c.refuse.ensures
+
+pub returns-in-Commits : goal.returns-in-Commits
+returns-in-Commits c = commit_ends c.args.self.now c.done.new.self c.done.result c.args.actor c.args.at c.args.view c.args.sets c.as_slice.result.now c.args.commuted.now c.args.ensured.now c.args.sends c.as_slice-2.result.now Commits c.as_slice.ensures c.as_slice-2.ensures c.in-Commits.ensures c.done.ensures

@@ -1,6 +1,6 @@
 use Rattle.std.proofs.Common.{sym}
 use Rattle.txs_world.specs.Book.{opening}
-use Rattle.txs_world.proofs.Kept.{looked}
+use Rattle.txs_world.proofs.Answering.{looked}
 use Rattle.txs_world.proofs.store.Store.look.Goals as goal
 
 pub returns-in-Ok : goal.returns-in-Ok

@@ -1,35 +1,63 @@
-use Rattle.std.proofs.Common.{◌≡◌, ◌<◌, ap, sym, ◌∙◌, subst, arith, length, length-append, [], ◌∷◌, ◌++◌, true}
+use Rattle.std.proofs.Common.{◌≡◌, ◌<◌, ◌∙◌, ap, sym, subst, length, true}
 use Rattle.txs_asks.specs.declared.event.EventKind.TheVariants.{Commit}
-use Rattle.txs_world.specs.Book.{LegalKind, Guarded}
 use Rattle.txs_value.specs.Limits.{most_events}
+use Rattle.txs_world.specs.Book.{makes, LegalKind, Guarded}
+use Rattle.txs_world.specs.Inboxes.{plain_inboxes, mailed_all, all_sent_below, rooms, HaveRoom}
 use Rattle.txs_world.specs.Kept.{all_below, put_all}
 use Rattle.txs_world.specs.Store.{PlainStore, event_of}
-use Rattle.txs_world.proofs.Kept.{fits_place, committed, refs_below}
+use Rattle.txs_world.proofs.Kept.{committed, same_stands, refs_below, sends_below}
+use Rattle.txs_world.proofs.Mailing.{many_inboxes, plain_same_many}
+use Rattle.txs_world.proofs.Storing.{stored, entered_leaves}
 use Rattle.txs_world.proofs.store.Store.write.Goals as goal
 
-pub overflow_cast-events : goal.overflow_cast-events
-overflow_cast-events c =
-    let room : length c.self.inside.book.items < most_events = subst (λ (s : PlainStore). length s.book < most_events) (sym c.self.view_is) c.requires.room in
-    fits_place c.len-events.result (omega (arith, room, c.len-events.ensures, ap length c.in_ok-push.ensures.items, length-append c.self.inside.book.items (event_of c.args.actor (Commit c.args.at c.in_ok-kept.kept) ∷ [])))
+pub prepare-requires : goal.prepare-requires
+prepare-requires c =
+    let x = c.self.inside in
+    let legal : LegalKind x.cells.items x.journal.book.items c.args.actor (Commit c.args.at c.args.view c.args.writes c.args.sends) = subst (λ (s : PlainStore). LegalKind s.cells s.book c.args.actor (Commit c.args.at c.args.view c.args.writes c.args.sends)) (sym c.self.view_is) c.requires.legal in
+    subst (λ l. all_sent_below (length x.inboxes.items) l ≡ true) (sym c.as_slice-2.ensures)
+    (sends_below x.cells.items (length x.inboxes.items) c.args.sends (many_inboxes x.cells.items x.threads x.slots.items x.inboxes.items x.journal.views.items x.journal.tries.items x.journal.book.items c.self.invariant) legal.1)
 
 pub put_all-requires : goal.put_all-requires
 put_all-requires c =
     let x = c.self.inside in
-    let ws = c.args.sets.now in
-    let legal : LegalKind x.cells.items x.book.items c.args.actor (Commit c.args.at ws) = subst (λ (s : PlainStore). LegalKind s.cells s.book c.args.actor (Commit c.args.at ws)) (sym c.self.view_is) c.requires.legal in
-    let is : c.into_vec-values.result.items ≡ ws = c.into_vec-values.ensures ∙ c.in_ok-copy_writes.ensures in
-    subst (λ l. all_below (length x.slots.items) l ≡ true) (sym is) (refs_below x.cells.items (length x.slots.items) ws c.self.invariant.many legal.0)
+    let legal : LegalKind x.cells.items x.journal.book.items c.args.actor (Commit c.args.at c.args.view c.args.writes c.args.sends) = subst (λ (s : PlainStore). LegalKind s.cells s.book c.args.actor (Commit c.args.at c.args.view c.args.writes c.args.sends)) (sym c.self.view_is) c.requires.legal in
+    subst (λ l. all_below (length x.slots.items) l ≡ true) (sym (c.in_ok-prepare.ensures.copies ∙ c.as_slice.ensures)) (refs_below x.cells.items (length x.slots.items) 0 c.args.writes c.self.invariant.many legal.0)
+
+pub mail_all-requires : goal.mail_all-requires
+mail_all-requires c =
+    let x = c.self.inside in
+    let now = c.prepare.new.inboxes.items in
+    let legal : LegalKind x.cells.items x.journal.book.items c.args.actor (Commit c.args.at c.args.view c.args.writes c.args.sends) = subst (λ (s : PlainStore). LegalKind s.cells s.book c.args.actor (Commit c.args.at c.args.view c.args.writes c.args.sends)) (sym c.self.view_is) c.requires.legal in
+    let is = c.in_ok-prepare.ensures.queue in
+    let many = plain_same_many now x.inboxes.items c.prepare.ensures.same ∙ many_inboxes x.cells.items x.threads x.slots.items x.inboxes.items x.journal.views.items x.journal.tries.items x.journal.book.items c.self.invariant in
+    record {
+      places = subst (λ l. all_sent_below (length now) l ≡ true) (sym (is ∙ c.as_slice-2.ensures)) (sends_below x.cells.items (length now) c.args.sends many legal.1);
+      room = subst (λ l. HaveRoom (rooms now) (length l) l) (sym is) c.in_ok-prepare.ensures.room;
+    }
+
+pub invariant_of-self-in_err-events : goal.invariant_of-self-in_err-events
+invariant_of-self-in_err-events c =
+    let x = c.self.inside in
+    let bs = plain_inboxes x.inboxes.items in
+    same_stands x.cells.items x.threads x.slots.items bs (plain_inboxes c.prepare.new.inboxes.items) x.journal.views.items x.journal.tries.items c.add.new.self.views.items c.add.new.self.tries.items x.journal.book.items c.add.new.self.book.items
+    c.prepare.ensures.same c.in_err-events.ensures.same_views c.in_err-events.ensures.same_tries c.in_err-events.ensures.same c.self.invariant
 
 pub invariant_of-self-2 : goal.invariant_of-self-2
 invariant_of-self-2 c =
     let x = c.self.inside in
-    let a = c.args.actor in
-    let ws = c.args.sets.now in
-    let d = Commit c.args.at ws in
-    let room : length x.book.items < most_events = subst (λ (s : PlainStore). length s.book < most_events) (sym c.self.view_is) c.requires.room in
-    let legal : LegalKind x.cells.items x.book.items a d = subst (λ (s : PlainStore). LegalKind s.cells s.book a d) (sym c.self.view_is) c.requires.legal in
-    let guarded : Guarded x.book.items d = subst (λ (s : PlainStore). Guarded s.book d) (sym c.self.view_is) c.requires.guarded in
-    let is : c.into_vec-values.result.items ≡ ws = c.into_vec-values.ensures ∙ c.in_ok-copy_writes.ensures in
-    let more = c.in_ok-push.ensures.items ∙ ap (λ l. x.book.items ++ event_of a (Commit c.args.at l) ∷ []) c.in_ok-kept.ensures in
-    committed x.cells.items x.slots.items c.put_all.new.slots.items x.stands.items c.make_room.new.stands.items x.book.items c.push.new.self.items a c.from.result c.len-events.result c.args.at ws
-    c.self.invariant c.make_room.ensures.same room legal guarded c.in_ok-make_room.ensures.room c.from.ensures more (omega (arith, c.len-events.ensures)) (c.put_all.ensures ∙ ap (put_all c.len-events.result x.slots.items) is)
+    let bs = plain_inboxes x.inboxes.items in
+    let d = Commit c.args.at c.args.view c.args.writes c.args.sends in
+    let room : length x.journal.book.items < most_events = subst (λ (s : PlainStore). length s.book < most_events) (sym c.self.view_is) c.requires.room in
+    let legal : LegalKind x.cells.items x.journal.book.items c.args.actor d = subst (λ (s : PlainStore). LegalKind s.cells s.book c.args.actor d) (sym c.self.view_is) c.requires.legal in
+    let guarded : Guarded x.journal.book.items d = subst (λ (s : PlainStore). Guarded s.book d) (sym c.self.view_is) c.requires.guarded in
+    let made : makes x.cells.items x.threads c.args.actor d ≡ true = subst (λ (s : PlainStore). makes s.cells s.threads c.args.actor d ≡ true) (sym c.self.view_is) c.requires.thread in
+    committed x.cells.items x.threads x.slots.items c.put_all.new.slots.items bs (plain_inboxes c.mail_all.new.inboxes.items) x.journal.views.items x.journal.tries.items c.add.new.self.views.items c.add.new.self.tries.items x.journal.book.items c.add.new.self.book.items
+    c.args.actor c.in_ok-events.events c.args.at c.args.view c.args.writes c.args.sends c.self.invariant room made legal guarded c.in_ok-events.ensures.views c.in_ok-events.ensures.tries c.in_ok-events.ensures.added c.in_ok-events.ensures.many
+    (c.put_all.ensures ∙ ap (put_all c.in_ok-events.events x.slots.items) (c.in_ok-prepare.ensures.copies ∙ c.as_slice.ensures))
+    (c.mail_all.ensures ∙ ap (λ b. mailed_all b c.prepare.new.queue.items) c.prepare.ensures.same ∙ ap (mailed_all bs) (c.in_ok-prepare.ensures.queue ∙ c.as_slice-2.ensures))
+
+pub returns-clause-added : goal.returns-clause-added
+returns-clause-added c =
+    let x = c.self.inside in
+    stored c.args.self.now x.cells.items x.threads x.journal.book.items c.add.new.self.book.items (plain_inboxes x.inboxes.items) (plain_inboxes c.mail_all.new.inboxes.items) (event_of c.args.actor (Commit c.args.at c.args.view c.args.writes c.args.sends))
+    c.self.view_is c.in_ok-events.ensures.added (entered_leaves _ _ _ c.prepare.new.queue.items c.prepare.ensures.same c.mail_all.ensures)

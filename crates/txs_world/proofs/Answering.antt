@@ -1,0 +1,147 @@
+-- What the store answers, by what was found.
+use Rattle.std.proofs.Common.{◌≡◌, ℕ, suc, Bool, true, false, nat_lt, List, [], ◌∷◌, ◌++◌, length, set, Option, Some, None, refl, sym, ap, subst, ◌∙◌, arith, if◌then◌else◌}
+use Rattle.std.specs.Prelude.{is_some}
+use Rattle.std.proofs.lemmas.Bool.{false≢true}
+use Rattle.txs_asks.specs.Ask.{Writes}
+use Rattle.txs_asks.specs.declared.ask.Ask.TheVariants as ask
+use Rattle.txs_asks.specs.declared.ask.Reply.{Reply}
+use Rattle.txs_asks.specs.declared.ask.Reply.TheVariants as reply
+use Rattle.txs_asks.specs.declared.event.Event.{Event}
+use Rattle.txs_asks.specs.declared.event.EventKind.TheVariants.{Commit, Retry, Refused}
+use Rattle.txs_value.specs.Cells.{World}
+use Rattle.txs_value.specs.declared.action.Action.{Action}
+use Rattle.txs_value.specs.declared.value.CellId.{CellId}
+use Rattle.txs_value.specs.declared.value.Value.{Value}
+use Rattle.txs_world.specs.Book.{cells_in, opening, after, newest, written, least_written, first_failed, mail_after, LegalKind, Guarded}
+use Rattle.txs_world.specs.Kept.{IsEnd}
+use Rattle.txs_world.specs.Store.{PlainStore, store_with, Served, served, adds, merged, is_lawful, looks, commits, first_action, next_action, takes, hands_out, serve, store_after, Answers, Replies}
+use Rattle.txs_world.specs.declared.commit.End.{End}
+use Rattle.txs_world.specs.declared.commit.End.TheVariants.{Reruns, Redoes, Refuses, Commits}
+use Rattle.txs_world.proofs.Merging.{ltb_yes, refs_has, Finds, finds, untouched_parts}
+use Rattle.txs_world.proofs.Older.{after_unwritten, ends}
+use Rattle.txs_world.proofs.Serves.{Lawful, lawful_commit, refs_tested, legal_commit, guarded_commit, FindsFailed, finds_failed}
+
+-- ---- reads
+
+-- a value that is looked up
+pub looked : (s : PlainStore) (w : World) (a : ℕ) (c : CellId) (p : ℕ) (v : Value) → written c.number p s.book ≡ false → v ≡ newest w s.book c.number
+    → Replies s (looks (written c.number p s.book) w a c p s.book) (reply.Is v) s
+looked s w a c p v e is =
+    let there = ap reply.Is (is ∙ after_unwritten w s.book p c.number e) in
+    subst (λ b. Replies s (looks b w a c p s.book) (reply.Is v) s) (sym e) (there, refl)
+
+-- no memory for it
+pub looked_not : (s : PlainStore) (w : World) (a : ℕ) (c : CellId) (p : ℕ) → written c.number p s.book ≡ false → Replies s (looks (written c.number p s.book) w a c p s.book) reply.Memory s
+looked_not s w a c p e = subst (λ b. Replies s (looks b w a c p s.book) reply.Memory s) (sym e) (tt, refl)
+
+-- ---- the end of a transaction
+
+-- what a commit's tests come to
+abbrev pub Ended : PlainStore → ℕ → ℕ → ℕ → Writes → Writes → List Action → End → Type 0
+Ended s a at view sets commuted sends (Reruns c) = LegalKind s.cells s.book a (Retry at c false)
+Ended s a at view sets commuted sends (Redoes c) = LegalKind s.cells s.book a (Retry view c true)
+Ended s a at view sets commuted sends (Refuses g) = LegalKind s.cells s.book a (Refused at view g)
+Ended s a at view sets commuted sends Commits = LegalKind s.cells s.book a (Commit at view (merged sets commuted) sends) × Guarded s.book (Commit at view (merged sets commuted) sends)
+
+ended_by : (s : PlainStore) (a at view : ℕ) (sets commuted : Writes) (ensured : List CellId) (sends : List Action) (o1 o2 o3 : Option CellId) (e : End) → Lawful s a at view sets commuted ensured sends
+    → Finds s.cells s.book at (cells_in sets ++ ensured) o1 → Finds s.cells s.book view (cells_in commuted) o2 → FindsFailed s.cells s.book sends o3 → IsEnd o1 o2 o3 e → Ended s a at view sets commuted sends e
+ended_by s a at view sets commuted ensured sends o1 o2 o3 (Reruns c) l f1 f2 f3 e =
+    let f = subst (Finds s.cells s.book at (cells_in sets ++ ensured)) e f1 in
+    (f.0, (ends s.book a at view l.end).tried, f.1)
+ended_by s a at view sets commuted ensured sends o1 o2 o3 (Redoes c) l f1 f2 f3 e =
+    let f = subst (Finds s.cells s.book view (cells_in commuted)) e.1 f2 in
+    (f.0, (ends s.book a at view l.end).viewed, f.1)
+ended_by s a at view sets commuted ensured sends o1 o2 o3 (Refuses g) l f1 f2 f3 e =
+    let f = subst (FindsFailed s.cells s.book sends) e.2 f3 in
+    (f.0, l.end, f.1)
+ended_by s a at view sets commuted ensured sends o1 o2 o3 Commits l f1 f2 f3 e =
+    let f = untouched_parts s.book at (cells_in sets) ensured (subst (Finds s.cells s.book at (cells_in sets ++ ensured)) e.0 f1) in
+    let g = subst (Finds s.cells s.book view (cells_in commuted)) e.1 f2 in
+    let h = subst (FindsFailed s.cells s.book sends) e.2 f3 in
+    (legal_commit s.cells s.book a at view sets commuted sends l.refs_set l.refs_commuted l.to_agents l.end h, guarded_commit s.book a at view sets commuted sends l.end f.0 g)
+
+pub ended : (s : PlainStore) (a at view : ℕ) (sets commuted : Writes) (ensured : List CellId) (sends : List Action) (e : End) → is_lawful s a (ask.Commit at sets ensured view commuted sends) ≡ true
+    → IsEnd (least_written s.book at (cells_in sets ++ ensured)) (least_written s.book view (cells_in commuted)) (first_failed s.cells s.book sends) e → Ended s a at view sets commuted sends e
+ended s a at view sets commuted ensured sends e h is =
+    let l = lawful_commit s a at view sets commuted ensured sends h in
+    ended_by s a at view sets commuted ensured sends _ _ _ e l
+    (finds s.cells s.book at (cells_in sets ++ ensured) (refs_tested s a at view sets commuted ensured sends l))
+    (finds s.cells s.book view (cells_in commuted) (refs_has s.cells 0 (cells_in commuted) l.refs_commuted)) (finds_failed s.cells s.book sends l.to_agents) is
+
+-- the same, where the lists are those of slices
+pub ended_as : (s : PlainStore) (a at view : ℕ) (sets ws commuted : Writes) (ensured : List CellId) (sends xs : List Action) (e : End) → is_lawful s a (ask.Commit at sets ensured view commuted sends) ≡ true → ws ≡ sets → xs ≡ sends
+    → IsEnd (least_written s.book at (cells_in ws ++ ensured)) (least_written s.book view (cells_in commuted)) (first_failed s.cells s.book xs) e → Ended s a at view sets commuted sends e
+ended_as s a at view sets ws commuted ensured sends xs e h sets_are sends_are is =
+    ended s a at view sets commuted ensured sends e h
+    (subst (λ l. IsEnd (least_written s.book at (cells_in l ++ ensured)) (least_written s.book view (cells_in commuted)) (first_failed s.cells s.book sends) e) sets_are
+    (subst (λ l. IsEnd (least_written s.book at (cells_in ws ++ ensured)) (least_written s.book view (cells_in commuted)) (first_failed s.cells s.book l) e) sends_are is))
+
+-- what is served then
+abbrev pub by_end : End → ℕ → ℕ → ℕ → Writes → List Action → List Event → Served
+by_end (Reruns c) a at view ws sends book = adds a (Retry at c false) (reply.Retry c) book
+by_end (Redoes c) a at view ws sends book = adds a (Retry view c true) (reply.Changed c) book
+by_end (Refuses g) a at view ws sends book = adds a (Refused at view g) (reply.AgentIsFailed g) book
+by_end Commits a at view ws sends book = adds a (Commit at view ws sends) reply.Done book
+
+pub commits_by : (o1 o2 o3 : Option CellId) (e : End) (a at view : ℕ) (ws : Writes) (sends : List Action) (book : List Event) → IsEnd o1 o2 o3 e → by_end e a at view ws sends book ≡ commits o1 o2 o3 a at view ws sends book
+commits_by o1 o2 o3 (Reruns c) a at view ws sends book h = ap (λ x. commits x o2 o3 a at view ws sends book) (sym h)
+commits_by o1 o2 o3 (Redoes c) a at view ws sends book h = ap (λ x. commits x (Some c) o3 a at view ws sends book) (sym h.0) ∙ ap (λ x. commits o1 x o3 a at view ws sends book) (sym h.1)
+commits_by o1 o2 o3 (Refuses g) a at view ws sends book h =
+    ap (λ x. commits x None (Some g) a at view ws sends book) (sym h.0) ∙ ap (λ x. commits o1 x (Some g) a at view ws sends book) (sym h.1) ∙ ap (λ x. commits o1 o2 x a at view ws sends book) (sym h.2)
+commits_by o1 o2 o3 Commits a at view ws sends book h =
+    ap (λ x. commits x None None a at view ws sends book) (sym h.0) ∙ ap (λ x. commits o1 x None a at view ws sends book) (sym h.1) ∙ ap (λ x. commits o1 o2 x a at view ws sends book) (sym h.2)
+
+-- the reply to it
+pub ends_so : (s t : PlainStore) (r : Reply) (o1 o2 o3 : Option CellId) (e : End) (a at view : ℕ) (ws : Writes) (sends : List Action) → IsEnd o1 o2 o3 e → Replies s (by_end e a at view ws sends s.book) r t → Replies s (commits o1 o2 o3 a at view ws sends s.book) r t
+ends_so s t r o1 o2 o3 e a at view ws sends h g = subst (λ v. Replies s v r t) (commits_by o1 o2 o3 e a at view ws sends s.book h) g
+
+-- the reply to a commit, where the lists are those of slices
+pub commit_ends : (s t : PlainStore) (r : Reply) (a at view : ℕ) (sets ws commuted : Writes) (ensured : List CellId) (sends xs : List Action) (e : End) → ws ≡ sets → xs ≡ sends
+    → IsEnd (least_written s.book at (cells_in ws ++ ensured)) (least_written s.book view (cells_in commuted)) (first_failed s.cells s.book xs) e → Replies s (by_end e a at view (merged sets commuted) sends s.book) r t
+    → Replies s (serve s.cells a (ask.Commit at sets ensured view commuted sends) s.book) r t
+commit_ends s t r a at view sets ws commuted ensured sends xs e sets_are sends_are is g =
+    ends_so s t r (least_written s.book at (cells_in sets ++ ensured)) (least_written s.book view (cells_in commuted)) (first_failed s.cells s.book sends) e a at view (merged sets commuted) sends
+    (subst (λ l. IsEnd (least_written s.book at (cells_in l ++ ensured)) (least_written s.book view (cells_in commuted)) (first_failed s.cells s.book sends) e) sets_are
+    (subst (λ l. IsEnd (least_written s.book at (cells_in ws ++ ensured)) (least_written s.book view (cells_in commuted)) (first_failed s.cells s.book l) e) sends_are is)) g
+
+-- ---- agents
+
+-- nothing to run
+pub idles : (s : PlainStore) (a : ℕ) (g : CellId) → next_action s.cells s.book g ≡ None → Answers s (serve s.cells a (ask.Take g) s.book) (store_after s (ask.Take g) (serve s.cells a (ask.Take g) s.book)) reply.Idle s
+idles s a g e =
+    let n = suc (mail_after s.cells s.book g.number).acts in
+    let v = newest (opening s.cells) s.book g.number in
+    subst (λ o. Answers s (served (takes o n v) s.book) (store_with s.cells s.threads s.book (if hands_out (takes o n v) then set s.taken g.number true else s.taken)) reply.Idle s) (sym e) (refl, refl)
+
+-- an action to run
+pub hands : (s t : PlainStore) (a : ℕ) (g : CellId) (x : Action) (n : ℕ) (v : Value) → next_action s.cells s.book g ≡ Some x → n ≡ suc (mail_after s.cells s.book g.number).acts → v ≡ newest (opening s.cells) s.book g.number
+    → t ≡ store_with s.cells s.threads s.book (set s.taken g.number true) → Answers s (serve s.cells a (ask.Take g) s.book) (store_after s (ask.Take g) (serve s.cells a (ask.Take g) s.book)) (reply.Action n x v) t
+hands s t a g x n v e number state after =
+    let n1 = suc (mail_after s.cells s.book g.number).acts in
+    let v1 = newest (opening s.cells) s.book g.number in
+    subst (λ o. Answers s (served (takes o n1 v1) s.book) (store_with s.cells s.threads s.book (if hands_out (takes o n1 v1) then set s.taken g.number true else s.taken)) (reply.Action n x v) t) (sym e)
+    (ap (λ m. reply.Action m x v) number ∙ ap (λ u. reply.Action n1 x u) state, after)
+
+-- no memory for it
+pub hands_not : (s t : PlainStore) (a : ℕ) (g : CellId) → is_some (next_action s.cells s.book g) ≡ true → t ≡ s → Answers s (serve s.cells a (ask.Take g) s.book) (store_after s (ask.Take g) (serve s.cells a (ask.Take g) s.book)) reply.Memory t
+hands_not s t a g e same = go (next_action s.cells s.book g) refl e
+  where
+    n : ℕ
+    n = suc (mail_after s.cells s.book g.number).acts
+
+    v : Value
+    v = newest (opening s.cells) s.book g.number
+
+    go : (o : Option Action) → next_action s.cells s.book g ≡ o → is_some o ≡ true → Answers s (served (takes o n v) s.book) (store_with s.cells s.threads s.book (if hands_out (takes o n v) then set s.taken g.number true else s.taken)) reply.Memory t
+    go None q f = absurd (false≢true f)
+    go (Some x) q f = (tt, same)
+
+pub none_of : (o : Option Action) → is_some o ≡ false → o ≡ None
+none_of None e = refl
+none_of (Some x) e = absurd (false≢true (sym e))
+
+-- whether there is something to run
+pub has_action : (failed : Bool) (xs : List Action) (n : ℕ) → n ≡ length xs → is_some (first_action failed xs) ≡ (if failed then false else nat_lt 0 n)
+has_action true xs n e = refl
+has_action false [] n e = sym (ap (nat_lt 0) e)
+has_action false (x ∷ xs) n e = let more : nat_lt 0 n ≡ true = ltb_yes 0 n (omega (arith, e)) in sym more

@@ -1,0 +1,87 @@
+-- What becomes of a store's book and of what is taken.
+use Rattle.std.proofs.Common.{◌≡◌, ◌≤◌, ◌<◌, ◌+◌, ℕ, suc, true, false, List, [], ◌∷◌, ◌++◌, length, get_or, set, Option, Result, sym, ap, ◌∙◌, subst, arith, Fits, w32}
+use Rattle.std.specs.Prelude.{is_some}
+use Rattle.txs_asks.specs.declared.event.Event.{Event}
+use Rattle.txs_asks.specs.declared.event.EventKind.TheVariants.{Act}
+use Rattle.txs_mail.specs.Mailbox.{IsMailbox, next}
+use Rattle.txs_value.specs.Limits.{most_events}
+use Rattle.txs_value.specs.Places.{nth}
+use Rattle.txs_value.specs.declared.action.Action.{Action}
+use Rattle.txs_value.specs.declared.fault.Fault.{Fault}
+use Rattle.txs_value.specs.declared.value.CellId.{CellId}
+use Rattle.txs_value.specs.declared.value.Value.{Value}
+use Rattle.txs_world.specs.Book.{goes_on, has_agent, is_failed, mail_after, waits}
+use Rattle.txs_world.specs.Inboxes.{PlainInbox, plain_inbox, plain_inboxes, no_inbox, open_inboxes, mailed_all, finished, taken_up, taken_of}
+use Rattle.txs_world.specs.Kept.{IsKept}
+use Rattle.txs_world.specs.Store.{PlainStore, store_with, event_of, is_taken, none_taken}
+use Rattle.txs_world.specs.declared.cell.StoreCell.{StoreCell}
+use Rattle.txs_world.specs.declared.inbox.Inbox.{Inbox}
+use Rattle.txs_world.specs.declared.slot.Slot.{Slot}
+use Rattle.txs_world.proofs.Kept.{agent_in, taken_waits}
+use Rattle.txs_world.proofs.Mailing.{inbox_is, few_acts, taken_is, taken_set, taken_mailed, none_open, many_inboxes}
+use Rattle.txs_world.proofs.Sizes.{fits_next}
+
+-- a store as it opens
+pub opened_store : (cells ds : List StoreCell) (threads : ℕ) (book : List Event) (bs : List PlainInbox) → cells ≡ ds → book ≡ [] → bs ≡ open_inboxes cells → store_with cells threads book (taken_of bs) ≡ store_with ds threads [] (none_taken ds)
+opened_store cells ds threads book bs same empty boxes =
+    ap (λ b. store_with cells threads b (taken_of bs)) empty ∙ ap (λ u. store_with cells threads [] (taken_of u)) boxes ∙ ap (store_with cells threads []) (none_open cells) ∙ ap (λ u. store_with u threads [] (none_taken u)) same
+
+-- one more event, by which nothing is taken or over
+pub stored : (s : PlainStore) (cells : List StoreCell) (threads : ℕ) (book more : List Event) (old now : List PlainInbox) (e : Event) → store_with cells threads book (taken_of old) ≡ s → more ≡ book ++ e ∷ [] → taken_of now ≡ taken_of old
+    → store_with cells threads more (taken_of now) ≡ store_with s.cells s.threads (s.book ++ e ∷ []) s.taken
+stored s cells threads book more old now e is added same =
+    subst (λ (u : PlainStore). store_with cells threads more (taken_of now) ≡ store_with u.cells u.threads (u.book ++ e ∷ []) u.taken) is
+    (ap (λ b. store_with cells threads b (taken_of now)) added ∙ ap (store_with cells threads (book ++ e ∷ [])) same)
+
+-- actions that enter leave what is taken
+pub entered_leaves : (old mid now : List PlainInbox) (xs : List Action) → mid ≡ old → now ≡ mailed_all mid xs → taken_of now ≡ taken_of old
+entered_leaves old mid now xs same put = ap taken_of put ∙ taken_mailed mid xs ∙ ap taken_of same
+
+-- an action that is over
+pub over : (s : PlainStore) (cells : List StoreCell) (threads : ℕ) (book more : List Event) (old now : List PlainInbox) (a n : ℕ) (g : CellId) (new : Result Value Fault) (f : Option Fault) → store_with cells threads book (taken_of old) ≡ s
+    → more ≡ book ++ event_of a (Act g n new) ∷ [] → now ≡ set old g.number (finished f (get_or old g.number no_inbox)) → n ≡ suc (mail_after s.cells s.book g.number).acts
+    → store_with cells threads more (taken_of now) ≡ store_with s.cells s.threads (s.book ++ event_of a (Act g (suc (mail_after s.cells s.book g.number).acts) new) ∷ []) (set s.taken g.number false)
+over s cells threads book more old now a n g new f is added gone number =
+    subst (λ (u : PlainStore). store_with cells threads more (taken_of now) ≡ store_with u.cells u.threads (u.book ++ event_of a (Act g n new) ∷ []) (set u.taken g.number false)) is
+    (ap (λ b. store_with cells threads b (taken_of now)) added
+    ∙ ap (store_with cells threads (book ++ event_of a (Act g n new) ∷ [])) (ap taken_of gone ∙ taken_set old g.number (finished f (get_or old g.number no_inbox))))
+    ∙ ap (λ m. store_with s.cells s.threads (s.book ++ event_of a (Act g m new) ∷ []) (set s.taken g.number false)) number
+
+-- an action that is taken
+pub handed : (s : PlainStore) (cells : List StoreCell) (threads : ℕ) (book : List Event) (old now : List PlainInbox) (g : CellId) → store_with cells threads book (taken_of old) ≡ s
+    → now ≡ set old g.number (taken_up (get_or old g.number no_inbox)) → is_some (next (get_or old g.number no_inbox).mailbox) ≡ true
+    → store_with cells threads book (taken_of now) ≡ store_with s.cells s.threads s.book (set s.taken g.number true)
+handed s cells threads book old now g is up some =
+    subst (λ (u : PlainStore). store_with cells threads book (taken_of now) ≡ store_with u.cells u.threads u.book (set u.taken g.number true)) is
+    (ap (store_with cells threads book) (ap taken_of up ∙ taken_set old g.number (taken_up (get_or old g.number no_inbox)) ∙ ap (set (taken_of old) g.number) some))
+
+-- ---- an inbox that was read
+
+-- how many actions its agent has run
+pub acts_read : (s : PlainStore) (cells : List StoreCell) (threads : ℕ) (slots : List Slot) (bs : List Inbox) (views tries : List ℕ) (book : List Event) (i : ℕ) (b : Inbox) (g : CellId) → store_with cells threads book (taken_of (plain_inboxes bs)) ≡ s
+    → IsKept cells threads slots (plain_inboxes bs) views tries book → has_agent s.cells g ≡ true → i ≡ g.number → b ≡ get_or bs i b → b.acts ≡ (mail_after s.cells s.book g.number).acts
+acts_read s cells threads slots bs views tries book i b g is h has at there =
+    let in_cells = agent_in cells g (subst (λ (u : PlainStore). has_agent u.cells g ≡ true) (sym is) has) in
+    ap (λ (y : PlainInbox). y.acts) (inbox_is cells threads slots bs views tries book g.number i b h in_cells at there) ∙ ap (λ (u : PlainStore). (mail_after u.cells u.book g.number).acts) is
+
+-- there is a number for its next one
+pub next_fits : (s : PlainStore) (cells : List StoreCell) (threads : ℕ) (slots : List Slot) (bs : List Inbox) (views tries : List ℕ) (book : List Event) (i : ℕ) (b : Inbox) (g : CellId) → store_with cells threads book (taken_of (plain_inboxes bs)) ≡ s
+    → IsKept cells threads slots (plain_inboxes bs) views tries book → has_agent s.cells g ≡ true → i ≡ g.number → b ≡ get_or bs i b → Fits w32 (b.acts + 1)
+next_fits s cells threads slots bs views tries book i b g is h has at there =
+    let acts = acts_read s cells threads slots bs views tries book i b g is h has at there in
+    let few = few_acts s.cells s.book g.number in
+    let most : length s.book ≤ most_events = subst (λ (u : PlainStore). length u.book ≤ most_events) is h.legal.few in
+    fits_next b.acts (omega (arith, acts, few, most))
+
+-- where its first action is taken, it is there, and the agent hasn't failed
+pub taken_stands : (s : PlainStore) (cells : List StoreCell) (threads : ℕ) (slots : List Slot) (bs : List Inbox) (views tries : List ℕ) (book : List Event) (i : ℕ) (b : Inbox) (g : CellId) → store_with cells threads book (taken_of (plain_inboxes bs)) ≡ s
+    → IsKept cells threads slots (plain_inboxes bs) views tries book → has_agent s.cells g ≡ true → i ≡ g.number → b ≡ get_or bs i b → IsMailbox b.mailbox.plain → is_taken s.taken g ≡ true
+    → (is_failed s.cells s.book g ≡ false) × (waits (mail_after s.cells s.book g.number).actions ≡ true)
+taken_stands s cells threads slots bs views tries book i b g is h has at there box taken =
+    let in_cells = agent_in cells g (subst (λ (u : PlainStore). has_agent u.cells g ≡ true) (sym is) has) in
+    let many = many_inboxes cells threads slots bs views tries book h in
+    let in_boxes : i < length bs = omega (arith, in_cells, many, at) in
+    let up : b.mailbox.plain.is_taken ≡ true =
+    ap (λ (y : Inbox). y.mailbox.plain.is_taken) there ∙ taken_is bs i b in_boxes ∙ ap (λ k. get_or (taken_of (plain_inboxes bs)) k false) at ∙ ap (λ (u : PlainStore). get_or u.taken g.number false) is ∙ taken in
+    let r = taken_waits (goes_on (nth cells g.number)) (mail_after cells book g.number) (plain_inbox b) (inbox_is cells threads slots bs views tries book g.number i b h in_cells at there) box up in
+    subst (λ (u : PlainStore). (is_failed u.cells u.book g ≡ false) × (waits (mail_after u.cells u.book g.number).actions ≡ true)) is r

@@ -1,0 +1,11 @@
+use Rattle.std.proofs.Common.{◌≡◌, drop, true}
+use Rattle.txs_world.specs.Book.{are_sends, first_failed}
+use Rattle.txs_world.proofs.store.Store.first_failed.Given as goal
+
+-- the actions to come are for agents of the store, and the first of them whose agent has failed is the answer
+abbrev pub invariant-loop-action : goal.invariant-loop-action
+invariant-loop-action l =
+    record {
+      sends : are_sends l.self.cells (drop l.action-index l.sends) ≡ true;
+      answer : first_failed l.self.cells l.self.book (drop l.action-index l.sends) ≡ first_failed l.self.cells l.self.book l.sends;
+    }

@@ -1,0 +1,34 @@
+use Rattle.std.proofs.Common.{◌≡◌, ◌<◌, ◌∙◌, ◌∷◌, [], ap, sym, subst, length, true}
+use Rattle.txs_asks.specs.declared.event.EventKind.TheVariants.{Send}
+use Rattle.txs_value.specs.Limits.{most_events}
+use Rattle.txs_world.specs.Book.{makes, LegalKind}
+use Rattle.txs_world.specs.Inboxes.{plain_inboxes, mailed_all}
+use Rattle.txs_world.specs.Store.{PlainStore, event_of}
+use Rattle.txs_world.proofs.Kept.{sent, same_stands}
+use Rattle.txs_world.proofs.Storing.{stored, entered_leaves}
+use Rattle.txs_world.proofs.store.Store.put.Goals as goal
+
+pub invariant_of-self-in_err-add : goal.invariant_of-self-in_err-add
+invariant_of-self-in_err-add c =
+    let x = c.self.inside in
+    let bs = plain_inboxes x.inboxes.items in
+    same_stands x.cells.items x.threads x.slots.items bs (plain_inboxes c.ready_at.new.inboxes.items) x.journal.views.items x.journal.tries.items c.add.new.self.views.items c.add.new.self.tries.items x.journal.book.items c.add.new.self.book.items
+    c.ready_at.ensures.same c.in_err-add.ensures.same_views c.in_err-add.ensures.same_tries c.in_err-add.ensures.same c.self.invariant
+
+pub invariant_of-self-2 : goal.invariant_of-self-2
+invariant_of-self-2 c =
+    let x = c.self.inside in
+    let bs = plain_inboxes x.inboxes.items in
+    let d = Send c.args.action in
+    let room : length x.journal.book.items < most_events = subst (λ (s : PlainStore). length s.book < most_events) (sym c.self.view_is) c.requires.room in
+    let legal : LegalKind x.cells.items x.journal.book.items c.args.actor d = subst (λ (s : PlainStore). LegalKind s.cells s.book c.args.actor d) (sym c.self.view_is) c.requires.legal in
+    let made : makes x.cells.items x.threads c.args.actor d ≡ true = subst (λ (s : PlainStore). makes s.cells s.threads c.args.actor d ≡ true) (sym c.self.view_is) c.requires.thread in
+    sent x.cells.items x.threads x.slots.items bs (plain_inboxes c.put_at.new.inboxes.items) x.journal.views.items x.journal.tries.items c.add.new.self.views.items c.add.new.self.tries.items x.journal.book.items c.add.new.self.book.items
+    c.args.actor c.args.action c.self.invariant room made legal c.in_ok-add.ensures.views c.in_ok-add.ensures.tries c.in_ok-add.ensures.added
+    (c.put_at.ensures.put ∙ ap (λ b. mailed_all b (c.in_ok-copy.copy ∷ [])) c.ready_at.ensures.same ∙ ap (λ a. mailed_all bs (a ∷ [])) c.in_ok-copy.ensures.copy)
+
+pub returns-clause-added : goal.returns-clause-added
+returns-clause-added c =
+    let x = c.self.inside in
+    stored c.args.self.now x.cells.items x.threads x.journal.book.items c.add.new.self.book.items (plain_inboxes x.inboxes.items) (plain_inboxes c.put_at.new.inboxes.items) (event_of c.args.actor (Send c.args.action))
+    c.self.view_is c.in_ok-add.ensures.added (entered_leaves _ _ _ (c.in_ok-copy.copy ∷ []) c.ready_at.ensures.same c.put_at.ensures.put)

@@ -1,0 +1,210 @@
+//! What a store knows of its agents beside their states.
+
+ghost use Rattle.std.specs.Prelude.{◌≡◌, ◌+◌, ◌<◌, ◌≤◌, ◌∷◌, [], ℕ, suc, false, length, set, true, Some, is_some, IfOk, OnErr, OnOk};
+ghost use Rattle.std.proofs.Common.{get_or};
+ghost use Rattle.txs_mail.specs.Mailbox.{next};
+ghost use Rattle.txs_world.specs.Inboxes.{plain_inbox, plain_inboxes, no_inbox, open_inboxes, with_action, mailed_all, taken_up, finished, all_sent_below, rooms, HaveRoom};
+
+use crate::cell::StoreCell;
+use std::alloc::{AllocError, Global};
+use std::collections::VecDeque;
+use txs_mail::Mailbox;
+use txs_value::{Action, Fault, copy_action};
+
+/// Of an agent the actions that wait, the fault where it has failed, and how many actions it has run. A cell that is no agent
+/// has one to which nothing is sent.
+#[derive(Drop)]
+pub(crate) struct Inbox {
+    pub(crate) mailbox: Mailbox,
+    pub(crate) fault: Option<Fault>,
+    pub(crate) acts: u32,
+}
+
+impl Inbox {
+    /// Makes room for so many more actions.
+    fn reserve(&mut self, additional: usize) -> Result<(), AllocError>
+        ensures same { plain_inbox self.new ≡ plain_inbox self.old }
+        ensures room { OnOk result (additional ≤ self.new.mailbox.room) }
+        ensures kept { self.old.mailbox.room ≤ self.new.mailbox.room }
+    {
+        self.mailbox.reserve(additional)
+    }
+
+    /// Puts an action behind the others.
+    fn put(&mut self, action: Action)
+        requires { 0 < self.old.mailbox.room }
+        ensures put { plain_inbox self.new ≡ with_action action (plain_inbox self.old) }
+        ensures room { self.new.mailbox.room + 1 ≡ self.old.mailbox.room }
+    {
+        self.mailbox.put_reserved(action);
+    }
+
+    /// A copy of the next action, which is taken. Where there is no memory for it, none is.
+    fn take(&mut self, alloc: Global) -> Result<Action, AllocError>
+        requires free { self.old.mailbox.plain.is_taken ≡ false }
+        requires some { is_some (next self.old.mailbox.plain) ≡ true }
+        ensures action { IfOk result (λ a. next self.old.mailbox.plain ≡ Some a) }
+        ensures taken { OnOk result (plain_inbox self.new ≡ taken_up (plain_inbox self.old)) }
+        ensures same { OnErr result (plain_inbox self.new ≡ plain_inbox self.old) }
+    {
+        let copied = match self.mailbox.take() {
+            None => unreachable!(),
+            Some(action) => copy_action(alloc, action),
+        };
+        match copied {
+            Ok(action) => Ok(action),
+            Err(refused) => {
+                self.mailbox.give_back();
+                Err(refused)
+            }
+        }
+    }
+
+    /// Removes the action that was taken, which came to this fault or to none.
+    fn finish(&mut self, fault: Option<Fault>)
+        requires taken { self.old.mailbox.plain.is_taken ≡ true }
+        requires few { self.old.acts < u32.MAX }
+        ensures { plain_inbox self.new ≡ finished fault (plain_inbox self.old) }
+    {
+        self.mailbox.finish(fault.is_some());
+        if self.mailbox.has_failed() {
+            self.fault = fault;
+        }
+        self.acts += 1;
+    }
+}
+
+/// The inboxes of these cells, to which nothing was sent.
+pub(crate) fn open_inboxes(alloc: Global, cells: &[StoreCell]) -> Result<Vec<Inbox>, AllocError>
+    ensures { IfOk result (λ v. plain_inboxes v.items ≡ open_inboxes cells.now) }
+{
+    let mut inboxes = Vec::with_capacity(alloc, cells.len())?;
+    for cell in cells {
+        inboxes.push(Inbox {
+            mailbox: Mailbox::new(alloc, cell.goes_on),
+            fault: None,
+            acts: 0,
+        })?;
+    }
+    Ok(inboxes)
+}
+
+/// Fills a queue with the same actions. The queue keeps its room from one event to the next.
+pub(crate) fn fill_queue(
+    alloc: Global,
+    queue: &mut VecDeque<Action>,
+    actions: &[Action],
+) -> Result<(), AllocError>
+    ensures { OnOk result (queue.new.items ≡ actions.now) }
+{
+    queue.clear();
+    for action in actions {
+        queue.push_back(copy_action(alloc, action)?)?;
+    }
+    Ok(())
+}
+
+/// Makes room for so many more actions in one inbox. What the inboxes hold is as before, and none has less room.
+pub(crate) fn reserve_at(
+    inboxes: &mut Vec<Inbox>,
+    number: u16,
+    additional: usize,
+) -> Result<(), AllocError>
+    requires { number < length inboxes.old.items }
+    ensures same { plain_inboxes inboxes.new.items ≡ plain_inboxes inboxes.old.items }
+    ensures many { length inboxes.new.items ≡ length inboxes.old.items }
+    ensures kept { (k : ℕ) → get_or (rooms inboxes.old.items) k 0 ≤ get_or (rooms inboxes.new.items) k 0 }
+    ensures room { OnOk result (additional ≤ get_or (rooms inboxes.new.items) number 0) }
+{
+    let place = usize::from(number);
+    let inbox = &mut inboxes[place];
+    inbox.reserve(additional)?;
+    Ok(())
+}
+
+/// Puts an action into the inbox of its agent, which has one place less then.
+pub(crate) fn put_at(inboxes: &mut Vec<Inbox>, action: Action)
+    requires place { action.agent.number < length inboxes.old.items }
+    requires room { 0 < get_or (rooms inboxes.old.items) action.agent.number 0 }
+    ensures many { length inboxes.new.items ≡ length inboxes.old.items }
+    ensures put { plain_inboxes inboxes.new.items ≡ mailed_all (plain_inboxes inboxes.old.items) (action ∷ []) }
+    ensures room { (k : ℕ) → get_or (rooms inboxes.old.items) k 0 ≤ suc (get_or (rooms inboxes.new.items) k 0) }
+{
+    let place = usize::from(action.agent.number);
+    let inbox = &mut inboxes[place];
+    inbox.put(action);
+}
+
+/// A copy of an action, with room for it in the inbox of its agent.
+pub(crate) fn ready_at(
+    alloc: Global,
+    inboxes: &mut Vec<Inbox>,
+    action: &Action,
+) -> Result<Action, AllocError>
+    requires { action.now.agent.number < length inboxes.old.items }
+    ensures same { plain_inboxes inboxes.new.items ≡ plain_inboxes inboxes.old.items }
+    ensures many { length inboxes.new.items ≡ length inboxes.old.items }
+    ensures room { OnOk result (1 ≤ get_or (rooms inboxes.new.items) action.now.agent.number 0) }
+    ensures copy { IfOk result (λ a. a ≡ action.now) }
+{
+    reserve_at(inboxes, action.agent.number, 1)?;
+    copy_action(alloc, action)
+}
+
+/// A copy of the next action of one inbox, which is taken. Where there is no memory for it, none is.
+pub(crate) fn take_at(
+    alloc: Global,
+    inboxes: &mut Vec<Inbox>,
+    number: u16,
+) -> Result<Action, AllocError>
+    requires place { number < length inboxes.old.items }
+    requires free { (get_or (plain_inboxes inboxes.old.items) number no_inbox).mailbox.is_taken ≡ false }
+    requires some { is_some (next (get_or (plain_inboxes inboxes.old.items) number no_inbox).mailbox) ≡ true }
+    ensures action { IfOk result (λ a. next (get_or (plain_inboxes inboxes.old.items) number no_inbox).mailbox ≡ Some a) }
+    ensures taken { OnOk result (plain_inboxes inboxes.new.items ≡ set (plain_inboxes inboxes.old.items) number (taken_up (get_or (plain_inboxes inboxes.old.items) number no_inbox))) }
+    ensures same { OnErr result (plain_inboxes inboxes.new.items ≡ plain_inboxes inboxes.old.items) }
+{
+    let place = usize::from(number);
+    let inbox = &mut inboxes[place];
+    let action = inbox.take(alloc)?;
+    Ok(action)
+}
+
+/// Removes the action that was taken of one inbox, which came to this fault or to none.
+pub(crate) fn finish_at(inboxes: &mut Vec<Inbox>, number: u16, fault: Option<Fault>)
+    requires place { number < length inboxes.old.items }
+    requires taken { (get_or (plain_inboxes inboxes.old.items) number no_inbox).mailbox.is_taken ≡ true }
+    requires few { (get_or (plain_inboxes inboxes.old.items) number no_inbox).acts < u32.MAX }
+    ensures { plain_inboxes inboxes.new.items ≡ set (plain_inboxes inboxes.old.items) number (finished fault (get_or (plain_inboxes inboxes.old.items) number no_inbox)) }
+{
+    let place = usize::from(number);
+    let inbox = &mut inboxes[place];
+    inbox.finish(fault);
+}
+
+/// Makes room for so many more actions in the inbox of each agent that is sent one.
+pub(crate) fn make_room_for(
+    inboxes: &mut Vec<Inbox>,
+    actions: &[Action],
+    additional: usize,
+) -> Result<(), AllocError>
+    requires { all_sent_below (length inboxes.old.items) actions.now ≡ true }
+    ensures same { plain_inboxes inboxes.new.items ≡ plain_inboxes inboxes.old.items }
+    ensures room { OnOk result (HaveRoom (rooms inboxes.new.items) additional actions.now) }
+{
+    for action in actions {
+        reserve_at(inboxes, action.agent.number, additional)?;
+    }
+    Ok(())
+}
+
+/// Puts actions into the inboxes of their agents, in order.
+pub(crate) fn mail_all(inboxes: &mut Vec<Inbox>, actions: &mut VecDeque<Action>)
+    requires places { all_sent_below (length inboxes.old.items) actions.old.items ≡ true }
+    requires room { HaveRoom (rooms inboxes.old.items) (length actions.old.items) actions.old.items }
+    ensures { plain_inboxes inboxes.new.items ≡ mailed_all (plain_inboxes inboxes.old.items) actions.old.items }
+{
+    while let Some(action) = actions.pop_front() {
+        put_at(inboxes, action);
+    }
+}

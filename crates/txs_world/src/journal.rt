@@ -1,0 +1,133 @@
+//! The book of a store, and where each actor stands in it.
+
+ghost use Rattle.std.specs.Prelude.{◌≡◌, ◌<◌, ◌++◌, ◌∷◌, [], suc, length, slice_index, true, false, IfOk, OnErr, OnOk};
+ghost use Rattle.txs_value.specs.Limits.{most_events};
+ghost use Rattle.txs_world.specs.Book.{counts};
+ghost use Rattle.txs_world.specs.Kept.{Marked, StandAsBefore};
+ghost use Rattle.txs_world.specs.Store.{event_of};
+
+use std::alloc::{AllocError, Global};
+use txs_asks::{Event, EventKind};
+
+/// The events; of each actor how many there are up to its last one, and up to its last one that isn't a commute phase to be made
+/// again.
+#[derive(Drop)]
+pub(crate) struct Journal {
+    pub(crate) book: Vec<Event>,
+    pub(crate) views: Vec<u32>,
+    pub(crate) tries: Vec<u32>,
+}
+
+impl Journal {
+    /// A journal without events.
+    pub(crate) fn new(alloc: Global) -> Journal
+        ensures book { result.book.items ≡ [] }
+        ensures views { result.views.items ≡ [] }
+        ensures tries { result.tries.items ≡ [] }
+    {
+        Journal {
+            book: Vec::new(alloc),
+            views: Vec::new(alloc),
+            tries: Vec::new(alloc),
+        }
+    }
+
+    /// Adds an event, and answers how many there are with it.
+    pub(crate) fn add(&mut self, actor: u16, kind: EventKind) -> Result<u32, AllocError>
+        requires { length self.old.book.items < most_events }
+        ensures added { OnOk result (self.new.book.items ≡ self.old.book.items ++ event_of actor kind ∷ []) }
+        ensures many { IfOk result (λ n. n ≡ suc (length self.old.book.items)) }
+        ensures views { OnOk result (Marked true actor (suc (length self.old.book.items)) self.old.views.items self.new.views.items) }
+        ensures tries { OnOk result (Marked (counts false kind) actor (suc (length self.old.book.items)) self.old.tries.items self.new.tries.items) }
+        ensures same { OnErr result (self.new.book.items ≡ self.old.book.items) }
+        ensures same_views { OnErr result (StandAsBefore self.old.views.items self.new.views.items) }
+        ensures same_tries { OnErr result (StandAsBefore self.old.tries.items self.new.tries.items) }
+    {
+        match self.make_room(actor) {
+            Ok(()) => self.put(actor, kind),
+            Err(refused) => {
+                // By a call, which is one case where to drop it here is one for each kind.
+                drop(kind);
+                Err(refused)
+            }
+        }
+    }
+
+    /// Makes room for where the actor stands.
+    fn make_room(&mut self, actor: u16) -> Result<(), AllocError>
+        ensures same { self.new.book.items ≡ self.old.book.items }
+        ensures same_views { StandAsBefore self.old.views.items self.new.views.items }
+        ensures same_tries { StandAsBefore self.old.tries.items self.new.tries.items }
+        ensures views { OnOk result (actor < length self.new.views.items) }
+        ensures tries { OnOk result (actor < length self.new.tries.items) }
+    {
+        make_room(&mut self.views, actor)?;
+        make_room(&mut self.tries, actor)?;
+        Ok(())
+    }
+
+    /// Adds an event of an actor that has its room.
+    fn put(&mut self, actor: u16, kind: EventKind) -> Result<u32, AllocError>
+        requires few { length self.old.book.items < most_events }
+        requires in_views { actor < length self.old.views.items }
+        requires in_tries { actor < length self.old.tries.items }
+        ensures added { OnOk result (self.new.book.items ≡ self.old.book.items ++ event_of actor kind ∷ []) }
+        ensures many { IfOk result (λ n. n ≡ suc (length self.old.book.items)) }
+        ensures views { OnOk result (Marked true actor (suc (length self.old.book.items)) self.old.views.items self.new.views.items) }
+        ensures tries { OnOk result (Marked (counts false kind) actor (suc (length self.old.book.items)) self.old.tries.items self.new.tries.items) }
+        ensures same { OnErr result (self.new.book.items ≡ self.old.book.items) }
+        ensures same_views { OnErr result (self.new.views.items ≡ self.old.views.items) }
+        ensures same_tries { OnErr result (self.new.tries.items ≡ self.old.tries.items) }
+    {
+        let is_try = is_no_redo(&kind);
+        self.book.push(Event { actor, kind })?;
+        let events = self.book.len() as u32;
+        mark(&mut self.views, actor, events, true);
+        mark(&mut self.tries, actor, events, is_try);
+        Ok(events)
+    }
+}
+
+/// Whether an event isn't a commute phase to be made again.
+fn is_no_redo(kind: &EventKind) -> bool
+    ensures { result ≡ counts false kind.now }
+{
+    match kind {
+        EventKind::Retry { commute, .. } => !*commute,
+        _ => true,
+    }
+}
+
+/// Where an actor stands, 0 where it has no place yet.
+pub(crate) fn stand_of(stands: &[u32], actor: u16) -> u32
+    ensures { result ≡ slice_index stands.now actor }
+{
+    let actor = usize::from(actor);
+    if actor < stands.len() {
+        stands[actor]
+    } else {
+        0
+    }
+}
+
+/// Makes room for where the actor stands. Where every actor stands is as before.
+fn make_room(stands: &mut Vec<u32>, actor: u16) -> Result<(), AllocError>
+    ensures same { StandAsBefore stands.old.items stands.new.items }
+    ensures room { OnOk result (actor < length stands.new.items) }
+{
+    let wanted = usize::from(actor) + 1;
+    if stands.len() < wanted {
+        stands.resize(wanted, 0)?;
+    }
+    Ok(())
+}
+
+/// The actor's last event is the last of so many, where it counts.
+fn mark(stands: &mut Vec<u32>, actor: u16, events: u32, counts: bool)
+    requires { actor < length stands.old.items }
+    ensures { Marked counts actor events stands.old.items stands.new.items }
+{
+    if counts {
+        stands[usize::from(actor)] = events;
+    }
+}

@@ -1,0 +1,199 @@
+//! Sends outside transactions, and the actions of agents.
+
+ghost use Rattle.std.specs.Prelude.{◌≡◌, ◌<◌, ◌==◌, nat_lt, ◌++◌, ◌∷◌, [], suc, set, length, true, false, is_some, IfOk, OnOk, OnErr};
+ghost use Rattle.txs_asks.specs.declared.ask.Ask.TheVariants as ask;
+ghost use Rattle.txs_asks.specs.declared.ask.Reply.TheVariants as reply;
+ghost use Rattle.txs_asks.specs.declared.event.EventKind.TheVariants as event;
+ghost use Rattle.txs_value.specs.Limits.{most_events};
+ghost use Rattle.txs_world.specs.Book.{has_agent, actor_of, is_failed, opening, newest, mail_after, state_of, waits, LegalKind};
+ghost use Rattle.txs_world.specs.Inboxes.{fault_of};
+ghost use Rattle.txs_world.specs.Store.{store_with, event_of, adds, is_taken, sends_to, next_action, serve, store_after, Answers, Replies};
+
+use crate::inbox::{finish_at, put_at, ready_at, take_at};
+use crate::slot::put_all;
+use crate::store::Store;
+use std::alloc::AllocError;
+use txs_asks::{EventKind, Reply};
+use txs_value::{Action, CellId, Fault, Value, copy_value};
+
+/// The fault that an action came to, if it faulted.
+fn fault_of(new: &Result<Value, Fault>) -> Option<Fault>
+    ensures { result ≡ fault_of new.now }
+{
+    match new {
+        Ok(_) => None,
+        Err(fault) => Some(*fault),
+    }
+}
+
+/// Fills a list with the state that an action gives its agent.
+fn fill_state(
+    copies: &mut Vec<(CellId, Value)>,
+    agent: CellId,
+    new: &Result<Value, Fault>,
+) -> Result<(), AllocError>
+    ensures { OnOk result (copies.new.items ≡ state_of agent new.now) }
+{
+    copies.clear();
+    if let Ok(value) = new {
+        copies.push((agent, copy_value(value)?))?;
+    }
+    Ok(())
+}
+
+impl Store {
+    /// A send outside every transaction: it is refused where the agent has failed.
+    pub(crate) fn send(&mut self, actor: u16, action: Action) -> Reply
+        requires thread { nat_lt actor self.old.threads ≡ true }
+        requires agent { has_agent self.old.cells action.agent ≡ true }
+        ensures { Replies self.old (sends_to (is_failed self.old.cells self.old.book action.agent) actor action self.old.book) result self.new }
+    {
+        let agent = action.agent;
+        let has_failed = self.is_failed(agent);
+        if has_failed {
+            return self.tell(
+                actor,
+                EventKind::SendRefused { agent },
+                Reply::AgentIsFailed(agent),
+            );
+        }
+        if self.is_full() {
+            return Reply::Full;
+        }
+        match self.put(actor, action) {
+            Ok(()) => Reply::Done,
+            Err(_) => Reply::Memory,
+        }
+    }
+
+    /// Adds a send, and puts its action into the inbox of its agent.
+    fn put(&mut self, actor: u16, action: Action) -> Result<(), AllocError>
+        requires room { length self.old.book < most_events }
+        requires thread { nat_lt actor self.old.threads ≡ true }
+        requires legal { LegalKind self.old.cells self.old.book actor (event.Send action) }
+        ensures added { OnOk result (self.new ≡ store_with self.old.cells self.old.threads (self.old.book ++ event_of actor (event.Send action) ∷ []) self.old.taken) }
+        ensures same { OnErr result (self.new ≡ self.old) }
+    {
+        let copy = ready_at(self.alloc, &mut self.inboxes, &action)?;
+        self.journal.add(actor, EventKind::Send { action })?;
+        put_at(&mut self.inboxes, copy);
+        Ok(())
+    }
+
+    /// The agent's first action, which is taken, with its number and the agent's state; nothing where the agent has failed or
+    /// has no action.
+    pub(crate) fn take(&mut self, actor: u16, agent: CellId) -> Reply
+        requires agent { has_agent self.old.cells agent ≡ true }
+        requires free { is_taken self.old.taken agent ≡ false }
+        ensures { Answers self.old (serve self.old.cells actor (ask.Take agent) self.old.book) (store_after self.old (ask.Take agent) (serve self.old.cells actor (ask.Take agent) self.old.book)) result self.new }
+    {
+        if !self.has_next(agent) {
+            return Reply::Idle;
+        }
+        let number = self.next_number(agent);
+        match self.take_first(agent) {
+            Ok((action, state)) => Reply::Action {
+                number,
+                action,
+                state,
+            },
+            Err(_) => Reply::Memory,
+        }
+    }
+
+    /// Whether the agent has an action to run, and hasn't failed.
+    fn has_next(&self, agent: CellId) -> bool
+        requires { has_agent self.now.cells agent ≡ true }
+        ensures { result ≡ is_some (next_action self.now.cells self.now.book agent) }
+    {
+        if self.is_failed(agent) {
+            return false;
+        }
+        self.waiting(agent) > 0
+    }
+
+    /// The number of the agent's next action.
+    fn next_number(&self, agent: CellId) -> u32
+        requires { has_agent self.now.cells agent ≡ true }
+        ensures { result ≡ suc (mail_after self.now.cells self.now.book agent.number).acts }
+    {
+        self.inboxes[usize::from(agent.number)].acts + 1
+    }
+
+    /// The agent's first action, which is taken, and the agent's state.
+    fn take_first(&mut self, agent: CellId) -> Result<(Action, Value), AllocError>
+        requires agent { has_agent self.old.cells agent ≡ true }
+        requires free { is_taken self.old.taken agent ≡ false }
+        requires some { is_some (next_action self.old.cells self.old.book agent) ≡ true }
+        ensures action { IfOk result (λ p. next_action self.old.cells self.old.book agent ≡ Some p.0) }
+        ensures state { IfOk result (λ p. p.1 ≡ newest (opening self.old.cells) self.old.book agent.number) }
+        ensures taken { OnOk result (self.new ≡ store_with self.old.cells self.old.threads self.old.book (set self.old.taken agent.number true)) }
+        ensures same { OnErr result (self.new ≡ self.old) }
+    {
+        let state = self.share_newest(agent)?;
+        let action = take_at(self.alloc, &mut self.inboxes, agent.number)?;
+        Ok((action, state))
+    }
+
+    /// What an agent's action came to: its new state, or a fault.
+    pub(crate) fn finish(&mut self, actor: u16, agent: CellId, new: Result<Value, Fault>) -> Reply
+        requires own { (actor == actor_of self.old.threads self.old.cells agent) ≡ true }
+        requires agent { has_agent self.old.cells agent ≡ true }
+        requires taken { is_taken self.old.taken agent ≡ true }
+        ensures { Answers self.old (serve self.old.cells actor (ask.Finish agent new) self.old.book) (store_after self.old (ask.Finish agent new) (serve self.old.cells actor (ask.Finish agent new) self.old.book)) result self.new }
+    {
+        if self.is_full() {
+            drop(new);
+            return Reply::Full;
+        }
+        match self.act(actor, agent, new) {
+            Ok(()) => Reply::Done,
+            Err(_) => Reply::Memory,
+        }
+    }
+
+    /// The number of the agent's action that is taken. It is there, and the agent hasn't failed.
+    fn number_taken(&self, agent: CellId) -> u32
+        requires agent { has_agent self.now.cells agent ≡ true }
+        requires taken { is_taken self.now.taken agent ≡ true }
+        ensures number { result ≡ suc (mail_after self.now.cells self.now.book agent.number).acts }
+        ensures runs { is_failed self.now.cells self.now.book agent ≡ false }
+        ensures waits { waits (mail_after self.now.cells self.now.book agent.number).actions ≡ true }
+    {
+        let inbox = &self.inboxes[usize::from(agent.number)];
+        // What is asked is known; a mailbox whose action is taken promises the rest.
+        let _ = inbox.mailbox.is_taken();
+        inbox.acts + 1
+    }
+
+    /// Adds an agent's action, which is over, with what it came to.
+    fn act(
+        &mut self,
+        actor: u16,
+        agent: CellId,
+        new: Result<Value, Fault>,
+    ) -> Result<(), AllocError>
+        requires room { length self.old.book < most_events }
+        requires own { (actor == actor_of self.old.threads self.old.cells agent) ≡ true }
+        requires agent { has_agent self.old.cells agent ≡ true }
+        requires taken { is_taken self.old.taken agent ≡ true }
+        ensures added { OnOk result (self.new ≡ store_with self.old.cells self.old.threads (self.old.book ++ event_of actor (event.Act agent (suc (mail_after self.old.cells self.old.book agent.number).acts) new) ∷ []) (set self.old.taken agent.number false)) }
+        ensures same { OnErr result (self.new ≡ self.old) }
+    {
+        let number = self.number_taken(agent);
+        let fault = fault_of(&new);
+        match fill_state(&mut self.spare, agent, &new) {
+            Ok(()) => (),
+            Err(refused) => {
+                drop(new);
+                return Err(refused);
+            }
+        }
+        let events = self
+            .journal
+            .add(actor, EventKind::Act { agent, number, new })?;
+        put_all(&mut self.slots, &mut self.spare, events);
+        finish_at(&mut self.inboxes, agent.number, fault);
+        Ok(())
+    }
+}
