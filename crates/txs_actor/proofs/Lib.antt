@@ -4,14 +4,9 @@ pub mod Departing
 pub mod Effects
 pub mod Following
 pub mod Landing
-pub mod Lists
 pub mod Meaning
-pub mod Nesting
 pub mod Openings
-pub mod OwnWrites
-pub mod Ready
-pub mod Running
+pub mod Replies
 pub mod Saying
-pub mod Several
 pub mod Striding
 pub mod Turning

@@ -1,8 +1,5 @@
-pub mod Flat
-pub mod Gliding
+pub mod Effect
 pub mod Laws
-pub mod Nesting
+pub mod Paces
 pub mod PlainActor
-pub mod PlainFrame
 pub mod Turns
-pub mod Writes

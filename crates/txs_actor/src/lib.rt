@@ -6,16 +6,11 @@
 
 pub mod actor;
 pub mod answer;
-mod glide;
 pub mod law;
-mod moves;
-mod operate;
 pub mod outcome;
-pub mod stack;
+mod pace;
 pub mod state;
-mod step;
 mod transact;
-mod writes;
 
 pub use actor::Actor;
 pub use answer::may_answer;

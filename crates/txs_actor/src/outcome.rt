@@ -15,18 +15,7 @@ pub enum Turn {
     Ended(Outcome),
 }
 
-/// Where an instruction led.
-#[derive(Clone, Copy)]
-pub(crate) enum Next {
-    /// The place to go on at.
-    At(usize),
-    /// Nowhere yet: it is a call, a return, or an instruction on the transaction.
-    Leaves,
-    /// The end of the actor, or a fault.
-    Ended(Outcome),
-}
-
-/// What an instruction on the transaction came to.
+/// What an instruction on cells or the transaction came to.
 #[derive(Drop)]
 pub(crate) enum Moved {
     /// The next instruction follows.

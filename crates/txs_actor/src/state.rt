@@ -1,6 +1,6 @@
 //! What an actor keeps of its transaction and of its unanswered ask.
 
-use crate::stack::Stack;
+use txs_stack::Stack;
 use txs_value::{CellId, Fault, Span};
 
 /// Where a transaction began: its span, and the stack there, whose body goes on at its first instruction.

@@ -1,19 +1,24 @@
-//! Instructions on the transaction of an actor.
+//! Instructions on cells and the transaction of an actor.
 
-ghost use Rattle.std.specs.Prelude.{List, ◌≡◌, ◌<◌, ◌≤◌, ◌^◌, length};
-ghost use Rattle.txs_value.specs.Cells.{any_cell, readable_cell, ref_cell};
-ghost use Rattle.txs_actor.specs.Flat.{Comes, CanMove, effect, reads, opens, begins, ends, closes};
-ghost use Rattle.txs_actor.specs.PlainActor.{under, is_running, depth_in, IsAscending};
-ghost use Rattle.txs_asks.specs.Ask.{Writes};
+ghost use Rattle.std.specs.Prelude.{List, ◌≡◌, ◌<◌, ◌≤◌, ◌^◌, length, true, Ok, IfOk};
+ghost use Rattle.txs_asks.specs.Ask.{buffered};
+ghost use Rattle.txs_frame.specs.Frame.{Work};
+ghost use Rattle.txs_value.specs.Forms.{rule, cell_of};
+ghost use Rattle.txs_value.specs.declared.value.CellId.{CellId as ACell};
 ghost use Rattle.txs_value.specs.declared.value.Value.{Value as AValue};
+ghost use Rattle.txs_value.specs.declared.form.CellForm.TheVariants as form;
+ghost use Rattle.txs_value.specs.declared.form.UpdateForm.TheVariants as update;
+ghost use Rattle.txs_actor.specs.Effect.{Comes, CanMove, effect, reads, opens, sets, begins, ends, IsForRefs};
+ghost use Rattle.txs_actor.specs.PlainActor.{is_running, depth_in};
+ghost use Rattle.txs_stack.specs.Values.{under};
 
 use crate::outcome::Moved;
-use crate::stack::Stack;
 use crate::state::{Origin, Pending, Transaction};
-use crate::writes::{own_value, put_write};
-use std::alloc::Global;
-use txs_code::Instr;
-use txs_value::{CellId, CellKind, FaultKind, Span, Value};
+use std::alloc::{AllocError, Global};
+use txs_code::{Instr, OpenForm};
+use txs_frame::{SetError, TxFrame};
+use txs_stack::Stack;
+use txs_value::{CellForm, FaultKind, LookForm, PutForm, Span, UpdateForm, Value, copy_value};
 
 /// How often a transaction may run again.
 const RERUNS: u16 = 9_999;
@@ -26,62 +31,29 @@ pub(crate) fn is_running(tx: &Transaction) -> bool
     matches!(tx, Transaction::Running { .. })
 }
 
-/// The cell that a value is, to be read outside a transaction.
+/// The transaction's own value of the ref with this number, if it has one: the frame goes on sharing it.
 #[inline(always)]
-fn any_cell(value: &Value) -> Result<CellId, FaultKind>
-    ensures { result ≡ any_cell value.now }
+fn own_value(frame: &TxFrame, number: u16) -> Result<Option<Value>, AllocError>
+    ensures { IfOk result (λ o. o ≡ buffered frame.now.values number) }
 {
-    match value {
-        Value::Cell(c) => Ok(*c),
-        _ => Err(FaultKind::NotACell),
-    }
-}
-
-/// The ref that a value is, to be read in a transaction.
-#[inline(always)]
-fn readable_cell(value: &Value) -> Result<CellId, FaultKind>
-    ensures { result ≡ readable_cell value.now }
-{
-    match value {
-        Value::Cell(c) => match c.kind {
-            CellKind::Ref => Ok(*c),
-            CellKind::Atom | CellKind::Agent => Err(FaultKind::OutsideOnly),
-        },
-        _ => Err(FaultKind::NotACell),
-    }
-}
-
-/// The ref that a value is, for a form for refs.
-#[inline(always)]
-fn ref_cell(value: &Value) -> Result<CellId, FaultKind>
-    ensures { result ≡ ref_cell value.now }
-{
-    match value {
-        Value::Cell(c) => match c.kind {
-            CellKind::Ref => Ok(*c),
-            CellKind::Atom | CellKind::Agent => Err(FaultKind::NotARef),
-        },
-        _ => Err(FaultKind::NotARef),
+    match frame.value(number) {
+        Some(value) => Ok(Some(copy_value(value)?)),
+        None => Ok(None),
     }
 }
 
 /// The value of the cell at the top.
 #[inline(always)]
-fn deref(stack: &mut Stack, tx: &Transaction, writes: &[(CellId, Value)]) -> Moved
-    requires ascending { IsAscending writes.now }
+fn deref(stack: &mut Stack, tx: &Transaction, frame: &TxFrame) -> Moved
     requires room { (0 < length stack.old.values) × (length stack.old.values ≤ stack.old.room) }
-    ensures comes { Comes result stack.new.values tx.now writes.now writes.now (reads (is_running tx.now) stack.old.values tx.now writes.now) }
+    ensures comes { Comes result stack.new.values tx.now frame.now frame.now (reads (is_running tx.now) stack.old.values tx.now frame.now) }
     ensures rest { stack.new ≡ record stack.old { values = stack.new.values } }
 {
-    if !is_running(tx) {
-        return match any_cell(stack.last()) {
-            Ok(cell) => Moved::Asks(Pending::Read(cell)),
-            Err(kind) => Moved::Faults(kind),
-        };
-    }
-    match readable_cell(stack.last()) {
+    let inside = is_running(tx);
+    match CellForm::Look(LookForm::Deref).cell_of(inside, stack.last()) {
         Err(kind) => Moved::Faults(kind),
-        Ok(cell) => match own_value(writes, cell.number) {
+        Ok(cell) if !inside => Moved::Asks(Pending::Read(cell)),
+        Ok(cell) => match own_value(frame, cell.number) {
             Err(_) => Moved::Memory,
             Ok(None) => Moved::Asks(Pending::Read(cell)),
             Ok(Some(value)) => {
@@ -94,15 +66,14 @@ fn deref(stack: &mut Stack, tx: &Transaction, writes: &[(CellId, Value)]) -> Mov
 
 /// The value of the ref below n arguments.
 #[inline(always)]
-fn open(n: u16, stack: &mut Stack, tx: &Transaction, writes: &[(CellId, Value)]) -> Moved
-    requires ascending { IsAscending writes.now }
+fn open(n: u16, stack: &mut Stack, tx: &Transaction, frame: &TxFrame) -> Moved
     requires room { (n < length stack.old.values) × (length stack.old.values < stack.old.room) }
-    ensures comes { Comes result stack.new.values tx.now writes.now writes.now (opens n stack.old.values tx.now writes.now (ref_cell (under n stack.old.values))) }
+    ensures comes { Comes result stack.new.values tx.now frame.now frame.now (opens n stack.old.values tx.now frame.now (cell_of (rule (form.Update update.Alter)) true (under n stack.old.values))) }
     ensures rest { stack.new ≡ record stack.old { values = stack.new.values } }
 {
-    match ref_cell(stack.under(n as usize)) {
+    match CellForm::Update(UpdateForm::Alter).cell_of(true, stack.under(n as usize)) {
         Err(kind) => Moved::Faults(kind),
-        Ok(cell) => match own_value(writes, cell.number) {
+        Ok(cell) => match own_value(frame, cell.number) {
             Err(_) => Moved::Memory,
             Ok(None) => Moved::Asks(Pending::Open(cell, n)),
             Ok(Some(value)) => {
@@ -113,23 +84,28 @@ fn open(n: u16, stack: &mut Stack, tx: &Transaction, writes: &[(CellId, Value)])
     }
 }
 
-/// The last value becomes that of the ref below it.
+/// The last value becomes that of the ref below it, where the form takes refs.
 #[inline(always)]
-fn close(stack: &mut Stack, tx: &Transaction, writes: &mut Vec<(CellId, Value)>) -> Moved
-    requires ascending { IsAscending writes.old.items }
+fn set(form: CellForm, stack: &mut Stack, tx: &Transaction, frame: &mut TxFrame) -> Moved
+    requires refs { IsForRefs form }
     requires room { (1 < length stack.old.values) × (length stack.old.values ≤ stack.old.room) }
-    ensures comes { Comes result stack.new.values tx.now writes.new.items writes.old.items (closes stack.old.values tx.now writes.old.items (ref_cell (under 1 stack.old.values))) }
+    ensures comes { Comes result stack.new.values tx.now frame.new frame.old (sets form stack.old.values tx.now frame.old) }
     ensures rest { stack.new ≡ record stack.old { values = stack.new.values } }
 {
-    match ref_cell(stack.under(1)) {
-        Err(kind) => Moved::Faults(kind),
-        Ok(cell) => match put_write(writes, cell, stack.last()) {
-            Err(_) => Moved::Memory,
-            Ok(()) => {
-                stack.drop_under();
-                Moved::On
-            }
-        },
+    let cell = match form.cell_of(true, stack.under(1)) {
+        Err(kind) => return Moved::Faults(kind),
+        Ok(cell) => cell,
+    };
+    let Ok(value) = copy_value(stack.last()) else {
+        return Moved::Memory;
+    };
+    match frame.set(cell, value) {
+        Err(SetError::SetAfterCommute) => Moved::Faults(FaultKind::SetAfterCommute),
+        Err(SetError::Memory) => Moved::Memory,
+        Ok(()) => {
+            stack.drop_under();
+            Moved::On
+        }
     }
 }
 
@@ -138,7 +114,7 @@ fn close(stack: &mut Stack, tx: &Transaction, writes: &mut Vec<(CellId, Value)>)
 #[tactic(auto, unfolding(txs_value::specs::Limits::reruns))]
 fn begin(alloc: Global, span: Span, stack: &Stack, tx: &mut Transaction) -> Moved
     requires { depth_in tx.old < 2 ^ 64 }
-    ensures { (ws : Writes) → Comes result stack.now.values tx.new ws ws (begins (record { span = span; stack = stack.now }) stack.now.values ws tx.old) }
+    ensures { (w : Work) → Comes result stack.now.values tx.new w w (begins (record { span = span; stack = stack.now }) stack.now.values w tx.old) }
 {
     let left = match tx {
         Transaction::Running { inner, .. } => {
@@ -160,7 +136,7 @@ fn begin(alloc: Global, span: Span, stack: &Stack, tx: &mut Transaction) -> Move
 /// A transaction ends, or leaves the one that runs.
 #[inline(always)]
 fn end(tx: &mut Transaction) -> Moved
-    ensures { (vs : List AValue) (ws : Writes) → Comes result vs tx.new ws ws (ends vs ws tx.old) }
+    ensures { (vs : List AValue) (w : Work) → Comes result vs tx.new w w (ends vs w tx.old) }
 {
     match tx {
         Transaction::Running { inner, .. } => {
@@ -174,7 +150,7 @@ fn end(tx: &mut Transaction) -> Moved
     }
 }
 
-/// An instruction on the transaction.
+/// An instruction on cells or the transaction.
 #[inline(always)]
 pub(crate) fn transact(
     alloc: Global,
@@ -182,19 +158,21 @@ pub(crate) fn transact(
     span: Span,
     stack: &mut Stack,
     tx: &mut Transaction,
-    writes: &mut Vec<(CellId, Value)>,
+    frame: &mut TxFrame,
 ) -> Moved
-    requires ascending { IsAscending writes.old.items }
-    requires can { CanMove stack.old.values stack.old.room tx.old instr }
-    ensures comes { Comes result stack.new.values tx.new writes.new.items writes.old.items (effect (record { span = span; stack = stack.old }) stack.old.values tx.old writes.old.items instr) }
+    requires { CanMove stack.old.values stack.old.room tx.old instr }
+    ensures comes { Comes result stack.new.values tx.new frame.new frame.old (effect (record { span = span; stack = stack.old }) stack.old.values tx.old frame.old instr) }
     ensures rest { stack.new ≡ record stack.old { values = stack.new.values } }
 {
     match instr {
-        Instr::Deref => deref(stack, tx, writes.as_slice()),
+        Instr::Look(LookForm::Deref) => deref(stack, tx, frame),
+        Instr::Put(PutForm::RefSet) => set(CellForm::Put(PutForm::RefSet), stack, tx, frame),
         Instr::TxBegin => begin(alloc, span, stack, tx),
         Instr::TxEnd => end(tx),
-        Instr::AlterOpen(n) => open(n, stack, tx, writes.as_slice()),
-        Instr::AlterClose => close(stack, tx, writes),
-        _ => Moved::On,
+        Instr::Open(OpenForm::Alter, n) => open(n, stack, tx, frame),
+        Instr::Close(UpdateForm::Alter) => {
+            set(CellForm::Update(UpdateForm::Alter), stack, tx, frame)
+        }
+        _ => unreachable!(),
     }
 }

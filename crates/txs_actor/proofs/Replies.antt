@@ -1,0 +1,110 @@
+-- The replies that asks may have, one by one.
+use Rattle.std.proofs.Common.{ℕ, Bool, true, false, List, []}
+use Rattle.txs_asks.specs.Ask.{Writes}
+use Rattle.txs_asks.specs.declared.ask.Ask.TheVariants as ask
+use Rattle.txs_asks.specs.declared.ask.Reply.{Reply}
+use Rattle.txs_asks.specs.declared.ask.Reply.TheVariants.{At, Is, Views, Done, Retry, Changed, AgentIsFailed, Action, Idle, Opened, Full, Memory}
+use Rattle.txs_frame.specs.Frame.{Work, set_writes}
+use Rattle.txs_value.specs.declared.action.Action.{Action as AnAction}
+use Rattle.txs_value.specs.declared.fault.Fault.{Fault}
+use Rattle.txs_value.specs.declared.value.CellId.{CellId}
+use Rattle.txs_value.specs.declared.value.Value.{Value}
+use Rattle.txs_actor.specs.PlainActor.{ask_for, MayAnswer}
+use Rattle.txs_actor.specs.declared.state.Origin.{Origin}
+use Rattle.txs_actor.specs.declared.state.Pending.{Pending}
+use Rattle.txs_actor.specs.declared.state.Pending.TheVariants as pending
+
+module _ (P : Reply → Type 0) where
+  pub begin_replies : ((p : ℕ) → P (At p)) → (r : Reply) → MayAnswer ask.Begin r → P r
+  begin_replies at (At p) m = at p
+  begin_replies at (Is v) m = absurd m
+  begin_replies at (Views q vs) m = absurd m
+  begin_replies at Done m = absurd m
+  begin_replies at (Retry c) m = absurd m
+  begin_replies at (Changed c) m = absurd m
+  begin_replies at (AgentIsFailed g) m = absurd m
+  begin_replies at (Action n x v) m = absurd m
+  begin_replies at Idle m = absurd m
+  begin_replies at (Opened q v) m = absurd m
+  begin_replies at Full m = absurd m
+  begin_replies at Memory m = absurd m
+
+  pub look_replies : (c : CellId) (p : ℕ) → ((v : Value) → P (Is v)) → ((d : CellId) → P (Retry d)) → P Full → P Memory → (r : Reply) → MayAnswer (ask.Look c p) r → P r
+  look_replies c p is again full memory (Is v) m = is v
+  look_replies c p is again full memory (Retry d) m = again d
+  look_replies c p is again full memory Full m = full
+  look_replies c p is again full memory Memory m = memory
+  look_replies c p is again full memory (At q) m = absurd m
+  look_replies c p is again full memory (Views q vs) m = absurd m
+  look_replies c p is again full memory Done m = absurd m
+  look_replies c p is again full memory (Changed d) m = absurd m
+  look_replies c p is again full memory (AgentIsFailed g) m = absurd m
+  look_replies c p is again full memory (Action n x v) m = absurd m
+  look_replies c p is again full memory Idle m = absurd m
+  look_replies c p is again full memory (Opened q v) m = absurd m
+
+  pub peek_replies : (c : CellId) → ((v : Value) → P (Is v)) → P Full → P Memory → (r : Reply) → MayAnswer (ask.Peek c) r → P r
+  peek_replies c is full memory (Is v) m = is v
+  peek_replies c is full memory Full m = full
+  peek_replies c is full memory Memory m = memory
+  peek_replies c is full memory (Retry d) m = absurd m
+  peek_replies c is full memory (At q) m = absurd m
+  peek_replies c is full memory (Views q vs) m = absurd m
+  peek_replies c is full memory Done m = absurd m
+  peek_replies c is full memory (Changed d) m = absurd m
+  peek_replies c is full memory (AgentIsFailed g) m = absurd m
+  peek_replies c is full memory (Action n x v) m = absurd m
+  peek_replies c is full memory Idle m = absurd m
+  peek_replies c is full memory (Opened q v) m = absurd m
+
+  pub commit_replies : (p : ℕ) (ws : Writes) (es : List CellId) (q : ℕ) (cs : Writes) (xs : List AnAction) → P Done → ((d : CellId) → P (Retry d)) → ((d : CellId) → P (Changed d)) → ((g : CellId) → P (AgentIsFailed g)) → P Full → P Memory
+      → (r : Reply) → MayAnswer (ask.Commit p ws es q cs xs) r → P r
+  commit_replies p ws es q cs xs done again changed denied full memory Done m = done
+  commit_replies p ws es q cs xs done again changed denied full memory (Retry d) m = again d
+  commit_replies p ws es q cs xs done again changed denied full memory (Changed d) m = changed d
+  commit_replies p ws es q cs xs done again changed denied full memory (AgentIsFailed g) m = denied g
+  commit_replies p ws es q cs xs done again changed denied full memory Full m = full
+  commit_replies p ws es q cs xs done again changed denied full memory Memory m = memory
+  commit_replies p ws es q cs xs done again changed denied full memory (At n) m = absurd m
+  commit_replies p ws es q cs xs done again changed denied full memory (Is v) m = absurd m
+  commit_replies p ws es q cs xs done again changed denied full memory (Views n vs) m = absurd m
+  commit_replies p ws es q cs xs done again changed denied full memory (Action n x v) m = absurd m
+  commit_replies p ws es q cs xs done again changed denied full memory Idle m = absurd m
+  commit_replies p ws es q cs xs done again changed denied full memory (Opened n v) m = absurd m
+
+  pub fail_replies : (p q : ℕ) → P Done → P Full → P Memory → (r : Reply) → MayAnswer (ask.Fail p q) r → P r
+  fail_replies p q done full memory Done m = done
+  fail_replies p q done full memory Full m = full
+  fail_replies p q done full memory Memory m = memory
+  fail_replies p q done full memory (At n) m = absurd m
+  fail_replies p q done full memory (Is v) m = absurd m
+  fail_replies p q done full memory (Views n vs) m = absurd m
+  fail_replies p q done full memory (Retry d) m = absurd m
+  fail_replies p q done full memory (Changed d) m = absurd m
+  fail_replies p q done full memory (AgentIsFailed g) m = absurd m
+  fail_replies p q done full memory (Action n x v) m = absurd m
+  fail_replies p q done full memory Idle m = absurd m
+  fail_replies p q done full memory (Opened n v) m = absurd m
+
+-- each reply that an actor's ask may have, by what it is for
+pub record Cases (P : Pending → Bool → Reply → Type 0) : Type 0 where
+  pub begins : (left : ℕ) (from : Origin) (i : Bool) (p : ℕ) → P (pending.Begin left from) i (At p)
+  pub reads : (c : CellId) (i : Bool) (v : Value) → P (pending.Read c) i (Is v)
+  pub reads_again : (c d : CellId) → P (pending.Read c) true (Retry d)
+  pub opens : (c : CellId) (n : ℕ) (i : Bool) (v : Value) → P (pending.Open c n) i (Is v)
+  pub opens_again : (c : CellId) (n : ℕ) (i : Bool) (d : CellId) → P (pending.Open c n) i (Retry d)
+  pub commits : (i : Bool) → P pending.Commit i Done
+  pub commits_again : (i : Bool) (d : CellId) → P pending.Commit i (Retry d)
+  pub changed : (i : Bool) (d : CellId) → P pending.Commit i (Changed d)
+  pub denied : (i : Bool) (g : CellId) → P pending.Commit i (AgentIsFailed g)
+  pub fails : (f : Fault) (i : Bool) → P (pending.Fail f) i Done
+  pub full : (p : Pending) (i : Bool) → P p i Full
+  pub memory : (p : Pending) (i : Bool) → P p i Memory
+
+pub by_reply : (P : Pending → Bool → Reply → Type 0) → Cases P → (p : Pending) (inside : Bool) (at : ℕ) (w : Work) (r : Reply) → MayAnswer (ask_for p inside at w) r → P p inside r
+by_reply P k (pending.Begin left from) i at w r m = begin_replies (P (pending.Begin left from) i) (k.begins left from i) r m
+by_reply P k (pending.Read c) true at w r m = look_replies (P (pending.Read c) true) c at (k.reads c true) (k.reads_again c) (k.full (pending.Read c) true) (k.memory (pending.Read c) true) r m
+by_reply P k (pending.Read c) false at w r m = peek_replies (P (pending.Read c) false) c (k.reads c false) (k.full (pending.Read c) false) (k.memory (pending.Read c) false) r m
+by_reply P k (pending.Open c n) i at w r m = look_replies (P (pending.Open c n) i) c at (k.opens c n i) (k.opens_again c n i) (k.full (pending.Open c n) i) (k.memory (pending.Open c n) i) r m
+by_reply P k pending.Commit i at w r m = commit_replies (P pending.Commit i) at (set_writes w) w.ensures at [] w.sends (k.commits i) (k.commits_again i) (k.changed i) (k.denied i) (k.full pending.Commit i) (k.memory pending.Commit i) r m
+by_reply P k (pending.Fail f) i at w r m = fail_replies (P (pending.Fail f) i) at at (k.fails f i) (k.full (pending.Fail f) i) (k.memory (pending.Fail f) i) r m
