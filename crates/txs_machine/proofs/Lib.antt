@@ -1,12 +1,3 @@
-pub mod Asks
-pub mod CoreKnown
 pub mod Following
-pub mod Keeping
-pub mod Known
-pub mod Lasts
 pub mod Limits
 pub mod RunOver
-pub mod Served
-pub mod Staged
-pub mod Steps
-pub mod Whole

@@ -6,7 +6,7 @@ use Rattle.txs_asks.specs.declared.ask.Reply.TheVariants as reply
 use Rattle.txs_asks.specs.declared.event.Outcome.{Outcome}
 use Rattle.txs_asks.specs.declared.event.Outcome.TheVariants as outcome
 use Rattle.txs_code.specs.PlainCode.{PlainCode}
-use Rattle.txs_actor.specs.PlainActor.{PlainActor, answered_if, run_again}
+use Rattle.txs_actor.specs.PlainActor.{PlainActor, answered_if, run_again, end_again, refuse}
 use Rattle.txs_actor.specs.Turns.{Answers, Moves, TurnsFrom, Turns, GoesOnAfter, TurnsOf}
 use Rattle.txs_actor.specs.declared.outcome.Turn.{Turn}
 use Rattle.txs_actor.specs.declared.outcome.Turn.TheVariants as turned
@@ -81,36 +81,77 @@ again_stays a (Restarting left) = (refl, as_was a, refl)
 again_stays a (Running zero inner from) = (refl, λ e. tt, refl)
 again_stays a (Running (suc left) inner from) = (refl, as_was a, refl)
 
+end_stays : (a : PlainActor) (tx : Transaction) → Stays a (end_again a tx)
+end_stays a Outside = (refl, as_was a, refl)
+end_stays a (Restarting left) = (refl, as_was a, refl)
+end_stays a (Running zero inner from) = (refl, λ e. tt, refl)
+end_stays a (Running (suc left) inner from) = (refl, as_was a, refl)
+
+refuse_stays : (a : PlainActor) (tx : Transaction) → Stays a (refuse a tx)
+refuse_stays a Outside = (refl, as_was a, refl)
+refuse_stays a (Restarting left) = (refl, as_was a, refl)
+refuse_stays a (Running left inner from) = (refl, λ e. tt, refl)
+
 answer_stays : (a : PlainActor) (p : Option Pending) (r : Reply) → Stays a (answered_if a p r)
 answer_stays a None r = (refl, as_was a, refl)
 answer_stays a (Some (Begin left from)) (reply.At p) = (refl, as_was a, refl)
 answer_stays a (Some (Begin left from)) (reply.Is v) = (refl, as_was a, refl)
+answer_stays a (Some (Begin left from)) (reply.Views p vs) = (refl, as_was a, refl)
 answer_stays a (Some (Begin left from)) reply.Done = (refl, as_was a, refl)
 answer_stays a (Some (Begin left from)) (reply.Retry d) = (refl, as_was a, refl)
+answer_stays a (Some (Begin left from)) (reply.Changed d) = (refl, as_was a, refl)
+answer_stays a (Some (Begin left from)) (reply.AgentIsFailed g) = (refl, as_was a, refl)
+answer_stays a (Some (Begin left from)) (reply.Action i x v) = (refl, as_was a, refl)
+answer_stays a (Some (Begin left from)) reply.Idle = (refl, as_was a, refl)
+answer_stays a (Some (Begin left from)) (reply.Opened p v) = (refl, as_was a, refl)
 answer_stays a (Some (Begin left from)) reply.Full = (refl, λ e. tt, refl)
 answer_stays a (Some (Begin left from)) reply.Memory = (refl, λ e. tt, refl)
 answer_stays a (Some (Read c)) (reply.At p) = (refl, as_was a, refl)
 answer_stays a (Some (Read c)) (reply.Is v) = (refl, as_was a, refl)
+answer_stays a (Some (Read c)) (reply.Views p vs) = (refl, as_was a, refl)
 answer_stays a (Some (Read c)) reply.Done = (refl, as_was a, refl)
 answer_stays a (Some (Read c)) (reply.Retry d) = again_stays a a.tx
+answer_stays a (Some (Read c)) (reply.Changed d) = (refl, as_was a, refl)
+answer_stays a (Some (Read c)) (reply.AgentIsFailed g) = (refl, as_was a, refl)
+answer_stays a (Some (Read c)) (reply.Action i x v) = (refl, as_was a, refl)
+answer_stays a (Some (Read c)) reply.Idle = (refl, as_was a, refl)
+answer_stays a (Some (Read c)) (reply.Opened p v) = (refl, as_was a, refl)
 answer_stays a (Some (Read c)) reply.Full = (refl, λ e. tt, refl)
 answer_stays a (Some (Read c)) reply.Memory = (refl, λ e. tt, refl)
 answer_stays a (Some (Open c n)) (reply.At p) = (refl, as_was a, refl)
 answer_stays a (Some (Open c n)) (reply.Is v) = (refl, as_was a, refl)
+answer_stays a (Some (Open c n)) (reply.Views p vs) = (refl, as_was a, refl)
 answer_stays a (Some (Open c n)) reply.Done = (refl, as_was a, refl)
 answer_stays a (Some (Open c n)) (reply.Retry d) = again_stays a a.tx
+answer_stays a (Some (Open c n)) (reply.Changed d) = (refl, as_was a, refl)
+answer_stays a (Some (Open c n)) (reply.AgentIsFailed g) = (refl, as_was a, refl)
+answer_stays a (Some (Open c n)) (reply.Action i x v) = (refl, as_was a, refl)
+answer_stays a (Some (Open c n)) reply.Idle = (refl, as_was a, refl)
+answer_stays a (Some (Open c n)) (reply.Opened p v) = (refl, as_was a, refl)
 answer_stays a (Some (Open c n)) reply.Full = (refl, λ e. tt, refl)
 answer_stays a (Some (Open c n)) reply.Memory = (refl, λ e. tt, refl)
 answer_stays a (Some Commit) (reply.At p) = (refl, as_was a, refl)
 answer_stays a (Some Commit) (reply.Is v) = (refl, as_was a, refl)
+answer_stays a (Some Commit) (reply.Views p vs) = (refl, as_was a, refl)
 answer_stays a (Some Commit) reply.Done = (refl, as_was a, refl)
 answer_stays a (Some Commit) (reply.Retry d) = again_stays a a.tx
+answer_stays a (Some Commit) (reply.Changed d) = end_stays a a.tx
+answer_stays a (Some Commit) (reply.AgentIsFailed g) = refuse_stays a a.tx
+answer_stays a (Some Commit) (reply.Action i x v) = (refl, as_was a, refl)
+answer_stays a (Some Commit) reply.Idle = (refl, as_was a, refl)
+answer_stays a (Some Commit) (reply.Opened p v) = (refl, as_was a, refl)
 answer_stays a (Some Commit) reply.Full = (refl, λ e. tt, refl)
 answer_stays a (Some Commit) reply.Memory = (refl, λ e. tt, refl)
 answer_stays a (Some (Fail f)) (reply.At p) = (refl, as_was a, refl)
 answer_stays a (Some (Fail f)) (reply.Is v) = (refl, as_was a, refl)
+answer_stays a (Some (Fail f)) (reply.Views p vs) = (refl, as_was a, refl)
 answer_stays a (Some (Fail f)) reply.Done = (refl, λ e. tt, refl)
 answer_stays a (Some (Fail f)) (reply.Retry d) = (refl, as_was a, refl)
+answer_stays a (Some (Fail f)) (reply.Changed d) = (refl, as_was a, refl)
+answer_stays a (Some (Fail f)) (reply.AgentIsFailed g) = (refl, as_was a, refl)
+answer_stays a (Some (Fail f)) (reply.Action i x v) = (refl, as_was a, refl)
+answer_stays a (Some (Fail f)) reply.Idle = (refl, as_was a, refl)
+answer_stays a (Some (Fail f)) (reply.Opened p v) = (refl, as_was a, refl)
 answer_stays a (Some (Fail f)) reply.Full = (refl, λ e. tt, refl)
 answer_stays a (Some (Fail f)) reply.Memory = (refl, λ e. tt, refl)
 

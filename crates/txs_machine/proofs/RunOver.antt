@@ -1,8 +1,8 @@
 -- An actor's run over a store, step by step.
-use Rattle.std.proofs.Common.{◌≡◌, ℕ, zero, suc, List, [], ◌∷◌, ◌++◌, length, true, false, Bool, nat_lt, ◌≤◌, Option, Some, None, refl, sym, ap, subst, ◌∙◌, if◌then◌else◌}
-use Rattle.std.proofs.lemmas.Bool.{ltb-false}
-use Rattle.txs_asks.specs.Ask.{Writes}
-use Rattle.txs_value.specs.Cells.{World}
+use Rattle.std.proofs.Common.{◌≡◌, ◌==◌, ℕ, zero, suc, List, [], ◌∷◌, ◌++◌, length, map, true, false, Bool, not, ◌&&◌, nat_lt, ◌≤◌, Option, Some, None, refl, sym, ap, subst, ◌∙◌, if◌then◌else◌, arith}
+use Rattle.std.proofs.lemmas.Bool.{false≢true, ltb-false}
+use Rattle.txs_asks.specs.Ask.{Writes, Exchange}
+use Rattle.txs_asks.specs.SeenEvent.{home, atoms_below}
 use Rattle.txs_asks.specs.declared.ask.Ask.{Ask}
 use Rattle.txs_asks.specs.declared.ask.Ask.TheVariants as ask
 use Rattle.txs_asks.specs.declared.ask.Reply.{Reply}
@@ -11,21 +11,25 @@ use Rattle.txs_asks.specs.declared.event.Event.{Event}
 use Rattle.txs_asks.specs.declared.event.EventKind.{EventKind}
 use Rattle.txs_asks.specs.declared.event.Outcome.{Outcome}
 use Rattle.txs_asks.specs.declared.event.Outcome.TheVariants as outcome
+use Rattle.txs_frame.specs.Frame.{Work}
+use Rattle.txs_value.proofs.SameLemmas.{and_both, numbers}
+use Rattle.txs_value.specs.Cells.{World}
+use Rattle.txs_value.specs.Places.{nth}
+use Rattle.txs_value.specs.declared.action.Action.{Action}
+use Rattle.txs_value.specs.declared.cell.CellDefinition.{CellDefinition}
 use Rattle.txs_value.specs.declared.value.CellId.{CellId}
 use Rattle.txs_value.specs.declared.value.Value.{Value}
-use Rattle.txs_code.specs.Machine.{ThreadCode, Configuration, Turned, Asking, turn}
-use Rattle.txs_code.specs.PlainCode.{PlainCode}
+use Rattle.txs_code.specs.Machine.{ThreadCode, Configuration, Turned, Asking, Unfinished, turn, run}
+use Rattle.txs_code.specs.Opening.{given, opening}
+use Rattle.txs_code.specs.PlainCode.{CodeBody, PlainCode, thread_code}
+use Rattle.txs_code.specs.RunsToday.{AreRunToday, BodiesRunToday, RunsToday}
 use Rattle.txs_follows.specs.Follows.{Follows}
-use Rattle.txs_follows.specs.RepliesFit.{Out, Explained}
+use Rattle.txs_follows.specs.RepliesFit.{Out, RepliesFit, Explained}
 use Rattle.txs_follows.specs.RepliesFitTo.{FittingToFits}
 use Rattle.txs_tree.specs.Meaning.{Completion}
 use Rattle.txs_tree.specs.Thread.{ThreadState, thread_meaning}
-use Rattle.txs_actor.specs.PlainActor.{PlainActor, MayAnswer, Stops, answered, answered_if, asked_for, run_again, unanswered, configuration_of, state_of, code_of, stands_at, standing}
 use Rattle.txs_actor.specs.Laws.{ActorsRun}
-use Rattle.txs_actor.proofs.Following.{Unstopped, unstopped_if}
-use Rattle.txs_actor.proofs.Saying.{turn_says}
-use Rattle.txs_world.specs.History.{history_of}
-use Rattle.txs_machine.specs.Followed.{ActorsExplained, told}
+use Rattle.txs_actor.specs.PlainActor.{PlainActor, MayAnswer, Stops, answered, answered_if, asked_for, run_again, end_again, refuse, unanswered, is_running, configuration_of, state_of, body_or_none, code_of, stands_at, standing, HasRun, HasCome, Runs}
 use Rattle.txs_actor.specs.Turns.{IsNew, OneStep, Answers, Moves, TurnsFrom, Turns, GoesOnAfter, TurnsOf}
 use Rattle.txs_actor.specs.declared.outcome.Turn.{Turn}
 use Rattle.txs_actor.specs.declared.outcome.Turn.TheVariants as turned
@@ -33,14 +37,26 @@ use Rattle.txs_actor.specs.declared.state.Pending.{Pending}
 use Rattle.txs_actor.specs.declared.state.Pending.TheVariants.{Begin, Read, Open, Commit, Fail}
 use Rattle.txs_actor.specs.declared.state.Transaction.{Transaction}
 use Rattle.txs_actor.specs.declared.state.Transaction.TheVariants.{Outside, Restarting, Running}
-use Rattle.txs_machine.specs.Laws.{TurnsAreStaged, ServedAskFits, IsExchanged}
-use Rattle.txs_code.specs.Opening.{given}
-use Rattle.txs_machine.specs.Stages.{Stage, Idle, AsksIn, stage_after, stage_of, phase_of, ToldBy, IsStaged, StagedFrom}
-use Rattle.txs_world.specs.Book.{opening, after, written}
-use Rattle.txs_value.specs.Limits.{most_events}
+use Rattle.txs_actor.proofs.Following.{Unstopped, unstopped_if}
+use Rattle.txs_actor.proofs.Saying.{turn_says}
+use Rattle.txs_world.specs.Book as world_book
+use Rattle.txs_world.specs.Book.{Legal, written, least_written, cells_in, is_failed, first_failed, has_cell}
+use Rattle.txs_world.specs.History.{history_of}
 use Rattle.txs_world.specs.Store as world
-use Rattle.txs_world.specs.Store.{PlainStore, store_with, Served, serve, disturbed}
-use Rattle.txs_machine.specs.RunOver.{IsIn, IsOwn, RunOver, ExplainsEnd, IsExplained}
+use Rattle.txs_world.specs.Store.{PlainStore, store_with, cells_of, Served, is_lawful, serve, store_after}
+use Rattle.txs_value.specs.Limits.{most_events}
+use Rattle.txs_runs.specs.Laws.{alone, with_book, ToldFits, ServedIsTold, TodayIsStaged, AloneHistory}
+use Rattle.txs_runs.specs.Run.{entry}
+use Rattle.txs_runs.specs.Shared.{is_atom, atom_of, serve_atom, book_for, serve_on, may_ask}
+use Rattle.txs_runs.specs.Staged.{StagedCode, TurnIsStaged, IsStaged, StagedFrom, stage_of}
+use Rattle.txs_runs.specs.Stages.{Stage, Idle, AsksIn, stage_after, phase_of}
+use Rattle.txs_runs.specs.Stages as stages
+use Rattle.txs_runs.specs.Told.{Entry, exchange_of, IsExchanged, ToldBy}
+use Rattle.txs_runs.specs.Told as told_by
+use Rattle.txs_runs.proofs.Growing.{AreOwn, IsFull, Serves, told_stays}
+use Rattle.txs_runs.proofs.Serving.{serves}
+use Rattle.txs_machine.specs.Followed.{ActorsExplained, told}
+use Rattle.txs_machine.specs.RunOver.{IsStoreOf, IsIn, IsOwn, RunOver, ExplainsEnd, IsExplained}
 
 -- what holds of an actor's outcome and ask as they are
 as_is : (b : PlainActor) (st : Stage) (o : Option Outcome) (q : Option Ask) → b.outcome ≡ o → unanswered b ≡ q → IsIn b st o q → IsIn b st b.outcome (unanswered b)
@@ -78,31 +94,31 @@ asked_in code c st b q go e leads h =
           (subst (λ x. IsStaged (stage_after (stage_of c) x r) (go x r)) (sym same) (h.3 r))),
     )
 
-step_keeps : TurnsAreStaged → (code : PlainCode) (a b : PlainActor) (r : Turn) (st : Stage) → Answers code a r b → IsIn a st None None → Keeps a b st
-step_keeps law code a b turned.Went st t here =
+step_keeps : (code : PlainCode) (a b : PlainActor) (r : Turn) (st : Stage) → TurnIsStaged (code_of code a.number) (configuration_of a) → Answers code a r b → IsIn a st None None → Keeps a b st
+step_keeps code a b turned.Went st law t here =
     let k = code_of code a.number in
     let c = configuration_of a in
-    let staged = subst (λ (o : Turned Configuration). StagedFrom (stage_of c) o (λ q r. turn k (given (record { ask = q; reply = r } ∷ []) c))) t.0 (law k c refl) in
+    let staged = subst (λ (o : Turned Configuration). StagedFrom (stage_of c) o (λ q r. turn k (given (record { ask = q; reply = r } ∷ []) c))) t.0 law in
     (t.1.number, as_is b st None None t.1.outcome t.1.unanswered (staged.1 ∙ here))
-step_keeps law code a b (turned.Asks q) st t here =
+step_keeps code a b (turned.Asks q) st law t here =
     let k = code_of code a.number in
     let c = configuration_of a in
     let go : Ask → Reply → Turned Configuration = λ x r. turn k (given (record { ask = x; reply = r } ∷ []) c) in
-    let staged = subst (λ (o : Turned Configuration). StagedFrom (stage_of c) o go) t.0.asks (law k c refl) in
+    let staged = subst (λ (o : Turned Configuration). StagedFrom (stage_of c) o go) t.0.asks law in
     (t.1.number, as_is b st None (Some q) t.1.outcome t.1.unanswered (asked_in k c st b q go here t.0.leads staged))
-step_keeps law code a b (turned.Ended outcome.Done) st t here = ended_keeps a b st outcome.Done None t.1
-step_keeps law code a b (turned.Ended (outcome.Failed f)) st t here = ended_keeps a b st (outcome.Failed f) None t.1
-step_keeps law code a b (turned.Ended outcome.StepsSpent) st t here = absurd t
-step_keeps law code a b (turned.Ended outcome.JournalFull) st t here = absurd t
-step_keeps law code a b (turned.Ended outcome.Memory) st t here = ended_keeps a b st outcome.Memory None t.1
+step_keeps code a b (turned.Ended outcome.Done) st law t here = ended_keeps a b st outcome.Done None t.1
+step_keeps code a b (turned.Ended (outcome.Failed f)) st law t here = ended_keeps a b st (outcome.Failed f) None t.1
+step_keeps code a b (turned.Ended outcome.StepsSpent) st law t here = absurd t
+step_keeps code a b (turned.Ended outcome.JournalFull) st law t here = absurd t
+step_keeps code a b (turned.Ended outcome.Memory) st law t here = ended_keeps a b st outcome.Memory None t.1
 
-move_keeps : TurnsAreStaged → (code : PlainCode) (a b : PlainActor) (r : Turn) (st : Stage) (may : Bool) → Moves code a may r b → IsIn a st None None → Keeps a b st
-move_keeps law code a b r st true t here = step_keeps law code a b r st t here
-move_keeps law code a b r st false t here = subst (λ x. Keeps a x st) (sym t.1) (refl, tt)
+move_keeps : (code : PlainCode) (a b : PlainActor) (r : Turn) (st : Stage) (may : Bool) → TurnIsStaged (code_of code a.number) (configuration_of a) → Moves code a may r b → IsIn a st None None → Keeps a b st
+move_keeps code a b r st true law t here = step_keeps code a b r st law t here
+move_keeps code a b r st false law t here = subst (λ x. Keeps a x st) (sym t.1) (refl, tt)
 
-turn_keeps : TurnsAreStaged → (code : PlainCode) (a b : PlainActor) (r : Turn) (st : Stage) (o : Option Outcome) → a.outcome ≡ o → unanswered a ≡ None → TurnsFrom code a o r b → IsIn a st o None → Keeps a b st
-turn_keeps law code a b r st None e f t here = move_keeps law code a b r st (nat_lt a.steps a.limit) t here
-turn_keeps law code a b r st (Some o) e f t here = subst (λ x. Keeps a x st) (sym t.1) (refl, as_is a st (Some o) None e f tt)
+turn_keeps : (code : PlainCode) (a b : PlainActor) (r : Turn) (st : Stage) (o : Option Outcome) → (a.outcome ≡ None → TurnIsStaged (code_of code a.number) (configuration_of a)) → a.outcome ≡ o → unanswered a ≡ None → TurnsFrom code a o r b → IsIn a st o None → Keeps a b st
+turn_keeps code a b r st None law e f t here = move_keeps code a b r st (nat_lt a.steps a.limit) (law e) t here
+turn_keeps code a b r st (Some o) law e f t here = subst (λ x. Keeps a x st) (sym t.1) (refl, as_is a st (Some o) None e f tt)
 
 -- an outcome that isn't a full book
 abbrev Unfilled : Option Outcome → Type 0
@@ -131,15 +147,30 @@ turn_filled : (code : PlainCode) (a b : PlainActor) (r : Turn) (o : Option Outco
 turn_filled code a b r None e t x = absurd (subst Unfilled x (move_unfilled code a b r (nat_lt a.steps a.limit) t))
 turn_filled code a b r (Some o) e t x = ap (λ (x : PlainActor). x.outcome) (sym t.1) ∙ x
 
+-- ---- what is known of the code
+
+threads_today : (bs : List CodeBody) (n : ℕ) → BodiesRunToday bs → AreRunToday (body_or_none (nth bs n)).instrs
+threads_today [] n h = tt
+threads_today (b ∷ bs) zero h = h.0
+threads_today (b ∷ bs) (suc n) h = threads_today bs n h.1
+
+pub staged_of : TodayIsStaged → (code : PlainCode) (n : ℕ) → RunsToday code → StagedCode (code_of code n)
+staged_of law code n h = law code (body_or_none (nth code.threads n)) h.functions (threads_today code.threads n h.threads)
+
+-- an actor that goes on stands where its next instruction asks in its stage
+stands_staged : (code : PlainCode) (xs : List Exchange) (a : PlainActor) → StagedCode (code_of code a.number) → unanswered a ≡ None → HasRun code xs a → a.outcome ≡ None → TurnIsStaged (code_of code a.number) (configuration_of a)
+stands_staged code xs a known f ran e =
+    known a.steps xs (configuration_of a) (subst (λ q. HasCome (code_of code a.number) xs a None q) f (subst (λ o. HasCome (code_of code a.number) xs a o (unanswered a)) e ran)) refl
+
 -- a turn keeps what an actor has done over a store
-turn_over : ActorsRun → TurnsAreStaged → (code : PlainCode) (w : World) (k : ℕ) (book : List Event) (a b : PlainActor) (r : Turn) → unanswered a ≡ None → Turns code a r b → RunOver code w k book a → RunOver code w k book b
-turn_over laws law code w k book a b r f t h =
-    let kept = turn_keeps law code a b r h.stage a.outcome refl f t (as_known a h.stage a.outcome None refl f h.here) in
+turn_over : ActorsRun → (code : PlainCode) (k : ℕ) (book : List Event) (a b : PlainActor) (r : Turn) → StagedCode (code_of code k) → unanswered a ≡ None → Turns code a r b → RunOver code k book a → RunOver code k book b
+turn_over laws code k book a b r known f t h =
+    let kept = turn_keeps code a b r h.stage a.outcome (stands_staged code (map exchange_of h.entries) a (subst (λ n. StagedCode (code_of code n)) (sym h.number) known) f h.ran) refl f t (as_known a h.stage a.outcome None refl f h.here) in
     record {
       number = kept.0 ∙ h.number;
-      exchanges = h.exchanges;
+      entries = h.entries;
       stage = h.stage;
-      ran = laws.turns code h.exchanges a b r f h.ran t;
+      ran = laws.turns code (map exchange_of h.entries) a b r f h.ran t;
       told = h.told;
       here = kept.1;
       own = h.own;
@@ -147,29 +178,33 @@ turn_over laws law code w k book a b r f t h =
     }
 
 -- so do many turns
-pub turns_over : ActorsRun → TurnsAreStaged → (code : PlainCode) (w : World) (k : ℕ) (book : List Event) (n : ℕ) (a b : PlainActor) (r : Turn) → unanswered a ≡ None → TurnsOf code n a r b → RunOver code w k book a → RunOver code w k book b
-turns_over laws law code w k book zero a b r f t h = subst (λ x. RunOver code w k book x) (sym t.1) h
-turns_over laws law code w k book (suc n) a b r f t h = after_turn (λ i g x. turns_over laws law code w k book n t.1 b r i g x) t.0 t.2 t.3
+pub turns_over : ActorsRun → (code : PlainCode) (k : ℕ) (book : List Event) (n : ℕ) (a b : PlainActor) (r : Turn) → StagedCode (code_of code k) → unanswered a ≡ None → TurnsOf code n a r b → RunOver code k book a → RunOver code k book b
+turns_over laws code k book zero a b r known f t h = subst (λ x. RunOver code k book x) (sym t.1) h
+turns_over laws code k book (suc n) a b r known f t h = after_turn (λ i g x. turns_over laws code k book n t.1 b r known i g x) t.0 t.2 t.3
   where
-    after_turn : (unanswered t.1 ≡ None → TurnsOf code n t.1 r b → RunOver code w k book t.1 → RunOver code w k book b)
-        → (s : Turn) → Turns code a s t.1 → GoesOnAfter s (TurnsOf code n t.1 r b) ((r ≡ s) × (b ≡ t.1)) → RunOver code w k book b
-    after_turn go turned.Went u g = go (turn_says code a t.1 turned.Went a.outcome refl u) g (turn_over laws law code w k book a t.1 turned.Went f u h)
-    after_turn go (turned.Asks q) u g = subst (λ x. RunOver code w k book x) (sym g.1) (turn_over laws law code w k book a t.1 (turned.Asks q) f u h)
-    after_turn go (turned.Ended o) u g = subst (λ x. RunOver code w k book x) (sym g.1) (turn_over laws law code w k book a t.1 (turned.Ended o) f u h)
+    after_turn : (unanswered t.1 ≡ None → TurnsOf code n t.1 r b → RunOver code k book t.1 → RunOver code k book b)
+        → (s : Turn) → Turns code a s t.1 → GoesOnAfter s (TurnsOf code n t.1 r b) ((r ≡ s) × (b ≡ t.1)) → RunOver code k book b
+    after_turn go turned.Went u g = go (turn_says code a t.1 turned.Went a.outcome refl u) g (turn_over laws code k book a t.1 turned.Went known f u h)
+    after_turn go (turned.Asks q) u g = subst (λ x. RunOver code k book x) (sym g.1) (turn_over laws code k book a t.1 (turned.Asks q) known f u h)
+    after_turn go (turned.Ended o) u g = subst (λ x. RunOver code k book x) (sym g.1) (turn_over laws code k book a t.1 (turned.Ended o) known f u h)
 
 -- ---- the beginning
 
-pub new_over : ActorsRun → (code : PlainCode) (w : World) (k limit : ℕ) (book : List Event) (a : PlainActor) → book ≡ [] → IsNew code k limit a → RunOver code w k book a
-new_over laws code w k limit book a e n = subst (λ es. RunOver code w k es a) (sym e) (record {
+pub new_over : ActorsRun → (code : PlainCode) (k limit : ℕ) (book : List Event) (a : PlainActor) → book ≡ [] → IsNew code k limit a → RunOver code k book a
+new_over laws code k limit book a e n = subst (λ es. RunOver code k es a) (sym e) (record {
   number = n.number;
-  exchanges = [];
+  entries = [];
   stage = Idle;
   ran = laws.begins code k limit a n;
-  told = record { fits = (refl, refl); names = tt };
+  told = record { hold = tt; staged = refl; traced = nothing };
   here = as_is a Idle None None n.unended n.unasking (ap stage_of n.opens);
   own = tt;
   full = λ x. absurd (subst Unfilled x (subst Unfilled (sym n.unended) tt));
 })
+  where
+    nothing : (i : ℕ) → [] ≡ told_by.places_by k 0 (alone [] i)
+    nothing zero = refl
+    nothing (suc i) = refl
 
 -- ---- answers
 
@@ -179,72 +214,143 @@ again_number a (Restarting left) = refl
 again_number a (Running zero inner from) = refl
 again_number a (Running (suc left) inner from) = refl
 
+end_number : (a : PlainActor) (tx : Transaction) → (end_again a tx).number ≡ a.number
+end_number a Outside = refl
+end_number a (Restarting left) = refl
+end_number a (Running zero inner from) = refl
+end_number a (Running (suc left) inner from) = refl
+
+refuse_number : (a : PlainActor) (tx : Transaction) → (refuse a tx).number ≡ a.number
+refuse_number a Outside = refl
+refuse_number a (Restarting left) = refl
+refuse_number a (Running left inner from) = refl
+
 answered_number : (a : PlainActor) (p : Option Pending) (r : Reply) → (answered_if a p r).number ≡ a.number
 answered_number a None r = refl
 answered_number a (Some (Begin left from)) (reply.At p) = refl
 answered_number a (Some (Begin left from)) (reply.Is v) = refl
+answered_number a (Some (Begin left from)) (reply.Views p vs) = refl
 answered_number a (Some (Begin left from)) reply.Done = refl
 answered_number a (Some (Begin left from)) (reply.Retry d) = refl
+answered_number a (Some (Begin left from)) (reply.Changed d) = refl
+answered_number a (Some (Begin left from)) (reply.AgentIsFailed g) = refl
+answered_number a (Some (Begin left from)) (reply.Action i x v) = refl
+answered_number a (Some (Begin left from)) reply.Idle = refl
+answered_number a (Some (Begin left from)) (reply.Opened p v) = refl
 answered_number a (Some (Begin left from)) reply.Full = refl
 answered_number a (Some (Begin left from)) reply.Memory = refl
 answered_number a (Some (Read c)) (reply.At p) = refl
 answered_number a (Some (Read c)) (reply.Is v) = refl
+answered_number a (Some (Read c)) (reply.Views p vs) = refl
 answered_number a (Some (Read c)) reply.Done = refl
 answered_number a (Some (Read c)) (reply.Retry d) = again_number a a.tx
+answered_number a (Some (Read c)) (reply.Changed d) = refl
+answered_number a (Some (Read c)) (reply.AgentIsFailed g) = refl
+answered_number a (Some (Read c)) (reply.Action i x v) = refl
+answered_number a (Some (Read c)) reply.Idle = refl
+answered_number a (Some (Read c)) (reply.Opened p v) = refl
 answered_number a (Some (Read c)) reply.Full = refl
 answered_number a (Some (Read c)) reply.Memory = refl
 answered_number a (Some (Open c n)) (reply.At p) = refl
 answered_number a (Some (Open c n)) (reply.Is v) = refl
+answered_number a (Some (Open c n)) (reply.Views p vs) = refl
 answered_number a (Some (Open c n)) reply.Done = refl
 answered_number a (Some (Open c n)) (reply.Retry d) = again_number a a.tx
+answered_number a (Some (Open c n)) (reply.Changed d) = refl
+answered_number a (Some (Open c n)) (reply.AgentIsFailed g) = refl
+answered_number a (Some (Open c n)) (reply.Action i x v) = refl
+answered_number a (Some (Open c n)) reply.Idle = refl
+answered_number a (Some (Open c n)) (reply.Opened p v) = refl
 answered_number a (Some (Open c n)) reply.Full = refl
 answered_number a (Some (Open c n)) reply.Memory = refl
 answered_number a (Some Commit) (reply.At p) = refl
 answered_number a (Some Commit) (reply.Is v) = refl
+answered_number a (Some Commit) (reply.Views p vs) = refl
 answered_number a (Some Commit) reply.Done = refl
 answered_number a (Some Commit) (reply.Retry d) = again_number a a.tx
+answered_number a (Some Commit) (reply.Changed d) = end_number a a.tx
+answered_number a (Some Commit) (reply.AgentIsFailed g) = refuse_number a a.tx
+answered_number a (Some Commit) (reply.Action i x v) = refl
+answered_number a (Some Commit) reply.Idle = refl
+answered_number a (Some Commit) (reply.Opened p v) = refl
 answered_number a (Some Commit) reply.Full = refl
 answered_number a (Some Commit) reply.Memory = refl
 answered_number a (Some (Fail f)) (reply.At p) = refl
 answered_number a (Some (Fail f)) (reply.Is v) = refl
+answered_number a (Some (Fail f)) (reply.Views p vs) = refl
 answered_number a (Some (Fail f)) reply.Done = refl
 answered_number a (Some (Fail f)) (reply.Retry d) = refl
+answered_number a (Some (Fail f)) (reply.Changed d) = refl
+answered_number a (Some (Fail f)) (reply.AgentIsFailed g) = refl
+answered_number a (Some (Fail f)) (reply.Action i x v) = refl
+answered_number a (Some (Fail f)) reply.Idle = refl
+answered_number a (Some (Fail f)) (reply.Opened p v) = refl
 answered_number a (Some (Fail f)) reply.Full = refl
 answered_number a (Some (Fail f)) reply.Memory = refl
 
 -- a reply that stops an actor which asks ends it
-stop_ends : (a : PlainActor) (p : Option Pending) (r : Reply) (inside : Bool) (at : ℕ) (ws : Writes) (q : Ask) → asked_for p inside at ws ≡ Some q → Stops r → (o : Outcome) × ((answered_if a p r).outcome ≡ Some o)
-stop_ends a None r inside at ws q e h = absurd (subst is_some (sym e) tt)
-stop_ends a (Some (Begin left from)) (reply.At p) inside at ws q e h = absurd h
-stop_ends a (Some (Begin left from)) (reply.Is v) inside at ws q e h = absurd h
-stop_ends a (Some (Begin left from)) reply.Done inside at ws q e h = absurd h
-stop_ends a (Some (Begin left from)) (reply.Retry d) inside at ws q e h = absurd h
-stop_ends a (Some (Begin left from)) reply.Full inside at ws q e h = (outcome.JournalFull, refl)
-stop_ends a (Some (Begin left from)) reply.Memory inside at ws q e h = (outcome.Memory, refl)
-stop_ends a (Some (Read c)) (reply.At p) inside at ws q e h = absurd h
-stop_ends a (Some (Read c)) (reply.Is v) inside at ws q e h = absurd h
-stop_ends a (Some (Read c)) reply.Done inside at ws q e h = absurd h
-stop_ends a (Some (Read c)) (reply.Retry d) inside at ws q e h = absurd h
-stop_ends a (Some (Read c)) reply.Full inside at ws q e h = (outcome.JournalFull, refl)
-stop_ends a (Some (Read c)) reply.Memory inside at ws q e h = (outcome.Memory, refl)
-stop_ends a (Some (Open c n)) (reply.At p) inside at ws q e h = absurd h
-stop_ends a (Some (Open c n)) (reply.Is v) inside at ws q e h = absurd h
-stop_ends a (Some (Open c n)) reply.Done inside at ws q e h = absurd h
-stop_ends a (Some (Open c n)) (reply.Retry d) inside at ws q e h = absurd h
-stop_ends a (Some (Open c n)) reply.Full inside at ws q e h = (outcome.JournalFull, refl)
-stop_ends a (Some (Open c n)) reply.Memory inside at ws q e h = (outcome.Memory, refl)
-stop_ends a (Some Commit) (reply.At p) inside at ws q e h = absurd h
-stop_ends a (Some Commit) (reply.Is v) inside at ws q e h = absurd h
-stop_ends a (Some Commit) reply.Done inside at ws q e h = absurd h
-stop_ends a (Some Commit) (reply.Retry d) inside at ws q e h = absurd h
-stop_ends a (Some Commit) reply.Full inside at ws q e h = (outcome.JournalFull, refl)
-stop_ends a (Some Commit) reply.Memory inside at ws q e h = (outcome.Memory, refl)
-stop_ends a (Some (Fail f)) (reply.At p) inside at ws q e h = absurd h
-stop_ends a (Some (Fail f)) (reply.Is v) inside at ws q e h = absurd h
-stop_ends a (Some (Fail f)) reply.Done inside at ws q e h = absurd h
-stop_ends a (Some (Fail f)) (reply.Retry d) inside at ws q e h = absurd h
-stop_ends a (Some (Fail f)) reply.Full inside at ws q e h = (outcome.JournalFull, refl)
-stop_ends a (Some (Fail f)) reply.Memory inside at ws q e h = (outcome.Memory, refl)
+stop_ends : (a : PlainActor) (p : Option Pending) (r : Reply) (inside : Bool) (at : ℕ) (done : Work) (q : Ask) → asked_for p inside at done ≡ Some q → Stops r → (o : Outcome) × ((answered_if a p r).outcome ≡ Some o)
+stop_ends a None r inside at done q e h = absurd (subst is_some (sym e) tt)
+stop_ends a (Some (Begin left from)) (reply.At p) inside at done q e h = absurd h
+stop_ends a (Some (Begin left from)) (reply.Is v) inside at done q e h = absurd h
+stop_ends a (Some (Begin left from)) (reply.Views p vs) inside at done q e h = absurd h
+stop_ends a (Some (Begin left from)) reply.Done inside at done q e h = absurd h
+stop_ends a (Some (Begin left from)) (reply.Retry d) inside at done q e h = absurd h
+stop_ends a (Some (Begin left from)) (reply.Changed d) inside at done q e h = absurd h
+stop_ends a (Some (Begin left from)) (reply.AgentIsFailed g) inside at done q e h = absurd h
+stop_ends a (Some (Begin left from)) (reply.Action i x v) inside at done q e h = absurd h
+stop_ends a (Some (Begin left from)) reply.Idle inside at done q e h = absurd h
+stop_ends a (Some (Begin left from)) (reply.Opened p v) inside at done q e h = absurd h
+stop_ends a (Some (Begin left from)) reply.Full inside at done q e h = (outcome.JournalFull, refl)
+stop_ends a (Some (Begin left from)) reply.Memory inside at done q e h = (outcome.Memory, refl)
+stop_ends a (Some (Read c)) (reply.At p) inside at done q e h = absurd h
+stop_ends a (Some (Read c)) (reply.Is v) inside at done q e h = absurd h
+stop_ends a (Some (Read c)) (reply.Views p vs) inside at done q e h = absurd h
+stop_ends a (Some (Read c)) reply.Done inside at done q e h = absurd h
+stop_ends a (Some (Read c)) (reply.Retry d) inside at done q e h = absurd h
+stop_ends a (Some (Read c)) (reply.Changed d) inside at done q e h = absurd h
+stop_ends a (Some (Read c)) (reply.AgentIsFailed g) inside at done q e h = absurd h
+stop_ends a (Some (Read c)) (reply.Action i x v) inside at done q e h = absurd h
+stop_ends a (Some (Read c)) reply.Idle inside at done q e h = absurd h
+stop_ends a (Some (Read c)) (reply.Opened p v) inside at done q e h = absurd h
+stop_ends a (Some (Read c)) reply.Full inside at done q e h = (outcome.JournalFull, refl)
+stop_ends a (Some (Read c)) reply.Memory inside at done q e h = (outcome.Memory, refl)
+stop_ends a (Some (Open c n)) (reply.At p) inside at done q e h = absurd h
+stop_ends a (Some (Open c n)) (reply.Is v) inside at done q e h = absurd h
+stop_ends a (Some (Open c n)) (reply.Views p vs) inside at done q e h = absurd h
+stop_ends a (Some (Open c n)) reply.Done inside at done q e h = absurd h
+stop_ends a (Some (Open c n)) (reply.Retry d) inside at done q e h = absurd h
+stop_ends a (Some (Open c n)) (reply.Changed d) inside at done q e h = absurd h
+stop_ends a (Some (Open c n)) (reply.AgentIsFailed g) inside at done q e h = absurd h
+stop_ends a (Some (Open c n)) (reply.Action i x v) inside at done q e h = absurd h
+stop_ends a (Some (Open c n)) reply.Idle inside at done q e h = absurd h
+stop_ends a (Some (Open c n)) (reply.Opened p v) inside at done q e h = absurd h
+stop_ends a (Some (Open c n)) reply.Full inside at done q e h = (outcome.JournalFull, refl)
+stop_ends a (Some (Open c n)) reply.Memory inside at done q e h = (outcome.Memory, refl)
+stop_ends a (Some Commit) (reply.At p) inside at done q e h = absurd h
+stop_ends a (Some Commit) (reply.Is v) inside at done q e h = absurd h
+stop_ends a (Some Commit) (reply.Views p vs) inside at done q e h = absurd h
+stop_ends a (Some Commit) reply.Done inside at done q e h = absurd h
+stop_ends a (Some Commit) (reply.Retry d) inside at done q e h = absurd h
+stop_ends a (Some Commit) (reply.Changed d) inside at done q e h = absurd h
+stop_ends a (Some Commit) (reply.AgentIsFailed g) inside at done q e h = absurd h
+stop_ends a (Some Commit) (reply.Action i x v) inside at done q e h = absurd h
+stop_ends a (Some Commit) reply.Idle inside at done q e h = absurd h
+stop_ends a (Some Commit) (reply.Opened p v) inside at done q e h = absurd h
+stop_ends a (Some Commit) reply.Full inside at done q e h = (outcome.JournalFull, refl)
+stop_ends a (Some Commit) reply.Memory inside at done q e h = (outcome.Memory, refl)
+stop_ends a (Some (Fail f)) (reply.At p) inside at done q e h = absurd h
+stop_ends a (Some (Fail f)) (reply.Is v) inside at done q e h = absurd h
+stop_ends a (Some (Fail f)) (reply.Views p vs) inside at done q e h = absurd h
+stop_ends a (Some (Fail f)) reply.Done inside at done q e h = absurd h
+stop_ends a (Some (Fail f)) (reply.Retry d) inside at done q e h = absurd h
+stop_ends a (Some (Fail f)) (reply.Changed d) inside at done q e h = absurd h
+stop_ends a (Some (Fail f)) (reply.AgentIsFailed g) inside at done q e h = absurd h
+stop_ends a (Some (Fail f)) (reply.Action i x v) inside at done q e h = absurd h
+stop_ends a (Some (Fail f)) reply.Idle inside at done q e h = absurd h
+stop_ends a (Some (Fail f)) (reply.Opened p v) inside at done q e h = absurd h
+stop_ends a (Some (Fail f)) reply.Full inside at done q e h = (outcome.JournalFull, refl)
+stop_ends a (Some (Fail f)) reply.Memory inside at done q e h = (outcome.Memory, refl)
 
 in_after : (b : PlainActor) (st : Stage) (o : Option Outcome) → IsStaged st (standing o (configuration_of b) (state_of b)) → IsIn b st o None
 in_after b st None h = h.1
@@ -268,152 +374,240 @@ memory_unfilled a (Some (Open c n)) e = tt
 memory_unfilled a (Some Commit) e = tt
 memory_unfilled a (Some (Fail f)) e = tt
 
--- what the store adds to the book is the event of the actor that asks
-own_more : (k : ℕ) (kind : EventKind) (book : List Event) → IsOwn k book → IsOwn k (book ++ world.event_of k kind ∷ [])
-own_more k kind [] h = (refl, tt)
-own_more k kind (e ∷ es) h = (h.0, own_more k kind es h.1)
+-- ---- what the store serves
 
-own_added : (k : ℕ) (kind : EventKind) (r : Reply) (book : List Event) (has : Bool) → IsOwn k book → IsOwn k (if has then world.served r (book ++ world.event_of k kind ∷ []) else world.served reply.Full book).book
-own_added k kind r book true h = own_more k kind book h
-own_added k kind r book false h = h
+-- an ask that the store may be asked is served from its book, as what is shared serves it
+of_store : (cells : List CellDefinition) (threads : ℕ) (taken : List Bool) (a : ℕ) (q : Ask) (book : List Event) → is_lawful (store_with (cells_of cells) threads book taken) a q ≡ true
+    → (serve_on cells a q book ≡ serve (cells_of cells) a q book) × (book_for cells q ≡ 0) × (may_ask cells threads taken a q book ≡ true)
+of_store cells threads taken a ask.Begin book h = (refl, refl, h)
+of_store cells threads taken a (ask.Look c p) book h = (refl, refl, h)
+of_store cells threads taken a (ask.View cs) book h = (refl, refl, h)
+of_store cells threads taken a (ask.Commit p sets ensured q commuted sends) book h = (refl, refl, h)
+of_store cells threads taken a (ask.Fail p q) book h = (refl, refl, h)
+of_store cells threads taken a (ask.Send x) book h = (refl, refl, h)
+of_store cells threads taken a (ask.Take g) book h = (refl, refl, h)
+of_store cells threads taken a (ask.Finish g new) book h = (refl, refl, h)
+of_store cells threads taken a (ask.Peek c) book h =
+    let g = and_both (nat_lt a threads) (not (is_atom c) && has_cell (cells_of cells) c) h in
+    let n = and_both (not (is_atom c)) (has_cell (cells_of cells) c) g.1 in
+    let e = opposite (is_atom c) n.0 in (
+      ap (λ b. if b then serve_atom (atom_of cells c book) a (ask.Peek c) else serve (cells_of cells) a (ask.Peek c) book) e,
+      ap (λ b. if b then suc (atoms_below cells c.number) else 0) e,
+      both (nat_lt a threads) (has_cell (cells_of cells) c) g.0 n.1,
+    )
+  where
+    opposite : (b : Bool) → not b ≡ true → b ≡ false
+    opposite true h = absurd (false≢true h)
+    opposite false h = refl
 
-own_served : (w : World) (k : ℕ) (q : Ask) (book : List Event) → IsOwn k book → IsOwn k (serve w k q book).book
-own_served w k ask.Begin book h = h
-own_served w k (ask.Look c p) book h = looked (written c.number p book)
-  where
-    looked : (b : Bool) → IsOwn k (world.looks b w k c p book).book
-    looked true = own_added k _ (reply.Retry c) book (nat_lt (length book) most_events) h
-    looked false = h
-own_served w k (ask.Commit p ws) book h = committed (disturbed book p ws)
-  where
-    committed : (d : Option CellId) → IsOwn k (world.commits d k p ws book).book
-    committed None = own_added k _ reply.Done book (nat_lt (length book) most_events) h
-    committed (Some c) = own_added k _ (reply.Retry c) book (nat_lt (length book) most_events) h
-own_served w k (ask.Fail p) book h = own_added k _ reply.Done book (nat_lt (length book) most_events) h
-own_served w k (ask.Peek c) book h = own_added k _ (reply.Is (after w book (length book) c.number)) book (nat_lt (length book) most_events) h
+    both : (x y : Bool) → x ≡ true → y ≡ true → (x && y) ≡ true
+    both x y p q = rw (p, q) refl
+of_store cells threads taken a (ask.OpenAt c) book h = absurd (false≢true (and_both (nat_lt a threads) false h).1)
+of_store cells threads taken a (ask.CloseAt c p v) book h = absurd (false≢true (and_both (nat_lt a threads) false h).1)
+of_store cells threads taken a (ask.Broke c p) book h = absurd (false≢true (and_both (nat_lt a threads) false h).1)
+
+append_nil : {A : Type 0} (xs : List A) → xs ++ [] ≡ xs
+append_nil [] = refl
+append_nil (x ∷ xs) = ap (λ l. x ∷ l) (append_nil xs)
+
+-- books that are the same tell the same
+told_same : (cells : List CellDefinition) (threads a : ℕ) (books later : ℕ → List Event) (es : List Entry) (st : Stage) → ((n : ℕ) → later n ≡ books n) → ToldBy cells threads books a es st → ToldBy cells threads later a es st
+told_same cells threads a books later es st same t =
+    told_stays cells threads (suc a) a books later (record { more = λ n. []; grown = λ n. same n ∙ sym (append_nil (books n)); own = λ n. tt }) (λ e. absurd (omega (arith, e))) es st t
+
+map_append : (xs : List Entry) (e : Entry) → map exchange_of (xs ++ e ∷ []) ≡ map exchange_of xs ++ exchange_of e ∷ []
+map_append [] e = refl
+map_append (x ∷ xs) e = ap (λ l. exchange_of x ∷ l) (map_append xs e)
+
+-- what the store adds to the book is of the actor that asks
+own_append : (k : ℕ) (book more : List Event) → IsOwn k book → AreOwn k more → IsOwn k (book ++ more)
+own_append k [] [] h o = tt
+own_append k [] (e ∷ more) h o = (o.0, own_append k [] more tt o.1)
+own_append k (e ∷ book) more h o = (h.0, own_append k book more h.1 o)
+
+module _ (code : PlainCode) (k : ℕ) (book : List Event) (taken : List Bool) (q : Ask) (lawful : is_lawful (store_with (cells_of code.cells) (length code.threads) book taken) k q ≡ true) where
+  abbrev v : Served
+  v = serve (cells_of code.cells) k q book
+
+  abbrev known : Serves k book (serve_on code.cells k q book)
+  known = serves k book code.cells q
+
+  same : serve_on code.cells k q book ≡ v
+  same = (of_store code.cells (length code.threads) taken k q book lawful).0
+
+  home_is : book_for code.cells q ≡ 0
+  home_is = (of_store code.cells (length code.threads) taken k q book lawful).1
+
+  own_served : IsOwn k book → IsOwn k v.book
+  own_served h = subst (λ (x : Served). IsOwn k x.book) same (subst (IsOwn k) (sym known.grown) (own_append k book known.more h known.own))
+
+  -- a full book stays as it is
+  full_keeps : IsFull v.reply → v.book ≡ book
+  full_keeps f =
+      ap (λ (x : Served). x.book) (sym same) ∙ known.grown
+      ∙ ap (λ l. book ++ l) (known.stays (λ ex. never (serve_on code.cells k q book).reply ex (subst (λ (x : Served). IsFull x.reply) (sym same) f))) ∙ append_nil book
+    where
+      never : (r : Reply) → IsExchanged r → IsFull r → ⊥
+      never (reply.At p) ex f = f
+      never (reply.Is w) ex f = f
+      never (reply.Views p vs) ex f = f
+      never reply.Done ex f = f
+      never (reply.Retry c) ex f = f
+      never (reply.Changed c) ex f = f
+      never (reply.AgentIsFailed g) ex f = f
+      never (reply.Action n x w) ex f = f
+      never (reply.Opened p w) ex f = f
+      never reply.Idle ex f = f
+      never reply.Full ex f = ex
+      never reply.Memory ex f = f
+
+  full_past : IsFull v.reply → most_events ≤ length book
+  full_past f = known.full (subst (λ (x : Served). IsFull x.reply) (sym same) f)
+
+  -- what was served, told with the entry behind the others
+  told_served : ServedIsTold → (es : List Entry) (st : Stage) → AsksIn st q → ToldBy code.cells (length code.threads) (alone book) k es st → IsExchanged v.reply
+      → ToldBy code.cells (length code.threads) (alone v.book) k (es ++ entry q v.reply (length book) ∷ []) (stage_after st q v.reply)
+  told_served law es st ok t ex =
+      told_same code.cells (length code.threads) k (with_book 0 v.book (alone book)) (alone v.book) (es ++ entry q v.reply (length book) ∷ []) (stage_after st q v.reply) after
+      (subst (λ (x : Served). ToldBy code.cells (length code.threads) (with_book 0 x.book (alone book)) k (es ++ entry q x.reply (length book) ∷ []) (stage_after st q x.reply)) same
+      (at_home (book_for code.cells q) home_is refl))
+    where
+      after : (n : ℕ) → alone v.book n ≡ with_book 0 v.book (alone book) n
+      after zero = refl
+      after (suc n) = sym (ap (λ b. if b then v.book else []) (not_zero (suc n == 0) refl))
+        where
+          not_zero : (b : Bool) → (suc n == 0) ≡ b → (suc n == 0) ≡ false
+          not_zero true e = absurd (let z = numbers (suc n) 0 e in omega (arith, z))
+          not_zero false e = e
+
+      at_home : (n : ℕ) → n ≡ 0 → book_for code.cells q ≡ n → ToldBy code.cells (length code.threads) (with_book 0 (serve_on code.cells k q book).book (alone book)) k (es ++ entry q (serve_on code.cells k q book).reply (length book) ∷ []) (stage_after st q (serve_on code.cells k q book).reply)
+      at_home n z e =
+          subst (λ i. (may_ask code.cells (length code.threads) taken k q (alone book i) ≡ true) → IsExchanged (serve_on code.cells k q (alone book i)).reply
+          → ToldBy code.cells (length code.threads) (with_book i (serve_on code.cells k q (alone book i)).book (alone book)) k (es ++ entry q (serve_on code.cells k q (alone book i)).reply (length (alone book i)) ∷ []) (stage_after st q (serve_on code.cells k q (alone book i)).reply)) (e ∙ z)
+          (λ may x. law code.cells (length code.threads) (alone book) taken k q es st may ok t x)
+          (of_store code.cells (length code.threads) taken k q book lawful).2
+          (subst (λ (x : Served). IsExchanged x.reply) (sym same) ex)
 
 -- an answer that the actor goes on after
-heard_over : ActorsRun → ServedAskFits → (code : PlainCode) (w : World) (k : ℕ) (book : List Event) (a : PlainActor) (q : Ask) (r : Reply)
-    → a.outcome ≡ None → unanswered a ≡ Some q → unanswered (answered a r) ≡ None → MayAnswer q r → (Stops r → ⊥) → IsExchanged r → r ≡ (serve w k q book).reply
-    → RunOver code w k book a → RunOver code w k (serve w k q book).book (answered a r)
-heard_over laws fits code w k book a q r e f free may on x same h =
+heard_over : ActorsRun → ServedIsTold → (code : PlainCode) (k : ℕ) (book : List Event) (taken : List Bool) (a : PlainActor) (q : Ask) (r : Reply)
+    → is_lawful (store_with (cells_of code.cells) (length code.threads) book taken) k q ≡ true
+    → a.outcome ≡ None → unanswered a ≡ Some q → unanswered (answered a r) ≡ None → MayAnswer q r → (Stops r → ⊥) → IsExchanged r → r ≡ (serve (cells_of code.cells) k q book).reply
+    → RunOver code k book a → RunOver code k (serve (cells_of code.cells) k q book).book (answered a r)
+heard_over laws law code k book taken a q r lawful e f free may on x same h =
     let known = as_known a h.stage None (Some q) e f h.here in
     record {
       number = answered_number a a.pending r ∙ h.number;
-      exchanges = h.exchanges ++ record { ask = q; reply = r } ∷ [];
+      entries = h.entries ++ entry q r (length book) ∷ [];
       stage = stage_after h.stage q r;
-      ran = laws.answers code h.exchanges a q r e f may on h.ran;
-      told = subst (λ y. ToldBy w k (serve w k q book).book (h.exchanges ++ record { ask = q; reply = y } ∷ []) (stage_after h.stage q y)) (sym same)
-          (fits w k book h.exchanges h.stage q known.0 h.told (subst IsExchanged same x));
+      ran = subst (λ xs. HasRun code xs (answered a r)) (sym (map_append h.entries (entry q r (length book)))) (laws.answers code (map exchange_of h.entries) a q r e f may on h.ran);
+      told = subst (λ y. ToldBy code.cells (length code.threads) (alone (serve (cells_of code.cells) k q book).book) k (h.entries ++ entry q y (length book) ∷ []) (stage_after h.stage q y)) (sym same)
+          (told_served code k book taken q lawful law h.entries h.stage known.0 h.told (subst IsExchanged same x));
       here = as_is (answered a r) (stage_after h.stage q r) (answered a r).outcome None refl free (in_after (answered a r) (stage_after h.stage q r) (answered a r).outcome (known.1 r may on));
-      own = own_served w k q book h.own;
+      own = own_served code k book taken q lawful h.own;
       full = λ x. absurd (subst Unfilled x (unfilled_of (answered a r).outcome (unstopped_if a e a.pending r on)));
     }
 
 -- an answer that stops the actor, and leaves the book as it was
-stopped_over : ActorsRun → (code : PlainCode) (w : World) (k : ℕ) (book : List Event) (a : PlainActor) (q : Ask) (r : Reply)
-    → a.outcome ≡ None → unanswered a ≡ Some q → MayAnswer q r → Stops r → ((answered a r).outcome ≡ Some outcome.JournalFull → most_events ≤ length book) → RunOver code w k book a → RunOver code w k book (answered a r)
-stopped_over laws code w k book a q r e f may stop filled h =
-    let ends = stop_ends a a.pending r _ a.at a.writes q f stop in
+stopped_over : ActorsRun → (code : PlainCode) (k : ℕ) (book : List Event) (a : PlainActor) (q : Ask) (r : Reply)
+    → a.outcome ≡ None → unanswered a ≡ Some q → MayAnswer q r → Stops r → ((answered a r).outcome ≡ Some outcome.JournalFull → most_events ≤ length book) → RunOver code k book a → RunOver code k book (answered a r)
+stopped_over laws code k book a q r e f may stop filled h =
+    let ends = stop_ends a a.pending r _ a.at a.done q f stop in
     record {
       number = answered_number a a.pending r ∙ h.number;
-      exchanges = h.exchanges;
+      entries = h.entries;
       stage = h.stage;
-      ran = laws.stops code h.exchanges a q r e f may stop h.ran;
+      ran = laws.stops code (map exchange_of h.entries) a q r e f may stop h.ran;
       told = h.told;
       here = as_is (answered a r) h.stage (Some ends.0) (unanswered (answered a r)) ends.1 refl tt;
       own = h.own;
       full = filled;
     }
 
-abbrev is_full : Reply → Type 0
-is_full (reply.At p) = ⊥
-is_full (reply.Is v) = ⊥
-is_full reply.Done = ⊥
-is_full (reply.Retry c) = ⊥
-is_full reply.Full = Unit {0}
-is_full reply.Memory = ⊥
-
--- a full book stays as it is
-adds_full : (a : ℕ) (kind : EventKind) (r : Reply) (book : List Event) (has : Bool) → (is_full r → ⊥)
-    → is_full (if has then world.served r (book ++ world.event_of a kind ∷ []) else world.served reply.Full book).reply
-    → (if has then world.served r (book ++ world.event_of a kind ∷ []) else world.served reply.Full book).book ≡ book
-adds_full a kind r book true never h = absurd (never h)
-adds_full a kind r book false never h = refl
-
-full_keeps : (w : World) (a : ℕ) (q : Ask) (book : List Event) → is_full (serve w a q book).reply → (serve w a q book).book ≡ book
-full_keeps w a ask.Begin book h = refl
-full_keeps w a (ask.Look c p) book h = looked (written c.number p book) h
-  where
-    looked : (b : Bool) → is_full (world.looks b w a c p book).reply → (world.looks b w a c p book).book ≡ book
-    looked true h = adds_full a _ (reply.Retry c) book (nat_lt (length book) most_events) (λ x. x) h
-    looked false h = refl
-full_keeps w a (ask.Commit p ws) book h = committed (disturbed book p ws) h
-  where
-    committed : (d : Option CellId) → is_full (world.commits d a p ws book).reply → (world.commits d a p ws book).book ≡ book
-    committed None h = adds_full a _ reply.Done book (nat_lt (length book) most_events) (λ x. x) h
-    committed (Some c) h = adds_full a _ (reply.Retry c) book (nat_lt (length book) most_events) (λ x. x) h
-full_keeps w a (ask.Fail p) book h = adds_full a _ reply.Done book (nat_lt (length book) most_events) (λ x. x) h
-full_keeps w a (ask.Peek c) book h = adds_full a _ (reply.Is (after w book (length book) c.number)) book (nat_lt (length book) most_events) (λ x. x) h
-
--- and there is no room in it
-adds_past : (a : ℕ) (kind : EventKind) (r : Reply) (book : List Event) (has : Bool) → nat_lt (length book) most_events ≡ has → (is_full r → ⊥)
-    → is_full (if has then world.served r (book ++ world.event_of a kind ∷ []) else world.served reply.Full book).reply → most_events ≤ length book
-adds_past a kind r book true e never h = absurd (never h)
-adds_past a kind r book false e never h = ltb-false (length book) most_events e
-
-full_past : (w : World) (a : ℕ) (q : Ask) (book : List Event) → is_full (serve w a q book).reply → most_events ≤ length book
-full_past w a ask.Begin book h = absurd h
-full_past w a (ask.Look c p) book h = looked (written c.number p book) h
-  where
-    looked : (b : Bool) → is_full (world.looks b w a c p book).reply → most_events ≤ length book
-    looked true h = adds_past a _ (reply.Retry c) book (nat_lt (length book) most_events) refl (λ x. x) h
-    looked false h = absurd h
-full_past w a (ask.Commit p ws) book h = committed (disturbed book p ws) h
-  where
-    committed : (d : Option CellId) → is_full (world.commits d a p ws book).reply → most_events ≤ length book
-    committed None h = adds_past a _ reply.Done book (nat_lt (length book) most_events) refl (λ x. x) h
-    committed (Some c) h = adds_past a _ (reply.Retry c) book (nat_lt (length book) most_events) refl (λ x. x) h
-full_past w a (ask.Fail p) book h = adds_past a _ reply.Done book (nat_lt (length book) most_events) refl (λ x. x) h
-full_past w a (ask.Peek c) book h = adds_past a _ (reply.Is (after w book (length book) c.number)) book (nat_lt (length book) most_events) refl (λ x. x) h
-
-served_from : ActorsRun → ServedAskFits → (code : PlainCode) (s t : PlainStore) (k : ℕ) (a : PlainActor) (q : Ask) (r : Reply)
-    → a.outcome ≡ None → unanswered a ≡ Some q → unanswered (answered a r) ≡ None → MayAnswer q r
-    → world.Answers s (serve (opening s.cells) k q s.book) r t
-    → RunOver code (opening s.cells) k s.book a → (t.cells ≡ s.cells) × RunOver code (opening s.cells) k t.book (answered a r)
-served_from laws fits code s t k a q (reply.At p) e f free may g h =
-    (ap (λ (x : PlainStore). x.cells) g.1, subst (λ (x : PlainStore). RunOver code (opening s.cells) k x.book (answered a (reply.At p))) (sym g.1) (heard_over laws fits code (opening s.cells) k s.book a q (reply.At p) e f free may (λ x. x) tt g.0 h))
-served_from laws fits code s t k a q (reply.Is v) e f free may g h =
-    (ap (λ (x : PlainStore). x.cells) g.1, subst (λ (x : PlainStore). RunOver code (opening s.cells) k x.book (answered a (reply.Is v))) (sym g.1) (heard_over laws fits code (opening s.cells) k s.book a q (reply.Is v) e f free may (λ x. x) tt g.0 h))
-served_from laws fits code s t k a q reply.Done e f free may g h =
-    (ap (λ (x : PlainStore). x.cells) g.1, subst (λ (x : PlainStore). RunOver code (opening s.cells) k x.book (answered a reply.Done)) (sym g.1) (heard_over laws fits code (opening s.cells) k s.book a q reply.Done e f free may (λ x. x) tt g.0 h))
-served_from laws fits code s t k a q (reply.Retry c) e f free may g h =
-    (ap (λ (x : PlainStore). x.cells) g.1, subst (λ (x : PlainStore). RunOver code (opening s.cells) k x.book (answered a (reply.Retry c))) (sym g.1) (heard_over laws fits code (opening s.cells) k s.book a q (reply.Retry c) e f free may (λ x. x) tt g.0 h))
-served_from laws fits code s t k a q reply.Full e f free may g h = (
-  ap (λ (x : PlainStore). x.cells) g.1,
-  subst (λ (x : PlainStore). RunOver code (opening s.cells) k x.book (answered a reply.Full)) (sym g.1)
-      (subst (λ (es : List Event). RunOver code (opening s.cells) k es (answered a reply.Full)) (sym (full_keeps (opening s.cells) k q s.book (subst is_full g.0 tt))) (stopped_over laws code (opening s.cells) k s.book a q reply.Full e f may tt (λ x. full_past (opening s.cells) k q s.book (subst is_full g.0 tt)) h)),
-)
-served_from laws fits code s t k a q reply.Memory e f free may g h =
-    (ap (λ (x : PlainStore). x.cells) g.1, subst (λ (x : PlainStore). RunOver code (opening s.cells) k x.book (answered a reply.Memory)) (sym g.1) (stopped_over laws code (opening s.cells) k s.book a q reply.Memory e f may tt (λ x. absurd (subst Unfilled x (memory_unfilled a a.pending e))) h))
+-- a thread's ask isn't answered as an agent's that has nothing to do
+idle_never : (st : Stage) (q : Ask) → AsksIn st q → MayAnswer q reply.Idle → ⊥
+idle_never stages.Idle (ask.Take g) ok may = ok
+idle_never (stages.Open at) (ask.Take g) ok may = ok
+idle_never (stages.Viewing at view) (ask.Take g) ok may = ok
+idle_never (stages.Swapping c at) (ask.Take g) ok may = ok
+idle_never st ask.Begin ok may = may
+idle_never st (ask.Look c p) ok may = may
+idle_never st (ask.View cs) ok may = may
+idle_never st (ask.Commit p ws es q cs xs) ok may = may
+idle_never st (ask.Fail p q) ok may = may
+idle_never st (ask.Peek c) ok may = may
+idle_never st (ask.Send x) ok may = may
+idle_never st (ask.Finish g new) ok may = may
+idle_never st (ask.OpenAt c) ok may = may
+idle_never st (ask.CloseAt c p v) ok may = may
+idle_never st (ask.Broke c p) ok may = may
 
 -- what the store answers the actor, and the actor after the answer
-pub served_over : ActorsRun → ServedAskFits → (code : PlainCode) (s t : PlainStore) (k : ℕ) (a : PlainActor) (q : Ask) (r : Reply)
+served_from : ActorsRun → ServedIsTold → (code : PlainCode) (book : List Event) (taken : List Bool) (t : PlainStore) (k : ℕ) (a : PlainActor) (q : Ask) (r : Reply)
+    → is_lawful (store_with (cells_of code.cells) (length code.threads) book taken) k q ≡ true
     → a.outcome ≡ None → unanswered a ≡ Some q → unanswered (answered a r) ≡ None → MayAnswer q r
-    → world.Answers s (serve (opening s.cells) a.number q s.book) r t
-    → RunOver code (opening s.cells) k s.book a → (t.cells ≡ s.cells) × RunOver code (opening s.cells) k t.book (answered a r)
-served_over laws fits code s t k a q r e f free may g h =
-    served_from laws fits code s t k a q r e f free may (subst (λ n. world.Answers s (serve (opening s.cells) n q s.book) r t) h.number g) h
+    → world.Answers (store_with (cells_of code.cells) (length code.threads) book taken) (serve (cells_of code.cells) k q book) (store_after (store_with (cells_of code.cells) (length code.threads) book taken) q (serve (cells_of code.cells) k q book)) r t
+    → RunOver code k book a → IsStoreOf code t × RunOver code k t.book (answered a r)
+served_from laws law code book taken t k a q (reply.At p) lawful e f free may g h =
+    (subst (IsStoreOf code) (sym g.1) (record { cells = refl; threads = refl }), subst (λ (x : PlainStore). RunOver code k x.book (answered a (reply.At p))) (sym g.1) (heard_over laws law code k book taken a q (reply.At p) lawful e f free may (λ x. x) tt g.0 h))
+served_from laws law code book taken t k a q (reply.Is v) lawful e f free may g h =
+    (subst (IsStoreOf code) (sym g.1) (record { cells = refl; threads = refl }), subst (λ (x : PlainStore). RunOver code k x.book (answered a (reply.Is v))) (sym g.1) (heard_over laws law code k book taken a q (reply.Is v) lawful e f free may (λ x. x) tt g.0 h))
+served_from laws law code book taken t k a q (reply.Views p vs) lawful e f free may g h =
+    (subst (IsStoreOf code) (sym g.1) (record { cells = refl; threads = refl }), subst (λ (x : PlainStore). RunOver code k x.book (answered a (reply.Views p vs))) (sym g.1) (heard_over laws law code k book taken a q (reply.Views p vs) lawful e f free may (λ x. x) tt g.0 h))
+served_from laws law code book taken t k a q reply.Done lawful e f free may g h =
+    (subst (IsStoreOf code) (sym g.1) (record { cells = refl; threads = refl }), subst (λ (x : PlainStore). RunOver code k x.book (answered a reply.Done)) (sym g.1) (heard_over laws law code k book taken a q reply.Done lawful e f free may (λ x. x) tt g.0 h))
+served_from laws law code book taken t k a q (reply.Retry d) lawful e f free may g h =
+    (subst (IsStoreOf code) (sym g.1) (record { cells = refl; threads = refl }), subst (λ (x : PlainStore). RunOver code k x.book (answered a (reply.Retry d))) (sym g.1) (heard_over laws law code k book taken a q (reply.Retry d) lawful e f free may (λ x. x) tt g.0 h))
+served_from laws law code book taken t k a q (reply.Changed d) lawful e f free may g h =
+    (subst (IsStoreOf code) (sym g.1) (record { cells = refl; threads = refl }), subst (λ (x : PlainStore). RunOver code k x.book (answered a (reply.Changed d))) (sym g.1) (heard_over laws law code k book taken a q (reply.Changed d) lawful e f free may (λ x. x) tt g.0 h))
+served_from laws law code book taken t k a q (reply.AgentIsFailed d) lawful e f free may g h =
+    (subst (IsStoreOf code) (sym g.1) (record { cells = refl; threads = refl }), subst (λ (x : PlainStore). RunOver code k x.book (answered a (reply.AgentIsFailed d))) (sym g.1) (heard_over laws law code k book taken a q (reply.AgentIsFailed d) lawful e f free may (λ x. x) tt g.0 h))
+served_from laws law code book taken t k a q (reply.Action i y v) lawful e f free may g h =
+    (subst (IsStoreOf code) (sym g.1) (record { cells = refl; threads = refl }), subst (λ (x : PlainStore). RunOver code k x.book (answered a (reply.Action i y v))) (sym g.1) (heard_over laws law code k book taken a q (reply.Action i y v) lawful e f free may (λ x. x) tt g.0 h))
+served_from laws law code book taken t k a q reply.Idle lawful e f free may g h = absurd (idle_never h.stage q (as_known a h.stage None (Some q) e f h.here).0 may)
+served_from laws law code book taken t k a q (reply.Opened p v) lawful e f free may g h =
+    (subst (IsStoreOf code) (sym g.1) (record { cells = refl; threads = refl }), subst (λ (x : PlainStore). RunOver code k x.book (answered a (reply.Opened p v))) (sym g.1) (heard_over laws law code k book taken a q (reply.Opened p v) lawful e f free may (λ x. x) tt g.0 h))
+served_from laws law code book taken t k a q reply.Full lawful e f free may g h = (
+  subst (IsStoreOf code) (sym g.1) (record { cells = refl; threads = refl }),
+  subst (λ (x : PlainStore). RunOver code k x.book (answered a reply.Full)) (sym g.1)
+      (subst (λ (es : List Event). RunOver code k es (answered a reply.Full)) (sym (full_keeps code k book taken q lawful (subst IsFull g.0 tt)))
+      (stopped_over laws code k book a q reply.Full e f may tt (λ x. full_past code k book taken q lawful (subst IsFull g.0 tt)) h)),
+)
+served_from laws law code book taken t k a q reply.Memory lawful e f free may g h =
+    (subst (IsStoreOf code) (sym g.1) (record { cells = refl; threads = refl }), subst (λ (x : PlainStore). RunOver code k x.book (answered a reply.Memory)) (sym g.1) (stopped_over laws code k book a q reply.Memory e f may tt (λ x. absurd (subst Unfilled x (memory_unfilled a a.pending e))) h))
+
+-- a store of the code's
+as_store : (code : PlainCode) (s : PlainStore) → IsStoreOf code s → s ≡ store_with (cells_of code.cells) (length code.threads) s.book s.taken
+as_store code s h = rw (h.cells, h.threads) refl
+
+-- its book is legal
+pub store_legal : (code : PlainCode) (s : PlainStore) → IsStoreOf code s → Legal s.cells s.threads s.book → Legal (cells_of code.cells) (length code.threads) s.book
+store_legal code s h l = subst (λ (x : PlainStore). Legal x.cells x.threads s.book) (as_store code s h) l
+
+pub served_over : ActorsRun → ServedIsTold → (code : PlainCode) (s t : PlainStore) (k : ℕ) (a : PlainActor) (q : Ask) (r : Reply) → IsStoreOf code s → is_lawful s a.number q ≡ true
+    → a.outcome ≡ None → unanswered a ≡ Some q → unanswered (answered a r) ≡ None → MayAnswer q r
+    → world.Answers s (serve s.cells a.number q s.book) (store_after s q (serve s.cells a.number q s.book)) r t
+    → RunOver code k s.book a → IsStoreOf code t × RunOver code k t.book (answered a r)
+served_over laws law code s t k a q r of lawful e f free may g h =
+    served_from laws law code s.book s.taken t k a q r
+    (subst (λ n. is_lawful (store_with (cells_of code.cells) (length code.threads) s.book s.taken) n q ≡ true) h.number (subst (λ (x : PlainStore). is_lawful x a.number q ≡ true) (as_store code s of) lawful)) e f free may
+    (subst (λ n. world.Answers (store_with (cells_of code.cells) (length code.threads) s.book s.taken) (serve (cells_of code.cells) n q s.book) (store_after (store_with (cells_of code.cells) (length code.threads) s.book s.taken) q (serve (cells_of code.cells) n q s.book)) r t) h.number
+    (subst (λ (x : PlainStore). world.Answers x (serve x.cells a.number q x.book) (store_after x q (serve x.cells a.number q x.book)) r t) (as_store code s of) g)) h
 
 -- ---- the store's replies are those that an ask may have
 
-one_of : (q : Ask) (v : Served) (s t : PlainStore) (r : Reply) → MayAnswer q v.reply → (world.TakesMemory v.reply → MayAnswer q reply.Memory) → world.Answers s v r t → MayAnswer q r
-one_of q v s t (reply.At p) h m g = subst (MayAnswer q) (sym g.0) h
-one_of q v s t (reply.Is x) h m g = subst (MayAnswer q) (sym g.0) h
-one_of q v s t reply.Done h m g = subst (MayAnswer q) (sym g.0) h
-one_of q v s t (reply.Retry c) h m g = subst (MayAnswer q) (sym g.0) h
-one_of q v s t reply.Full h m g = subst (MayAnswer q) (sym g.0) h
-one_of q v s t reply.Memory h m g = m g.0
+one_of : (q : Ask) (v : Served) (s next t : PlainStore) (r : Reply) → MayAnswer q v.reply → (world.TakesMemory v.reply → MayAnswer q reply.Memory) → world.Answers s v next r t → MayAnswer q r
+one_of q v s next t (reply.At p) h m g = subst (MayAnswer q) (sym g.0) h
+one_of q v s next t (reply.Is w) h m g = subst (MayAnswer q) (sym g.0) h
+one_of q v s next t (reply.Views p vs) h m g = subst (MayAnswer q) (sym g.0) h
+one_of q v s next t reply.Done h m g = subst (MayAnswer q) (sym g.0) h
+one_of q v s next t (reply.Retry d) h m g = subst (MayAnswer q) (sym g.0) h
+one_of q v s next t (reply.Changed d) h m g = subst (MayAnswer q) (sym g.0) h
+one_of q v s next t (reply.AgentIsFailed d) h m g = subst (MayAnswer q) (sym g.0) h
+one_of q v s next t (reply.Action i x w) h m g = subst (MayAnswer q) (sym g.0) h
+one_of q v s next t reply.Idle h m g = subst (MayAnswer q) (sym g.0) h
+one_of q v s next t (reply.Opened p w) h m g = subst (MayAnswer q) (sym g.0) h
+one_of q v s next t reply.Full h m g = subst (MayAnswer q) (sym g.0) h
+one_of q v s next t reply.Memory h m g = m g.0
 
 added_may : (q : Ask) (a : ℕ) (kind : EventKind) (r : Reply) (book : List Event) (has : Bool) → MayAnswer q r → MayAnswer q reply.Full
     → MayAnswer q (if has then world.served r (book ++ world.event_of a kind ∷ []) else world.served reply.Full book).reply
@@ -424,18 +618,69 @@ looked_may : (w : World) (a : ℕ) (c : CellId) (p : ℕ) (book : List Event) (b
 looked_may w a c p book true = added_may (ask.Look c p) a _ (reply.Retry c) book (nat_lt (length book) most_events) tt tt
 looked_may w a c p book false = tt
 
-committed_may : (a : ℕ) (p : ℕ) (ws : Writes) (book : List Event) (d : Option CellId) → MayAnswer (ask.Commit p ws) (world.commits d a p ws book).reply
-committed_may a p ws book None = added_may (ask.Commit p ws) a _ reply.Done book (nat_lt (length book) most_events) tt tt
-committed_may a p ws book (Some c) = added_may (ask.Commit p ws) a _ (reply.Retry c) book (nat_lt (length book) most_events) tt tt
+committed_may : (a p q : ℕ) (sets commuted ws : Writes) (ensured : List CellId) (sends : List Action) (book : List Event) (o c g : Option CellId) → MayAnswer (ask.Commit p sets ensured q commuted sends) (world.commits o c g a p q ws sends book).reply
+committed_may a p q sets commuted ws ensured sends book (Some d) c g = added_may (ask.Commit p sets ensured q commuted sends) a _ (reply.Retry d) book (nat_lt (length book) most_events) tt tt
+committed_may a p q sets commuted ws ensured sends book None (Some d) g = added_may (ask.Commit p sets ensured q commuted sends) a _ (reply.Changed d) book (nat_lt (length book) most_events) tt tt
+committed_may a p q sets commuted ws ensured sends book None None (Some g) = added_may (ask.Commit p sets ensured q commuted sends) a _ (reply.AgentIsFailed g) book (nat_lt (length book) most_events) tt tt
+committed_may a p q sets commuted ws ensured sends book None None None = added_may (ask.Commit p sets ensured q commuted sends) a _ reply.Done book (nat_lt (length book) most_events) tt tt
 
-pub served_may : (w : World) (a : ℕ) (q : Ask) (book : List Event) (s t : PlainStore) (r : Reply) → world.Answers s (serve w a q book) r t → MayAnswer q r
-served_may w a ask.Begin book s t r g = one_of ask.Begin (serve w a ask.Begin book) s t r tt (λ x. absurd x) g
-served_may w a (ask.Look c p) book s t r g = one_of (ask.Look c p) (serve w a (ask.Look c p) book) s t r (looked_may w a c p book (written c.number p book)) (λ x. tt) g
-served_may w a (ask.Commit p ws) book s t r g = one_of (ask.Commit p ws) (serve w a (ask.Commit p ws) book) s t r (committed_may a p ws book (disturbed book p ws)) (λ x. tt) g
-served_may w a (ask.Fail p) book s t r g =
-    one_of (ask.Fail p) (serve w a (ask.Fail p) book) s t r (added_may (ask.Fail p) a _ reply.Done book (nat_lt (length book) most_events) tt tt) (λ x. tt) g
-served_may w a (ask.Peek c) book s t r g =
-    one_of (ask.Peek c) (serve w a (ask.Peek c) book) s t r (added_may (ask.Peek c) a _ (reply.Is (after w book (length book) c.number)) book (nat_lt (length book) most_events) tt tt) (λ x. tt) g
+sent_may : (a : ℕ) (x : Action) (book : List Event) (b : Bool) → MayAnswer (ask.Send x) (world.sends_to b a x book).reply
+sent_may a x book true = added_may (ask.Send x) a _ (reply.AgentIsFailed x.agent) book (nat_lt (length book) most_events) tt tt
+sent_may a x book false = added_may (ask.Send x) a _ reply.Done book (nat_lt (length book) most_events) tt tt
+
+taken_may : (g : CellId) (n : ℕ) (v : Value) (o : Option Action) → MayAnswer (ask.Take g) (world.takes o n v)
+taken_may g n v None = tt
+taken_may g n v (Some x) = tt
+
+length_map : {A B : Type 0} (f : A → B) (xs : List A) → length (map f xs) ≡ length xs
+length_map f [] = refl
+length_map f (x ∷ xs) = ap suc (length_map f xs)
+
+-- what the store answers to what it may be asked
+serve_may : (s : PlainStore) (a : ℕ) (q : Ask) → is_lawful s a q ≡ true → MayAnswer q (serve s.cells a q s.book).reply
+serve_may s a ask.Begin h = tt
+serve_may s a (ask.Look c p) h = looked_may _ a c p s.book (written c.number p s.book)
+serve_may s a (ask.View cs) h = length_map (λ c. world_book.newest (world_book.opening s.cells) s.book c.number) cs
+serve_may s a (ask.Commit p sets ensured q commuted sends) h =
+    committed_may a p q sets commuted _ ensured sends s.book (least_written s.book p (cells_in sets ++ ensured)) (least_written s.book q (cells_in commuted)) (first_failed s.cells s.book sends)
+serve_may s a (ask.Fail p q) h = added_may (ask.Fail p q) a _ reply.Done s.book (nat_lt (length s.book) most_events) tt tt
+serve_may s a (ask.Peek c) h = added_may (ask.Peek c) a _ (reply.Is _) s.book (nat_lt (length s.book) most_events) tt tt
+serve_may s a (ask.Send x) h = sent_may a x s.book (is_failed s.cells s.book x.agent)
+serve_may s a (ask.Take g) h = taken_may g _ _ (world.next_action s.cells s.book g)
+serve_may s a (ask.Finish g new) h = added_may (ask.Finish g new) a _ reply.Done s.book (nat_lt (length s.book) most_events) tt tt
+serve_may s a (ask.OpenAt c) h = absurd (false≢true (and_both (nat_lt a s.threads) false h).1)
+serve_may s a (ask.CloseAt c p v) h = absurd (false≢true (and_both (nat_lt a s.threads) false h).1)
+serve_may s a (ask.Broke c p) h = absurd (false≢true (and_both (nat_lt a s.threads) false h).1)
+
+-- want of memory is told of what takes some
+memory_may : (q : Ask) (r : Reply) → MayAnswer q r → world.TakesMemory r → MayAnswer q reply.Memory
+memory_may ask.Begin (reply.At p) m t = t
+memory_may ask.Begin (reply.Is v) m t = absurd m
+memory_may ask.Begin (reply.Views p vs) m t = absurd m
+memory_may ask.Begin reply.Done m t = absurd m
+memory_may ask.Begin (reply.Retry d) m t = absurd m
+memory_may ask.Begin (reply.Changed d) m t = absurd m
+memory_may ask.Begin (reply.AgentIsFailed g) m t = absurd m
+memory_may ask.Begin (reply.Action i x v) m t = absurd m
+memory_may ask.Begin reply.Idle m t = absurd m
+memory_may ask.Begin (reply.Opened p v) m t = absurd m
+memory_may ask.Begin reply.Full m t = absurd m
+memory_may ask.Begin reply.Memory m t = absurd m
+memory_may (ask.Look c p) r m t = tt
+memory_may (ask.View cs) r m t = tt
+memory_may (ask.Commit p ws es q cs xs) r m t = tt
+memory_may (ask.Fail p q) r m t = tt
+memory_may (ask.Peek c) r m t = tt
+memory_may (ask.Send x) r m t = tt
+memory_may (ask.Take g) r m t = tt
+memory_may (ask.Finish g new) r m t = tt
+memory_may (ask.OpenAt c) r m t = tt
+memory_may (ask.CloseAt c p v) r m t = tt
+memory_may (ask.Broke c p) r m t = tt
+
+pub served_may : (s next t : PlainStore) (a : ℕ) (q : Ask) (r : Reply) → is_lawful s a q ≡ true → world.Answers s (serve s.cells a q s.book) next r t → MayAnswer q r
+served_may s next t a q r lawful g =
+    one_of q (serve s.cells a q s.book) s next t r (serve_may s a q lawful) (memory_may q (serve s.cells a q s.book).reply (serve_may s a q lawful)) g
 
 -- ---- the end
 
@@ -447,7 +692,12 @@ explained_as a outcome.JournalFull r h = h
 explained_as a outcome.Memory r h = h
 
 -- an ended actor is explained
-pub ended_explained : ActorsExplained → FittingToFits → (code : PlainCode) (w : World) (k : ℕ) (book : List Event) (a : PlainActor) (o : Outcome) → a.outcome ≡ Some o → RunOver code w k book a → IsExplained code w k book o a.printed
-ended_explained law fit code w k book a o e h p follows =
-    let m = law code h.exchanges (history_of w k book) a p h.ran (subst (λ n. Follows (code_of code n) p) (sym h.number) follows) (fit Out h.exchanges (history_of w k book) (phase_of w book h.stage) h.told.fits) in
-    (m.0, explained_as a o (thread_meaning p m.0 (history_of w k book)) (subst (λ (x : Option Outcome). Explained (told a x (unanswered a)) (thread_meaning p m.0 (history_of w k book))) e m.2))
+pub ended_explained : ActorsExplained → FittingToFits → ToldFits → AloneHistory → (code : PlainCode) (k : ℕ) (book : List Event) (a : PlainActor) (o : Outcome) → Legal (cells_of code.cells) (length code.threads) book → a.outcome ≡ Some o → RunOver code k book a
+    → IsExplained code k book o a.printed
+ended_explained law fit fits history code k book a o legal e h p same follows =
+    let xs = map exchange_of h.entries in
+    let seen = history_of (world_book.opening (cells_of code.cells)) k book in
+    let past = history code.cells (length code.threads) book k h.entries h.stage legal h.told in
+    let fitted : RepliesFit code.cells Out xs seen = subst (RepliesFit code.cells Out xs) past (fit code.cells Out xs _ _ (fits code.cells (length code.threads) (alone book) k h.entries h.stage h.told)) in
+    let m = law code xs seen a p h.ran (subst (λ n. Follows (code_of code n) p) (sym h.number) follows) (subst (λ cs. RepliesFit cs Out xs seen) (sym same) fitted) in
+    (m.0, explained_as a o (thread_meaning p m.0 seen) (subst (λ (x : Option Outcome). Explained (told a x (unanswered a)) (thread_meaning p m.0 seen)) e m.2))

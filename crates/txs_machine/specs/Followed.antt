@@ -31,5 +31,5 @@ ActorsFollow = (code : PlainCode) (xs : List Exchange) (a : PlainActor) → HasR
 -- where the code of its thread follows a source, and the exchanges are those of the events, the source explains what the actor has come to, if its loops make at most as many turns
 abbrev pub ActorsExplained : Type 0
 ActorsExplained =
-    (code : PlainCode) (xs : List Exchange) (es : List SeenEvent) (a : PlainActor) (p : ThreadSource) → HasRun code xs a → Follows (code_of code a.number) p → RepliesFit Out xs es
+    (code : PlainCode) (xs : List Exchange) (es : List SeenEvent) (a : PlainActor) (p : ThreadSource) → HasRun code xs a → Follows (code_of code a.number) p → RepliesFit p.cells Out xs es
     → (m : ℕ) × (m ≤ a.steps) × Explained (outcome_of_actor a) (thread_meaning p m es)

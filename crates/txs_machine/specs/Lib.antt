@@ -1,9 +1,2 @@
-pub mod Explains
 pub mod Followed
-pub mod Invariant
-pub mod Lawful
-pub mod Laws
-pub mod Printed
-pub mod Run
 pub mod RunOver
-pub mod Stages

@@ -1,13 +1,12 @@
 -- What an actor has done over a store, and what the source of its thread says of it.
-use Rattle.std.specs.Prelude.{◌≡◌, ◌≤◌, ℕ, List, [], ◌∷◌, length, false, Option, Some, None}
-use Rattle.txs_asks.specs.Ask.{Exchange}
-use Rattle.txs_value.specs.Cells.{World}
+use Rattle.std.specs.Prelude.{◌≡◌, ◌≤◌, ℕ, List, [], ◌∷◌, length, map, false, Option, Some, None}
 use Rattle.txs_asks.specs.declared.ask.Ask.{Ask}
 use Rattle.txs_asks.specs.declared.ask.Reply.{Reply}
 use Rattle.txs_asks.specs.declared.event.Event.{Event}
 use Rattle.txs_asks.specs.declared.event.Outcome.{Outcome}
 use Rattle.txs_asks.specs.declared.event.Outcome.TheVariants.{StepsSpent, JournalFull}
 use Rattle.txs_value.specs.declared.value.Value.{Value}
+use Rattle.txs_frame.specs.Frame.{no_work}
 use Rattle.txs_tree.specs.Meaning.{Completion}
 use Rattle.txs_tree.specs.Thread.{ThreadState, thread_meaning}
 use Rattle.txs_tree.specs.Tree.{ThreadSource}
@@ -17,12 +16,19 @@ use Rattle.txs_follows.specs.RepliesFit.{Explained}
 use Rattle.txs_actor.specs.PlainActor.{PlainActor, HasRun, MayAnswer, Stops, answered, unanswered, configuration_of, code_of, stating, standing, stands_at}
 use Rattle.txs_world.specs.Book.{opening}
 use Rattle.txs_value.specs.Limits.{most_events}
-use Rattle.txs_world.specs.Store.{is_lawful}
-use Rattle.txs_world.specs.declared.cell.StoreCell.{StoreCell}
+use Rattle.txs_world.specs.Store.{PlainStore, cells_of, is_lawful}
 use Rattle.txs_world.specs.History.{history_of}
+use Rattle.txs_runs.specs.Laws.{alone}
+use Rattle.txs_runs.specs.Stages.{Stage, AsksIn, stage_after}
+use Rattle.txs_runs.specs.Staged.{IsStaged, stage_of}
+use Rattle.txs_runs.specs.Told.{Entry, exchange_of, ToldBy}
 use Rattle.txs_machine.specs.declared.run.RunError.{RunError}
 use Rattle.txs_machine.specs.declared.run.RunError.TheVariants.{Mismatch, Memory}
-use Rattle.txs_machine.specs.Stages.{Stage, AsksIn, stage_after, stage_of, ToldBy, IsStaged}
+
+-- a store of the code's cells, for its threads
+pub record IsStoreOf (code : PlainCode) (s : PlainStore) : Type 0 where
+  pub cells : s.cells ≡ cells_of code.cells
+  pub threads : s.threads ≡ length code.threads
 
 -- an actor is in this stage; one that asks is in the next stage after each answer
 abbrev pub IsIn : PlainActor → Stage → Option Outcome → Option Ask → Type 0
@@ -35,14 +41,14 @@ abbrev pub IsOwn : ℕ → List Event → Type 0
 IsOwn k [] = Unit {0}
 IsOwn k (e ∷ es) = (e.actor ≡ k) × IsOwn k es
 
--- The actor of the k-th thread has done what the machine does on exchanges that the book told it. Nobody else has written in
--- the book, and it is full where the actor was stopped for that.
-pub record RunOver (code : PlainCode) (w : World) (k : ℕ) (book : List Event) (a : PlainActor) : Type 0 where
+-- The actor of the k-th thread has done what the machine does on what the store's book told it. Nobody else has written in the
+-- book, and it is full where the actor was stopped for that.
+pub record RunOver (code : PlainCode) (k : ℕ) (book : List Event) (a : PlainActor) : Type 0 where
   pub number : a.number ≡ k
-  pub exchanges : List Exchange
+  pub entries : List Entry
   pub stage : Stage
-  pub ran : HasRun code exchanges a
-  pub told : ToldBy w k book exchanges stage
+  pub ran : HasRun code (map exchange_of entries) a
+  pub told : ToldBy code.cells (length code.threads) (alone book) k entries stage
   pub here : IsIn a stage a.outcome (unanswered a)
   pub own : IsOwn k book
   pub full : a.outcome ≡ Some JournalFull → most_events ≤ length book
@@ -54,11 +60,12 @@ IsAfter a (Some o) = a.outcome ≡ Some o
 
 -- a source's meaning explains an actor that has printed these bytes and ended so: one that was stopped has printed a part of it
 abbrev pub ExplainsEnd : Outcome → List ℕ → Completion ThreadState Value → Type 0
-ExplainsEnd o out r = Explained (standing (Some o) (stating out 0 []) (stating out 0 [])) r
+ExplainsEnd o out r = Explained (standing (Some o) (stating out 0 no_work) (stating out 0 no_work)) r
 
--- each source that the thread's code follows means just what the actor did in the book, for some bound on its loops, with what it printed and how it ended
-abbrev pub IsExplained : PlainCode → World → ℕ → List Event → Outcome → List ℕ → Type 0
-IsExplained code w k book o out = (p : ThreadSource) → Follows (code_of code k) p → (m : ℕ) × ExplainsEnd o out (thread_meaning p m (history_of w k book))
+-- each source of the code's cells that the thread's code follows means just what the actor did in the book, for some bound on its loops, with what it printed and how it ended
+abbrev pub IsExplained : PlainCode → ℕ → List Event → Outcome → List ℕ → Type 0
+IsExplained code k book o out =
+    (p : ThreadSource) → p.cells ≡ code.cells → Follows (code_of code k) p → (m : ℕ) × ExplainsEnd o out (thread_meaning p m (history_of (opening (cells_of code.cells)) k book))
 
 -- an actor that may make so many steps, has made no more, and has made them all where it was stopped for that
 pub record IsLimited (limit : ℕ) (a : PlainActor) : Type 0 where
@@ -69,23 +76,23 @@ pub record IsLimited (limit : ℕ) (a : PlainActor) : Type 0 where
 -- An actor of the k-th thread has made so many steps over the book, and printed these bytes and ended so: with the last of
 -- its steps where it is done or failed, with as many as it may make where they were spent, with an ask that adds an event
 -- to a full book, or in the middle of a step for want of memory.
-pub record HasEnded (code : PlainCode) (w : World) (k limit : ℕ) (book : List Event) (o : Outcome) (out : List ℕ) (steps : ℕ) : Type 0 where
+pub record HasEnded (code : PlainCode) (k limit : ℕ) (book : List Event) (o : Outcome) (out : List ℕ) (steps : ℕ) : Type 0 where
   pub actor : PlainActor
-  pub over : RunOver code w k book actor
+  pub over : RunOver code k book actor
   pub limited : IsLimited limit actor
   pub ended : actor.outcome ≡ Some o
   pub printed : actor.printed ≡ out
   pub counted : actor.steps ≡ steps
 
 -- The actor asks what it may not ask of this store: why a run over it has no account.
-pub record AsksUnlawfully (code : PlainCode) (cells : List StoreCell) (k : ℕ) (book : List Event) : Type 0 where
+pub record AsksUnlawfully (code : PlainCode) (k : ℕ) (s : PlainStore) : Type 0 where
   pub actor : PlainActor
   pub ask : Ask
-  pub over : RunOver code (opening cells) k book actor
+  pub over : RunOver code k s.book actor
   pub asks : unanswered actor ≡ Some ask
-  pub unlawful : is_lawful cells book k ask ≡ false
+  pub unlawful : is_lawful s k ask ≡ false
 
 -- why there is no account of a run: the actor asks what it may not ask, or there was no memory
-abbrev pub HasNoAccount : PlainCode → List StoreCell → ℕ → List Event → RunError → Type 0
-HasNoAccount code cells k book Mismatch = AsksUnlawfully code cells k book
-HasNoAccount code cells k book Memory = Unit {0}
+abbrev pub HasNoAccount : PlainCode → ℕ → PlainStore → RunError → Type 0
+HasNoAccount code k s Mismatch = AsksUnlawfully code k s
+HasNoAccount code k s Memory = Unit {0}

@@ -2,17 +2,17 @@
 
 ghost use Rattle.std.specs.Prelude.{◌≡◌, ◌<◌, ℕ, length, IfOk, IfErr, OnOk, OnErr, Some, None, []};
 ghost use Rattle.txs_actor.specs.PlainActor.{Runs, unanswered};
-ghost use Rattle.txs_world.specs.Book.{opening};
 ghost use Rattle.txs_machine.specs.declared.run.RunError.TheVariants.{Mismatch, Memory};
-ghost use Rattle.txs_machine.specs.RunOver.{RunOver, IsAfter, IsExplained, IsLimited, HasEnded, AsksUnlawfully, HasNoAccount};
+ghost use Rattle.txs_machine.specs.RunOver.{IsStoreOf, RunOver, IsAfter, IsExplained, IsLimited, HasEnded, AsksUnlawfully, HasNoAccount};
 
-use crate::law::{actors_explained, served_ask_fits, turns_are_staged};
+use crate::law::actors_explained;
 use std::alloc::{AllocError, Global};
 use thiserror::Error;
 use txs_actor::{Actor, Turn, actors_run};
 use txs_asks::{Ask, Outcome};
 use txs_code::Verified;
 use txs_follows::replies_fit;
+use txs_runs::law::{alone_history, served_is_told, today_is_staged, told_fits};
 use txs_world::Store;
 
 /// What a thread has printed, how it ended, and how many steps it made.
@@ -59,30 +59,31 @@ fn serve_ask(
     actor: &mut Actor,
     code: &Verified,
     store: &mut Store,
-    ask: &Ask,
+    ask: Ask,
     k: u16,
 ) -> Result<(), Unlawful>
     requires runs { Runs code.now actor.old }
     requires going { actor.old.outcome ≡ None }
-    requires asks { unanswered actor.old ≡ Some ask.now }
+    requires asks { unanswered actor.old ≡ Some ask }
     requires limited { IsLimited actor.old.limit actor.old }
-    requires over { RunOver code.now (opening store.old.cells) k store.old.book actor.old }
+    requires of { IsStoreOf code.now store.old }
+    requires over { RunOver code.now k store.old.book actor.old }
     ensures runs { OnOk result (Runs code.now actor.new) }
     ensures answered { OnOk result (unanswered actor.new ≡ None) }
     ensures steps { OnOk result (actor.new.steps ≡ actor.old.steps) }
     ensures limited { OnOk result (IsLimited actor.old.limit actor.new) }
-    ensures cells { store.new.cells ≡ store.old.cells }
-    ensures over { OnOk result (RunOver code.now (opening store.old.cells) k store.new.book actor.new) }
-    ensures refused { OnErr result (AsksUnlawfully code.now store.old.cells k store.new.book) }
+    ensures of { IsStoreOf code.now store.new }
+    ensures over { OnOk result (RunOver code.now k store.new.book actor.new) }
+    ensures refused { OnErr result (AsksUnlawfully code.now k store.new) }
 {
     let number = actor.number();
-    if !store.lawful(number, ask) {
+    if !store.lawful(number, &ask) {
         return Err(Unlawful);
     }
     let reply = store.serve(number, ask);
     actor.answer(code, reply);
     actors_run();
-    served_ask_fits();
+    served_is_told();
     Ok(())
 }
 
@@ -99,22 +100,23 @@ fn round(
     requires some { 0 < budget }
     requires answered { unanswered actor.old ≡ None }
     requires limited { IsLimited actor.old.limit actor.old }
-    requires over { RunOver code.now (opening store.old.cells) k store.old.book actor.old }
+    requires of { IsStoreOf code.now store.old }
+    requires over { RunOver code.now k store.old.book actor.old }
     ensures runs { OnOk result (Runs code.now actor.new) }
     ensures after { IfOk result (λ o. IsAfter actor.new o) }
     ensures progress { IfOk result (λ o. o ≡ None → actor.old.steps < actor.new.steps) }
     ensures limited { OnOk result (IsLimited actor.old.limit actor.new) }
-    ensures cells { store.new.cells ≡ store.old.cells }
-    ensures over { OnOk result (RunOver code.now (opening store.old.cells) k store.new.book actor.new) }
-    ensures refused { OnErr result (AsksUnlawfully code.now store.old.cells k store.new.book) }
+    ensures of { IsStoreOf code.now store.new }
+    ensures over { OnOk result (RunOver code.now k store.new.book actor.new) }
+    ensures refused { OnErr result (AsksUnlawfully code.now k store.new) }
 {
     actors_run();
-    turns_are_staged();
+    today_is_staged();
     match actor.run(code, budget) {
         Turn::Ended(outcome) => Ok(Some(outcome)),
         Turn::Went => Ok(None),
         Turn::Asks(ask) => {
-            serve_ask(actor, code, store, &ask, k)?;
+            serve_ask(actor, code, store, ask, k)?;
             Ok(None)
         }
     }
@@ -131,12 +133,13 @@ fn run_to_end(
     requires runs { Runs code.now actor.old }
     requires answered { unanswered actor.old ≡ None }
     requires limited { IsLimited actor.old.limit actor.old }
-    requires over { RunOver code.now (opening store.old.cells) k store.old.book actor.old }
+    requires of { IsStoreOf code.now store.old }
+    requires over { RunOver code.now k store.old.book actor.old }
     ensures ended { IfOk result (λ o. actor.new.outcome ≡ Some o) }
     ensures limited { OnOk result (IsLimited actor.old.limit actor.new) }
-    ensures cells { store.new.cells ≡ store.old.cells }
-    ensures over { OnOk result (RunOver code.now (opening store.old.cells) k store.new.book actor.new) }
-    ensures refused { OnErr result (AsksUnlawfully code.now store.old.cells k store.new.book) }
+    ensures of { IsStoreOf code.now store.new }
+    ensures over { OnOk result (RunOver code.now k store.new.book actor.new) }
+    ensures refused { OnErr result (AsksUnlawfully code.now k store.new) }
 {
     let mut ended = None;
     while ended.is_none() {
@@ -161,18 +164,22 @@ pub fn run_thread(
     store: &mut Store,
 ) -> Result<Ran, RunError>
     requires thread { k < length code.now.threads }
+    requires of { IsStoreOf code.now store.old }
     requires unused { store.old.book ≡ [] }
-    ensures cells { store.new.cells ≡ store.old.cells }
-    ensures ended { IfOk result (λ ran. HasEnded code.now (opening store.old.cells) k max_steps store.new.book ran.outcome ran.printed.items ran.steps) }
-    ensures explained { IfOk result (λ ran. IsExplained code.now (opening store.old.cells) k store.new.book ran.outcome ran.printed.items) }
-    ensures refused { IfErr result (λ e. HasNoAccount code.now store.old.cells k store.new.book e) }
+    ensures of { IsStoreOf code.now store.new }
+    ensures ended { IfOk result (λ ran. HasEnded code.now k max_steps store.new.book ran.outcome ran.printed.items ran.steps) }
+    ensures explained { IfOk result (λ ran. IsExplained code.now k store.new.book ran.outcome ran.printed.items) }
+    ensures refused { IfErr result (λ e. HasNoAccount code.now k store.new e) }
 {
     actors_run();
     actors_explained();
     replies_fit();
+    told_fits();
+    alone_history();
     let mut actor = Actor::thread(alloc, code, k, max_steps)?;
     let outcome = run_to_end(&mut actor, code, store, k)?;
     let printed = Vec::from_slice(alloc, actor.printed())?;
+    let _events = store.events();
     Ok(Ran {
         printed,
         outcome,

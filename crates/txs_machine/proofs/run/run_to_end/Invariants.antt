@@ -1,7 +1,6 @@
 use Rattle.std.proofs.Common.{◌≡◌, ℕ, None}
 use Rattle.txs_actor.specs.PlainActor.{Runs, unanswered}
-use Rattle.txs_world.specs.Book.{opening}
-use Rattle.txs_machine.specs.RunOver.{RunOver, IsAfter, IsLimited}
+use Rattle.txs_machine.specs.RunOver.{IsStoreOf, RunOver, IsAfter, IsLimited}
 use Rattle.txs_machine.proofs.Limits.{rounds_left}
 use Rattle.txs_machine.proofs.run.run_to_end.Given as goal
 
@@ -12,8 +11,8 @@ invariant-loop-ended l =
       runs : Runs l.code l.actor;
       after : IsAfter l.actor l.ended;
       limited : IsLimited l.fn.actor.limit l.actor;
-      cells : l.store.cells ≡ l.fn.store.cells;
-      over : RunOver l.code (opening l.fn.store.cells) l.k l.store.book l.actor;
+      of : IsStoreOf l.code l.store;
+      over : RunOver l.code l.k l.store.book l.actor;
     }
 
 abbrev pub decreases-loop-ended : goal.decreases-loop-ended

@@ -1,0 +1,11 @@
+pub mod Explains
+pub mod Invariant
+pub mod Lawful
+pub mod Laws
+pub mod Printed
+pub mod Run
+pub mod Shared
+pub mod Staged
+pub mod Stages
+pub mod Standing
+pub mod Told

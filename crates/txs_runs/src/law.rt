@@ -1,0 +1,122 @@
+//! What the sources of threads say of runs over what they share. Each law stands on a function of its own, which does nothing when it
+//! runs.
+
+ghost use Rattle.txs_runs.specs.Explains.{RunExplained, ProgramExplained};
+ghost use Rattle.txs_runs.specs.Invariant.{OpeningHolds, PlayHolds, InvariantExplains};
+ghost use Rattle.txs_runs.specs.Lawful.{RunAsksLawful, TodayStands, TypedStands, TypedActorsStand};
+ghost use Rattle.txs_runs.specs.Laws.{ToldFits, ServedIsTold, OthersLeaveTold, TodayIsStaged, AloneHistory};
+ghost use Rattle.txs_runs.specs.Printed.{RunPrints};
+ghost use Rattle.txs_runs.specs.Standing.{StandingIsStaged};
+
+use txs_follows::replies_fit;
+use txs_world::law::{done_is_undisturbed, history_of_whole, serve_keeps, unwritten_stays};
+
+/// Every run is explained: its books are legal, each commit was undisturbed, and each source that an actor's code follows means just
+/// what the actor did, with what it printed and how it ended.
+pub fn every_run_is_explained()
+    ensures { RunExplained }
+{
+    unwritten_stays();
+    serve_keeps();
+    done_is_undisturbed();
+    replies_fit();
+}
+
+/// Each program that the code follows explains every run of the code.
+pub fn every_program_explains_its_runs()
+    ensures { ProgramExplained }
+{
+    unwritten_stays();
+    serve_keeps();
+    done_is_undisturbed();
+    replies_fit();
+}
+
+/// Each actor, also one that was stopped, has printed at least what each source that its code follows
+/// means on all that the actor did but the last.
+pub fn every_actor_has_printed()
+    ensures { RunPrints }
+{
+    unwritten_stays();
+    serve_keeps();
+    done_is_undisturbed();
+    replies_fit();
+}
+
+/// Where the constants of all code and the opening values name defined cells alone, every ask of a thread
+/// whose instructions stand where they may is lawful: so it is not stopped for what it asks.
+pub fn every_ask_is_lawful()
+    ensures { RunAsksLawful }
+{
+    serve_keeps();
+}
+
+/// Code whose instructions stand where they may asks at most once a turn, and each ask comes in its stage.
+pub fn standing_is_staged()
+    ensures { StandingIsStaged }
+{}
+
+/// The instructions of each thread of well-typed code stand where they may.
+pub fn typed_stands()
+    ensures { TypedStands }
+{}
+
+/// So do those of each actor's code, also of one that no thread has.
+pub fn typed_actors_stand()
+    ensures { TypedActorsStand }
+{}
+
+/// The instructions of the code that today's actors run stand where they may.
+pub fn today_stands()
+    ensures { TodayStands }
+{}
+
+/// What holds between the plays of a run holds before the first.
+pub fn opening_holds()
+    ensures { OpeningHolds }
+{}
+
+/// Each play keeps what holds between plays.
+pub fn play_holds()
+    ensures { PlayHolds }
+{
+    serve_keeps();
+}
+
+/// Where this holds, the run so far is explained.
+pub fn invariant_explains()
+    ensures { InvariantExplains }
+{
+    unwritten_stays();
+    done_is_undisturbed();
+    replies_fit();
+}
+
+/// What an actor was told fits what it did.
+pub fn told_fits()
+    ensures { ToldFits }
+{
+    unwritten_stays();
+}
+
+/// An ask in its stage, answered by what is shared: with this entry behind them, the actor's entries are told by the books after it.
+pub fn served_is_told()
+    ensures { ServedIsTold }
+{}
+
+/// What another actor adds to the books leaves what an actor was told.
+pub fn others_leave_told()
+    ensures { OthersLeaveTold }
+{}
+
+/// The code that today's actors run asks at most once a turn, and each ask comes in its stage.
+pub fn today_is_staged()
+    ensures { TodayIsStaged }
+{}
+
+/// Of an actor that has the store for itself, what it did is what the store's book says of it.
+pub fn alone_history()
+    ensures { AloneHistory }
+{
+    history_of_whole();
+}
