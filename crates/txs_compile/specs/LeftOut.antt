@@ -1,64 +1,59 @@
 -- Which scripts hold a form of the language that programs can't have yet.
-use Rattle.std.specs.Prelude.{Bool, true, false, ◌&&◌, ◌||◌, ℕ, bytes_eq, codes, List, [], ◌∷◌, Option, Some, None, if◌then◌else◌}
-use Rattle.std.specs.List.{list_any}
+use Rattle.std.specs.Prelude.{Bool, true, false, ◌&&◌, ◌||◌, List, [], ◌∷◌, Option, Some, None, if◌then◌else◌}
+use Rattle.std.specs.Borrow.{Bor}
 use Rattle.txs_value.specs.declared.fault.Span.{Span}
 use Rattle.txs_reader.specs.declared.form.Bracket.TheVariants.{Round}
-use Rattle.std.specs.Borrow.{Bor}
 use Rattle.txs_reader.specs.declared.form.Form.{Form as AForm}
-use Rattle.txs_reader.specs.Tree.{tree, Tree as Form, Trees as Forms, leaf, group, none, first, symbol, place}
-
--- whether it is there
-abbrev pub is_some : {A : Type 0} → Option A → Bool
-is_some None = false
-is_some (Some x) = true
+use Rattle.txs_reader.specs.Tree.{tree, Tree as Form, Trees as Forms, leaf, group, none, first, place}
+use Rattle.txs_names.specs.declared.names.FormName.{FormName}
+use Rattle.txs_names.specs.declared.names.FormName.TheVariants as kind
+use Rattle.txs_resolve.specs.Expansions.{form_at}
 
 -- the first of two, if it is there
-abbrev pub or_else : {A : Type 0} → Option A → Option A → Option A
+abbrev pub or_else : Option Span → Option Span → Option Span
 or_else (Some x) o = Some x
 or_else None o = o
-
--- a name that is lent, if one is
-abbrev pub name_in : Option (Bor (List ℕ)) → Option (List ℕ)
-name_in None = None
-name_in (Some name) = Some name.now
 
 -- a form that is lent, if one is, as a tree
 abbrev pub form_in : Option (Bor AForm) → Option Form
 form_in None = None
 form_in (Some form) = Some (tree form.now)
 
--- the name at the head of a list
-abbrev pub head_of : Form → Option (List ℕ)
-head_of (group Round (first (leaf (symbol name) at) rest) span) = Some name
-head_of _ = None
+-- the form that a list is, by the name at its head
+abbrev pub head_form : Form → Option FormName
+head_form (group Round (first head rest) span) = form_at head
+head_form _ = None
 
--- whether the name is one of these
-abbrev pub is_name : List (List ℕ) → Option (List ℕ) → Bool
-is_name names None = false
-is_name names (Some name) = list_any (bytes_eq name) names
+-- The table of the forms that don't run yet: of those on cells `deref`, `ref-set` and `alter` do.
+abbrev pub runs_later : Option FormName → Bool
+runs_later (Some kind.Commute) = true
+runs_later (Some kind.Ensure) = true
+runs_later (Some kind.Swap) = true
+runs_later (Some kind.Reset) = true
+runs_later (Some kind.Send) = true
+runs_later _ = false
 
--- the forms that take part in what many threads share
-unfoldable pub later_forms : List (List ℕ)
-later_forms = codes "ref-set" ∷ codes "commute" ∷ codes "ensure" ∷ codes "swap!" ∷ codes "reset!" ∷ codes "send" ∷ []
-
--- the cells that aren't refs
-unfoldable pub later_cells : List (List ℕ)
-later_cells = codes "atom" ∷ codes "agent" ∷ []
+-- the table of the cells that don't run yet: all but refs
+abbrev pub makes_later : Option FormName → Bool
+makes_later (Some kind.Atom) = true
+makes_later (Some kind.Agent) = true
+makes_later _ = false
 
 -- the form that defines a constant or a cell
-unfoldable pub definitions : List (List ℕ)
-definitions = codes "def" ∷ []
+abbrev pub defines : Option FormName → Bool
+defines (Some kind.Def) = true
+defines _ = false
 
 -- the form that makes a thread
-unfoldable pub futures : List (List ℕ)
-futures = codes "future" ∷ []
+abbrev pub makes_thread : Option FormName → Bool
+makes_thread (Some kind.Future) = true
+makes_thread _ = false
 
--- the first such form in a form, a form before its parts
+-- the first form that doesn't run yet in a form, a form before its parts
 abbrev mutual
   pub left_out_in : Form → Option Span
   left_out_in (leaf x span) = None
-  left_out_in (group b forms span) =
-      if is_name later_forms (head_of (group b forms span)) then Some span else left_out_among forms
+  left_out_in (group b forms span) = if runs_later (head_form (group b forms span)) then Some span else left_out_among forms
 
   -- the first such form among these, from left to right
   pub left_out_among : Forms → Option Span
@@ -67,7 +62,7 @@ abbrev mutual
 
 -- whether a form is a future
 abbrev pub is_future : Form → Bool
-is_future form = is_name futures (head_of form)
+is_future form = makes_thread (head_form form)
 
 -- the third part of a list
 abbrev pub third : Form → Option Form
@@ -77,11 +72,11 @@ third _ = None
 -- whether a form makes a cell that isn't a ref
 abbrev pub has_later_cell : Option Form → Bool
 has_later_cell None = false
-has_later_cell (Some form) = is_name later_cells (head_of form)
+has_later_cell (Some form) = makes_later (head_form form)
 
 -- whether a form defines an atom or an agent
 abbrev pub is_later_definition : Form → Bool
-is_later_definition form = is_name definitions (head_of form) && has_later_cell (third form)
+is_later_definition form = defines (head_form form) && has_later_cell (third form)
 
 -- whether a form of a script is left out as a whole: a future behind another, or the definition of an atom or agent
 abbrev pub is_left_out : Bool → Form → Bool
@@ -94,6 +89,6 @@ left_out_from second (form ∷ forms) =
     if is_left_out second form then Some (place form)
     else or_else (left_out_in form) (left_out_from (second || is_future form) forms)
 
--- the first form of a script that is left out until many threads run
+-- the first form of a script that is left out until it runs
 abbrev pub left_out : List Form → Option Span
 left_out forms = left_out_from false forms

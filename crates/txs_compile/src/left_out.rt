@@ -1,83 +1,57 @@
-//! The forms of the language that programs can't have yet: those of many threads.
+//! The forms of the language that programs can't have yet.
 
-ghost use Rattle.std.specs.Prelude.{◌≡◌, bytes_eq, drop};
-ghost use Rattle.std.specs.List.{list_any};
+ghost use Rattle.std.specs.Prelude.{◌≡◌, drop};
 ghost use Rattle.txs_reader.specs.Tree.{tree, trees, trees_of};
-ghost use Rattle.txs_compile.specs.LeftOut.{head_of, name_in, form_in, third, is_name, later_forms, later_cells, definitions, futures, left_out, left_out_in, left_out_among, left_out_from, is_future, is_later_definition, is_left_out};
+ghost use Rattle.txs_compile.specs.LeftOut.{head_form, form_in, third, runs_later, makes_later, defines, left_out, left_out_in, left_out_among, left_out_from, is_future, is_later_definition, is_left_out};
 
+use txs_names::{FormName, form_of};
 use txs_reader::{Bracket, Form};
-use txs_value::{Name, Span};
+use txs_value::Span;
 
-/// The forms that take part in what many threads share.
-const LATER_FORMS: [&[u8]; 6] = [
-    b"ref-set", b"commute", b"ensure", b"swap!", b"reset!", b"send",
-];
-
-/// The cells that aren't refs.
-const LATER_CELLS: [&[u8]; 2] = [b"atom", b"agent"];
-
-/// Whether the name is one of these.
-fn is_among(name: &[u8], names: &[&[u8]]) -> bool
-    ensures { result ≡ list_any (λ n. bytes_eq name.now n.now) names.now }
-{
-    names.iter().any(|n| name == *n)
-}
-
-/// The name at the head of a list.
-fn head_of(form: &Form) -> Option<&Name>
-    ensures { name_in result ≡ head_of (tree form.now) }
+/// The form that a list is, by the name at its head.
+fn head_form(form: &Form) -> Option<FormName>
+    ensures { result ≡ head_form (tree form.now) }
 {
     let Form::Group(Bracket::Round, parts, _) = form else {
         return None;
     };
     match parts.split_first() {
-        Some((Form::Symbol(name, _), _)) => Some(name),
+        Some((Form::Symbol(name, _), _)) => form_of(name.as_bytes()),
         _ => None,
     }
 }
 
-/// Whether the form is one of those that take part in what many threads share.
-#[tactic(auto, unfolding(crate::specs::LeftOut::later_forms))]
-fn is_later_form(form: &Form) -> bool
-    ensures { result ≡ is_name later_forms (head_of (tree form.now)) }
+/// Whether the form is one on cells that doesn't run yet: `deref`, `ref-set` and `alter` do.
+fn runs_later(form: &Form) -> bool
+    ensures { result ≡ runs_later (head_form (tree form.now)) }
 {
-    match head_of(form) {
-        Some(name) => is_among(name.as_bytes(), &LATER_FORMS),
-        None => false,
-    }
+    matches!(
+        head_form(form),
+        Some(
+            FormName::Commute | FormName::Ensure | FormName::Swap | FormName::Reset | FormName::Send
+        )
+    )
 }
 
 /// Whether the form makes a cell that isn't a ref.
-#[tactic(auto, unfolding(crate::specs::LeftOut::later_cells))]
-fn is_later_cell(form: &Form) -> bool
-    ensures { result ≡ is_name later_cells (head_of (tree form.now)) }
+fn makes_later(form: &Form) -> bool
+    ensures { result ≡ makes_later (head_form (tree form.now)) }
 {
-    match head_of(form) {
-        Some(name) => is_among(name.as_bytes(), &LATER_CELLS),
-        None => false,
-    }
+    matches!(head_form(form), Some(FormName::Atom | FormName::Agent))
 }
 
 /// Whether the form is a definition.
-#[tactic(auto, unfolding(crate::specs::LeftOut::definitions))]
-fn is_definition(form: &Form) -> bool
-    ensures { result ≡ is_name definitions (head_of (tree form.now)) }
+fn defines(form: &Form) -> bool
+    ensures { result ≡ defines (head_form (tree form.now)) }
 {
-    match head_of(form) {
-        Some(name) => is_among(name.as_bytes(), &[b"def"]),
-        None => false,
-    }
+    matches!(head_form(form), Some(FormName::Def))
 }
 
 /// Whether the form is a future.
-#[tactic(auto, unfolding(crate::specs::LeftOut::futures))]
 fn is_future(form: &Form) -> bool
     ensures { result ≡ is_future (tree form.now) }
 {
-    match head_of(form) {
-        Some(name) => is_among(name.as_bytes(), &[b"future"]),
-        None => false,
-    }
+    matches!(head_form(form), Some(FormName::Future))
 }
 
 /// The third part of a list.
@@ -97,11 +71,11 @@ fn third(form: &Form) -> Option<&Form>
 fn is_later_definition(form: &Form) -> bool
     ensures { result ≡ is_later_definition (tree form.now) }
 {
-    if !is_definition(form) {
+    if !defines(form) {
         return false;
     }
     match third(form) {
-        Some(cell) => is_later_cell(cell),
+        Some(cell) => makes_later(cell),
         None => false,
     }
 }
@@ -114,7 +88,7 @@ fn left_out_in(form: &Form) -> Option<Span>
 {
     match form {
         Form::Group(_, parts, span) => {
-            if is_later_form(form) {
+            if runs_later(form) {
                 Some(*span)
             } else {
                 left_out_among(parts)
@@ -138,7 +112,7 @@ fn left_out_among(forms: &[Form]) -> Option<Span>
 }
 
 /// The place of the first form of a script that programs can't have yet: a second future, the definition of
-/// an atom or agent, or a form on what many threads share.
+/// an atom or agent, or a form on cells that doesn't run yet.
 pub fn left_out(forms: &[Form]) -> Option<Span>
     ensures { result ≡ left_out (trees forms.now) }
 {

@@ -2,7 +2,10 @@
 
 ghost use Rattle.std.specs.Prelude.{◌≡◌, Some, None, IfOk, IfErr};
 ghost use Rattle.txs_check.specs.Refused.{CheckStops};
+ghost use Rattle.txs_code.specs.PlainCode.{function_codes};
+ghost use Rattle.txs_follows.specs.FollowsAgent.{FollowsAgents};
 ghost use Rattle.txs_follows.specs.FollowsAll.{FollowsAll};
+ghost use Rattle.txs_gen.specs.Today.{ProgramRunsToday};
 ghost use Rattle.txs_reader.specs.Script.{Reads};
 ghost use Rattle.txs_reader.specs.Tree.{trees};
 ghost use Rattle.txs_resolve.specs.Names.{Resolves, ResolveStops};
@@ -16,7 +19,7 @@ use crate::left_out::left_out;
 use std::alloc::Global;
 use txs_check::{CheckErrorKind, check};
 use txs_code::Verified;
-use txs_gen::follows::code_of_program_follows;
+use txs_gen::follows::{code_of_agents_follows, code_of_program_follows};
 use txs_gen::generate;
 use txs_reader::{Form, ReadError, ReadErrorKind, read_script};
 use txs_resolve::{ResolveErrorKind, resolve};
@@ -64,6 +67,7 @@ fn program_of_forms(alloc: Global, bytes: &[u8], forms: &[Form]) -> Result<Progr
     requires reads { Reads bytes.now (trees forms.now) }
     requires whole { left_out (trees forms.now) ≡ None }
     ensures ok { IfOk result (λ p. IsProgramOf bytes.now (program_of p)) }
+    ensures today { IfOk result (λ p. ProgramRunsToday (program_of p)) }
     ensures err { IfErr result (λ e. IsRefusal bytes.now e) }
 {
     let raw = raw_of(alloc, bytes, forms)?;
@@ -80,12 +84,13 @@ fn program_of_forms(alloc: Global, bytes: &[u8], forms: &[Form]) -> Result<Progr
 ///
 /// # Errors
 /// `Read` where the script isn't read, with the first refusal from left to right, or where one of its forms
-/// is left out until many threads run, with the first such form; `Resolve` where its names don't resolve,
+/// is left out until it runs, with the first such form; `Resolve` where its names don't resolve,
 /// and `Check` where its program isn't sound, each with the first reason in source order; `Memory` where
 /// there was no memory for one of them.
 pub fn compile(alloc: Global, bytes: &[u8]) -> Result<(Program, Verified), CompileError>
     ensures program { IfOk result (λ c. IsProgramOf bytes.now (program_of c.0)) }
     ensures code { IfOk result (λ c. FollowsAll (codes_of c.1) (program_of c.0)) }
+    ensures agents { IfOk result (λ c. FollowsAgents (function_codes c.1) (program_of c.0).functions) }
     ensures cells { IfOk result (λ c. c.1.cells ≡ c.0.cells) }
     ensures refused { IfErr result (λ e. IsRefusal bytes.now e) }
 {
@@ -93,5 +98,6 @@ pub fn compile(alloc: Global, bytes: &[u8]) -> Result<(Program, Verified), Compi
     let program = program_of_forms(alloc, bytes, forms.as_slice())?;
     let verified = generate(alloc, &program)?;
     code_of_program_follows();
+    code_of_agents_follows();
     Ok((program, verified))
 }

@@ -1,11 +1,11 @@
 -- The lines that tell of cells.
-use Rattle.std.specs.Prelude.{ℕ, suc, List, [], ◌∷◌, ◌++◌, length}
+use Rattle.std.specs.Prelude.{ℕ, suc, List, [], ◌∷◌, ◌++◌}
 use Rattle.txs_value.specs.Cells.{World}
 use Rattle.txs_value.specs.Printed.{printed}
 use Rattle.txs_value.specs.View.{plain_of}
 use Rattle.txs_value.specs.declared.cell.CellDefinition.{CellDefinition}
 use Rattle.txs_value.specs.declared.value.Value.{Value}
-use Rattle.txs_world.specs.Book.{opening, after}
+use Rattle.txs_world.specs.Book.{opening, newest}
 use Rattle.txs_world.specs.Store.{PlainStore}
 
 -- a cell's line: its name, a space, its value, and a newline
@@ -17,6 +17,6 @@ abbrev pub cell_lines : World → ℕ → List CellDefinition → List ℕ
 cell_lines w n [] = []
 cell_lines w n (d ∷ ds) = cell_line d.name (w n) ++ cell_lines w (suc n) ds
 
--- the newest values
-abbrev pub newest : PlainStore → World
-newest s = after (opening s.cells) s.book (length s.book)
+-- the newest values of a store's cells
+abbrev pub newest_of : PlainStore → World
+newest_of s = newest (opening s.cells) s.book

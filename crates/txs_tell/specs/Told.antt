@@ -1,5 +1,5 @@
 -- What the program tells of a script: on its standard output, on its standard error, and by its status.
-use Rattle.std.specs.Prelude.{◌≡◌, ℕ, max, Bool, true, false, List, [], ◌++◌, ◌+◌, length, take, codes, decimal, Option, Some, None}
+use Rattle.std.specs.Prelude.{◌≡◌, ℕ, max, Bool, true, false, List, [], ◌++◌, ◌+◌, take, codes, decimal, Option, Some, None}
 use Rattle.std.specs.Io.KnownBytes.{Appends}
 use Rattle.txs_asks.specs.declared.event.Event.{Event}
 use Rattle.txs_asks.specs.declared.event.Outcome.{Outcome}
@@ -10,7 +10,7 @@ use Rattle.txs_compile.specs.Compiled.{IsProgramOf, IsRefusal, codes_of}
 use Rattle.txs_compile.specs.declared.compile_error.CompileError.{CompileError}
 use Rattle.txs_compile.specs.declared.compile_error.CompileError.TheVariants.{Read, Resolve, Check as Unsound, Memory as NoMemory}
 use Rattle.txs_follows.specs.FollowsAll.{FollowsAll}
-use Rattle.txs_machine.specs.RunOver.{HasEnded, AsksUnlawfully}
+use Rattle.txs_machine.specs.RunOver.{HasEnded, AsksUnlawfully, IsStoreOf}
 use Rattle.txs_tell.specs.CellLines.{cell_lines}
 use Rattle.txs_tell.specs.Explained.{explained}
 use Rattle.txs_tell.specs.declared.told.Use.{Use}
@@ -23,9 +23,8 @@ use Rattle.txs_value.specs.Limits.{most_script}
 use Rattle.txs_value.specs.declared.cell.CellDefinition.{CellDefinition}
 use Rattle.txs_value.specs.declared.fault.Fault.{Fault}
 use Rattle.txs_value.specs.declared.fault.Span.{Span}
-use Rattle.txs_world.specs.Book.{opening, after}
-use Rattle.txs_world.specs.Store.{cells_of}
-use Rattle.txs_world.specs.declared.cell.StoreCell.{StoreCell}
+use Rattle.txs_world.specs.Book.{opening, newest}
+use Rattle.txs_world.specs.Store.{PlainStore, cells_of}
 
 -- what is told: the bytes of both streams, and the status
 pub record Told : Type 0 where
@@ -106,21 +105,21 @@ status_of Memory = 4
 
 -- ---- what is told of a script
 
--- What a run of the code's one thread tells, where it leaves this book: nothing where there is none; else what the thread
--- printed and how it ended; or that it asked what it may not ask.
-pub data RunTells (code : PlainCode) (cells : List StoreCell) (script : Script) (steps : ℕ) (book : List Event) (t : Told) : Type 0 where
-  of_none : (none : code.threads ≡ []) (unused : book ≡ []) (output : t.output ≡ []) (errors : t.errors ≡ []) (status : t.status ≡ 0) → RunTells code cells script steps book t
+-- What a run of the code's one thread over a store tells, which it leaves so: nothing where there is none; else what the
+-- thread printed and how it ended; or that it asked what it may not ask.
+pub data RunTells (code : PlainCode) (script : Script) (steps : ℕ) (s : PlainStore) (t : Told) : Type 0 where
+  of_none : (none : code.threads ≡ []) (unused : s.book ≡ []) (output : t.output ≡ []) (errors : t.errors ≡ []) (status : t.status ≡ 0) → RunTells code script steps s t
   of_thread :
-      (o : Outcome) (made : ℕ) (ended : HasEnded code (opening cells) 0 steps book o t.output made)
-      (errors : IsLesson script (end_line 0 o) (end_place o) t.errors) (status : t.status ≡ status_of o) → RunTells code cells script steps book t
+      (o : Outcome) (made : ℕ) (ended : HasEnded code 0 steps s.book o t.output made)
+      (errors : IsLesson script (end_line 0 o) (end_place o) t.errors) (status : t.status ≡ status_of o) → RunTells code script steps s t
   of_mismatch :
-      (unlawful : AsksUnlawfully code cells 0 book) (output : t.output ≡ [])
-      (errors : t.errors ≡ codes "run failed: JournalMismatch" ++ codes "\n") (status : t.status ≡ 4) → RunTells code cells script steps book t
+      (unlawful : AsksUnlawfully code 0 s) (output : t.output ≡ [])
+      (errors : t.errors ≡ codes "run failed: JournalMismatch" ++ codes "\n") (status : t.status ≡ 4) → RunTells code script steps s t
 
 -- the lines of the cells behind a run, where they are wanted: their values after all events of the book
 abbrev pub cells_told : Bool → List CellDefinition → List Event → List ℕ
 cells_told false cells book = []
-cells_told true cells book = cell_lines (after (opening (cells_of cells)) book (length book)) 0 cells
+cells_told true cells book = cell_lines (newest (opening (cells_of cells)) book) 0 cells
 
 -- What is told of a script: that it is refused; that it compiles; or what its run told, and behind it its cells.
 pub data ScriptTells (script : Script) (t : Told) : Use → Type 0 where
@@ -131,9 +130,9 @@ pub data ScriptTells (script : Script) (t : Told) : Use → Type 0 where
       (p : PlainProgram) (program : IsProgramOf script.text p)
       (output : t.output ≡ codes "ok\n") (errors : t.errors ≡ []) (status : t.status ≡ 0) → ScriptTells script t Check
   of_run :
-      (steps : ℕ) (with_cells : Bool) (ran : Told) (p : PlainProgram) (code : PlainCode) (book : List Event) (program : IsProgramOf script.text p)
-      (follows : FollowsAll (codes_of code) p) (told : RunTells code (cells_of p.cells) script steps book ran)
-      (output : t.output ≡ ran.output ++ cells_told with_cells p.cells book) (errors : t.errors ≡ ran.errors) (status : t.status ≡ ran.status) → ScriptTells script t (Run steps with_cells)
+      (steps : ℕ) (with_cells : Bool) (ran : Told) (p : PlainProgram) (code : PlainCode) (s : PlainStore) (program : IsProgramOf script.text p)
+      (follows : FollowsAll (codes_of code) p) (same : code.cells ≡ p.cells) (of : IsStoreOf code s) (told : RunTells code script steps s ran)
+      (output : t.output ≡ ran.output ++ cells_told with_cells p.cells s.book) (errors : t.errors ≡ ran.errors) (status : t.status ≡ ran.status) → ScriptTells script t (Run steps with_cells)
 
 -- as much of an input as is read: its first bytes, one more than a script may have
 abbrev pub front : List ℕ → List ℕ

@@ -41,11 +41,10 @@ pub fn of_read(kind: ReadErrorKind, is_form: bool) -> Option<&'static str>
     })
 }
 
-/// What to do about Clojure that this profile leaves out, or about a form that is left out until many
-/// threads run.
+/// What to do about Clojure that this profile leaves out, or about a form that is left out until it runs.
 fn of_left_out(is_form: bool) -> &'static str {
     if is_form {
-        "Do without it until many threads run: for now a script has one `future`, and refs that `alter` sets."
+        "Do without it until it runs: for now a script has one `future`, and refs that `alter` and `ref-set` set."
     } else {
         "Write it another way: this profile of Clojure leaves it out."
     }
@@ -97,10 +96,10 @@ pub fn of_check(kind: CheckErrorKind) -> Option<&'static str>
             "Give it as many arguments as it takes; the function of an `alter` takes the ref's value as its first."
         }
         CheckErrorKind::NotPure => {
-            "Give the `alter` a core operation or a pure function: one with no `println`, `dosync`, `alter` or `deref`, also in what it calls."
+            "Give the `alter` a core operation or a pure function: one with no `println`, no `dosync` and no form on cells, also in what it calls."
         }
         CheckErrorKind::InsideOnly => {
-            "Put it into a `dosync`: an `alter`, and a function that needs a transaction around it, stand in one alone."
+            "Put it into a `dosync`: an `alter` or `ref-set`, and a function that needs a transaction around it, stand in one alone."
         }
         CheckErrorKind::OutsideOnly => {
             "Move it out of the `dosync`: a `println`, and a function that prints, stand outside of transactions."

@@ -2,7 +2,7 @@
 
 ghost use Rattle.std.specs.Prelude.{◌≡◌, ◌≤◌, ◌++◌, length, OnOk};
 ghost use Rattle.txs_world.specs.Store.{cells_of};
-ghost use Rattle.txs_tell.specs.CellLines.{cell_line, cell_lines, newest};
+ghost use Rattle.txs_tell.specs.CellLines.{cell_line, cell_lines, newest_of};
 
 use std::alloc::AllocError;
 use txs_value::{CellDefinition, CellId, Name, Value, write_text};
@@ -27,7 +27,7 @@ pub fn write_cells(
 ) -> Result<(), AllocError>
     requires few { length cells.now ≤ 1000 }
     requires made { store.now.cells ≡ cells_of cells.now }
-    ensures { OnOk result (output.new.items ≡ output.old.items ++ cell_lines (newest store.now) 0 cells.now) }
+    ensures { OnOk result (output.new.items ≡ output.old.items ++ cell_lines (newest_of store.now) 0 cells.now) }
 {
     for (i, cell) in cells.iter().enumerate() {
         let id = CellId {

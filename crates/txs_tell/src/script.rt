@@ -1,6 +1,7 @@
 //! What is told of a script: that it is refused, that it compiles, or what its run told.
 
-ghost use Rattle.std.specs.Prelude.{◌≡◌, ◌++◌, [], codes, IfOk, OnOk};
+ghost use Rattle.std.specs.Prelude.{◌≡◌, ◌++◌, ◌≤◌, length, [], codes, IfOk, OnOk};
+ghost use Rattle.txs_machine.specs.RunOver.{IsStoreOf};
 ghost use Rattle.txs_tell.specs.Lent.{script_of, told_of};
 ghost use Rattle.txs_tell.specs.Told.{RunTells, ScriptTells, cells_told};
 ghost use Rattle.txs_tell.specs.declared.told.Use.TheVariants.{Check, Run};
@@ -24,9 +25,10 @@ fn run_code(
     steps: u64,
     store: &mut Store,
 ) -> Result<Told, AllocError>
+    requires of { IsStoreOf code.now store.old }
     requires unused { store.old.book ≡ [] }
-    ensures cells { store.new.cells ≡ store.old.cells }
-    ensures told { IfOk result (λ t. RunTells code.now store.old.cells (script_of script.entry) steps store.new.book (told_of t)) }
+    ensures of { IsStoreOf code.now store.new }
+    ensures told { IfOk result (λ t. RunTells code.now (script_of script.entry) steps store.new (told_of t)) }
 {
     if code.code().threads().is_empty() {
         return Ok(nothing(alloc));
@@ -42,6 +44,16 @@ fn run_code(
         }
         Err(RunError::Memory) => Err(AllocError),
     }
+}
+
+/// A store of the code's cells for its threads, with an empty book.
+fn open_store(alloc: Global, code: &Verified) -> Result<Store, AllocError>
+    requires few { length code.now.threads ≤ 64 }
+    ensures of { IfOk result (λ s. IsStoreOf code.now s) }
+    ensures unused { IfOk result (λ s. s.book ≡ []) }
+{
+    let code = code.code();
+    Store::open(alloc, code.cells(), code.threads().len() as u16)
 }
 
 /// Appends the lines of the program's cells, where they are wanted.
@@ -79,7 +91,7 @@ fn run_script(
             return Ok(told);
         }
     };
-    let mut store = Store::open(alloc, program.cells())?;
+    let mut store = open_store(alloc, &code)?;
     let mut told = run_code(alloc, script, &code, steps, &mut store)?;
     tell_cells(&mut told, cells, &program, &store)?;
     Ok(told)

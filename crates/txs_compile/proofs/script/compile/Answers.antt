@@ -4,3 +4,7 @@ use Rattle.txs_compile.proofs.script.compile.Goals as goal
 pub returns-clause-code : goal.returns-clause-code
 returns-clause-code c =
     c.code_of_program_follows.ensures c.in_ok-verified.verified (program_of c.in_ok-program.program) c.in_ok-program.ensures.ok.sound c.in_ok-verified.ensures
+
+pub returns-clause-agents : goal.returns-clause-agents
+returns-clause-agents c =
+    c.code_of_agents_follows.ensures c.in_ok-verified.verified (program_of c.in_ok-program.program) c.in_ok-program.ensures.ok.sound c.in_ok-verified.ensures
