@@ -1,8 +1,10 @@
 //! What no contract says of the crates below trees and code: that calls succeed with ample memory, the
-//! worked rows of values, of what the store serves, of what a transaction's frame holds, of what is read and
-//! of places, how mailboxes run, printed text, and limits.
+//! worked rows of values, of what the store and atoms serve, of what a transaction's frame holds, of what is
+//! read and of places, how mailboxes run, printed text, and limits.
 #![tactic(auto)]
 
+#[cfg(test)]
+mod atoms;
 #[cfg(test)]
 mod frame;
 #[cfg(test)]

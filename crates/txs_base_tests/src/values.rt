@@ -7,7 +7,7 @@ use txs_asks::{Ask, Event, EventKind, Reply, copy_ask, copy_event, copy_reply, c
 use txs_operations::{apply, apply_owned, make_vector, takes};
 use txs_value::value::is_name;
 use txs_value::{
-    Action, Callee, CellId, CellKind, FaultKind, Listed, Name, Op, Span, Stop, Text, Value,
+    Action, Callee, CellId, CellKind, Fault, FaultKind, Listed, Name, Op, Span, Stop, Text, Value,
     copy_action, copy_value, copy_values, same, write_line, write_text,
 };
 
@@ -494,18 +494,37 @@ fn copies_values(alloc: Global, all: Vec<Value>) -> Result<bool, Fail> {
 fn copies_a_commit(alloc: Global, cell: CellId) -> Result<bool, Fail> {
     let sets = Listed::from_vec(vec![in alloc; (cell, nested(alloc, 2)?)]?);
     let sets = copy_writes(alloc, &sets)?;
-    let ask = copy_ask(alloc, &Ask::Commit { at: 5, sets })?;
-    Ok(matches!(&ask, Ask::Commit { at: 5, sets } if sets.as_slice().len() == 1))
+    let ask = Ask::Commit {
+        at: 5,
+        sets,
+        ensured: Listed::from_vec(Vec::new(alloc)),
+        view: 7,
+        commuted: Listed::from_vec(Vec::new(alloc)),
+        sends: Listed::from_vec(Vec::new(alloc)),
+    };
+    let copy = copy_ask(alloc, &ask)?;
+    Ok(matches!(&copy, Ask::Commit { at: 5, view: 7, sets, .. } if sets.as_slice().len() == 1))
 }
 
 // Whether the copies of an event and of a reply are as they are.
 fn copies_what_is_told(alloc: Global, cell: CellId) -> Result<bool, Fail> {
-    let kind = EventKind::Retry { since: 4, cell };
+    let kind = EventKind::Retry {
+        since: 4,
+        cell,
+        commute: true,
+    };
     let event = copy_event(alloc, &Event { actor: 2, kind })?;
     let reply = copy_reply(alloc, &Reply::Is(nested(alloc, 1)?))?;
     Ok(
         event.actor == 2
-            && matches!(&event.kind, EventKind::Retry { since: 4, .. })
+            && matches!(
+                &event.kind,
+                EventKind::Retry {
+                    since: 4,
+                    commute: true,
+                    ..
+                }
+            )
             && matches!(&reply, Reply::Is(value) if same(value, &nested(alloc, 1)?)),
     )
 }
@@ -527,6 +546,61 @@ fn copies_an_action(alloc: Global, agent: CellId) -> Result<bool, Fail> {
     )
 }
 
+// `(send g quot 0)`
+fn quotient(alloc: Global, agent: CellId) -> Result<Action, Fail> {
+    Ok(Action {
+        agent,
+        callee: Callee::Core(Op::Quot),
+        args: Listed::from_vec(vec![in alloc; Value::Int(0)]?),
+        span: Span { from: 27, to: 42 },
+    })
+}
+
+// Whether the copies of an agent's action on its way are as they are.
+fn copies_a_send(alloc: Global, agent: CellId) -> Result<bool, Fail> {
+    let ask = Ask::Send {
+        action: quotient(alloc, agent)?,
+    };
+    let reply = Reply::Action {
+        number: 1,
+        action: quotient(alloc, agent)?,
+        state: Value::Int(10),
+    };
+    let told = copy_reply(alloc, &reply)?;
+    let asked = copy_ask(alloc, &ask)?;
+    Ok(
+        matches!(&asked, Ask::Send { action } if action.callee == Callee::Core(Op::Quot))
+            && matches!(&told, Reply::Action { number: 1, action, .. } if action.span.to == 42),
+    )
+}
+
+// Whether the copy of what an agent did is as it is.
+fn copies_an_act(alloc: Global, agent: CellId) -> Result<bool, Fail> {
+    let fault = Fault {
+        kind: FaultKind::DivideByZero,
+        span: Span { from: 27, to: 42 },
+    };
+    let kind = EventKind::Act {
+        agent,
+        number: 1,
+        new: Err(fault),
+    };
+    let copy = copy_event(alloc, &Event { actor: 2, kind })?;
+    Ok(matches!(&copy.kind, EventKind::Act { new: Err(told), .. } if *told == fault))
+}
+
+#[test]
+fn copies_agents(rt: HostRuntime) -> Result<(), Fail> {
+    let agent = CellId {
+        kind: CellKind::Agent,
+        number: 0,
+    };
+    assert!(rt; copies_an_action(rt.alloc(), agent)?);
+    assert!(rt; copies_a_send(rt.alloc(), agent)?);
+    assert!(rt; copies_an_act(rt.alloc(), agent)?);
+    Ok(())
+}
+
 #[test]
 fn copies(rt: HostRuntime) -> Result<(), Fail> {
     let alloc = rt.alloc();
@@ -538,7 +612,6 @@ fn copies(rt: HostRuntime) -> Result<(), Fail> {
     assert!(rt; copies_values(alloc, all)?);
     assert!(rt; copies_a_commit(alloc, cell)?);
     assert!(rt; copies_what_is_told(alloc, cell)?);
-    assert!(rt; copies_an_action(alloc, cell)?);
     Ok(())
 }
 

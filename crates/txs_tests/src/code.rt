@@ -1,17 +1,80 @@
 // The code of small scripts, instruction by instruction.
 use std::alloc::Global;
 use std::test::Fail;
-use txs_code::{Body, Code};
+use txs_code::{Body, Code, Instr, OpenForm};
 use txs_compile::compile;
-use txs_value::{write_line, write_text};
+use txs_value::{LookForm, PutForm, UpdateForm, write_line, write_text};
+
+// The name of a form that reads a cell, or gives it a value.
+fn name_on_cell(instr: &Instr) -> &'static [u8] {
+    match instr {
+        Instr::Look(LookForm::Deref) => b"deref",
+        Instr::Look(LookForm::Ensure) => b"ensure",
+        Instr::Put(PutForm::RefSet) => b"ref_set",
+        Instr::Put(PutForm::Reset) => b"reset",
+        Instr::Open(OpenForm::Alter, _) => b"alter_open",
+        Instr::Open(OpenForm::Commute(_), _) => b"commute_open",
+        Instr::Open(OpenForm::Swap(_), _) => b"swap_open",
+        Instr::Close(UpdateForm::Alter) => b"alter_close",
+        Instr::Close(UpdateForm::Commute) => b"commute_close",
+        Instr::Close(UpdateForm::Swap) => b"swap_close",
+        _ => b"send",
+    }
+}
+
+// The name of an instruction.
+fn name_of(instr: &Instr) -> &'static [u8] {
+    match instr {
+        Instr::Const(_) => b"const",
+        Instr::Local(_) => b"local",
+        Instr::Store(_) => b"store",
+        Instr::Pop => b"pop",
+        Instr::Jump(_) => b"jump",
+        Instr::JumpFalse(_) => b"jump_false",
+        Instr::Core(op, _) => op.name(),
+        Instr::Call(_) => b"call",
+        Instr::Return => b"return",
+        Instr::Vector(_) => b"vector",
+        Instr::Print(_) => b"print",
+        Instr::TxBegin => b"tx_begin",
+        Instr::TxEnd => b"tx_end",
+        Instr::Halt => b"halt",
+        _ => name_on_cell(instr),
+    }
+}
+
+// The number that an instruction names, if it names one.
+fn number_of(instr: &Instr) -> Option<u32> {
+    match instr {
+        Instr::Const(n) | Instr::Jump(n) | Instr::JumpFalse(n) => Some(*n),
+        Instr::Local(i) | Instr::Store(i) => Some(u32::from(*i)),
+        Instr::Core(_, n)
+        | Instr::Call(n)
+        | Instr::Vector(n)
+        | Instr::Print(n)
+        | Instr::Open(_, n)
+        | Instr::Send(_, n) => Some(u32::from(*n)),
+        _ => None,
+    }
+}
+
+// An instruction: its name, and its number behind it.
+fn write_instr(out: &mut Vec<u8>, alloc: Global, instr: &Instr) -> Result<(), Fail> {
+    out.push(b' ')?;
+    out.extend_from_slice(name_of(instr))?;
+    if let Some(n) = number_of(instr) {
+        let number = format!(in alloc; ":{n}")?;
+        out.extend_from_slice(number.as_bytes())?;
+    }
+    Ok(())
+}
 
 // A body: its parameters, its locals, the room that its stack needs, and its instructions.
 fn write_body(out: &mut Vec<u8>, alloc: Global, body: &Body, room: u32) -> Result<(), Fail> {
     let numbers = format!(in alloc; "{} {} {room}", body.parameters(), body.locals())?;
     out.extend_from_slice(numbers.as_bytes())?;
     for instr in body.instrs() {
-        let word = format!(in alloc; " {instr:?}")?;
-        out.extend_from_slice(word.as_bytes())?;
+        write_instr(out, alloc, instr)?;
     }
     Ok(out.push(b'\n')?)
 }
@@ -72,46 +135,51 @@ fn first_other<'a>(alloc: Global, rows: &[(&'a str, bool, &str)]) -> Result<Opti
     Ok(None)
 }
 
-const LISTINGS: [(&str, bool, &str); 8] = [
+const LISTINGS: [(&str, bool, &str); 9] = [
     (
         "(future (println (+ 1 2)))",
         true,
-        "1 2\n0 0 2 Const(0) Const(1) Core(Add, 2) Print(1) Halt\n20..21 22..23 17..24 8..25 0..26 \n",
+        "1 2\n0 0 2 const:0 const:1 +:2 print:1 halt\n20..21 22..23 17..24 8..25 0..26 \n",
     ),
     (
         "(future (let [x 5] (do x (println x))))",
         false,
-        "5\n0 1 1 Const(0) Store(0) Local(0) Pop Local(0) Print(1) Halt\n",
+        "5\n0 1 1 const:0 store:0 local:0 pop local:0 print:1 halt\n",
     ),
     (
         "(future (if 0 [1] 2))",
         true,
-        "0 1 2\n0 0 1 Const(0) JumpFalse(5) Const(1) Vector(1) Jump(6) Const(2) Halt\n12..13 8..20 15..16 14..17 8..20 18..19 0..21 \n",
+        "0 1 2\n0 0 1 const:0 jump_false:5 const:1 vector:1 jump:6 const:2 halt\n12..13 8..20 15..16 14..17 8..20 18..19 0..21 \n",
     ),
     (
         "(future (loop [i 0 s 0] (if (= i 3) s (recur (inc i) (+ s i)))))",
         false,
-        "0 0 3\n0 2 3 Const(0) Store(0) Const(1) Store(1) Local(0) Const(2) Core(Equal, 2) JumpFalse(10) Local(1) Jump(18) Local(0) Core(Inc, 1) Local(1) Local(0) Core(Add, 2) Store(1) Store(0) Jump(4) Halt\n",
+        "0 0 3\n0 2 3 const:0 store:0 const:1 store:1 local:0 const:2 =:2 jump_false:10 local:1 jump:18 local:0 inc:1 local:1 local:0 +:2 store:1 store:0 jump:4 halt\n",
     ),
     (
         "(def r (ref 7)) (future (dosync (alter r + 1)) @r)",
         false,
-        "r 7\n#ref[0] 1 #ref[0]\n0 0 3 TxBegin Const(0) Const(1) AlterOpen(1) Core(Add, 2) AlterClose TxEnd Pop Const(2) Deref Halt\n",
+        "r 7\n#ref[0] 1 #ref[0]\n0 0 3 tx_begin const:0 const:1 alter_open:1 +:2 alter_close tx_end pop const:2 deref halt\n",
     ),
     (
         "(defn twice [x] (* 2 x)) (future (println (twice 4)))",
         true,
-        "2 4\n1 1 2 Const(0) Local(0) Core(Multiply, 2) Return\n0 0 1 Const(1) Call(0) Print(1) Halt\n19..20 21..22 16..23 0..24 \n49..50 42..51 33..52 25..53 \n",
+        "2 4\n1 1 2 const:0 local:0 *:2 return\n0 0 1 const:1 call:0 print:1 halt\n19..20 21..22 16..23 0..24 \n49..50 42..51 33..52 25..53 \n",
     ),
     (
         "(defn down [n] (if (= n 0) n (recur (dec n)))) (future (println (down 3)))",
         false,
-        "0 3\n1 1 2 Local(0) Const(0) Core(Equal, 2) JumpFalse(6) Local(0) Jump(10) Local(0) Core(Dec, 1) Store(0) Jump(0) Return\n0 0 1 Const(1) Call(0) Print(1) Halt\n",
+        "0 3\n1 1 2 local:0 const:0 =:2 jump_false:6 local:0 jump:10 local:0 dec:1 store:0 jump:0 return\n0 0 1 const:1 call:0 print:1 halt\n",
     ),
     (
         "(def r (ref 7)) (defn add [v n] (+ v n)) (future (dosync (alter r add 1)))",
         false,
-        "r 7\n#ref[0] 1\n2 2 2 Local(0) Local(1) Core(Add, 2) Return\n0 0 3 TxBegin Const(0) Const(1) AlterOpen(1) Call(0) AlterClose TxEnd Halt\n",
+        "r 7\n#ref[0] 1\n2 2 2 local:0 local:1 +:2 return\n0 0 3 tx_begin const:0 const:1 alter_open:1 call:0 alter_close tx_end halt\n",
+    ),
+    (
+        "(def r (ref 7)) (future (dosync (ref-set r 1)))",
+        true,
+        "r 7\n#ref[0] 1\n0 0 2 tx_begin const:0 const:1 ref_set tx_end halt\n24..46 41..42 43..44 32..45 24..46 16..47 \n",
     ),
 ];
 

@@ -46,7 +46,7 @@ refused 9 LeftOut at 11..21
 -:1:12
 (future 1) (future 2)
            ^^^^^^^^^^
-Do without it until many threads run: for now a script has one `future`, and refs that `alter` sets.
+Do without it until it runs: for now a script has one `future`, and refs that `alter` and `ref-set` set.
 ",
     ),
     (
@@ -66,7 +66,7 @@ refused 26 InsideOnly at 8..21
 -:1:9
 (future (alter 1 inc))
         ^^^^^^^^^^^^^
-Put it into a `dosync`: an `alter`, and a function that needs a transaction around it, stand in one alone.
+Put it into a `dosync`: an `alter` or `ref-set`, and a function that needs a transaction around it, stand in one alone.
 ",
     ),
     (

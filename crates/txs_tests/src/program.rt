@@ -674,7 +674,8 @@ fn agrees(alloc: Global, script: &str) -> Result<bool, Fail> {
         return Ok(program.threads().is_empty() && code.code().threads().is_empty());
     }
     let meaning = eval_thread(alloc, &program, 0, 10_000)?;
-    let mut store = Store::open(alloc, code.code().cells())?;
+    let threads = u16::try_from(code.code().threads().len())?;
+    let mut store = Store::open(alloc, code.code().cells(), threads)?;
     let ran = run_thread(alloc, &code, 0, 100_000_000, &mut store)?;
     Ok(meaning.outcome == Some(ran.outcome) && meaning.printed.as_slice() == ran.printed.as_slice())
 }

@@ -5,7 +5,7 @@ ghost use Rattle.txs_actor.specs.PlainActor.{Runs, unanswered};
 
 use std::alloc::Global;
 use std::test::Fail;
-use txs_asks::{Ask, Reply};
+use txs_asks::{Ask, Reply, copy_ask};
 use txs_code::Verified;
 use txs_compile::compile;
 use txs_machine::{Actor, Turn, may_answer};
@@ -20,8 +20,8 @@ const SCRIPT: &[u8] = b"(def r (ref [1]))
     (println v @r)))";
 
 /// The reply to another actor's ask.
-fn beside(store: &mut Store, ask: &Ask) -> Result<Reply, Fail> {
-    if !store.lawful(7, ask) {
+fn beside(store: &mut Store, ask: Ask) -> Result<Reply, Fail> {
+    if !store.lawful(7, &ask) {
         return Err(Fail::from("not lawful"));
     }
     Ok(store.serve(7, ask))
@@ -29,7 +29,7 @@ fn beside(store: &mut Store, ask: &Ask) -> Result<Reply, Fail> {
 
 /// Another actor sets the ref to `[9 9]`.
 fn commit_beside(alloc: Global, store: &mut Store) -> Result<(), Fail> {
-    let Reply::At(at) = beside(store, &Ask::Begin)? else {
+    let Reply::At(at) = beside(store, Ask::Begin)? else {
         return Err(Fail::from("no read point"));
     };
     let nines = make_vector(alloc, vec![in alloc; Value::Int(9), Value::Int(9)]?)?;
@@ -38,25 +38,40 @@ fn commit_beside(alloc: Global, store: &mut Store) -> Result<(), Fail> {
         number: 0,
     };
     let sets = Listed::from_vec(vec![in alloc; (cell, nines)]?);
-    match beside(store, &Ask::Commit { at, sets })? {
+    let commit = Ask::Commit {
+        at,
+        sets,
+        ensured: Listed::from_vec(Vec::new(alloc)),
+        view: at,
+        commuted: Listed::from_vec(Vec::new(alloc)),
+        sends: Listed::from_vec(Vec::new(alloc)),
+    };
+    match beside(store, commit)? {
         Reply::Done => Ok(()),
         _ => Err(Fail::from("no commit")),
     }
 }
 
 /// Serves what the actor asks, and hands it the answer.
-fn serve(actor: &mut Actor, code: &Verified, store: &mut Store, ask: &Ask) -> Result<(), Fail>
+fn serve(
+    alloc: Global,
+    actor: &mut Actor,
+    code: &Verified,
+    store: &mut Store,
+    ask: Ask,
+) -> Result<(), Fail>
     requires runs { Runs code.now actor.old }
-    requires asks { unanswered actor.old ≡ Some ask.now }
+    requires asks { unanswered actor.old ≡ Some ask }
     ensures runs { OnOk result (Runs code.now actor.new) }
     ensures answered { OnOk result (unanswered actor.new ≡ None) }
 {
     let number = actor.number();
-    if !store.lawful(number, ask) {
+    if !store.lawful(number, &ask) {
         return Err(Fail::from("not lawful"));
     }
+    let asked = copy_ask(alloc, &ask)?;
     let reply = store.serve(number, ask);
-    if !may_answer(ask, &reply) {
+    if !may_answer(&asked, &reply) {
         return Err(Fail::from("no such reply"));
     }
     actor.answer(code, reply);
@@ -85,7 +100,7 @@ fn round(
         }
         *commits = commits.wrapping_add(1);
     }
-    serve(actor, code, store, &ask)?;
+    serve(alloc, actor, code, store, ask)?;
     Ok(true)
 }
 
@@ -114,7 +129,7 @@ fn rerun(alloc: Global) -> Result<(Vec<u8>, u32), Fail> {
     if code.code().threads().is_empty() {
         return Err(Fail::from("no thread"));
     }
-    let mut store = Store::open(alloc, program.cells())?;
+    let mut store = Store::open(alloc, program.cells(), 8)?;
     let mut actor = Actor::thread(alloc, &code, 0, 100_000)?;
     let commits = commits_of(alloc, &mut actor, &code, &mut store)?;
     Ok((Vec::from_slice(alloc, actor.printed())?, commits))

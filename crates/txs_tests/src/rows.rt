@@ -1,7 +1,25 @@
 // Rows of the whole language: what scripts print, and which refusal each meets.
 
 // A script, what it prints, what stands on standard error, and the status.
-pub const PRINTED: [(&str, &str, &str, u8); 27] = [
+pub const PRINTED: [(&str, &str, &str, u8); 30] = [
+    (
+        "(def r (ref 0)) (future (println (dosync (ref-set r 7)) @r))",
+        "7 7\n",
+        "",
+        0,
+    ),
+    (
+        "(def r (ref 1)) (future (dosync (ref-set r 5) (alter r + @r)) (println @r))",
+        "10\n",
+        "",
+        0,
+    ),
+    (
+        "(future (dosync (ref-set 1 2)))",
+        "",
+        "thread 0 failed: NotARef at 16..29\n",
+        3,
+    ),
     (
         "(future (println [1 \"a\" :b nil] \"x\"))",
         "[1 a :b nil] x\n",
@@ -157,11 +175,23 @@ pub const PRINTED: [(&str, &str, &str, u8); 27] = [
 ];
 
 // Scripts with a form that is left out so far.
-pub const LEFT_OUT: [(&str, &str); 6] = [
+pub const LEFT_OUT: [(&str, &str); 9] = [
     ("(future 1) (future 2)", "refused 9 LeftOut at 11..21\n"),
     (
-        "(def r (ref 0)) (future (dosync (ref-set r 1)))",
-        "refused 9 LeftOut at 32..45\n",
+        "(def r (ref 0)) (future (dosync (ensure r)))",
+        "refused 9 LeftOut at 32..42\n",
+    ),
+    (
+        "(def r (ref 0)) (future (dosync (ref-set r (ensure r))))",
+        "refused 9 LeftOut at 43..53\n",
+    ),
+    (
+        "(defn f [a] (reset! a 1)) (future (send 1 inc))",
+        "refused 9 LeftOut at 12..24\n",
+    ),
+    (
+        "(future (commute)) (future)",
+        "refused 9 LeftOut at 8..17\n",
     ),
     (
         "(def r (ref 0)) (future (dosync (commute r inc) (ensure r)))",
@@ -222,7 +252,19 @@ pub const UNKNOWN: [(&str, &str); 12] = [
 ];
 
 // Scripts with a form of a bad shape.
-pub const BAD: [(&str, &str); 27] = [
+pub const BAD: [(&str, &str); 30] = [
+    (
+        "(future (dosync (ref-set 1)))",
+        "refused 13 BadForm at 16..27\n",
+    ),
+    (
+        "(def r (ref 0 :error-mode :fail))",
+        "refused 13 BadForm at 0..33\n",
+    ),
+    (
+        "(future (let [send 1] 2))",
+        "refused 13 BadForm at 14..18\n",
+    ),
     ("(println 1)", "refused 13 BadForm at 0..11\n"),
     ("5", "refused 13 BadForm at 0..1\n"),
     ("(future) (ns late)", "refused 13 BadForm at 9..18\n"),
@@ -375,7 +417,23 @@ pub const RECURS: [(&str, &str); 19] = [
 ];
 
 // Scripts with a function or form in a wrong place.
-pub const PLACED: [(&str, &str); 10] = [
+pub const PLACED: [(&str, &str); 14] = [
+    (
+        "(def r (ref 0)) (future (ref-set r 1))",
+        "refused 26 InsideOnly at 24..37\n",
+    ),
+    (
+        "(def r (ref 0)) (defn f [v] (ref-set r v)) (future (f 1))",
+        "refused 26 InsideOnly at 51..56\n",
+    ),
+    (
+        "(def r (ref 0)) (defn f [v] (ref-set r v)) (future (dosync (alter r f)))",
+        "refused 25 NotPure at 59..70\n",
+    ),
+    (
+        "(future (if-not 1 (recur) (inc)))",
+        "refused 21 RecurNotTail at 18..25\n",
+    ),
     (
         "(def r (ref 0)) (defn f [x] (println x)) (future (dosync (alter r f)))",
         "refused 25 NotPure at 57..68\n",
@@ -419,7 +477,8 @@ pub const PLACED: [(&str, &str); 10] = [
 ];
 
 // Scripts that compile.
-pub const ACCEPTED: [&str; 22] = [
+pub const ACCEPTED: [&str; 23] = [
+    "(def r (ref 0)) (defn f [v] (ref-set r v)) (future (dosync (f 1)))",
     "(ns some.name) (future)",
     "(def k [1 \"a\" :b nil [true]])",
     "(def r (ref [1 2]))",
