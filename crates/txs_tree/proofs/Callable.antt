@@ -11,9 +11,10 @@ use Rattle.txs_value.specs.declared.form.Standing.{Standing}
 use Rattle.txs_value.specs.declared.form.Standing.TheVariants.{Anywhere, Inside, Outside}
 use Rattle.txs_value.specs.declared.op.Callee.{Callee}
 use Rattle.txs_value.specs.declared.op.Callee.TheVariants.{Core as CoreOp, Function}
-use Rattle.txs_tree.specs.Known.{Known, only_inside, is_inside, is_pure, inside_in, any_inside, pure_in, all_pure, known_of, known_from, known}
-use Rattle.txs_tree.specs.Setting.{Setting, deeper, callable}
-use Rattle.txs_tree.specs.Sound.{Zone, in_function, in_thread, in_dosync, MayStand, SoundCall, PureCall, SoundCallee, SoundTree, SoundAll, SoundDo, SoundLet, SoundFunction, SoundFunctions, nodes, nodes_of_functions}
+use Rattle.txs_tree.specs.Known.{Known, only_inside, only_outside, is_inside, is_outside, is_pure, inside_in, outside_in, any_inside, any_outside, pure_in, all_pure, known_of, known_from, known}
+use Rattle.txs_tree.specs.Setting.{Setting, deeper, on_view, callable, zone_on, zone_in}
+use Rattle.txs_tree.specs.Views.{PlainView}
+use Rattle.txs_tree.specs.Sound.{Zone, in_function, in_thread, in_dosync, MayStand, MayCall, SoundCall, PureCall, SoundCallee, SoundTree, SoundAll, SoundDo, SoundLet, SoundFunction, SoundFunctions, nodes, nodes_of_functions}
 use Rattle.txs_tree.specs.Tree.{Tree, Const, Local, If, Do, Let, Loop, Recur, Core, Call, VectorOf, Println, Dosync, Look, Put, Update, Send, Trees, none, more, count, PlainFunction}
 use Rattle.txs_tree.specs.View.{function_of, functions_of}
 use Rattle.txs_tree.specs.declared.node.Function as function
@@ -79,7 +80,7 @@ module _ (ks ls : List Known) (grows : (f : ℕ) (k : Known) → nth ks f ≡ So
   call-widened : (zone : Zone) (f n : ℕ) → SoundCall ks zone f n → SoundCall ls zone f n
   call-widened zone f n h = record { function = h.function; found = grows f h.function h.found; arity = h.arity; zoned = h.zoned }
 
-  callee-widened : (callee : Callee) (n : ℕ) → SoundCallee ks callee n → SoundCallee ls callee n
+  pub callee-widened : (callee : Callee) (n : ℕ) → SoundCallee ks callee n → SoundCallee ls callee n
   callee-widened (CoreOp op) n h = h
   callee-widened (Function f) n h = record { function = h.function; found = grows f h.function h.found; arity = h.arity; pure = h.pure }
 
@@ -186,6 +187,75 @@ module _ (ks : List Known) where
         let parts = neither (inside_in ks e) (any_inside ks (more f rest)) out in
         (tree-outside e d None h.0 parts.0, do-outside (more f rest) d tail h.1 parts.1)
 
+-- ---- a body that isn't for outside alone may run in a transaction
+
+stands-inside : (s : Standing) → only_outside s ≡ false → MayStand in_dosync s
+stands-inside Anywhere out = tt
+stands-inside Inside out = tt
+stands-inside Outside out = absurd (false≢true (sym out))
+
+module _ (ks : List Known) where
+  mutual
+    tree-inside : (e : Tree) (d : ℕ) (tail : Option ℕ) → SoundTree ks in_function d tail e → outside_in ks e ≡ false → SoundTree ks in_dosync d tail e
+    tree-inside (Const v m) d tail h out = h
+    tree-inside (Local i m) d tail h out = h
+    tree-inside (If c a b m) d tail h out =
+        let test = neither (outside_in ks c) (outside_in ks a || outside_in ks b) out in
+        let branches = neither (outside_in ks a) (outside_in ks b) test.1 in
+        (tree-inside c d None h.0 test.0, tree-inside a d tail h.1 branches.0, tree-inside b d tail h.2 branches.1)
+    tree-inside (Do items m) d tail h out = do-inside items d tail h out
+    tree-inside (Let values body m) d tail h out =
+        let parts = neither (any_outside ks values) (outside_in ks body) out in
+        (let-inside values d h.0 parts.0, tree-inside body (d + count values) tail h.1 parts.1)
+    tree-inside (Loop values body m) d tail h out =
+        let parts = neither (any_outside ks values) (outside_in ks body) out in
+        (let-inside values d h.0 parts.0, tree-inside body (d + count values) (Some (count values)) h.1 parts.1)
+    tree-inside (Recur values m) d tail h out = (h.0, all-inside values d h.1 out)
+    tree-inside (Core op args m) d tail h out = (h.0, all-inside args d h.1 out)
+    tree-inside (Call f args m) d tail h out =
+        let parts = neither (is_outside (nth ks f)) (any_outside ks args) out in
+        let call = h.0 in
+        (record { function = call.function; found = call.found; arity = call.arity; zoned = sym (ap is_outside call.found) ∙ parts.0 }, all-inside args d h.1 parts.1)
+    tree-inside (VectorOf items m) d tail h out = (h.0, all-inside items d h.1 out)
+    tree-inside (Println args m) d tail h out = absurd (false≢true (sym out))
+    tree-inside (Dosync body m) d tail h out = h
+    tree-inside (Look form cell m) d tail h out =
+        let stands = (rule (form_of.Look form)).stands in
+        let parts = neither (only_outside stands) (outside_in ks cell) out in
+        (stands-inside stands parts.0, tree-inside cell d None h.1 parts.1)
+    tree-inside (Put form cell value m) d tail h out =
+        let stands = (rule (form_of.Put form)).stands in
+        let parts = neither (only_outside stands) (outside_in ks cell || outside_in ks value) out in
+        let operands = neither (outside_in ks cell) (outside_in ks value) parts.1 in
+        (stands-inside stands parts.0, tree-inside cell d None h.1 operands.0, tree-inside value d None h.2 operands.1)
+    tree-inside (Update form cell callee args m) d tail h out =
+        let stands = (rule (form_of.Update form)).stands in
+        let parts = neither (only_outside stands) (outside_in ks cell || any_outside ks args) out in
+        let operands = neither (outside_in ks cell) (any_outside ks args) parts.1 in
+        (stands-inside stands parts.0, tree-inside cell d None h.1 operands.0, h.2, all-inside args d h.3 operands.1)
+    tree-inside (Send cell callee args m) d tail h out =
+        let operands = neither (outside_in ks cell) (any_outside ks args) out in
+        (tree-inside cell d None h.0 operands.0, h.1, all-inside args d h.2 operands.1)
+
+    all-inside : (es : Trees) (d : ℕ) → SoundAll ks in_function d es → any_outside ks es ≡ false → SoundAll ks in_dosync d es
+    all-inside none d h out = h
+    all-inside (more e rest) d h out =
+        let parts = neither (outside_in ks e) (any_outside ks rest) out in
+        (tree-inside e d None h.0 parts.0, all-inside rest d h.1 parts.1)
+
+    let-inside : (es : Trees) (d : ℕ) → SoundLet ks in_function d es → any_outside ks es ≡ false → SoundLet ks in_dosync d es
+    let-inside none d h out = h
+    let-inside (more e rest) d h out =
+        let parts = neither (outside_in ks e) (any_outside ks rest) out in
+        (tree-inside e d None h.0 parts.0, let-inside rest (d + 1) h.1 parts.1)
+
+    do-inside : (es : Trees) (d : ℕ) (tail : Option ℕ) → SoundDo ks in_function d tail es → any_outside ks es ≡ false → SoundDo ks in_dosync d tail es
+    do-inside none d tail h out = h
+    do-inside (more e none) d tail h out = tree-inside e d tail h (neither (outside_in ks e) false out).0
+    do-inside (more e (more f rest)) d tail h out =
+        let parts = neither (outside_in ks e) (any_outside ks (more f rest)) out in
+        (tree-inside e d None h.0 parts.0, do-inside (more f rest) d tail h.1 parts.1)
+
 -- ---- a pure body isn't for transactions alone
 
 abbrev Tame : Known → Type 0
@@ -244,6 +314,64 @@ known-tame : (ks : List Known) (fs : List PlainFunction) → AllTame ks → AllT
 known-tame ks [] all = all
 known-tame ks (f ∷ fs) all = known-tame (ks ++ known_of ks f ∷ []) fs (AllTame-push ks (known_of ks f) all (tree-tame ks all f.body))
 
+-- ---- nor is it for outside alone
+
+abbrev Free : Known → Type 0
+Free k = k.pure ≡ true → k.outside ≡ false
+
+abbrev AllFree : List Known → Type 0
+AllFree [] = Unit {0}
+AllFree (k ∷ ks) = Free k × AllFree ks
+
+AllFree-push : (ks : List Known) (k : Known) → AllFree ks → Free k → AllFree (ks ++ k ∷ [])
+AllFree-push [] k all one = (one, tt)
+AllFree-push (l ∷ ks) k all one = (all.0, AllFree-push ks k all.1 one)
+
+module _ where
+  call-free : (ks : List Known) (f : ℕ) → AllFree ks → is_pure (nth ks f) ≡ true → is_outside (nth ks f) ≡ false
+  call-free [] f all pure = refl
+  call-free (k ∷ ks) zero all pure = all.0 pure
+  call-free (k ∷ ks) (suc f) all pure = call-free ks f all.1 pure
+
+module _ (ks : List Known) (all : AllFree ks) where
+  mutual
+    tree-free : (e : Tree) → pure_in ks e ≡ true → outside_in ks e ≡ false
+    tree-free (Const v m) pure = refl
+    tree-free (Local i m) pure = refl
+    tree-free (If c a b m) pure =
+        let test = both (pure_in ks c) (pure_in ks a && pure_in ks b) pure in
+        let branches = both (pure_in ks a) (pure_in ks b) test.1 in
+        nor (outside_in ks c) (outside_in ks a || outside_in ks b) (tree-free c test.0) (nor (outside_in ks a) (outside_in ks b) (tree-free a branches.0) (tree-free b branches.1))
+    tree-free (Do items m) pure = all-free items pure
+    tree-free (Let values body m) pure =
+        let parts = both (all_pure ks values) (pure_in ks body) pure in
+        nor (any_outside ks values) (outside_in ks body) (all-free values parts.0) (tree-free body parts.1)
+    tree-free (Loop values body m) pure =
+        let parts = both (all_pure ks values) (pure_in ks body) pure in
+        nor (any_outside ks values) (outside_in ks body) (all-free values parts.0) (tree-free body parts.1)
+    tree-free (Recur values m) pure = all-free values pure
+    tree-free (Core op args m) pure = all-free args pure
+    tree-free (Call f args m) pure =
+        let parts = both (is_pure (nth ks f)) (all_pure ks args) pure in
+        nor (is_outside (nth ks f)) (any_outside ks args) (call-free ks f all parts.0) (all-free args parts.1)
+    tree-free (VectorOf items m) pure = all-free items pure
+    tree-free (Println args m) pure = absurd (false≢true pure)
+    tree-free (Dosync body m) pure = absurd (false≢true pure)
+    tree-free (Look form cell m) pure = absurd (false≢true pure)
+    tree-free (Put form cell value m) pure = absurd (false≢true pure)
+    tree-free (Update form cell callee args m) pure = absurd (false≢true pure)
+    tree-free (Send cell callee args m) pure = absurd (false≢true pure)
+
+    all-free : (es : Trees) → all_pure ks es ≡ true → any_outside ks es ≡ false
+    all-free none pure = refl
+    all-free (more e rest) pure =
+        let parts = both (pure_in ks e) (all_pure ks rest) pure in
+        nor (outside_in ks e) (any_outside ks rest) (tree-free e parts.0) (all-free rest parts.1)
+
+known-free : (ks : List Known) (fs : List PlainFunction) → AllFree ks → AllFree (known_from ks fs)
+known-free ks [] all = all
+known-free ks (f ∷ fs) all = known-free (ks ++ known_of ks f ∷ []) fs (AllFree-push ks (known_of ks f) all (tree-free ks all f.body))
+
 -- ---- what is known of a function stands at its place
 
 abbrev later : List Known → List PlainFunction → List Known
@@ -293,24 +421,47 @@ functions_of-at (g ∷ fs) zero f lt is = ap (λ x. Some (function_of x)) (sym i
 functions_of-at (g ∷ fs) (suc i) f lt is = functions_of-at fs i f (omega (arith, lt)) is
 
 -- what is sound where all functions are defined is sound where as many may be called as there are
-pub sound_everywhere : (cells : List CellDefinition) (fs : List function.Function) (n : ℕ) (e : Tree) (zone : Zone) (d : ℕ) (tail : Option ℕ) → SoundTree (known (functions_of fs)) zone d tail e
-    → SoundTree (callable (record { cells = cells; functions = fs; depth = length fs; turns = n })) zone d tail e
-sound_everywhere cells fs n e zone d tail h =
+pub sound_everywhere : (cells : List CellDefinition) (fs : List function.Function) (n : ℕ) (o : Option PlainView) (e : Tree) (zone : Zone) (d : ℕ) (tail : Option ℕ) → SoundTree (known (functions_of fs)) zone d tail e
+    → SoundTree (callable (record { cells = cells; functions = fs; depth = length fs; turns = n; world = o })) zone d tail e
+sound_everywhere cells fs n o e zone d tail h =
     let all = known (functions_of fs) in
     let many : length all ≡ length fs = length-known (functions_of fs) ∙ length-functions_of fs in
     tree-widened all (take (length fs) all) (λ f k found. nth-before (length fs) all f k (omega (arith, many, nth-length all f k found)) found) e zone d tail h
 
--- a pure function may be called outside
-pub pure-callable : (cells : List CellDefinition) (fs : List function.Function) (n f m : ℕ) → PureCall (known (functions_of fs)) f m → SoundCall (callable (record { cells = cells; functions = fs; depth = length fs; turns = n })) in_thread f m
-pure-callable cells fs n f m h =
+-- a pure function is among those that may be called, in a transaction and outside
+module _ (fs : List PlainFunction) (f : ℕ) (k : Known) (found : nth (known fs) f ≡ Some k) (pure : k.pure ≡ true) where
+  tame_on : (o : Option PlainView) → MayCall (zone_on o) k
+  tame_on None = sym (ap is_inside found) ∙ call-tame (known fs) f (known-tame [] fs tt) (ap is_pure found ∙ pure)
+  tame_on (Some r) = sym (ap is_outside found) ∙ call-free (known fs) f (known-free [] fs tt) (ap is_pure found ∙ pure)
+
+-- a pure callee may be called here
+pub pure_here : (setting : Setting) (f n : ℕ) → PureCall (callable setting) f n → SoundCall (callable setting) (zone_in setting) f n
+pure_here setting f n h =
+    let there = nth-take setting.depth (known (functions_of setting.functions)) f h.function h.found in
+    record { function = h.function; found = h.found; arity = h.arity; zoned = tame_on (functions_of setting.functions) f h.function there.1 h.pure setting.world }
+
+-- what is pure where all functions are defined is pure where as many may be called as there are
+pub pure_everywhere : (cells : List CellDefinition) (fs : List function.Function) (n f m : ℕ) (o : Option PlainView) → PureCall (known (functions_of fs)) f m
+    → PureCall (callable (record { cells = cells; functions = fs; depth = length fs; turns = n; world = o })) f m
+pure_everywhere cells fs n f m o h =
     let all = known (functions_of fs) in
     let many : length all ≡ length fs = length-known (functions_of fs) ∙ length-functions_of fs in
-    let tame = call-tame all f (known-tame [] (functions_of fs) tt) (ap is_pure h.found ∙ h.pure) in
-    record { function = h.function; found = nth-before (length fs) all f h.function (omega (arith, many, nth-length all f h.function h.found)) h.found; arity = h.arity; zoned = sym (ap is_inside h.found) ∙ tame }
+    record { function = h.function; found = nth-before (length fs) all f h.function (omega (arith, many, nth-length all f h.function h.found)) h.found; arity = h.arity; pure = h.pure }
+
+-- a pure function is pure among all
+pub pure_among : (setting : Setting) (f n : ℕ) → PureCall (callable setting) f n → is_pure (nth (known (functions_of setting.functions)) f) ≡ true
+pure_among setting f n h =
+    let there = nth-take setting.depth (known (functions_of setting.functions)) f h.function h.found in
+    ap is_pure there.1 ∙ h.pure
 
 -- ---- a call
 
-module _ (setting : Setting) (f n : ℕ) (h : SoundCall (callable setting) in_thread f n) where
+-- a function's body where it may be called
+tree_on : (o : Option PlainView) (ks : List Known) (k : Known) (fun : PlainFunction) (d : ℕ) (tail : Option ℕ) → k ≡ known_of ks fun → MayCall (zone_on o) k → SoundTree ks in_function d tail fun.body → SoundTree ks (zone_on o) d tail fun.body
+tree_on None ks k fun d tail is may h = tree-outside ks fun.body d tail h (sym (ap (λ l. l.inside) is) ∙ may)
+tree_on (Some r) ks k fun d tail is may h = tree-inside ks fun.body d tail h (sym (ap (λ l. l.outside) is) ∙ may)
+
+module _ (setting : Setting) (f n : ℕ) (h : SoundCall (callable setting) (zone_in setting) f n) where
   found_in : (f < setting.depth) × (nth (known (functions_of setting.functions)) f ≡ Some h.function)
   found_in = nth-take setting.depth (known (functions_of setting.functions)) f h.function h.found
 
@@ -334,15 +485,14 @@ module _ (setting : Setting) (f n : ℕ) (h : SoundCall (callable setting) in_th
     pub as_many : fun.parameters ≡ n
     as_many = sym (ap (λ k. k.parameters) is_known) ∙ h.arity
 
-    pub called_body : SoundTree (callable (deeper setting)) in_thread n (Some n) fun.body
+    pub called_body : SoundTree (callable (deeper setting)) (zone_in setting) n (Some n) fun.body
     called_body =
-        let outside : inside_in (take f all) fun.body ≡ false = sym (ap (λ k. k.inside) is_known) ∙ h.zoned in
-        let body = tree-outside (take f all) fun.body fun.parameters (Some fun.parameters) at_place.1.1 outside in
+        let body = tree_on setting.world (take f all) h.function fun fun.parameters (Some fun.parameters) is_known h.zoned at_place.1.1 in
         let grows : (g : ℕ) (k : Known) → nth (take f all) g ≡ Some k → nth (take (setting.depth - 1) all) g ≡ Some k = λ g k is.
         let low = nth-take f all g k is in
         nth-before (setting.depth - 1) all g k (omega (arith, low.0, found_in.0)) low.1 in
-        subst (λ m. SoundTree (take (setting.depth - 1) all) in_thread m (Some m) fun.body) as_many
-        (tree-widened (take f all) (take (setting.depth - 1) all) grows fun.body in_thread fun.parameters (Some fun.parameters) body)
+        subst (λ m. SoundTree (take (setting.depth - 1) all) (zone_in setting) m (Some m) fun.body) as_many
+        (tree-widened (take f all) (take (setting.depth - 1) all) grows fun.body (zone_in setting) fun.parameters (Some fun.parameters) body)
 
 -- ---- what a call needs of the measure
 
@@ -353,16 +503,20 @@ nodes-function (g ∷ fs) (suc f) fun h = omega (arith, nodes-function fs f fun 
 
 -- all that calls below may take
 pub room : Setting → ℕ
-room s = s.depth * (3 * nodes_of_functions (functions_of s.functions) + 2)
+room s = s.depth * (16 * nodes_of_functions (functions_of s.functions) + 2)
 
 one_less : (d m : ℕ) → 0 < d → (d - 1) * m + m ≡ d * m
 one_less zero m lt = absurd (omega (arith, lt))
 one_less (suc d) m lt = Prim.grind arith
 
-pub room-deeper : (s : Setting) (f : ℕ) (fun : PlainFunction) → 0 < s.depth → nth (functions_of s.functions) f ≡ Some fun → room (deeper s) + (3 * nodes fun.body + 1) < room s
+pub room-deeper : (s : Setting) (f : ℕ) (fun : PlainFunction) → 0 < s.depth → nth (functions_of s.functions) f ≡ Some fun → room (deeper s) + (16 * nodes fun.body + 1) < room s
 unfolding room
 room-deeper s f fun lt h =
-    omega (arith, one_less s.depth (3 * nodes_of_functions (functions_of s.functions) + 2) lt, nodes-function (functions_of s.functions) f fun h)
+    omega (arith, one_less s.depth (16 * nodes_of_functions (functions_of s.functions) + 2) lt, nodes-function (functions_of s.functions) f fun h)
 
 pub in_room : (s : Setting) (a b : ℕ) → a < b → room s + a < room s + b
 in_room s a b lt = omega (arith, lt)
+
+pub room_on : (s inner : Setting) (r : PlainView) → inner ≡ on_view s r → room inner ≡ room s
+unfolding room
+room_on s inner r is = ap room is

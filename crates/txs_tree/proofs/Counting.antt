@@ -29,7 +29,7 @@ nodes-at [] i x lt is = absurd (omega arith)
 nodes-at (n ∷ ns) zero x lt is = omega (arith, ap (λ y. nodes (tree_of y)) is)
 nodes-at (n ∷ ns) (suc i) x lt is = omega (arith, nodes-at ns i x (omega arith) is)
 
-pub item_smaller : (ns : List Node) (i : ℕ) (x : Node) → i < length ns → x ≡ get_or ns i x → 3 * nodes (tree_of x) + 1 < 3 * nodes_in (trees_of ns) + 2
+pub item_smaller : (ns : List Node) (i : ℕ) (x : Node) → i < length ns → x ≡ get_or ns i x → 16 * nodes (tree_of x) + 1 < 16 * nodes_in (trees_of ns) + 2
 item_smaller ns i x lt is = omega (arith, nodes-at ns i x lt is)
 
 nodes-behind : (before : List Node) (x : Node) → nodes_in (trees_of (before ++ x ∷ [])) ≡ nodes_in (trees_of before) + nodes (tree_of x)

@@ -1,25 +1,37 @@
 -- What a thread means, by what its body means.
-use Rattle.std.proofs.Common.{◌≡◌, ℕ, zero, suc, ◌<◌, List, [], ◌∷◌, length, get_or, Some, None, Err, IfSome, sym, ap, ◌∙◌, subst, arith}
+use Rattle.std.proofs.Common.{◌≡◌, ℕ, zero, suc, ◌<◌, Bool, true, false, List, [], ◌∷◌, length, get_or, Option, Some, None, Result, Ok, Err, IfOk, IfSome, Box, Global, refl, sym, ap, ◌∙◌, subst, subst₂, arith}
 use Rattle.txs_value.specs.Places.{nth}
 use Rattle.txs_value.specs.declared.cell.CellDefinition.{CellDefinition}
-use Rattle.txs_value.specs.declared.fault.Fault as fault
 use Rattle.txs_value.specs.declared.value.Value.{Value}
-use Rattle.txs_tree.specs.Evaluated.{Account, Gives, Tells, thread_source, source_in, means, printing}
+use Rattle.txs_asks.specs.SeenEvent.{SeenEvent}
+use Rattle.txs_asks.specs.declared.event.Outcome.{Outcome}
+use Rattle.txs_tree.specs.Evaluated.{Account, Concluded, Gives, GivesOf, Stops, Yields, Tells, TellsTx, thread_source, source_in, means, around_it, forms_on, thread_state, tx_state, idle}
 use Rattle.txs_tree.specs.Known.{known}
-use Rattle.txs_tree.specs.Meaning.{Completion, Completes, Faults, Waits, OutOfTurns, closed}
-use Rattle.txs_tree.specs.Setting.{Setting, callable}
-use Rattle.txs_tree.specs.Sound.{Sound, SoundTree, in_thread}
-use Rattle.txs_tree.specs.Thread.{ThreadState, thread_meaning}
+use Rattle.txs_tree.specs.Meaning.{Completion, Completes, Faults, Waits, OutOfTurns, Invalid, closed, eval, call_at}
+use Rattle.txs_tree.specs.Setting.{Setting, callable, zone_in}
+use Rattle.txs_tree.specs.Sound.{Sound, SoundTree, in_thread, in_dosync}
+use Rattle.txs_tree.specs.Thread.{ThreadState, on_events, thread_meaning}
+use Rattle.txs_tree.specs.Transaction.{TxState, tx_start, tx_meaning}
+use Rattle.txs_tree.specs.Tree.{Tree}
 use Rattle.txs_tree.specs.View.{Parts, tree_of, thread_of, threads_of, functions_of, program_of}
-use Rattle.txs_tree.specs.declared.evaluate.ThreadStop.{ThreadStop}
-use Rattle.txs_tree.specs.declared.evaluate.ThreadStop.TheVariants.{Fault, Event as NoEvent, Turns as NoTurns}
-use Rattle.txs_asks.specs.declared.event.Outcome.TheVariants.{Done, Failed}
-use Rattle.txs_tree.specs.declared.meaning.Needs.TheVariants.{Nothing, Event, Turns}
+use Rattle.txs_tree.specs.Views.{PlainView, world_of}
+use Rattle.txs_tree.specs.declared.meaning.Needs.{Needs}
 use Rattle.txs_tree.specs.declared.meaning.ThreadMeaning.{ThreadMeaning}
 use Rattle.txs_tree.specs.declared.node.Function.{Function}
+use Rattle.txs_tree.specs.declared.node.Node.{Node}
+use Rattle.txs_tree.specs.declared.node.NodeKind.TheVariants.{Dosync}
 use Rattle.txs_tree.specs.declared.node.Thread.{Thread}
+use Rattle.txs_tree.specs.declared.pure_call.EvalStop.TheVariants.{Turns as FewTurns}
+use Rattle.txs_tree.specs.declared.state.State.{State}
+use Rattle.txs_tree.specs.declared.state.TxWork.{TxWork}
+use Rattle.txs_tree.specs.declared.stop.ThreadStop.{ThreadStop}
+use Rattle.txs_tree.specs.declared.stop.ThreadStop.TheVariants.{Fault, Event, Wrong, Turns, Memory}
+use Rattle.txs_tree.specs.declared.transaction.TxMeaning.{TxMeaning}
+use Rattle.txs_value.specs.declared.fault.Fault as fault
 use Rattle.txs_tree.proofs.Callable.{length-functions_of, sound_everywhere}
+use Rattle.txs_tree.proofs.Ending.{closed_gives}
 use Rattle.txs_tree.proofs.Soundness.{SoundThread-at}
+use Rattle.txs_tree.proofs.Trees.{dosync_node}
 
 thread-at : (ts : List Thread) (k : ℕ) (t : Thread) → k < length ts → t ≡ get_or ts k t → nth (threads_of ts) k ≡ Some (thread_of t)
 thread-at [] k t lt is = absurd (omega arith)
@@ -27,53 +39,88 @@ thread-at (u ∷ ts) zero t lt is = ap (λ x. Some (thread_of x)) (sym is)
 thread-at (u ∷ ts) (suc k) t lt is = thread-at ts k t (omega arith) is
 
 -- what a whole program is evaluated in
-abbrev pub whole : List CellDefinition → List Function → ℕ → Setting
-whole cells fs n = record { cells = cells; functions = fs; depth = length fs; turns = n }
+abbrev pub whole : List CellDefinition → List Function → ℕ → Option PlainView → Setting
+whole cells fs n o = record { cells = cells; functions = fs; depth = length fs; turns = n; world = o }
 
-pub whole_of : (setting : Setting) (cs ds : List CellDefinition) (fs gs : List Function) (n : ℕ) → setting ≡ whole cs fs n → cs ≡ ds → fs ≡ gs → setting ≡ whole ds gs n
-whole_of setting cs ds fs gs n is same_cells same = is ∙ ap (λ l. whole l fs n) same_cells ∙ ap (λ l. whole ds l n) same
+pub whole_of : (setting : Setting) (cs ds : List CellDefinition) (fs gs : List Function) (n : ℕ) (o : Option PlainView) → setting ≡ whole cs fs n o → cs ≡ ds → fs ≡ gs → setting ≡ whole ds gs n o
+whole_of setting cs ds fs gs n o is same_cells same = is ∙ ap (λ l. whole l fs n o) same_cells ∙ ap (λ l. whole ds l n o) same
+
+-- what is told of an end is what the meaning says
+tells_end : (r : Result Value ThreadStop) (c : Completion ThreadState Value) (s : ThreadState) (m : ThreadMeaning) (k : ℕ) (needs : Needs) (outcome : Option Outcome)
+    → Gives false r s c → Concluded r needs outcome → Account m k s needs outcome → Tells m k (closed c)
+tells_end (Ok v) c s m k needs outcome h e a = subst (λ x. Tells m k (closed x)) (sym h) (subst₂ (λ n o. Account m k s n o) e.0 e.1 a)
+tells_end (Err (Fault f)) c s m k needs outcome h e a = subst (λ x. Tells m k (closed x)) (sym h) (subst₂ (λ n o. Account m k s n o) e.0 e.1 a)
+tells_end (Err Event) c s m k needs outcome h e a = subst (λ x. Tells m k (closed x)) (sym h.1) (subst₂ (λ n o. Account m k s n o) e.0 e.1 a)
+tells_end (Err Wrong) c s m k needs outcome h e a = subst (λ x. Tells m k (closed x)) (sym h.1) (a.needs ∙ e.0, a.outcome ∙ e.1)
+tells_end (Err Turns) c s m k needs outcome h e a = subst (λ x. Tells m k (closed x)) (sym h) (subst₂ (λ n o. Account m k s n o) e.0 e.1 a)
+tells_end (Err Memory) c s m k needs outcome h e a = absurd e
 
 -- a read of the lent threads, as a read of the program's
-module _ (us : List Thread) (parts : Parts) (k : ℕ) (r : Thread) (same : us ≡ parts.threads) (lt : k < length parts.threads) (is : r ≡ get_or us k r) (n : ℕ) (setting : Setting) (same_setting : setting ≡ whole parts.cells parts.functions n) where
+module _ (us : List Thread) (parts : Parts) (k : ℕ) (r : Thread) (same : us ≡ parts.threads) (lt : k < length parts.threads) (is : r ≡ get_or us k r) (n : ℕ) (setting : Setting) (same_setting : setting ≡ whole parts.cells parts.functions n None) where
   at_place : get_or us k r ≡ get_or parts.threads k (get_or us k r)
   at_place = ap (λ x. get_or us k x) is ∙ ap (λ l. get_or l k (get_or us k r)) same
 
-  pub sound_body : (l : ℕ) → l ≡ 0 → Sound (program_of parts) → SoundTree (callable setting) in_thread l None (tree_of (get_or us k r).body)
+  abbrev body : Tree
+  body = tree_of (get_or us k r).body
+
+  pub sound_body : (l : ℕ) → l ≡ 0 → Sound (program_of parts) → SoundTree (callable setting) (zone_in setting) l None body
   sound_body l none s =
-      let sound : SoundTree (known (functions_of parts.functions)) in_thread 0 None (tree_of (get_or us k r).body) = (SoundThread-at (known (functions_of parts.functions)) parts.threads k (get_or us k r) s.threads lt at_place).0 in
-      let everywhere = sound_everywhere parts.cells parts.functions n (tree_of (get_or us k r).body) in_thread 0 None sound in
-      subst (λ d. SoundTree (callable setting) in_thread d None (tree_of (get_or us k r).body)) (sym none)
-      (subst (λ x. SoundTree (callable x) in_thread 0 None (tree_of (get_or us k r).body)) (sym same_setting) everywhere)
+      let sound : SoundTree (known (functions_of parts.functions)) in_thread 0 None body = (SoundThread-at (known (functions_of parts.functions)) parts.threads k (get_or us k r) s.threads lt at_place).0 in
+      let everywhere = sound_everywhere parts.cells parts.functions n None body in_thread 0 None sound in
+      subst (λ d. SoundTree (callable setting) (zone_in setting) d None body) (sym none) (subst (λ x. SoundTree (callable x) (zone_in x) 0 None body) (sym same_setting) everywhere)
 
-  told : (m : ThreadMeaning) → Tells m (closed (means (whole parts.cells parts.functions n) (tree_of (get_or us k r).body) [] [])) → IfSome (thread_source (program_of parts) k) (λ p. Tells m (thread_meaning p n []))
-  told m h =
-      let deep = subst (λ d. Tells m (closed (means (record { cells = parts.cells; functions = parts.functions; depth = d; turns = n }) (tree_of (get_or us k r).body) [] []))) (sym (length-functions_of parts.functions)) h in
-      subst (λ o. IfSome (source_in (program_of parts) o) (λ p. Tells m (thread_meaning p n []))) (sym (thread-at parts.threads k (get_or us k r) lt at_place)) deep
+  -- the body on these events, where calls go so deep
+  abbrev body_on : List SeenEvent → ℕ → Completion ThreadState Value
+  body_on es d =
+      let x = around_it (whole parts.cells parts.functions n None) in
+      eval (on_events x d) (call_at (on_events x) n (functions_of parts.functions) d) n false body [] (idle es)
 
-  module _ (m : ThreadMeaning) (env : List Value) (before out : List ℕ) (no_locals : env ≡ []) (nothing : before ≡ []) where
-    from : (c : Completion ThreadState Value) → means setting (tree_of (get_or us k r).body) env before ≡ c → means (whole parts.cells parts.functions n) (tree_of (get_or us k r).body) [] [] ≡ c
-    from c h =
-        ap (λ x. means x (tree_of (get_or us k r).body) [] []) (sym same_setting) ∙ ap (λ l. means setting (tree_of (get_or us k r).body) l []) (sym no_locals)
-        ∙ ap (λ o. means setting (tree_of (get_or us k r).body) env o) (sym nothing) ∙ h
+  pub told_thread : (m : ThreadMeaning) (j : ℕ) (es : List SeenEvent) (env : List Value) (st st1 : State) (end : Result Value ThreadStop) (needs : Needs) (outcome : Option Outcome) → env ≡ [] → thread_state st.thread ≡ idle es
+      → Yields setting end st1 (means setting body env st) → Concluded end needs outcome → Account m j (thread_state st1.thread) needs outcome → IfSome (thread_source (program_of parts) k) (λ p. Tells m j (thread_meaning p n es))
+  told_thread m j es env st st1 end needs outcome no_locals fresh h e a =
+      let here : Yields (whole parts.cells parts.functions n None) end st1 (means (whole parts.cells parts.functions n None) body env st) = subst (λ y. Yields y end st1 (means y body env st)) same_setting h in
+      let x = around_it (whole parts.cells parts.functions n None) in
+      let from : List Value → ThreadState → Completion ThreadState Value = λ l t. eval (on_events x (length parts.functions)) (call_at (on_events x) n (functions_of parts.functions) (length parts.functions)) n false body l t in
+      let begun : Gives false end (thread_state st1.thread) (body_on es (length parts.functions)) = subst₂ (λ l t. Gives false end (thread_state st1.thread) (from l t)) no_locals fresh here in
+      let told : Tells m j (closed (body_on es (length parts.functions))) = tells_end end (body_on es (length parts.functions)) (thread_state st1.thread) m j needs outcome begun e a in
+      let deep : Tells m j (closed (body_on es (length (functions_of parts.functions)))) = subst (λ d. Tells m j (closed (body_on es d))) (sym (length-functions_of parts.functions)) told in
+      subst (λ o. IfSome (source_in (program_of parts) o) (λ p. Tells m j (thread_meaning p n es))) (sym (thread-at parts.threads k (get_or us k r) lt at_place)) deep
 
-    pub told_done : (v : Value) → means setting (tree_of (get_or us k r).body) env before ≡ Completes v (printing out) → Account m out Nothing (Some Done)
-        → IfSome (thread_source (program_of parts) k) (λ p. Tells m (thread_meaning p n []))
-    told_done v h a = told m (subst (λ c. Tells m (closed c)) (sym (from (Completes v (printing out)) h)) a)
+  pub told_account : {E : Type 0} (a : Result ThreadMeaning E) (j : ℕ) (es : List SeenEvent) (env : List Value) (st st1 : State) (end : Result Value ThreadStop) (needs : Needs) (outcome : Option Outcome) → env ≡ [] → thread_state st.thread ≡ idle es
+      → Yields setting end st1 (means setting body env st) → Concluded end needs outcome → IfOk a (λ m. Account m j (thread_state st1.thread) needs outcome) → IfOk a (λ m. IfSome (thread_source (program_of parts) k) (λ p. Tells m j (thread_meaning p n es)))
+  told_account (Ok m) j es env st st1 end needs outcome no_locals fresh h e a = told_thread m j es env st st1 end needs outcome no_locals fresh h e a
+  told_account (Err x) j es env st st1 end needs outcome no_locals fresh h e a = a
 
-    pub told_fault : (y : ThreadStop) (f : fault.Fault) → y ≡ Fault f → Gives {A = Value} (Err y) out (means setting (tree_of (get_or us k r).body) env before) → Account m out Nothing (Some (Failed f))
-        → IfSome (thread_source (program_of parts) k) (λ p. Tells m (thread_meaning p n []))
-    told_fault y f e g a =
-        let h : means setting (tree_of (get_or us k r).body) env before ≡ Faults f (printing out) = subst (λ x. Gives {A = Value} (Err x) out (means setting (tree_of (get_or us k r).body) env before)) e g in
-        told m (subst (λ c. Tells m (closed c)) (sym (from (Faults f (printing out)) h)) a)
+  -- where the thread is one dosync, its body
+  pub sound_dosync : (box : Box Node Global) (b : Node) → r.body.kind ≡ Dosync box → b ≡ box.value → Sound (program_of parts) → SoundTree (known (functions_of parts.functions)) in_dosync 0 None (tree_of b)
+  sound_dosync box b kind inner s =
+      let ks = known (functions_of parts.functions) in
+      let sound : SoundTree ks in_thread 0 None body = (SoundThread-at ks parts.threads k (get_or us k r) s.threads lt at_place).0 in
+      let here : SoundTree ks in_thread 0 None (tree_of r.body) = subst (λ u. SoundTree ks in_thread 0 None (tree_of u.body)) (sym is) sound in
+      subst (λ e. SoundTree ks in_thread 0 None e) (dosync_node r.body box b kind inner) here
 
-    pub told_turns : (y : ThreadStop) → y ≡ NoTurns → Gives {A = Value} (Err y) out (means setting (tree_of (get_or us k r).body) env before) → Account m out Turns None
-        → IfSome (thread_source (program_of parts) k) (λ p. Tells m (thread_meaning p n []))
-    told_turns y e g a =
-        let h : means setting (tree_of (get_or us k r).body) env before ≡ OutOfTurns (printing out) = subst (λ x. Gives {A = Value} (Err x) out (means setting (tree_of (get_or us k r).body) env before)) e g in
-        told m (subst (λ c. Tells m (closed c)) (sym (from (OutOfTurns (printing out)) h)) a)
+-- ---- the body of a transaction
 
-    pub told_waits : (y : ThreadStop) → y ≡ NoEvent → Gives {A = Value} (Err y) out (means setting (tree_of (get_or us k r).body) env before) → Account m out Event None
-        → IfSome (thread_source (program_of parts) k) (λ p. Tells m (thread_meaning p n []))
-    told_waits y e g a =
-        let h : means setting (tree_of (get_or us k r).body) env before ≡ Waits (printing out) = subst (λ x. Gives {A = Value} (Err x) out (means setting (tree_of (get_or us k r).body) env before)) e g in
-        told m (subst (λ c. Tells m (closed c)) (sym (from (Waits (printing out)) h)) a)
+module _ (cells : List CellDefinition) (fs : List Function) (n : ℕ) (node : Tree) (vs ws : List Value) (w : PlainView) (setting : Setting) (same : setting ≡ whole cells fs n (Some w)) (copy : ws ≡ vs) where
+  pub sound_tx : SoundTree (known (functions_of fs)) in_dosync (length vs) None node → SoundTree (callable setting) (zone_in setting) (length ws) None node
+  sound_tx h = subst₂ (λ y us. SoundTree (callable y) (zone_in y) (length us) None node) (sym same) (sym copy) (sound_everywhere cells fs n (Some w) node in_dosync (length vs) None h)
+
+  pub told_body : (r : Result Value ThreadStop) (st out : State) → tx_state st.tx ≡ tx_start → Yields setting r out (means setting node ws st) → Gives true r (tx_state out.tx) (tx_meaning n (functions_of fs) (length fs) node vs (world_of w))
+  told_body r st out fresh h =
+      let here : Yields (whole cells fs n (Some w)) r out (means (whole cells fs n (Some w)) node vs st) = subst₂ (λ y us. Yields y r out (means y node us st)) same copy h in
+      let x = around_it (whole cells fs n (Some w)) in
+      let from : TxState → Completion TxState Value = λ t. eval (forms_on (Some w) x (length fs)) (call_at (forms_on (Some w) x) n (functions_of fs) (length fs)) n true node vs t in
+      closed_gives r (tx_state out.tx) (from tx_start) (subst (λ t. Gives true r (tx_state out.tx) (from t)) fresh here)
+
+pub tells_value : (m : TxMeaning) (v : Value) (x : TxWork) (c : Completion TxState Value) → c ≡ Completes v (tx_state x) → m ≡ record { result = Ok v; done = x.done; reads = x.reads.items; used = x.used } → TellsTx (Ok m) c
+tells_value m v x c h is = subst (λ y. TellsTx (Ok m) y) (sym h) is
+
+pub tells_fault : (m : TxMeaning) (y : ThreadStop) (f : fault.Fault) (x : TxWork) (c : Completion TxState Value) → y ≡ Fault f → Stops true y (tx_state x) c → m ≡ record { result = Err f; done = x.done; reads = x.reads.items; used = x.used } → TellsTx (Ok m) c
+tells_fault m y f x c e h is =
+    let faults : c ≡ Faults f (tx_state x) = subst (λ z. Stops true z (tx_state x) c) e h in
+    subst (λ d. TellsTx (Ok m) d) (sym faults) is
+
+pub tells_turns : (y : ThreadStop) (t : TxState) (c : Completion TxState Value) → y ≡ Turns → Stops true y t c → TellsTx (Err FewTurns) c
+tells_turns y t c e h =
+    let over : c ≡ OutOfTurns t = subst (λ z. Stops true z t c) e h in
+    subst (λ d. TellsTx (Err FewTurns) d) (sym over) tt

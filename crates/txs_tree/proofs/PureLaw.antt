@@ -59,7 +59,7 @@ module _ {S : Type 0} (s : S) where
     pub pure_waits : (t : S) → c ≡ Waits t → ⊥
     pure_waits t is = subst (λ x. Agrees x c) (plain-agrees p c h ∙ ap plain is) h
 
-  bind_agrees : {A B : Type 0} (p : Completion (Unit {0}) A) (c : Completion S A) (go : A → Unit {0} → Completion (Unit {0}) B) (on : A → S → Completion S B)
+  pub bind_agrees : {A B : Type 0} (p : Completion (Unit {0}) A) (c : Completion S A) (go : A → Unit {0} → Completion (Unit {0}) B) (on : A → S → Completion S B)
       → Agrees p c → ((a : A) → Agrees (go a tt) (on a s)) → Agrees (bind p go) (bind c on)
   bind_agrees (Completes a tt) c go on h each = subst (λ x. Agrees (go a tt) (bind x on)) (sym h) (each a)
   bind_agrees (Recurs vs t) c go on h each = ap (λ x. bind x on) h
@@ -94,7 +94,7 @@ module _ {S : Type 0} (s : S) where
   give_agrees None = refl
   give_agrees (Some v) = refl
 
-  result_agrees : (r : Result Value FaultKind) (span : Span) → Agrees (result_of r span tt) (result_of r span s)
+  pub result_agrees : (r : Result Value FaultKind) (span : Span) → Agrees (result_of r span tt) (result_of r span s)
   result_agrees (Ok v) span = refl
   result_agrees (Err k) span = refl
 

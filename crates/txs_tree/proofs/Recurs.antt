@@ -1,15 +1,20 @@
--- A recur of a sound node has as many values as the loop in whose tail position the node stands.
-use Rattle.std.proofs.Common.{ℕ, zero, suc, ◌==◌, ◌&&◌, Bool, true, false, List, [], ◌∷◌, ◌++◌, Option, Some, None, Result, Ok, Err, sym, ap, ◌∙◌, subst, refl, length, nat_eq, if◌then◌else◌, ◌≡◌, ◌+◌}
+-- A recur of a sound node has as many values as the loop in whose tail position the node stands, and the commutes that a sound
+-- node keeps have pure callees of as many values.
+use Rattle.std.proofs.Common.{ℕ, zero, suc, ◌==◌, ◌&&◌, ◌||◌, ◌-◌, ◌≤◌, Bool, true, false, List, [], ◌∷◌, ◌++◌, Option, Some, None, Result, Ok, Err, sym, ap, ◌∙◌, subst, subst₂, refl, length, nat_eq, if◌then◌else◌, ◌≡◌, ◌+◌, arith}
+use Rattle.std.proofs.lemmas.Bool.{false≢true}
 use Rattle.txs_asks.specs.Ask.{Writes, same_writes, same_cell, same_value, same_action, same_actions}
 use Rattle.txs_asks.specs.SeenEvent.{SeenEvent, home}
 use Rattle.txs_asks.specs.declared.event.EventKind.{EventKind}
 use Rattle.txs_asks.specs.declared.event.EventKind.TheVariants.{Read, Commit, Retry, Fail, Refused, Send as Sent, SendRefused, Act, Swap as Swapped, Broke}
+use Rattle.txs_frame.specs.Frame.{Work, is_commuted, set_ref}
+use Rattle.txs_frame.specs.declared.frame.Commute as frame
 use Rattle.txs_value.specs.Cells.{World}
 use Rattle.txs_value.specs.Forms.{rule, may_stand, cell_of}
 use Rattle.txs_operations.specs.Core.{core, vector_of}
 use Rattle.txs_value.specs.Places.{nth, fault_at}
 use Rattle.txs_operations.specs.Truth.{choose}
 use Rattle.txs_value.specs.declared.action.Action.{Action}
+use Rattle.txs_value.specs.declared.cell.CellDefinition.{CellDefinition}
 use Rattle.txs_value.specs.declared.fault.Fault.{Fault}
 use Rattle.txs_value.specs.declared.fault.FaultKind.{FaultKind}
 use Rattle.txs_value.specs.declared.fault.FaultKind.TheVariants.{AgentFailed}
@@ -23,18 +28,23 @@ use Rattle.txs_value.specs.declared.form.PutForm.TheVariants.{RefSet, Reset}
 use Rattle.txs_value.specs.declared.form.UpdateForm.{UpdateForm}
 use Rattle.txs_value.specs.declared.form.UpdateForm.TheVariants.{Alter, Commute, Swap}
 use Rattle.txs_value.specs.declared.op.Callee.{Callee}
+use Rattle.txs_value.specs.declared.op.Callee.TheVariants.{Core as CoreOp, Function}
 use Rattle.txs_value.specs.declared.value.CellId.{CellId}
 use Rattle.txs_value.specs.declared.value.Value.{Value}
 use Rattle.txs_value.specs.declared.value.Value.TheVariants.{Nil, Truth, Int, Key, Text, Vector, Cell}
-use Rattle.txs_tree.specs.Evaluated.{around_it, no_events, calls_in, means, printing}
-use Rattle.txs_tree.specs.Known.{Known}
-use Rattle.txs_tree.specs.Meaning.{Completion, Completes, Recurs, Faults, Retries, Waits, OutOfTurns, Invalid, bind, again, allowed, give, result_of, Applies, apply, turns, Effects, eval, eval_all, eval_let, eval_do, call_at}
-use Rattle.txs_tree.specs.Setting.{Setting}
-use Rattle.txs_tree.specs.Sound.{SoundTree, SoundDo, in_thread}
+use Rattle.txs_tree.specs.Evaluated.{Part, part, is_on, forms_on, calls_on, around_it, means, body_means, SoundCommutes}
+use Rattle.txs_tree.specs.Known.{Known, known}
+use Rattle.txs_tree.specs.Meaning.{Completion, Completes, Recurs, Faults, Retries, Waits, OutOfTurns, Invalid, bind, again, closed, allowed, give, result_of, Applies, apply, turns, Effects, eval, eval_all, eval_let, eval_do, call_at}
+use Rattle.txs_tree.specs.Setting.{Setting, deeper, callable, zone_on, on_view}
+use Rattle.txs_tree.specs.Sound.{SoundCall, SoundCallee, SoundTree, SoundAll, SoundLet, SoundDo, SoundFunctions, in_thread, in_dosync}
 use Rattle.txs_tree.specs.Thread.{ThreadState, Surroundings, Transacting, on_events, with_tx, eats, meant, reads, resets, swaps, faulted, faultless, sends, over, run_of, ends_tx, is_retry, eats_tx, thread_look, thread_put, thread_update, outside_form}
-use Rattle.txs_tree.specs.Transaction.{TxState, on_cell, tx_meaning, final_writes}
+use Rattle.txs_tree.specs.Transaction.{TxState, in_transaction, on_cell, own, current, noted, taken, tx_look, tx_put, tx_update, done_as, tx_start, tx_meaning, final_writes}
 use Rattle.txs_tree.specs.Tree.{Mark, Tree, Const, Local, If, Do, Let, Loop, Recur, Core, Call, VectorOf, Println, Dosync, Look, Put, Update, Send, Trees, none, more, count, PlainFunction}
 use Rattle.txs_tree.specs.View.{functions_of}
+use Rattle.txs_tree.specs.Views.{PlainView, world_of}
+use Rattle.txs_tree.specs.declared.node.Function as function
+use Rattle.txs_tree.specs.declared.state.State.{State}
+use Rattle.txs_tree.proofs.Callable.{callee-widened, called_body, nth-take, nth-before, pure_here, as_many}
 
 -- a recur has as many values as are given
 abbrev RecursAs : {S A : Type 0} → Option ℕ → Completion S A → Type 0
@@ -53,16 +63,6 @@ many_in (Some k) = k
 abbrev IsSome : Option ℕ → Type 0
 IsSome None = ⊥
 IsSome (Some a) = Unit {0}
-
--- so many values are given
-abbrev Counts : {S : Type 0} → ℕ → Completion S (List Value) → Type 0
-Counts k (Completes vs s) = length vs ≡ k
-Counts k (Recurs vs s) = Unit {0}
-Counts k (Faults f s) = Unit {0}
-Counts k (Retries s) = Unit {0}
-Counts k (Waits s) = Unit {0}
-Counts k (OutOfTurns s) = Unit {0}
-Counts k Invalid = Unit {0}
 
 module _ {S : Type 0} where
   module _ (tail : Option ℕ) where
@@ -106,49 +106,6 @@ module _ {S : Type 0} where
     allowed_as : (b : Bool) (c : Completion S Value) → RecursAs tail c → RecursAs tail (allowed b c)
     allowed_as true c h = h
     allowed_as false c h = tt
-
-    call_at_as : (fx : ℕ → Effects S) (n : ℕ) (functions : List PlainFunction) (b f : ℕ) (vs : List Value) (s : S) → RecursAs tail (call_at fx n functions b false f vs s)
-    call_at_as fx n functions zero f vs s = tt
-    call_at_as fx n functions (suc b) f vs s =
-        bind_as (give (nth functions f) s) (λ fun s1. turns n fun.parameters (λ ws s2. eval (fx b) (call_at fx n functions b) n false fun.body ws s2) vs s1)
-        (λ fun s1. turns_as n fun.parameters (λ ws s2. eval (fx b) (call_at fx n functions b) n false fun.body ws s2) vs s1)
-
-    choose_as : (v : Value) (c d : Completion S Value) → RecursAs tail c → RecursAs tail d → RecursAs tail (choose v c d)
-    choose_as Nil c d f g = g
-    choose_as (Truth true) c d f g = f
-    choose_as (Truth false) c d f g = g
-    choose_as (Int z) c d f g = f
-    choose_as (Key bs) c d f g = f
-    choose_as (Text bs) c d f g = f
-    choose_as (Vector vs) c d f g = f
-    choose_as (Cell x) c d f g = f
-
-    recur_as : (k : ℕ) (c : Completion S (List Value)) → Counts k c → tail ≡ Some k → RecursAs {A = Value} tail (bind c (λ vs s. Recurs vs s))
-    recur_as k (Completes vs s) h e = e ∙ ap Some (sym h)
-    recur_as k (Recurs vs s) h e = tt
-    recur_as k (Faults f s) h e = tt
-    recur_as k (Retries s) h e = tt
-    recur_as k (Waits s) h e = tt
-    recur_as k (OutOfTurns s) h e = tt
-    recur_as k Invalid h e = tt
-
-  bind_counts : {A : Type 0} (k : ℕ) (c : Completion S A) (go : A → S → Completion S (List Value)) → ((a : A) (s : S) → Counts k (go a s)) → Counts k (bind c go)
-  bind_counts k (Completes a s) go h = h a s
-  bind_counts k (Recurs vs s) go h = tt
-  bind_counts k (Faults f s) go h = tt
-  bind_counts k (Retries s) go h = tt
-  bind_counts k (Waits s) go h = tt
-  bind_counts k (OutOfTurns s) go h = tt
-  bind_counts k Invalid go h = tt
-
-  one_more : (k : ℕ) (v : Value) (c : Completion S (List Value)) → Counts k c → Counts (suc k) (bind c (λ vs s. Completes (v ∷ vs) s))
-  one_more k v (Completes vs s) h = ap suc h
-  one_more k v (Recurs vs s) h = tt
-  one_more k v (Faults f s) h = tt
-  one_more k v (Retries s) h = tt
-  one_more k v (Waits s) h = tt
-  one_more k v (OutOfTurns s) h = tt
-  one_more k v Invalid h = tt
 
 -- ---- outside every transaction
 
@@ -302,73 +259,373 @@ module _ (tail : Option ℕ) where
         on_cell_as tail form_of.Send false m.span v (λ c t1. eats 0 (λ e t2. sends (action c) m.span e.kind t2) t1.todo t1) t
         (λ c t1. eats_as 0 (λ e t2. sends (action c) m.span e.kind t2) t1.todo t1 (λ e t2. sends_as (action c) m.span e.kind t2))
 
-module _ (setting : Setting) (ks : List Known) (call : Bool → ℕ → List Value → ThreadState → Completion ThreadState Value) (call_as : (tail : Option ℕ) (f : ℕ) (vs : List Value) (s : ThreadState) → RecursAs tail (call false f vs s)) where
-  all_counts : (es : Trees) (env : List Value) (s : ThreadState) → Counts (count es) (eval_all (no_events setting) call setting.turns false es env s)
-  all_counts none env s = refl
-  all_counts (more e rest) env s =
-      bind_counts (suc (count rest)) (eval (no_events setting) call setting.turns false e env s) (λ v s1. bind (eval_all (no_events setting) call setting.turns false rest env s1) (λ vs s2. Completes (v ∷ vs) s2))
-      (λ v s1. one_more (count rest) v (eval_all (no_events setting) call setting.turns false rest env s1) (all_counts rest env s1))
+-- ---- what a sound node leaves
+
+-- a state is kept where it completes or recurs, and a recur has as many values as are given
+abbrev Fine : {S A : Type 0} → (S → Type 0) → Option ℕ → Completion S A → Type 0
+Fine P tail (Completes a s) = P s
+Fine P tail (Recurs vs s) = (tail ≡ Some (length vs)) × P s
+Fine P tail (Faults f s) = Unit {0}
+Fine P tail (Retries s) = Unit {0}
+Fine P tail (Waits s) = Unit {0}
+Fine P tail (OutOfTurns s) = Unit {0}
+Fine P tail Invalid = Unit {0}
+
+-- the same of so many values
+abbrev FineAll : {S : Type 0} → (S → Type 0) → ℕ → Completion S (List Value) → Type 0
+FineAll P k (Completes vs s) = (length vs ≡ k) × P s
+FineAll P k (Recurs vs s) = Unit {0}
+FineAll P k (Faults f s) = Unit {0}
+FineAll P k (Retries s) = Unit {0}
+FineAll P k (Waits s) = Unit {0}
+FineAll P k (OutOfTurns s) = Unit {0}
+FineAll P k Invalid = Unit {0}
+
+module _ {S : Type 0} (P : S → Type 0) where
+  bind_fine : {A B : Type 0} (t tail : Option ℕ) (c : Completion S A) (go : A → S → Completion S B) → Fine P t c → ((a : A) (s : S) → P s → Fine P tail (go a s)) → Fine P tail (bind c go)
+  bind_fine t tail (Completes a s) go h each = each a s h
+  bind_fine t tail (Recurs vs s) go h each = tt
+  bind_fine t tail (Faults f s) go h each = tt
+  bind_fine t tail (Retries s) go h each = tt
+  bind_fine t tail (Waits s) go h each = tt
+  bind_fine t tail (OutOfTurns s) go h each = tt
+  bind_fine t tail Invalid go h each = tt
+
+  all_fine : {B : Type 0} (k : ℕ) (tail : Option ℕ) (c : Completion S (List Value)) (go : List Value → S → Completion S B) → FineAll P k c → ((vs : List Value) (s : S) → length vs ≡ k → P s → Fine P tail (go vs s)) → Fine P tail (bind c go)
+  all_fine k tail (Completes vs s) go h each = each vs s h.0 h.1
+  all_fine k tail (Recurs vs s) go h each = tt
+  all_fine k tail (Faults f s) go h each = tt
+  all_fine k tail (Retries s) go h each = tt
+  all_fine k tail (Waits s) go h each = tt
+  all_fine k tail (OutOfTurns s) go h each = tt
+  all_fine k tail Invalid go h each = tt
+
+  bind_all : {A : Type 0} (t : Option ℕ) (k : ℕ) (c : Completion S A) (go : A → S → Completion S (List Value)) → Fine P t c → ((a : A) (s : S) → P s → FineAll P k (go a s)) → FineAll P k (bind c go)
+  bind_all t k (Completes a s) go h each = each a s h
+  bind_all t k (Recurs vs s) go h each = tt
+  bind_all t k (Faults f s) go h each = tt
+  bind_all t k (Retries s) go h each = tt
+  bind_all t k (Waits s) go h each = tt
+  bind_all t k (OutOfTurns s) go h each = tt
+  bind_all t k Invalid go h each = tt
+
+  one_more : (k : ℕ) (v : Value) (c : Completion S (List Value)) → FineAll P k c → FineAll P (suc k) (bind c (λ vs s. Completes (v ∷ vs) s))
+  one_more k v (Completes vs s) h = (ap suc h.0, h.1)
+  one_more k v (Recurs vs s) h = tt
+  one_more k v (Faults f s) h = tt
+  one_more k v (Retries s) h = tt
+  one_more k v (Waits s) h = tt
+  one_more k v (OutOfTurns s) h = tt
+  one_more k v Invalid h = tt
+
+  recur_fine : (k : ℕ) (tail : Option ℕ) (c : Completion S (List Value)) → FineAll P k c → tail ≡ Some k → Fine {A = Value} P tail (bind c (λ vs s. Recurs vs s))
+  recur_fine k tail (Completes vs s) h e = (e ∙ ap Some (sym h.0), h.1)
+  recur_fine k tail (Recurs vs s) h e = tt
+  recur_fine k tail (Faults f s) h e = tt
+  recur_fine k tail (Retries s) h e = tt
+  recur_fine k tail (Waits s) h e = tt
+  recur_fine k tail (OutOfTurns s) h e = tt
+  recur_fine k tail Invalid h e = tt
+
+  again_fine : (t tail : Option ℕ) (c : Completion S Value) (go : List Value → S → Completion S Value) → Fine P t c → ((vs : List Value) (s : S) → P s → Fine P tail (go vs s)) → Fine P tail (again c go)
+  again_fine t tail (Completes a s) go h each = h
+  again_fine t tail (Recurs vs s) go h each = each vs s h.1
+  again_fine t tail (Faults f s) go h each = tt
+  again_fine t tail (Retries s) go h each = tt
+  again_fine t tail (Waits s) go h each = tt
+  again_fine t tail (OutOfTurns s) go h each = tt
+  again_fine t tail Invalid go h each = tt
+
+  closed_fine : (t tail : Option ℕ) (c : Completion S Value) → Fine P t c → Fine P tail (closed c)
+  closed_fine t tail c h = again_fine t tail c (λ vs s. Invalid) h (λ vs s p. tt)
+
+  either_fine : (b : Bool) (tail : Option ℕ) (c : Completion S Value) → Fine P tail c → Fine P tail (if b then c else Invalid)
+  either_fine true tail c h = h
+  either_fine false tail c h = tt
+
+  turns_fine : (k d : ℕ) (tail : Option ℕ) (body : List Value → S → Completion S Value) → ((ws : List Value) (s : S) → P s → Fine P (Some d) (body ws s)) → (vs : List Value) (s : S) → P s → Fine P tail (turns k d body vs s)
+  turns_fine zero d tail body each vs s p = tt
+  turns_fine (suc k) d tail body each vs s p =
+      either_fine (nat_eq (length vs) d) tail (again (body vs s) (turns k d body)) (again_fine (Some d) tail (body vs s) (turns k d body) (each vs s p) (λ ws s1 p1. turns_fine k d tail body each ws s1 p1))
+
+  give_fine : (tail : Option ℕ) (o : Option Value) (s : S) → P s → Fine P tail (give o s)
+  give_fine tail None s p = tt
+  give_fine tail (Some v) s p = p
+
+  result_fine : {A : Type 0} (tail : Option ℕ) (r : Result A FaultKind) (span : Span) (s : S) → P s → Fine P tail (result_of r span s)
+  result_fine tail (Ok v) span s p = p
+  result_fine tail (Err k) span s p = tt
+
+  choose_fine : (tail : Option ℕ) (v : Value) (c d : Completion S Value) → Fine P tail c → Fine P tail d → Fine P tail (choose v c d)
+  choose_fine tail Nil c d f g = g
+  choose_fine tail (Truth true) c d f g = f
+  choose_fine tail (Truth false) c d f g = g
+  choose_fine tail (Int z) c d f g = f
+  choose_fine tail (Key bs) c d f g = f
+  choose_fine tail (Text bs) c d f g = f
+  choose_fine tail (Vector vs) c d f g = f
+  choose_fine tail (Cell x) c d f g = f
+
+  on_cell_fine : (tail : Option ℕ) (form : CellForm) (inside : Bool) (span : Span) (v : Value) (go : CellId → S → Completion S Value) (s : S) → P s → ((c : CellId) (t : S) → P t → Fine P tail (go c t)) → Fine P tail (on_cell form inside span v go s)
+  on_cell_fine tail form inside span v go s p each = bind_fine None tail (result_of (cell_of (rule form) inside v) span s) go (result_fine None (cell_of (rule form) inside v) span s p) each
+
+-- ---- in a transaction
+
+-- commutes have pure callees among these functions, or nothing is asked of them
+abbrev KeptBy : Option (List Known) → List frame.Commute → Type 0
+KeptBy None cs = Unit {0}
+KeptBy (Some ks) cs = SoundCommutes ks cs
+
+-- a pure callee among these functions, or nothing is asked of it
+abbrev CalleeBy : Option (List Known) → Callee → ℕ → Type 0
+CalleeBy None callee k = Unit {0}
+CalleeBy (Some ks) callee k = SoundCallee ks callee k
+
+pushed : (top : Option (List Known)) (cs : List frame.Commute) (c : frame.Commute) → KeptBy top cs → CalleeBy top c.callee (suc (length c.args)) → KeptBy top (cs ++ c ∷ [])
+pushed None cs c h one = tt
+pushed (Some ks) [] c h one = (one, tt)
+pushed (Some ks) (d ∷ ds) c h one = (h.0, pushed (Some ks) ds c h.1 one)
+
+module _ (top : Option (List Known)) where
+  abbrev Keeps : TxState → Type 0
+  Keeps t = KeptBy top t.done.commutes
+
+  noted_keeps : (c : CellId) (o : Option Value) (t : TxState) → Keeps t → Keeps (noted c o t)
+  noted_keeps c None t h = h
+  noted_keeps c (Some v) t h = h
+
+  set_keeps : (b : Bool) (tail : Option ℕ) (w w2 : Work) (k : FaultKind) (span : Span) (v : Value) (t : TxState) → KeptBy top w2.commutes → Fine Keeps tail (done_as (if b then Err k else Ok w2) span v t)
+  set_keeps true tail w w2 k span v t h = tt
+  set_keeps false tail w w2 k span v t h = h
+
+  done_keeps : (tail : Option ℕ) (c : CellId) (v : Value) (span : Span) (t : TxState) → Keeps t → Fine Keeps tail (done_as (set_ref c v t.done) span v t)
+  done_keeps tail c v span t h = set_keeps (is_commuted t.done c.number) tail t.done _ _ span v t h
+
+  module _ (R : World) (tail : Option ℕ) where
+    tx_look_fine : (form : LookForm) (c : CellId) (t : TxState) → Keeps t → Fine Keeps tail (tx_look R form c t)
+    tx_look_fine Deref c t h = noted_keeps c (own t.done c.number) t h
+    tx_look_fine Ensure c t h = noted_keeps c (own t.done c.number) t h
+
+    tx_put_fine : (form : PutForm) (span : Span) (c : CellId) (v : Value) (t : TxState) → Keeps t → Fine Keeps tail (tx_put form span c v t)
+    tx_put_fine RefSet span c v t h = done_keeps tail c v span t h
+    tx_put_fine Reset span c v t h = tt
+
+    tx_update_fine : (form : UpdateForm) (m : Mark) (c : CellId) (callee : Callee) (vs : List Value) (f : Applies TxState) (t : TxState) → CalleeBy top callee (suc (length vs))
+        → ((us : List Value) (s : TxState) → length us ≡ suc (length vs) → Keeps s → Fine Keeps None (f callee us s)) → Keeps t → Fine Keeps tail (tx_update R form m c callee vs f t)
+    tx_update_fine Alter m c callee vs f t sound each h =
+        let v = current R t.done c in
+        let t1 = noted c (own t.done c.number) t in
+        bind_fine Keeps None tail (f callee (v ∷ vs) t1) (λ w t2. done_as (set_ref c w t2.done) m.span w t2) (each (v ∷ vs) t1 refl (noted_keeps c (own t.done c.number) t h)) (λ w t2 h2. done_keeps tail c w m.span t2 h2)
+    tx_update_fine Commute m c callee vs f t sound each h =
+        let v = current R t.done c in
+        bind_fine Keeps None tail (f callee (v ∷ vs) t) _ (each (v ∷ vs) t refl h) (λ w t1 h1. pushed top t1.done.commutes (record { cell = c; callee = callee; args = vs }) h1 sound)
+    tx_update_fine Swap m c callee vs f t sound each h = tt
+
+-- ---- what each family leaves, while this transaction runs or none
+
+abbrev KeepsOn : (o : Option PlainView) → Option (List Known) → Part o → Type 0
+KeepsOn None top t = Unit {0}
+KeepsOn (Some r) top t = KeptBy top t.done.commutes
+
+-- nothing is kept of a thread
+plain : (tail : Option ℕ) (c : Completion ThreadState Value) → RecursAs tail c → Fine (λ t. Unit {0}) tail c
+plain tail (Completes a s) h = tt
+plain tail (Recurs vs s) h = (h, tt)
+plain tail (Faults f s) h = tt
+plain tail (Retries s) h = tt
+plain tail (Waits s) h = tt
+plain tail (OutOfTurns s) h = tt
+plain tail Invalid h = tt
+
+module _ (top : Option (List Known)) (x : Surroundings) (d : ℕ) (tail : Option ℕ) where
+  print_fine : (o : Option PlainView) (vs : List Value) (s : Part o) → KeepsOn o top s → Fine (KeepsOn o top) tail ((forms_on o x d).print (is_on o) vs s)
+  print_fine None vs s h = tt
+  print_fine (Some r) vs s h = tt
+
+  look_fine : (o : Option PlainView) (form : LookForm) (m : Mark) (v : Value) (s : Part o) → KeepsOn o top s → Fine (KeepsOn o top) tail ((forms_on o x d).look form (is_on o) m v s)
+  look_fine None form m v s h = plain tail ((on_events x d).look form false m v s) (look_as tail x d m v s form)
+  look_fine (Some r) form m v s h = on_cell_fine (Keeps top) tail (form_of.Look form) true m.span v (tx_look (world_of r) form) s h (λ c t p. tx_look_fine top (world_of r) tail form c t p)
+
+  put_fine : (o : Option PlainView) (form : PutForm) (m : Mark) (v w : Value) (s : Part o) → KeepsOn o top s → Fine (KeepsOn o top) tail ((forms_on o x d).put form (is_on o) m v w s)
+  put_fine None form m v w s h = plain tail ((on_events x d).put form false m v w s) (put_as tail x d m v s form w)
+  put_fine (Some r) form m v w s h = on_cell_fine (Keeps top) tail (form_of.Put form) true m.span v (λ c t. tx_put form m.span c w t) s h (λ c t p. tx_put_fine top (world_of r) tail form m.span c w t p)
+
+  update_fine : (o : Option PlainView) (form : UpdateForm) (m : Mark) (v : Value) (callee : Callee) (vs : List Value) (f : Applies (Part o)) (s : Part o) → CalleeBy top callee (suc (length vs))
+      → ((us : List Value) (t : Part o) → length us ≡ suc (length vs) → KeepsOn o top t → Fine (KeepsOn o top) None (f callee us t)) → KeepsOn o top s → Fine (KeepsOn o top) tail ((forms_on o x d).update form (is_on o) m v callee vs f s)
+  update_fine None form m v callee vs f s sound each h = plain tail ((on_events x d).update form false m v callee vs f s) (update_as tail x d m v s form callee vs f)
+  update_fine (Some r) form m v callee vs f s sound each h =
+      on_cell_fine (Keeps top) tail (form_of.Update form) true m.span v (λ c t. tx_update (world_of r) form m c callee vs f t) s h (λ c t p. tx_update_fine top (world_of r) tail form m c callee vs f t sound each p)
+
+  send_fine : (o : Option PlainView) (m : Mark) (v : Value) (callee : Callee) (vs : List Value) (s : Part o) → KeepsOn o top s → Fine (KeepsOn o top) tail ((forms_on o x d).send (is_on o) m v callee vs s)
+  send_fine None m v callee vs s h = plain tail ((on_events x d).send false m v callee vs s) (send_as tail x d m v s callee vs)
+  send_fine (Some r) m v callee vs s h = on_cell_fine (Keeps top) tail form_of.Send true m.span v _ s h (λ c t p. p)
+
+  dosync_fine : (o : Option PlainView) (m : Mark) (body : Tree) (env : List Value) (run : Part o → Completion (Part o) Value) (f : Applies (Part o)) (s : Part o)
+      → (is_on o ≡ true → Fine (KeepsOn o top) tail (run s)) → Fine (KeepsOn o top) tail ((forms_on o x d).dosync (is_on o) m body env run f s)
+  dosync_fine None m body env run f s each = plain tail ((on_events x d).dosync false m body env run f s) (eats_tx_as tail x.tries _ f s.todo s)
+  dosync_fine (Some r) m body env run f s each = each refl
+
+-- in a transaction
+zone_is : (o : Option PlainView) → is_on o ≡ true → zone_on o ≡ in_dosync
+zone_is None h = absurd (false≢true h)
+zone_is (Some r) h = refl
+
+module _ (top : Option (List Known)) (ks : List Known) (wide : (callee : Callee) (k : ℕ) → SoundCallee ks callee k → CalleeBy top callee k) (o : Option PlainView) (x : Surroundings) (b n : ℕ) (call : Bool → ℕ → List Value → Part o → Completion (Part o) Value)
+    (calls : (f : ℕ) (vs : List Value) (s : Part o) → SoundCall ks (zone_on o) f (length vs) → KeepsOn o top s → Fine (KeepsOn o top) None (call (is_on o) f vs s))
+    (pures : (f k : ℕ) → SoundCallee ks (Function f) k → SoundCall ks (zone_on o) f k) where
+  abbrev fx : Effects (Part o)
+  fx = forms_on o x b
+
+  abbrev on : Bool
+  on = is_on o
+
+  abbrev P : Part o → Type 0
+  P = KeepsOn o top
+
+  -- a call gives no recur
+  unrecurred : (tail : Option ℕ) (c : Completion (Part o) Value) → Fine P None c → Fine P tail c
+  unrecurred tail (Completes a s) h = h
+  unrecurred tail (Recurs vs s) h = absurd (subst IsSome (sym h.0) tt)
+  unrecurred tail (Faults f s) h = tt
+  unrecurred tail (Retries s) h = tt
+  unrecurred tail (Waits s) h = tt
+  unrecurred tail (OutOfTurns s) h = tt
+  unrecurred tail Invalid h = tt
+
+  applies : (span : Span) (callee : Callee) (k : ℕ) → SoundCallee ks callee k → (us : List Value) (s : Part o) → length us ≡ k → P s → Fine P None (apply (call on) span callee us s)
+  applies span (CoreOp op) k sound us s many p = result_fine P None (core op us) span s p
+  applies span (Function f) k sound us s many p = calls f us s (subst (λ j. SoundCall ks (zone_on o) f j) (sym many) (pures f k sound)) p
 
   mutual
-    tree_as : (e : Tree) (d : ℕ) (tail : Option ℕ) (env : List Value) (s : ThreadState) → SoundTree ks in_thread d tail e → RecursAs tail (eval (no_events setting) call setting.turns false e env s)
-    tree_as (Const v m) d tail env s h = tt
-    tree_as (Local i m) d tail env s h = give_as tail (nth env i) s
-    tree_as (If c a b m) d tail env s h =
-        bind_as tail (eval (no_events setting) call setting.turns false c env s) (λ v s1. choose v (eval (no_events setting) call setting.turns false a env s1) (eval (no_events setting) call setting.turns false b env s1))
-        (λ v s1. choose_as tail v (eval (no_events setting) call setting.turns false a env s1) (eval (no_events setting) call setting.turns false b env s1) (tree_as a d tail env s1 h.1) (tree_as b d tail env s1 h.2))
-    tree_as (Do items m) d tail env s h = do_as items d tail env s h
-    tree_as (Let values body m) d tail env s h =
-        bind_as tail (eval_let (no_events setting) call setting.turns false values env s) (λ vs s1. eval (no_events setting) call setting.turns false body (env ++ vs) s1) (λ vs s1. tree_as body (d + count values) tail (env ++ vs) s1 h.1)
-    tree_as (Loop values body m) d tail env s h =
-        bind_as tail (eval_let (no_events setting) call setting.turns false values env s) (λ vs s1. turns setting.turns (count values) (λ ws s2. eval (no_events setting) call setting.turns false body (env ++ ws) s2) vs s1)
-        (λ vs s1. turns_as tail setting.turns (count values) (λ ws s2. eval (no_events setting) call setting.turns false body (env ++ ws) s2) vs s1)
-    tree_as (Recur values m) d tail env s h = recur_as tail (count values) (eval_all (no_events setting) call setting.turns false values env s) (all_counts values env s) h.0
-    tree_as (Core op args m) d tail env s h =
-        bind_as tail (eval_all (no_events setting) call setting.turns false args env s) (λ vs s1. result_of (core op vs) m.span s1) (λ vs s1. result_as tail (core op vs) m.span s1)
-    tree_as (Call f args m) d tail env s h =
-        bind_as tail (eval_all (no_events setting) call setting.turns false args env s) (λ vs s1. call false f vs s1) (λ vs s1. call_as tail f vs s1)
-    tree_as (VectorOf items m) d tail env s h =
-        bind_as tail (eval_all (no_events setting) call setting.turns false items env s) (λ vs s1. result_of (vector_of vs) m.span s1) (λ vs s1. result_as tail (vector_of vs) m.span s1)
-    tree_as (Println args m) d tail env s h =
-        bind_as tail (eval_all (no_events setting) call setting.turns false args env s) (λ vs s1. (no_events setting).print false vs s1) (λ vs s1. tt)
-    tree_as (Dosync body m) d tail env s h =
-        let x = around_it setting in
-        eats_tx_as tail x.tries (record { mark = m; body = body; locals = env; on = tx_meaning x.turns x.functions setting.depth body env }) (apply (call true) m.span) s.todo s
-    tree_as (Look form cell m) d tail env s h =
-        bind_as tail (eval (no_events setting) call setting.turns false cell env s) (λ v s1. (no_events setting).look form false m v s1)
-        (λ v s1. look_as tail (around_it setting) setting.depth m v s1 form)
-    tree_as (Put form cell value m) d tail env s h =
-        bind_as tail (eval (no_events setting) call setting.turns false cell env s) (λ v s1. bind (eval (no_events setting) call setting.turns false value env s1) (λ w s2. (no_events setting).put form false m v w s2))
-        (λ v s1. bind_as tail (eval (no_events setting) call setting.turns false value env s1) (λ w s2. (no_events setting).put form false m v w s2)
-        (λ w s2. put_as tail (around_it setting) setting.depth m v s2 form w))
-    tree_as (Update form cell callee args m) d tail env s h =
-        let f = apply (call false) m.span in
-        bind_as tail (eval (no_events setting) call setting.turns false cell env s) (λ v s1. bind (eval_all (no_events setting) call setting.turns false args env s1) (λ vs s2. (no_events setting).update form false m v callee vs f s2))
-        (λ v s1. bind_as tail (eval_all (no_events setting) call setting.turns false args env s1) (λ vs s2. (no_events setting).update form false m v callee vs f s2)
-        (λ vs s2. update_as tail (around_it setting) setting.depth m v s2 form callee vs f))
-    tree_as (Send cell callee args m) d tail env s h =
-        bind_as tail (eval (no_events setting) call setting.turns false cell env s) (λ v s1. bind (eval_all (no_events setting) call setting.turns false args env s1) (λ vs s2. (no_events setting).send false m v callee vs s2))
-        (λ v s1. bind_as tail (eval_all (no_events setting) call setting.turns false args env s1) (λ vs s2. (no_events setting).send false m v callee vs s2)
-        (λ vs s2. send_as tail (around_it setting) setting.depth m v s2 callee vs))
+    tree_fine : (e : Tree) (d : ℕ) (tail : Option ℕ) (env : List Value) (s : Part o) → SoundTree ks (zone_on o) d tail e → P s → Fine P tail (eval fx call n on e env s)
+    tree_fine (Const v m) d tail env s h p = p
+    tree_fine (Local i m) d tail env s h p = give_fine P tail (nth env i) s p
+    tree_fine (If c a e m) d tail env s h p =
+        bind_fine P None tail (eval fx call n on c env s) (λ v s1. choose v (eval fx call n on a env s1) (eval fx call n on e env s1)) (tree_fine c d None env s h.0 p)
+        (λ v s1 p1. choose_fine P tail v (eval fx call n on a env s1) (eval fx call n on e env s1) (tree_fine a d tail env s1 h.1 p1) (tree_fine e d tail env s1 h.2 p1))
+    tree_fine (Do items m) d tail env s h p = do_fine items d tail env s h p
+    tree_fine (Let values body m) d tail env s h p =
+        bind_fine P None tail (eval_let fx call n on values env s) (λ vs s1. eval fx call n on body (env ++ vs) s1) (let_fine values d env s h.0 p) (λ vs s1 p1. tree_fine body (d + count values) tail (env ++ vs) s1 h.1 p1)
+    tree_fine (Loop values body m) d tail env s h p =
+        bind_fine P None tail (eval_let fx call n on values env s) (λ vs s1. turns n (count values) (λ ws s2. eval fx call n on body (env ++ ws) s2) vs s1) (let_fine values d env s h.0 p)
+        (λ vs s1 p1. turns_fine P n (count values) tail (λ ws s2. eval fx call n on body (env ++ ws) s2) (λ ws s2 p2. tree_fine body (d + count values) (Some (count values)) (env ++ ws) s2 h.1 p2) vs s1 p1)
+    tree_fine (Recur values m) d tail env s h p = recur_fine P (count values) tail (eval_all fx call n on values env s) (row_fine values d env s h.1 p) h.0
+    tree_fine (Core op args m) d tail env s h p =
+        all_fine P (count args) tail (eval_all fx call n on args env s) (λ vs s1. result_of (core op vs) m.span s1) (row_fine args d env s h.1 p) (λ vs s1 many p1. result_fine P tail (core op vs) m.span s1 p1)
+    tree_fine (Call f args m) d tail env s h p =
+        all_fine P (count args) tail (eval_all fx call n on args env s) (λ vs s1. call on f vs s1) (row_fine args d env s h.1 p)
+        (λ vs s1 many p1. unrecurred tail (call on f vs s1) (calls f vs s1 (subst (λ k. SoundCall ks (zone_on o) f k) (sym many) h.0) p1))
+    tree_fine (VectorOf items m) d tail env s h p =
+        all_fine P (count items) tail (eval_all fx call n on items env s) (λ vs s1. result_of (vector_of vs) m.span s1) (row_fine items d env s h.1 p) (λ vs s1 many p1. result_fine P tail (vector_of vs) m.span s1 p1)
+    tree_fine (Println args m) d tail env s h p =
+        all_fine P (count args) tail (eval_all fx call n on args env s) (λ vs s1. fx.print on vs s1) (row_fine args d env s h.2 p) (λ vs s1 many p1. print_fine top x b tail o vs s1 p1)
+    tree_fine (Dosync body m) d tail env s h p =
+        dosync_fine top x b tail o m body env (λ t. closed (eval fx call n true body env t)) (apply (call true) m.span) s
+        (λ is. subst (λ i. Fine P tail (closed (eval fx call n i body env s))) is (closed_fine P None tail (eval fx call n on body env s) (tree_fine body d None env s (subst (λ z. SoundTree ks z d None body) (sym (zone_is o is)) h) p)))
+    tree_fine (Look form cell m) d tail env s h p =
+        bind_fine P None tail (eval fx call n on cell env s) (λ v s1. fx.look form on m v s1) (tree_fine cell d None env s h.1 p) (λ v s1 p1. look_fine top x b tail o form m v s1 p1)
+    tree_fine (Put form cell value m) d tail env s h p =
+        bind_fine P None tail (eval fx call n on cell env s) (λ v s1. bind (eval fx call n on value env s1) (λ w s2. fx.put form on m v w s2)) (tree_fine cell d None env s h.1 p)
+        (λ v s1 p1. bind_fine P None tail (eval fx call n on value env s1) (λ w s2. fx.put form on m v w s2) (tree_fine value d None env s1 h.2 p1) (λ w s2 p2. put_fine top x b tail o form m v w s2 p2))
+    tree_fine (Update form cell callee args m) d tail env s h p =
+        let f = apply (call on) m.span in
+        bind_fine P None tail (eval fx call n on cell env s) (λ v s1. bind (eval_all fx call n on args env s1) (λ vs s2. fx.update form on m v callee vs f s2)) (tree_fine cell d None env s h.1 p)
+        (λ v s1 p1. all_fine P (count args) tail (eval_all fx call n on args env s1) (λ vs s2. fx.update form on m v callee vs f s2) (row_fine args d env s1 h.3 p1)
+        (λ vs s2 many p2.
+        let sound : SoundCallee ks callee (suc (length vs)) = subst (λ k. SoundCallee ks callee (suc k)) (sym many) h.2 in
+        update_fine top x b tail o form m v callee vs f s2 (wide callee (suc (length vs)) sound) (λ us t as_many q. applies m.span callee (suc (length vs)) sound us t as_many q) p2))
+    tree_fine (Send cell callee args m) d tail env s h p =
+        bind_fine P None tail (eval fx call n on cell env s) (λ v s1. bind (eval_all fx call n on args env s1) (λ vs s2. fx.send on m v callee vs s2)) (tree_fine cell d None env s h.0 p)
+        (λ v s1 p1. all_fine P (count args) tail (eval_all fx call n on args env s1) (λ vs s2. fx.send on m v callee vs s2) (row_fine args d env s1 h.2 p1) (λ vs s2 many p2. send_fine top x b tail o m v callee vs s2 p2))
 
-    do_as : (es : Trees) (d : ℕ) (tail : Option ℕ) (env : List Value) (s : ThreadState) → SoundDo ks in_thread d tail es → RecursAs tail (eval_do (no_events setting) call setting.turns false es env s)
-    do_as none d tail env s h = absurd h
-    do_as (more e none) d tail env s h = tree_as e d tail env s h
-    do_as (more e (more f rest)) d tail env s h =
-        bind_as tail (eval (no_events setting) call setting.turns false e env s) (λ v s1. eval_do (no_events setting) call setting.turns false (more f rest) env s1) (λ v s1. do_as (more f rest) d tail env s1 h.1)
+    row_fine : (es : Trees) (d : ℕ) (env : List Value) (s : Part o) → SoundAll ks (zone_on o) d es → P s → FineAll P (count es) (eval_all fx call n on es env s)
+    row_fine none d env s h p = (refl, p)
+    row_fine (more e rest) d env s h p =
+        bind_all P None (suc (count rest)) (eval fx call n on e env s) (λ v s1. bind (eval_all fx call n on rest env s1) (λ vs s2. Completes (v ∷ vs) s2)) (tree_fine e d None env s h.0 p)
+        (λ v s1 p1. one_more P (count rest) v (eval_all fx call n on rest env s1) (row_fine rest d env s1 h.1 p1))
 
--- no recur leaves a function
-calls_as : (setting : Setting) (tail : Option ℕ) (f : ℕ) (vs : List Value) (s : ThreadState) → RecursAs tail (calls_in setting false f vs s)
-calls_as setting tail f vs s = call_at_as tail (on_events (around_it setting)) setting.turns (functions_of setting.functions) setting.depth f vs s
+    let_fine : (es : Trees) (d : ℕ) (env : List Value) (s : Part o) → SoundLet ks (zone_on o) d es → P s → Fine P None (eval_let fx call n on es env s)
+    let_fine none d env s h p = p
+    let_fine (more e rest) d env s h p =
+        bind_fine P None None (eval fx call n on e env s) (λ v s1. bind (eval_let fx call n on rest (env ++ v ∷ []) s1) (λ vs s2. Completes (v ∷ vs) s2)) (tree_fine e d None env s h.0 p)
+        (λ v s1 p1. bind_fine P None None (eval_let fx call n on rest (env ++ v ∷ []) s1) (λ vs s2. Completes (v ∷ vs) s2) (let_fine rest (d + 1) (env ++ v ∷ []) s1 h.1 p1) (λ vs s2 p2. p2))
 
-module _ (setting : Setting) (ks : List Known) (e : Tree) (d : ℕ) (env : List Value) (out out1 : List ℕ) (vs : List Value) where
-  recurs_as : (tail : Option ℕ) → SoundTree ks in_thread d tail e → means setting e env out ≡ Recurs vs (printing out1) → tail ≡ Some (length vs)
-  recurs_as tail h is = subst (λ c. RecursAs tail c) is (tree_as setting ks (calls_in setting) (calls_as setting) e d tail env (printing out) h)
+    do_fine : (es : Trees) (d : ℕ) (tail : Option ℕ) (env : List Value) (s : Part o) → SoundDo ks (zone_on o) d tail es → P s → Fine P tail (eval_do fx call n on es env s)
+    do_fine none d tail env s h p = absurd h
+    do_fine (more e none) d tail env s h p = tree_fine e d tail env s h p
+    do_fine (more e (more f rest)) d tail env s h p =
+        bind_fine P None tail (eval fx call n on e env s) (λ v s1. eval_do fx call n on (more f rest) env s1) (tree_fine e d None env s h.0 p) (λ v s1 p1. do_fine (more f rest) d tail env s1 h.1 p1)
+
+-- ---- functions
+
+-- what is asked of commutes, where so many functions may be called
+abbrev asked : Bool → List Known → Option (List Known)
+asked true ks = Some ks
+asked false ks = None
+
+module _ (cells : List CellDefinition) (fs : List function.Function) (n : ℕ) (o : Option PlainView) (d : ℕ) (ask : Bool) (sound : SoundFunctions [] (functions_of fs)) where
+  abbrev at : ℕ → Setting
+  at b = record { cells = cells; functions = fs; depth = b; turns = n; world = o }
+
+  abbrev most : Option (List Known)
+  most = asked ask (callable (at d))
+
+  narrow : (b : ℕ) → b ≤ d → (callee : Callee) (k : ℕ) → SoundCallee (callable (at b)) callee k → SoundCallee (callable (at d)) callee k
+  narrow b le callee k h =
+      callee-widened (callable (at b)) (callable (at d)) (λ f l found. let there = nth-take b (known (functions_of fs)) f l found in nth-before d (known (functions_of fs)) f l (omega (arith, there.0, le)) there.1) callee k h
+
+  widened : (a : Bool) (b : ℕ) → b ≤ d → (callee : Callee) (k : ℕ) → SoundCallee (callable (at b)) callee k → CalleeBy (asked a (callable (at d))) callee k
+  widened true b le callee k h = narrow b le callee k h
+  widened false b le callee k h = tt
+
+  abbrev Q : Part o → Type 0
+  Q = KeepsOn o most
+
+  body_fine : (b f : ℕ) (vs : List Value) (s : Part o) → suc b ≤ d → SoundCall (callable (at (suc b))) (zone_on o) f (length vs)
+      → ((g : ℕ) (us : List Value) (t : Part o) → SoundCall (callable (at b)) (zone_on o) g (length us) → Q t → Fine Q None (calls_on o (at b) (is_on o) g us t))
+      → Q s → (found : Option PlainFunction) → nth (functions_of fs) f ≡ found
+      → Fine Q None (bind (give found s) (λ fun s1. turns n fun.parameters (λ ws s2. eval (forms_on o (around_it (at b)) b) (calls_on o (at b)) n (is_on o) fun.body ws s2) vs s1))
+  body_fine b f vs s le h below p None there = tt
+  body_fine b f vs s le h below p (Some fun) there =
+      let low : suc b - 1 ≡ b = omega arith in
+      let k = length vs in
+      let many : fun.parameters ≡ k = as_many (at (suc b)) f k h fun sound there in
+      let body : SoundTree (callable (at b)) (zone_on o) fun.parameters (Some fun.parameters) fun.body =
+      subst (λ j. SoundTree (callable (at b)) (zone_on o) j (Some j) fun.body) (sym many) (subst (λ j. SoundTree (callable (at j)) (zone_on o) k (Some k) fun.body) low (called_body (at (suc b)) f k h fun sound there)) in
+      turns_fine Q n fun.parameters None (λ ws s2. eval (forms_on o (around_it (at b)) b) (calls_on o (at b)) n (is_on o) fun.body ws s2)
+      (λ ws s2 p2. tree_fine most (callable (at b)) (widened ask b (omega (arith, le))) o (around_it (at b)) b n (calls_on o (at b)) below (λ g j pure. pure_here (at b) g j pure) fun.body fun.parameters (Some fun.parameters) ws s2 body p2)
+      vs s p
+
+  calls_fine : (b f : ℕ) (vs : List Value) (s : Part o) → b ≤ d → SoundCall (callable (at b)) (zone_on o) f (length vs) → Q s → Fine Q None (calls_on o (at b) (is_on o) f vs s)
+  calls_fine zero f vs s le h p = tt
+  calls_fine (suc b) f vs s le h p = body_fine b f vs s le h (λ g us t sc q. calls_fine b g us t (omega (arith, le)) sc q) p (nth (functions_of fs) f) refl
+
+  whole_fine : (e : Tree) (l : ℕ) (tail : Option ℕ) (env : List Value) (s : Part o) → SoundTree (callable (at d)) (zone_on o) l tail e → Q s → Fine Q tail (eval (forms_on o (around_it (at d)) d) (calls_on o (at d)) n (is_on o) e env s)
+  whole_fine e l tail env s h p =
+      tree_fine most (callable (at d)) (widened ask d (omega arith)) o (around_it (at d)) d n (calls_on o (at d)) (λ f vs t c q. calls_fine d f vs t (omega arith) c q) (λ f k pure. pure_here (at d) f k pure) e l tail env s h p
+
+-- ---- what the evaluator needs of it
+
+nothing_asked : (o : Option PlainView) (ks : List Known) (s : Part o) → KeepsOn o (asked false ks) s
+nothing_asked None ks s = tt
+nothing_asked (Some r) ks s = tt
+
+module _ (x : Setting) (sound : SoundFunctions [] (functions_of x.functions)) (e : Tree) (d : ℕ) (env : List Value) (out out1 : State) (vs : List Value) where
+  recurs_as : (tail : Option ℕ) → SoundTree (callable x) (zone_on x.world) d tail e → means x e env out ≡ Recurs vs (part x.world out1) → tail ≡ Some (length vs)
+  recurs_as tail h is =
+      (subst (λ c. Fine (KeepsOn x.world (asked false (callable x))) tail c) is
+      (whole_fine x.cells x.functions x.turns x.world x.depth false sound e d tail env (part x.world out) h (nothing_asked x.world (callable x) (part x.world out)))).0
 
   -- a recur in tail position of a loop has as many values
-  pub recurs_many : (k : ℕ) → SoundTree ks in_thread d (Some k) e → means setting e env out ≡ Recurs vs (printing out1) → length vs ≡ k
+  pub recurs_many : (k : ℕ) → SoundTree (callable x) (zone_on x.world) d (Some k) e → means x e env out ≡ Recurs vs (part x.world out1) → length vs ≡ k
   recurs_many k h is = sym (ap many_in (recurs_as (Some k) h is))
 
   -- in no tail position there is no recur
-  pub never_recurs : SoundTree ks in_thread d None e → means setting e env out ≡ Recurs vs (printing out1) → ⊥
+  pub never_recurs : SoundTree (callable x) (zone_on x.world) d None e → means x e env out ≡ Recurs vs (part x.world out1) → ⊥
   never_recurs h is = subst IsSome (sym (recurs_as None h is)) tt
+
+-- the commutes that a transaction's body keeps have pure callees
+pub keeps_sound : (x : Setting) (r : PlainView) (sound : SoundFunctions [] (functions_of x.functions)) (e : Tree) (d : ℕ) (env : List Value) (t u : TxState) (v : Value) → SoundTree (callable x) in_dosync d None e
+    → SoundCommutes (callable x) t.done.commutes → eval (forms_on (Some r) (around_it (on_view x r)) x.depth) (calls_on (Some r) (on_view x r)) x.turns true e env t ≡ Completes v u → SoundCommutes (callable x) u.done.commutes
+keeps_sound x r sound e d env t u v h before is =
+    subst (λ c. Fine (Keeps (Some (callable x))) None c) is (whole_fine x.cells x.functions x.turns (Some r) x.depth true sound e d None env t h before)

@@ -1,4 +1,5 @@
 pub mod Evaluated
+pub mod Events
 pub mod Known
 pub mod Meaning
 pub mod Pure
@@ -9,3 +10,4 @@ pub mod Thread
 pub mod Transaction
 pub mod Tree
 pub mod View
+pub mod Views

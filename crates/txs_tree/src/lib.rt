@@ -1,8 +1,8 @@
 //! Programs as trees, and what they mean. A node is a plain tree to every contract (`tree_of`), a program
 //! the sound program of its cells, functions and threads. `eval_thread` answers exactly the thread meaning on
-//! no events: its printed bytes, what it needs, and how it ends. A form on a cell outside transactions then
-//! needs an event, or faults where it doesn't take the value. `eval_pure` answers exactly the pure meaning of a
-//! callee.
+//! a list of events, each with its worlds: its printed bytes, what it needs, how it ends, how many events it
+//! ate, and what is told of its transactions. `eval_tx` answers exactly the meaning of a transaction's body on
+//! one world of refs, and `eval_pure` the pure meaning of a callee.
 #![tactic(auto)]
 
 mod context;
@@ -12,9 +12,21 @@ pub mod node;
 pub mod program;
 pub mod pure_call;
 pub mod raw;
+mod same;
+pub mod seen;
+mod state;
+mod stop;
+mod thread;
+pub mod transaction;
+pub mod view;
+mod work;
+mod writes;
 
 pub use meaning::{Needs, ThreadMeaning, eval_thread};
 pub use node::{Function, Node, NodeKind, Thread};
 pub use program::Program;
 pub use pure_call::{EvalStop, eval_pure, more_turns_change_no_answer};
 pub use raw::Raw;
+pub use seen::Seen;
+pub use transaction::{TxMeaning, eval_tx};
+pub use view::RefView;

@@ -14,11 +14,14 @@ ghost use Rattle.txs_value.specs.declared.op.Callee.TheVariants.{Function};
 ghost use Rattle.txs_tree.specs.declared.pure_call.EvalStop.TheVariants.{Memory};
 
 use crate::context::Context;
-use crate::evaluate::{ThreadStop, call};
+use crate::evaluate::{call, copy_locals};
 use crate::program::Program;
+use crate::state::State;
+use crate::stop::ThreadStop;
+use crate::view::RefView;
 use std::alloc::{AllocError, AllocFailed, Global};
 use txs_operations::apply;
-use txs_value::{Callee, Fault, Op, Span, Stop, Value, copy_value};
+use txs_value::{Callee, Fault, Op, Span, Stop, Value};
 
 /// Why an evaluation gives no value.
 #[derive(Drop)]
@@ -102,25 +105,18 @@ fn call_function(
     ensures { PureGives result (pure_meaning turns (functions_of program.now.functions) (Function number) values.now) }
 {
     program.is_sound();
-    let context = Context::new(program.cells(), program.functions(), turns);
-    let locals = copied(alloc, values)?;
-    let mut printed = Vec::new(alloc);
-    match call(alloc, &context, number, locals, &mut printed) {
+    let nowhere = RefView {
+        cells: &[],
+        place: 0,
+    };
+    let context = Context::new(program.cells(), program.functions(), turns, Some(nowhere));
+    let locals = copy_locals(alloc, values)?;
+    let mut state = State::new(alloc, &[]);
+    match call(alloc, &context, number, locals, &mut state) {
         Ok(value) => Ok(value),
         Err(ThreadStop::Fault(fault)) => Err(EvalStop::Fault(fault)),
-        Err(ThreadStop::Event) => unreachable!(),
+        Err(ThreadStop::Event | ThreadStop::Wrong) => unreachable!(),
         Err(ThreadStop::Turns) => Err(EvalStop::Turns),
         Err(ThreadStop::Memory) => Err(EvalStop::Memory),
     }
-}
-
-/// The same values in a list of its own.
-fn copied(alloc: Global, values: &[Value]) -> Result<Vec<Value>, AllocError>
-    ensures { IfOk result (λ copies. copies.items ≡ values.now) }
-{
-    let mut copies = Vec::with_capacity(alloc, values.len())?;
-    for value in values {
-        copies.push(copy_value(value)?)?;
-    }
-    Ok(copies)
 }

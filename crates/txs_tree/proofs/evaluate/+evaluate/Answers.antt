@@ -1,164 +1,65 @@
-use Rattle.std.proofs.Common.{rules, suc, ◌≡◌, ◌+◌, ◌-◌, ◌*◌, ◌<◌, ◌≤◌, false, [], ◌∷◌, ◌++◌, length, take, drop, Ok, Err, None, Some, OnOk, IsTrue, true, Vec, Global, zero-add, sym, ap, ◌∙◌, subst, subst₂, refl, arith}
+use Rattle.std.proofs.Common.{rules, suc, ◌≡◌, ◌+◌, ◌-◌, ◌*◌, ◌<◌, ◌≤◌, ◌&&◌, true, false, Bool, [], ◌∷◌, ◌++◌, length, take, drop, Ok, Err, None, Some, OnOk, IsTrue, is_some, get_or, Vec, Global, zero-add, sym, ap, ◌∙◌, subst, subst₂, refl, arith}
 use Rattle.std.proofs.lemmas.List.{drop_all, length_push, length-drop}
-use Rattle.txs_operations.specs.Core.{takes}
+use Rattle.txs_asks.specs.Ask.{Writes, same_writes, same_actions, same_value}
+use Rattle.txs_frame.specs.Frame.{commuted, commutes_of, by_ref}
+use Rattle.txs_operations.specs.Core.{takes, is_false}
+use Rattle.txs_value.specs.Forms.{rule, cell_of}
+use Rattle.txs_value.specs.Limits.{reruns}
 use Rattle.txs_value.specs.Places.{nth}
 use Rattle.txs_value.specs.Printed.{printed_line}
-use Rattle.txs_value.specs.declared.form.CellForm.TheVariants as form_of
+use Rattle.txs_value.specs.declared.value.CellId.{CellId}
+use Rattle.txs_value.specs.declared.value.CellKind.TheVariants.{Ref}
 use Rattle.txs_value.specs.declared.value.Value.{Value}
-use Rattle.txs_tree.specs.Evaluated.{Acts, Lacks, form_means, no_events, calls_in, Stops, Gives, GivesAll, Steps, means, all_mean, do_means, let_means, locals_mean, loop_means, turns_mean, printing}
-use Rattle.txs_tree.specs.Setting.{callable}
-use Rattle.txs_tree.specs.Sound.{in_thread, SoundCall, SoundTree, SoundAll, SoundDo, SoundLet, nodes, nodes_in}
+use Rattle.txs_tree.specs.Evaluated.{part, is_on, forms_in, calls_in, Stops, Gives, Told, Yields, GivesAll, Steps, Runs, Ate, means, all_mean, do_means, let_means, locals_mean, loop_means, turns_mean, form_means, act_means, inside_means, outside_means, alter_means, commute_means, swap_means, applied, redone_means, final_means, dosync_means, transacting, at_end, eat_means, end_means, body_means, commit_means, fail_means, refuse_means, thread_state, tx_state, swap_of, is_broke}
+use Rattle.txs_tree.specs.Events.{seen_event}
+use Rattle.txs_tree.specs.Meaning.{Completes, result_of}
+use Rattle.txs_tree.specs.Setting.{callable, zone_in, on_view}
+use Rattle.txs_tree.specs.Sound.{SoundCall, SoundCallee, SoundTree, SoundAll, SoundDo, SoundLet, nodes, nodes_in}
+use Rattle.txs_tree.specs.Thread.{is_retry}
+use Rattle.txs_tree.specs.Transaction.{valued, merged}
 use Rattle.txs_tree.specs.Tree.{none, count}
 use Rattle.txs_tree.specs.View.{tree_of, trees_of, mark_of, function_of, functions_of}
-use Rattle.txs_tree.proofs.Callable.{in_room, room, room-deeper, depth_left, is_function, as_many, called_body}
+use Rattle.txs_tree.specs.Views.{PlainView, plain_view, plain_world, world_of}
+use Rattle.txs_tree.proofs.Acting.{acted_inside, acted_outside, sound_at, phase_stop, phase_more, finals_stop, finals_done}
+use Rattle.txs_tree.proofs.Callable.{in_room, room, room-deeper, room_on, depth_left, is_function, as_many, called_body, pure_here}
 use Rattle.txs_tree.proofs.Counting.{item_smaller, nodes-some, nodes-last}
-use Rattle.txs_tree.proofs.Evaluation.{collects-start, do_then, rebound, stops_steps, stops_gives, stops_all, local_done, steps_do, steps_let, steps_loop, if_stop, if_goes, recur_stop, core_stop, call_stop, call_is, call_turns, vector_stop, println_stop, steps_look, steps_put, steps_update, steps_send, args_stop, args_done, recur_done, core_done, vector_done, println_done, all_more, all_stop, do_more, do_stop, do_start, locals_more, locals_stop, let_stop, let_done, loop_stop, loop_done, turn_value, turn_stop, turn_recur, take_kept}
+use Rattle.txs_tree.proofs.Ending.{body_stop, body_done, body_keeps, commit_other, commit_stop, commit_same, fail_given, fail_stop, refuse_given, refuse_stop, eats_none, eats_end, eats_more, running, joined, begun}
+use Rattle.txs_tree.proofs.Evaluation.{StopsAt, collects-start, do_then, rebound, stops_steps, stops_gives, local_done, all_more, all_stop, do_more, do_stop, do_start, locals_more, locals_stop, let_stop, let_done, loop_stop, loop_done, turn_value, turn_stop, turn_recur, take_kept, called, if_stop, if_goes, args_stop, act_done, act_stop, put_whole}
+use Rattle.txs_tree.proofs.Forms.{untaken_inside, untaken_outside, alter_stop, alter_done, commute_stop, commute_done, called_alone, print_done, swap_same, swap_other, swap_stop, all_wrong, broken_gives}
 use Rattle.txs_tree.proofs.Recurs.{recurs_many, never_recurs}
 use Rattle.txs_tree.proofs.Soundness.{SoundAll-from, SoundLet-from, SoundDo-parts, count-from}
-use Rattle.txs_tree.proofs.Trees.{local_node, if_node, do_node, let_node, loop_node, recur_node, core_node, call_node, vector_node, println_node, look_node, put_node, update_node, send_node}
+use Rattle.txs_tree.proofs.Trees.{local_node, if_node, do_node, let_node, loop_node, recur_node, core_node, call_node, vector_node, println_node, dosync_node, look_node, put_node, update_node, send_node}
+use Rattle.txs_tree.specs.declared.evaluate.Act.TheVariants.{Put as a_put}
 use Rattle.txs_tree.specs.declared.evaluate.Step.TheVariants.{Value as AValue}
+use Rattle.txs_tree.proofs.evaluate.+evaluate.Goals.{swap-in-Ok-apply_on, swap-in-Err-apply_on}
 use Rattle.txs_tree.proofs.evaluate.+evaluate.Goals as goal
 
 pub evaluate-unreachable-requires : goal.evaluate-unreachable-requires
 evaluate-unreachable-requires t c =
     let n = c.args.node.now in
-    let out = c.evaluate_tail.new.printed.items in
-    let is = subst (λ s. Steps (Ok s) out (means c.args.context.now (tree_of n) c.args.locals.now.items c.args.printed.now.items)) c.in-Recur.is c.in_ok-value.ensures.value in
-    never_recurs c.args.context.now (callable c.args.context.now) (tree_of n) (length c.args.locals.now.items) c.args.locals.now.items c.args.printed.now.items out c.in-Recur.field-0.items c.requires is
+    let out = c.evaluate_tail.new.state in
+    let is = subst (λ s. Steps c.args.context.now (Ok s) out (means c.args.context.now (tree_of n) c.args.locals.now.items c.args.state.now)) c.in-Recur.is c.in_ok-value.ensures.value in
+    never_recurs c.args.context.now c.is_sound.ensures (tree_of n) (length c.args.locals.now.items) c.args.locals.now.items c.args.state.now out c.in-Recur.field-0.items c.requires is
 
 pub evaluate_tail-evaluate_do-requires : goal.evaluate_tail-evaluate_do-requires
 evaluate_tail-evaluate_do-requires t c =
     let is = do_node c.args.node.now c.in-Do.items c.deref-in-Do.result.now c.in-Do.is c.deref-in-Do.ensures.value in
-    let smaller : 3 * nodes_in (trees_of c.deref-in-Do.result.now) + 2 < 3 * nodes (tree_of c.args.node.now) = omega (arith, ap nodes is) in
-    (search (rules, in_room c.args.context.now _ _ smaller), record { tail = c.requires.tail; sound = subst (λ e. SoundTree (callable c.args.context.now) in_thread (length c.args.locals.now.items) c.requires.tail e) is c.requires.sound })
+    let smaller : 16 * nodes_in (trees_of c.deref-in-Do.result.now) + 2 < 16 * nodes (tree_of c.args.node.now) = omega (arith, ap nodes is) in
+    (search (rules, in_room c.args.context.now _ _ smaller), record { tail = c.requires.tail; sound = subst (λ e. SoundTree (callable c.args.context.now) (zone_in c.args.context.now) (length c.args.locals.now.items) c.requires.tail e) is c.requires.sound })
 
 pub evaluate_tail-evaluate_let-requires : goal.evaluate_tail-evaluate_let-requires
 evaluate_tail-evaluate_let-requires t c =
     let is = let_node c.args.node.now c.in-Let.values c.in-Let.body c.deref-in-Let.result.now c.deref-in-Let-2.result.now c.in-Let.is c.deref-in-Let.ensures.value c.deref-in-Let-2.ensures in
-    let sound = subst (λ e. SoundTree (callable c.args.context.now) in_thread (length c.args.locals.now.items) c.requires.tail e) is c.requires.sound in
-    let smaller : 3 * (nodes_in (trees_of c.deref-in-Let.result.now) + nodes (tree_of c.deref-in-Let-2.result.now)) + 2 < 3 * nodes (tree_of c.args.node.now) = omega (arith, ap nodes is) in
+    let sound = subst (λ e. SoundTree (callable c.args.context.now) (zone_in c.args.context.now) (length c.args.locals.now.items) c.requires.tail e) is c.requires.sound in
+    let smaller : 16 * (nodes_in (trees_of c.deref-in-Let.result.now) + nodes (tree_of c.deref-in-Let-2.result.now)) + 2 < 16 * nodes (tree_of c.args.node.now) = omega (arith, ap nodes is) in
     (search (rules, in_room c.args.context.now _ _ smaller), (sound.0, record { tail = c.requires.tail; sound = sound.1 }))
 
 pub evaluate_tail-evaluate_loop-requires : goal.evaluate_tail-evaluate_loop-requires
 evaluate_tail-evaluate_loop-requires t c =
     let is = loop_node c.args.node.now c.in-Loop.values c.in-Loop.body c.deref-in-Loop.result.now c.deref-in-Loop-2.result.now c.in-Loop.is c.deref-in-Loop.ensures.value c.deref-in-Loop-2.ensures in
-    let sound = subst (λ e. SoundTree (callable c.args.context.now) in_thread (length c.args.locals.now.items) c.requires.tail e) is c.requires.sound in
-    let smaller : 3 * (nodes_in (trees_of c.deref-in-Loop.result.now) + nodes (tree_of c.deref-in-Loop-2.result.now)) + 2 < 3 * nodes (tree_of c.args.node.now) = omega (arith, ap nodes is) in
+    let sound = subst (λ e. SoundTree (callable c.args.context.now) (zone_in c.args.context.now) (length c.args.locals.now.items) c.requires.tail e) is c.requires.sound in
+    let smaller : 16 * (nodes_in (trees_of c.deref-in-Loop.result.now) + nodes (tree_of c.deref-in-Loop-2.result.now)) + 2 < 16 * nodes (tree_of c.args.node.now) = omega (arith, ap nodes is) in
     (search (rules, in_room c.args.context.now _ _ smaller), (sound.0, sound.1))
-
-pub evaluate_tail-evaluate_all-requires : goal.evaluate_tail-evaluate_all-requires
-evaluate_tail-evaluate_all-requires t c =
-    let is = recur_node c.args.node.now c.in-Recur.values c.deref-in-Recur.result.now c.in-Recur.is c.deref-in-Recur.ensures.value in
-    let sound = subst (λ e. SoundTree (callable c.args.context.now) in_thread (length c.args.locals.now.items) c.requires.tail e) is c.requires.sound in
-    let smaller : 3 * nodes_in (trees_of c.deref-in-Recur.result.now) + 2 < 3 * nodes (tree_of c.args.node.now) = omega (arith, ap nodes is) in
-    (search (rules, in_room c.args.context.now _ _ smaller), sound.1)
-
-pub evaluate_tail-returns-in_err-values-in-Recur-clause-value : goal.evaluate_tail-returns-in_err-values-in-Recur-clause-value
-evaluate_tail-returns-in_err-values-in-Recur-clause-value t c =
-    let n = c.args.node.now in
-    let es = trees_of c.deref-in-Recur.result.now in
-    let is = recur_node n c.in-Recur.values c.deref-in-Recur.result.now c.in-Recur.is c.deref-in-Recur.ensures.value in
-    let y = c.in_err-values-in-Recur.field-0.0 in
-    let out = c.evaluate_all.new.printed.items in
-    let whole = recur_stop c.args.context.now (tree_of n) (mark_of n.span n.wanted) c.args.locals.now.items c.args.printed.now.items (λ (v : Vec Value Global). v.items) y es out c.in_err-values-in-Recur.ensures.value is in
-    stops_steps c.from_residual-in_err-values-in-Recur.result y out (means c.args.context.now (tree_of n) c.args.locals.now.items c.args.printed.now.items) (search rules) whole
-
-pub evaluate_tail-evaluate_all-requires-in-Core : goal.evaluate_tail-evaluate_all-requires-in-Core
-evaluate_tail-evaluate_all-requires-in-Core t c =
-    let is = core_node c.args.node.now c.in-Core.op c.in-Core.args c.deref-in-Core.result.now c.in-Core.is c.deref-in-Core.ensures.value in
-    let sound = subst (λ e. SoundTree (callable c.args.context.now) in_thread (length c.args.locals.now.items) c.requires.tail e) is c.requires.sound in
-    let smaller : 3 * nodes_in (trees_of c.deref-in-Core.result.now) + 2 < 3 * nodes (tree_of c.args.node.now) = omega (arith, ap nodes is) in
-    (search (rules, in_room c.args.context.now _ _ smaller), sound.1)
-
-pub evaluate_tail-returns-in_err-values-in-Core-clause-value : goal.evaluate_tail-returns-in_err-values-in-Core-clause-value
-evaluate_tail-returns-in_err-values-in-Core-clause-value t c =
-    let n = c.args.node.now in
-    let es = trees_of c.deref-in-Core.result.now in
-    let is = core_node n c.in-Core.op c.in-Core.args c.deref-in-Core.result.now c.in-Core.is c.deref-in-Core.ensures.value in
-    let y = c.in_err-values-in-Core.field-0.0 in
-    let out = c.evaluate_all-in-Core.new.printed.items in
-    let whole = core_stop c.args.context.now (tree_of n) (mark_of n.span n.wanted) c.args.locals.now.items c.args.printed.now.items (λ (v : Vec Value Global). v.items) y es out c.in_err-values-in-Core.ensures.value c.in-Core.op is in
-    stops_steps c.from_residual-in_err-values-in-Core.result y out (means c.args.context.now (tree_of n) c.args.locals.now.items c.args.printed.now.items) (search rules) whole
-
-pub evaluate_tail-evaluate_all-requires-in-Vector : goal.evaluate_tail-evaluate_all-requires-in-Vector
-evaluate_tail-evaluate_all-requires-in-Vector t c =
-    let is = vector_node c.args.node.now c.in-Vector.items c.deref-in-Vector.result.now c.in-Vector.is c.deref-in-Vector.ensures.value in
-    let sound = subst (λ e. SoundTree (callable c.args.context.now) in_thread (length c.args.locals.now.items) c.requires.tail e) is c.requires.sound in
-    let smaller : 3 * nodes_in (trees_of c.deref-in-Vector.result.now) + 2 < 3 * nodes (tree_of c.args.node.now) = omega (arith, ap nodes is) in
-    (search (rules, in_room c.args.context.now _ _ smaller), sound.1)
-
-pub evaluate_tail-returns-in_err-values-in-Vector-clause-value : goal.evaluate_tail-returns-in_err-values-in-Vector-clause-value
-evaluate_tail-returns-in_err-values-in-Vector-clause-value t c =
-    let n = c.args.node.now in
-    let es = trees_of c.deref-in-Vector.result.now in
-    let is = vector_node n c.in-Vector.items c.deref-in-Vector.result.now c.in-Vector.is c.deref-in-Vector.ensures.value in
-    let y = c.in_err-values-in-Vector.field-0.0 in
-    let out = c.evaluate_all-in-Vector.new.printed.items in
-    let whole = vector_stop c.args.context.now (tree_of n) (mark_of n.span n.wanted) c.args.locals.now.items c.args.printed.now.items (λ (v : Vec Value Global). v.items) y es out c.in_err-values-in-Vector.ensures.value is in
-    stops_steps c.from_residual-in_err-values-in-Vector.result y out (means c.args.context.now (tree_of n) c.args.locals.now.items c.args.printed.now.items) (search rules) whole
-
-pub evaluate_tail-evaluate_all-requires-in-Println : goal.evaluate_tail-evaluate_all-requires-in-Println
-evaluate_tail-evaluate_all-requires-in-Println t c =
-    let is = println_node c.args.node.now c.in-Println.args c.deref-in-Println.result.now c.in-Println.is c.deref-in-Println.ensures.value in
-    let sound = subst (λ e. SoundTree (callable c.args.context.now) in_thread (length c.args.locals.now.items) c.requires.tail e) is c.requires.sound in
-    let smaller : 3 * nodes_in (trees_of c.deref-in-Println.result.now) + 2 < 3 * nodes (tree_of c.args.node.now) = omega (arith, ap nodes is) in
-    (search (rules, in_room c.args.context.now _ _ smaller), sound.2)
-
-pub evaluate_tail-returns-in_err-values-in-Println-clause-value : goal.evaluate_tail-returns-in_err-values-in-Println-clause-value
-evaluate_tail-returns-in_err-values-in-Println-clause-value t c =
-    let n = c.args.node.now in
-    let es = trees_of c.deref-in-Println.result.now in
-    let is = println_node n c.in-Println.args c.deref-in-Println.result.now c.in-Println.is c.deref-in-Println.ensures.value in
-    let y = c.in_err-values-in-Println.field-0.0 in
-    let out = c.evaluate_all-in-Println.new.printed.items in
-    let whole = println_stop c.args.context.now (tree_of n) (mark_of n.span n.wanted) c.args.locals.now.items c.args.printed.now.items (λ (v : Vec Value Global). v.items) y es out c.in_err-values-in-Println.ensures.value is in
-    stops_steps c.from_residual-in_err-values-in-Println.result y out (means c.args.context.now (tree_of n) c.args.locals.now.items c.args.printed.now.items) (search rules) whole
-
-pub evaluate_tail-evaluate_all-requires-in-Call : goal.evaluate_tail-evaluate_all-requires-in-Call
-evaluate_tail-evaluate_all-requires-in-Call t c =
-    let is = call_node c.args.node.now c.in-Call.function c.in-Call.args c.deref-in-Call.result.now c.in-Call.is c.deref-in-Call.ensures.value in
-    let sound = subst (λ e. SoundTree (callable c.args.context.now) in_thread (length c.args.locals.now.items) c.requires.tail e) is c.requires.sound in
-    let smaller : 3 * nodes_in (trees_of c.deref-in-Call.result.now) + 2 < 3 * nodes (tree_of c.args.node.now) = omega (arith, ap nodes is) in
-    (search (rules, in_room c.args.context.now _ _ smaller), sound.1)
-
-pub evaluate_tail-returns-in_err-values-in-Call-clause-value : goal.evaluate_tail-returns-in_err-values-in-Call-clause-value
-evaluate_tail-returns-in_err-values-in-Call-clause-value t c =
-    let n = c.args.node.now in
-    let es = trees_of c.deref-in-Call.result.now in
-    let is = call_node n c.in-Call.function c.in-Call.args c.deref-in-Call.result.now c.in-Call.is c.deref-in-Call.ensures.value in
-    let y = c.in_err-values-in-Call.field-0.0 in
-    let out = c.evaluate_all-in-Call.new.printed.items in
-    let whole = call_stop c.args.context.now (tree_of n) (mark_of n.span n.wanted) c.args.locals.now.items c.args.printed.now.items (λ (v : Vec Value Global). v.items) y es out c.in_err-values-in-Call.ensures.value c.in-Call.function is in
-    stops_steps c.from_residual-in_err-values-in-Call.result y out (means c.args.context.now (tree_of n) c.args.locals.now.items c.args.printed.now.items) (search rules) whole
-
-pub evaluate_tail-call-requires : goal.evaluate_tail-call-requires
-evaluate_tail-call-requires t c =
-    let is = call_node c.args.node.now c.in-Call.function c.in-Call.args c.deref-in-Call.result.now c.in-Call.is c.deref-in-Call.ensures.value in
-    let sound = subst (λ e. SoundTree (callable c.args.context.now) in_thread (length c.args.locals.now.items) c.requires.tail e) is c.requires.sound in
-    let some = nodes-some (tree_of c.args.node.now) in
-    let smaller : 0 < 3 * nodes (tree_of c.args.node.now) = omega (arith, some) in
-    (search (rules, in_room c.args.context.now _ _ smaller), subst (λ k. SoundCall (callable c.args.context.now) in_thread c.in-Call.function k) (sym c.in_ok-values-in-Call.ensures.count) sound.0)
-
-pub evaluate_tail-returns-in_err-value-in-Call-clause-value : goal.evaluate_tail-returns-in_err-value-in-Call-clause-value
-evaluate_tail-returns-in_err-value-in-Call-clause-value t c =
-    let n = c.args.node.now in
-    let is = call_node n c.in-Call.function c.in-Call.args c.deref-in-Call.result.now c.in-Call.is c.deref-in-Call.ensures.value in
-    let y = c.in_err-value-in-Call.field-0.0 in
-    let out = c.call.new.printed.items in
-    let vs = c.in_ok-values-in-Call.values.items in
-    let there = call_is c.args.context.now (tree_of n) (mark_of n.span n.wanted) c.args.locals.now.items c.args.printed.now.items (trees_of c.deref-in-Call.result.now) vs vs
-    c.evaluate_all-in-Call.new.printed.items out c.in_ok-values-in-Call.ensures.value refl c.in-Call.function is in
-    let whole = subst (λ m. Stops y out m) (sym there) c.in_err-value-in-Call.ensures in
-    stops_steps c.from_residual-in_err-value-in-Call.result y out (means c.args.context.now (tree_of n) c.args.locals.now.items c.args.printed.now.items) (search rules) whole
-
-pub evaluate_tail-returns-in_ok-value-in-Call-clause-value : goal.evaluate_tail-returns-in_ok-value-in-Call-clause-value
-evaluate_tail-returns-in_ok-value-in-Call-clause-value t c =
-    let n = c.args.node.now in
-    let is = call_node n c.in-Call.function c.in-Call.args c.deref-in-Call.result.now c.in-Call.is c.deref-in-Call.ensures.value in
-    let vs = c.in_ok-values-in-Call.values.items in
-    call_is c.args.context.now (tree_of n) (mark_of n.span n.wanted) c.args.locals.now.items c.args.printed.now.items (trees_of c.deref-in-Call.result.now) vs vs
-    c.evaluate_all-in-Call.new.printed.items c.call.new.printed.items c.in_ok-values-in-Call.ensures.value refl c.in-Call.function is
-    ∙ c.in_ok-value-in-Call.ensures
 
 pub call-function-function-requires : goal.call-function-function-requires
 call-function-function-requires t c = search (rules, is_function c.args.context.now c.args.number (length c.args.values.items) c.requires)
@@ -174,9 +75,9 @@ call-run_turns-requires t c =
     let there : nth (functions_of s.functions) c.args.number ≡ Some fun = subst (λ f. nth (functions_of s.functions) f ≡ Some fun) number c.function-function.ensures.value in
     let left = depth_left s c.args.number (length c.args.values.items) c.requires in
     let sound = called_body s c.args.number (length c.args.values.items) c.requires fun c.function-function.ensures.sound there in
-    let smaller : room c.deeper-inner.result + (3 * nodes fun.body + 1) < room s = subst (λ x. room x + (3 * nodes fun.body + 1) < room s) (sym c.deeper-inner.ensures) (room-deeper s c.args.number fun left there) in
+    let smaller : room c.deeper-inner.result + (16 * nodes fun.body + 1) < room s = subst (λ x. room x + (16 * nodes fun.body + 1) < room s) (sym c.deeper-inner.ensures) (room-deeper s c.args.number fun left there) in
     let many : length c.args.values.items ≡ length c.args.values.items - 0 = omega arith in
-    (search (rules, smaller), (omega arith, subst₂ (λ x k. SoundTree (callable x) in_thread (length c.args.values.items) (Some k) fun.body) (sym c.deeper-inner.ensures) many sound))
+    (search (rules, smaller), (omega arith, subst₂ (λ x k. SoundTree (callable x) (zone_in x) (length c.args.values.items) (Some k) fun.body) (sym c.deeper-inner.ensures) many sound))
 
 pub call-returns : goal.call-returns
 call-returns t c =
@@ -188,100 +89,34 @@ call-returns t c =
     let left = depth_left s c.args.number (length vs) c.requires in
     let as_given : length vs ≡ length vs - 0 = omega arith in
     let many : fun.parameters ≡ length vs - 0 = as_many s c.args.number (length vs) c.requires fun c.function-function.ensures.sound there ∙ as_given in
-    let out = c.args.printed.now.items in
-    let whole = call_turns s c.args.number fun left there (length vs - 0) vs (take 0 vs) (drop 0 vs) out many (search rules) (search rules) in
-    let result = c.run_turns.result in
-    let later = c.run_turns.new.printed.items in
-    let turns = subst (λ x. Gives result later (turns_mean x x.turns (length vs - 0) fun.body (take 0 vs) (drop 0 vs) out)) c.deeper-inner.ensures c.run_turns.ensures.value in
-    subst (λ m. Gives result later m) (sym whole) turns
-
-pub evaluate_tail-operate-requires : goal.evaluate_tail-operate-requires
-evaluate_tail-operate-requires t c =
-    let is = core_node c.args.node.now c.in-Core.op c.in-Core.args c.deref-in-Core.result.now c.in-Core.is c.deref-in-Core.ensures.value in
-    let sound = subst (λ e. SoundTree (callable c.args.context.now) in_thread (length c.args.locals.now.items) c.requires.tail e) is c.requires.sound in
-    subst (λ k. IsTrue (takes c.in-Core.op k)) (sym c.in_ok-values-in-Core.ensures.count) sound.0.0
+    called s c.args.number fun left there (length vs - 0) vs (take 0 vs) (drop 0 vs) c.args.state.now c.run_turns.new.state c.run_turns.result c.deeper-inner.result c.deeper-inner.ensures many (search rules) (search rules) c.run_turns.ensures.value
 
 pub evaluate_tail-returns-in_ok-copy_value-in-Local-clause-value : goal.evaluate_tail-returns-in_ok-copy_value-in-Local-clause-value
 evaluate_tail-returns-in_ok-copy_value-in-Local-clause-value t c =
     let n = c.args.node.now in
     let is = local_node n c.in-Local.place c.in-Local.is in
-    let bound : c.in-Local.place < length c.args.locals.now.items = subst (λ e. SoundTree (callable c.args.context.now) in_thread (length c.args.locals.now.items) c.requires.tail e) is c.requires.sound in
-    local_done c.args.context.now (tree_of n) (mark_of n.span n.wanted) c.args.locals.now.items c.args.printed.now.items c.in-Local.place c.from.result c.in_ok-copy_value-in-Local.field-0 c.index.result.now is (search rules) bound (search rules) c.in_ok-copy_value-in-Local.ensures
-
-pub evaluate_tail-returns-in_err-value-in-If-clause-value : goal.evaluate_tail-returns-in_err-value-in-If-clause-value
-evaluate_tail-returns-in_err-value-in-If-clause-value t c =
-    let n = c.args.node.now in
-    let is = if_node n c.in-If.test c.in-If.yes c.in-If.no c.deref.result.now c.in-If.yes.value c.in-If.no.value c.in-If.is c.deref.ensures refl refl in
-    let y = c.in_err-value-in-If.field-0.0 in
-    let out = c.evaluate.new.printed.items in
-    let whole = if_stop c.args.context.now (tree_of n) (mark_of n.span n.wanted) c.args.locals.now.items c.args.printed.now.items (tree_of c.deref.result.now) (tree_of c.in-If.yes.value) (tree_of c.in-If.no.value) is y out c.in_err-value-in-If.ensures.value in
-    stops_steps c.from_residual-in_err-value-in-If.result y out (means c.args.context.now (tree_of n) c.args.locals.now.items c.args.printed.now.items) (search rules) whole
-
-pub evaluate_tail-returns-then-is_other-clause-value : goal.evaluate_tail-returns-then-is_other-clause-value
-evaluate_tail-returns-then-is_other-clause-value t c =
-    let n = c.args.node.now in
-    let b = c.deref-then-is_other.result.now in
-    let is = if_node n c.in-If.test c.in-If.yes c.in-If.no c.deref.result.now c.in-If.yes.value b c.in-If.is c.deref.ensures refl c.deref-then-is_other.ensures in
-    if_goes c.args.context.now (tree_of n) (mark_of n.span n.wanted) c.args.locals.now.items c.args.printed.now.items (tree_of c.deref.result.now) (tree_of c.in-If.yes.value) (tree_of b) is c.in_ok-value-in-If.value true
-    c.evaluate.new.locals.items c.evaluate.new.printed.items c.evaluate_tail.new.printed.items c.evaluate_tail.result c.in_ok-value-in-If.ensures.value (sym c.if-is_other.true ∙ c.is_other.ensures) c.in_ok-value-in-If.ensures.kept c.evaluate_tail.ensures.value
-
-pub evaluate_tail-returns-else-is_other-clause-value : goal.evaluate_tail-returns-else-is_other-clause-value
-evaluate_tail-returns-else-is_other-clause-value t c =
-    let n = c.args.node.now in
-    let b = c.deref-in-If.result.now in
-    let is = if_node n c.in-If.test c.in-If.yes c.in-If.no c.deref.result.now b c.in-If.no.value c.in-If.is c.deref.ensures c.deref-in-If.ensures refl in
-    if_goes c.args.context.now (tree_of n) (mark_of n.span n.wanted) c.args.locals.now.items c.args.printed.now.items (tree_of c.deref.result.now) (tree_of b) (tree_of c.in-If.no.value) is c.in_ok-value-in-If.value false
-    c.evaluate.new.locals.items c.evaluate.new.printed.items c.evaluate_tail-in-If.new.printed.items c.evaluate_tail-in-If.result c.in_ok-value-in-If.ensures.value (sym c.if-is_other.false ∙ c.is_other.ensures) c.in_ok-value-in-If.ensures.kept c.evaluate_tail-in-If.ensures.value
+    let bound : c.in-Local.place < length c.args.locals.now.items = subst (λ e. SoundTree (callable c.args.context.now) (zone_in c.args.context.now) (length c.args.locals.now.items) c.requires.tail e) is c.requires.sound in
+    local_done c.args.context.now (tree_of n) (mark_of n.span n.wanted) c.args.locals.now.items c.args.state.now c.in-Local.place c.from.result c.in_ok-copy_value-in-Local.field-0 c.index.result.now is (search rules) bound (search rules) c.in_ok-copy_value-in-Local.ensures
 
 pub evaluate_tail-returns-in-Do-clause-value : goal.evaluate_tail-returns-in-Do-clause-value
 evaluate_tail-returns-in-Do-clause-value t c =
     let n = c.args.node.now in
     let is = do_node n c.in-Do.items c.deref-in-Do.result.now c.in-Do.is c.deref-in-Do.ensures.value in
-    steps_do c.args.context.now (tree_of n) (mark_of n.span n.wanted) c.args.locals.now.items c.args.printed.now.items c.evaluate_do.new.printed.items c.evaluate_do.result (trees_of c.deref-in-Do.result.now) is c.evaluate_do.ensures.value
+    subst (λ e. Steps c.args.context.now c.evaluate_do.result c.evaluate_do.new.state (means c.args.context.now e c.args.locals.now.items c.args.state.now)) (sym is) c.evaluate_do.ensures.value
 
 pub evaluate_tail-returns-in-Let-clause-value : goal.evaluate_tail-returns-in-Let-clause-value
 evaluate_tail-returns-in-Let-clause-value t c =
     let n = c.args.node.now in
     let b = c.deref-in-Let-2.result.now in
     let is = let_node n c.in-Let.values c.in-Let.body c.deref-in-Let.result.now b c.in-Let.is c.deref-in-Let.ensures.value c.deref-in-Let-2.ensures in
-    steps_let c.args.context.now (tree_of n) (mark_of n.span n.wanted) c.args.locals.now.items c.args.printed.now.items c.evaluate_let.new.printed.items c.evaluate_let.result (trees_of c.deref-in-Let.result.now) (tree_of b) is c.evaluate_let.ensures.value
+    subst (λ e. Steps c.args.context.now c.evaluate_let.result c.evaluate_let.new.state (means c.args.context.now e c.args.locals.now.items c.args.state.now)) (sym is) c.evaluate_let.ensures.value
 
 pub evaluate_tail-returns-in-Loop-clause-value : goal.evaluate_tail-returns-in-Loop-clause-value
 evaluate_tail-returns-in-Loop-clause-value t c =
     let n = c.args.node.now in
     let b = c.deref-in-Loop-2.result.now in
     let is = loop_node n c.in-Loop.values c.in-Loop.body c.deref-in-Loop.result.now b c.in-Loop.is c.deref-in-Loop.ensures.value c.deref-in-Loop-2.ensures in
-    steps_loop c.args.context.now (tree_of n) (mark_of n.span n.wanted) c.args.locals.now.items c.args.printed.now.items c.evaluate_loop.new.printed.items c.evaluate_loop.result (trees_of c.deref-in-Loop.result.now) (tree_of b) is c.evaluate_loop.ensures.value
-
-pub evaluate_tail-returns-in_ok-values-in-Recur-clause-value : goal.evaluate_tail-returns-in_ok-values-in-Recur-clause-value
-evaluate_tail-returns-in_ok-values-in-Recur-clause-value t c =
-    let n = c.args.node.now in
-    let is = recur_node n c.in-Recur.values c.deref-in-Recur.result.now c.in-Recur.is c.deref-in-Recur.ensures.value in
-    recur_done c.args.context.now (tree_of n) (mark_of n.span n.wanted) c.args.locals.now.items c.args.printed.now.items (trees_of c.deref-in-Recur.result.now) c.in_ok-values-in-Recur.values.items c.in_ok-values-in-Recur.values.items
-    c.evaluate_all.new.printed.items c.evaluate_all.new.printed.items c.in_ok-values-in-Recur.ensures.value refl is
-
-pub evaluate_tail-returns-in_ok-values-in-Core-clause-value : goal.evaluate_tail-returns-in_ok-values-in-Core-clause-value
-evaluate_tail-returns-in_ok-values-in-Core-clause-value t c =
-    let n = c.args.node.now in
-    let is = core_node n c.in-Core.op c.in-Core.args c.deref-in-Core.result.now c.in-Core.is c.deref-in-Core.ensures.value in
-    core_done c.args.context.now (tree_of n) (mark_of n.span n.wanted) c.args.locals.now.items c.args.printed.now.items (trees_of c.deref-in-Core.result.now) c.in_ok-values-in-Core.values.items c.in_ok-values-in-Core.values.items
-    c.evaluate_all-in-Core.new.printed.items c.deref-in-Core-2.result.now c.in_ok-values-in-Core.ensures.value refl c.in-Core.op c.operate.result is c.deref-in-Core-2.ensures.value c.operate.ensures
-
-pub evaluate_tail-returns-in_ok-values-in-Vector-clause-value : goal.evaluate_tail-returns-in_ok-values-in-Vector-clause-value
-evaluate_tail-returns-in_ok-values-in-Vector-clause-value t c =
-    let n = c.args.node.now in
-    let is = vector_node n c.in-Vector.items c.deref-in-Vector.result.now c.in-Vector.is c.deref-in-Vector.ensures.value in
-    vector_done c.args.context.now (tree_of n) (mark_of n.span n.wanted) c.args.locals.now.items c.args.printed.now.items (trees_of c.deref-in-Vector.result.now) c.in_ok-values-in-Vector.values.items c.in_ok-values-in-Vector.values.items
-    c.evaluate_all-in-Vector.new.printed.items c.deref-in-Vector-2.result.now c.in_ok-values-in-Vector.ensures.value refl c.collect.result is c.deref-in-Vector-2.ensures.value c.collect.ensures
-
-pub evaluate_tail-returns-in_ok-values-in-Println-clause-value : goal.evaluate_tail-returns-in_ok-values-in-Println-clause-value
-evaluate_tail-returns-in_ok-values-in-Println-clause-value t c =
-    let n = c.args.node.now in
-    let is = println_node n c.in-Println.args c.deref-in-Println.result.now c.in-Println.is c.deref-in-Println.ensures.value in
-    let ws = c.in_ok-values-in-Println.values.items in
-    let out = c.evaluate_all-in-Println.new.printed.items in
-    let whole = println_done c.args.context.now (tree_of n) (mark_of n.span n.wanted) c.args.locals.now.items c.args.printed.now.items (trees_of c.deref-in-Println.result.now) ws ws out (out ++ printed_line ws) c.in_ok-values-in-Println.ensures.value refl is refl in
-    subst (λ r. Steps c.print_line.result c.print_line.new.printed.items r) (sym whole) c.print_line.ensures
+    subst (λ e. Steps c.args.context.now c.evaluate_loop.result c.evaluate_loop.new.state (means c.args.context.now e c.args.locals.now.items c.args.state.now)) (sym is) c.evaluate_loop.ensures.value
 
 pub evaluate_all-loop-node-init : goal.evaluate_all-loop-node-init
 evaluate_all-loop-node-init t c =
@@ -290,25 +125,25 @@ evaluate_all-loop-node-init t c =
       refl,
       ap (λ vs. length vs + count (trees_of c.args.nodes.now)) empty ∙ zero-add (count (trees_of c.args.nodes.now)),
       c.requires,
-      collects-start (no_events n) (calls_in n) n.turns false c.in_ok-values.values.items (trees_of c.args.nodes.now) c.args.locals.now.items (printing c.args.printed.now.items) empty,
+      collects-start (forms_in n) (calls_in n) n.turns (is_on n.world) c.in_ok-values.values.items (trees_of c.args.nodes.now) c.args.locals.now.items (part n.world c.args.state.now) empty,
     )
 
 pub evaluate_all-evaluate-requires : goal.evaluate_all-evaluate-requires
 evaluate_all-evaluate-requires t c =
     let ns = c.args.nodes.now in
     let smaller = item_smaller ns c.loop-node.node-index c.node-item.result c.loop-node-test.true c.node-item.is in
-    let sound = (SoundAll-from ns c.loop-node.node-index c.node-item.result c.loop-node-test.true c.node-item.is (callable c.args.context.now) in_thread (length c.args.locals.now.items) c.loop-node.invariant.2).0 in
-    (search (rules, in_room c.args.context.now _ _ smaller), subst (λ l. SoundTree (callable c.args.context.now) in_thread (length l) None (tree_of c.node-item.result)) (sym c.loop-node.invariant.0) sound)
+    let sound = (SoundAll-from ns c.loop-node.node-index c.node-item.result c.loop-node-test.true c.node-item.is (callable c.args.context.now) (zone_in c.args.context.now) (length c.args.locals.now.items) c.loop-node.invariant.2).0 in
+    (search (rules, in_room c.args.context.now _ _ smaller), subst (λ l. SoundTree (callable c.args.context.now) (zone_in c.args.context.now) (length l) None (tree_of c.node-item.result)) (sym c.loop-node.invariant.0) sound)
 
 pub evaluate_all-returns-in_err-value-clause-value : goal.evaluate_all-returns-in_err-value-clause-value
 evaluate_all-returns-in_err-value-clause-value t c =
     let n = c.args.context.now in
-    let out = c.evaluate.new.printed.items in
+    let out = c.evaluate.new.state in
     let y = c.in_err-value.field-0.0 in
-    let rest = all_stop n c.args.nodes.now c.loop-node.node-index c.node-item.result c.loop-node-test.true c.node-item.is c.args.locals.now.items c.loop-node.locals.items c.loop-node.printed.items out c.loop-node.invariant.0 c.loop-node.values.items y c.in_err-value.ensures.value in
-    let whole = subst (λ m. Stops y out m) (sym c.loop-node.invariant.3) rest in
+    let rest = all_stop n c.args.nodes.now c.loop-node.node-index c.node-item.result c.loop-node-test.true c.node-item.is c.args.locals.now.items c.loop-node.locals.items c.loop-node.state out c.loop-node.invariant.0 c.loop-node.values.items y c.in_err-value.ensures.value in
+    let whole = subst (λ m. StopsAt n y out m) (sym c.loop-node.invariant.3) rest in
     let err : c.from_residual-in_err-value.result ≡ Err y = search rules in
-    subst (λ r. GivesAll (λ (v : Vec Value Global). v.items) r out (all_mean n (trees_of c.args.nodes.now) c.args.locals.now.items c.args.printed.now.items)) (sym err) whole
+    subst (λ r. GivesAll n (λ (v : Vec Value Global). v.items) r out (all_mean n (trees_of c.args.nodes.now) c.args.locals.now.items c.args.state.now)) (sym err) whole
 
 pub evaluate_all-loop-node-preserved : goal.evaluate_all-loop-node-preserved
 evaluate_all-loop-node-preserved t c =
@@ -322,8 +157,8 @@ evaluate_all-loop-node-preserved t c =
     let fewer = count-from ns i c.node-item.result lt is in (
       c.in_ok-value.ensures.kept ∙ c.loop-node.invariant.0,
       omega (arith, longer, fewer, c.loop-node.invariant.1),
-      (SoundAll-from ns i c.node-item.result lt is (callable c.args.context.now) in_thread (length c.args.locals.now.items) c.loop-node.invariant.2).1,
-      c.loop-node.invariant.3 ∙ all_more n ns i c.node-item.result lt is c.args.locals.now.items c.loop-node.locals.items c.loop-node.printed.items c.evaluate.new.printed.items c.loop-node.invariant.0 c.loop-node.values.items c.push.new.self.items c.in_ok-value.value c.in_ok-value.ensures.value pushed,
+      (SoundAll-from ns i c.node-item.result lt is (callable c.args.context.now) (zone_in c.args.context.now) (length c.args.locals.now.items) c.loop-node.invariant.2).1,
+      c.loop-node.invariant.3 ∙ all_more n ns i c.node-item.result lt is c.args.locals.now.items c.loop-node.locals.items c.loop-node.state c.evaluate.new.state c.loop-node.invariant.0 c.loop-node.values.items c.push.new.self.items c.in_ok-value.value c.in_ok-value.ensures.value pushed,
     )
 
 pub evaluate_all-returns-clause-count : goal.evaluate_all-returns-clause-count
@@ -337,8 +172,8 @@ evaluate_do-loop-node-init t c =
     let before = c.in-Some.before.now in
     let last = c.in-Some.last.now in
     let whole : ns ≡ before ++ last ∷ [] = c.in-Some.ensures.cases.0 in
-    let sound = SoundDo-parts (callable c.args.context.now) in_thread (length c.args.locals.now.items) c.requires.tail before last (subst (λ l. SoundDo (callable c.args.context.now) in_thread (length c.args.locals.now.items) c.requires.tail (trees_of l)) whole c.requires.sound) in
-    (refl, sound.0, do_start c.args.context.now before ns last c.args.locals.now.items c.args.printed.now.items whole)
+    let sound = SoundDo-parts (callable c.args.context.now) (zone_in c.args.context.now) (length c.args.locals.now.items) c.requires.tail before last (subst (λ l. SoundDo (callable c.args.context.now) (zone_in c.args.context.now) (length c.args.locals.now.items) c.requires.tail (trees_of l)) whole c.requires.sound) in
+    (refl, sound.0, do_start c.args.context.now before ns last c.args.locals.now.items c.args.state.now whole)
 
 pub evaluate_do-evaluate-requires : goal.evaluate_do-evaluate-requires
 evaluate_do-evaluate-requires t c =
@@ -349,18 +184,18 @@ evaluate_do-evaluate-requires t c =
     let i = c.loop-node.node-index in
     let x = c.node-item.result in
     let fewer = item_smaller before i x c.loop-node-test.true c.node-item.is in
-    let smaller : 3 * nodes (tree_of x) + 1 < 3 * nodes_in (trees_of ns) + 2 = omega (arith, fewer, nodes-last ns before last whole) in
-    let sound = (SoundAll-from before i x c.loop-node-test.true c.node-item.is (callable c.args.context.now) in_thread (length c.args.locals.now.items) c.loop-node.invariant.1).0 in
-    (search (rules, in_room c.args.context.now _ _ smaller), subst (λ l. SoundTree (callable c.args.context.now) in_thread (length l) None (tree_of x)) (sym c.loop-node.invariant.0) sound)
+    let smaller : 16 * nodes (tree_of x) + 1 < 16 * nodes_in (trees_of ns) + 2 = omega (arith, fewer, nodes-last ns before last whole) in
+    let sound = (SoundAll-from before i x c.loop-node-test.true c.node-item.is (callable c.args.context.now) (zone_in c.args.context.now) (length c.args.locals.now.items) c.loop-node.invariant.1).0 in
+    (search (rules, in_room c.args.context.now _ _ smaller), subst (λ l. SoundTree (callable c.args.context.now) (zone_in c.args.context.now) (length l) None (tree_of x)) (sym c.loop-node.invariant.0) sound)
 
 pub evaluate_do-returns-in_err-evaluate-clause-value : goal.evaluate_do-returns-in_err-evaluate-clause-value
 evaluate_do-returns-in_err-evaluate-clause-value t c =
     let n = c.args.context.now in
-    let out = c.evaluate.new.printed.items in
+    let out = c.evaluate.new.state in
     let y = c.in_err-evaluate.field-0.0 in
-    let rest = do_stop n c.in-Some.before.now c.loop-node.node-index c.node-item.result c.loop-node-test.true c.node-item.is c.args.locals.now.items c.loop-node.locals.items c.loop-node.printed.items out c.loop-node.invariant.0 (tree_of c.in-Some.last.now) y c.in_err-evaluate.ensures.value in
-    let whole = subst (λ m. Stops y out m) (sym c.loop-node.invariant.2) rest in
-    stops_steps c.from_residual.result y out (do_means n (trees_of c.args.nodes.now) c.args.locals.now.items c.args.printed.now.items) (search rules) whole
+    let rest = do_stop n c.in-Some.before.now c.loop-node.node-index c.node-item.result c.loop-node-test.true c.node-item.is c.args.locals.now.items c.loop-node.locals.items c.loop-node.state out c.loop-node.invariant.0 (tree_of c.in-Some.last.now) y c.in_err-evaluate.ensures.value in
+    let whole = subst (λ m. StopsAt n y out m) (sym c.loop-node.invariant.2) rest in
+    stops_steps (is_on n.world) c.from_residual.result y (part n.world out) (do_means n (trees_of c.args.nodes.now) c.args.locals.now.items c.args.state.now) (search rules) whole
 
 pub evaluate_do-evaluate_tail-requires : goal.evaluate_do-evaluate_tail-requires
 evaluate_do-evaluate_tail-requires t c =
@@ -368,24 +203,24 @@ evaluate_do-evaluate_tail-requires t c =
     let before = c.in-Some.before.now in
     let last = c.in-Some.last.now in
     let whole : ns ≡ before ++ last ∷ [] = c.in-Some.ensures.cases.0 in
-    let sound = SoundDo-parts (callable c.args.context.now) in_thread (length c.args.locals.now.items) c.requires.tail before last (subst (λ l. SoundDo (callable c.args.context.now) in_thread (length c.args.locals.now.items) c.requires.tail (trees_of l)) whole c.requires.sound) in
-    let smaller : 3 * nodes (tree_of last) < 3 * nodes_in (trees_of ns) + 2 = omega (arith, nodes-last ns before last whole) in
-    (search (rules, in_room c.args.context.now _ _ smaller), record { tail = c.requires.tail; sound = subst (λ l. SoundTree (callable c.args.context.now) in_thread (length l) c.requires.tail (tree_of last)) (sym c.loop-node.invariant.0) sound.1 })
+    let sound = SoundDo-parts (callable c.args.context.now) (zone_in c.args.context.now) (length c.args.locals.now.items) c.requires.tail before last (subst (λ l. SoundDo (callable c.args.context.now) (zone_in c.args.context.now) (length c.args.locals.now.items) c.requires.tail (trees_of l)) whole c.requires.sound) in
+    let smaller : 16 * nodes (tree_of last) < 16 * nodes_in (trees_of ns) + 2 = omega (arith, nodes-last ns before last whole) in
+    (search (rules, in_room c.args.context.now _ _ smaller), record { tail = c.requires.tail; sound = subst (λ l. SoundTree (callable c.args.context.now) (zone_in c.args.context.now) (length l) c.requires.tail (tree_of last)) (sym c.loop-node.invariant.0) sound.1 })
 
 pub evaluate_let-bind_locals-requires : goal.evaluate_let-bind_locals-requires
 evaluate_let-bind_locals-requires t c =
     let some = nodes-some (tree_of c.args.body.now) in
-    let smaller : 3 * nodes_in (trees_of c.args.nodes.now) + 2 < 3 * (nodes_in (trees_of c.args.nodes.now) + nodes (tree_of c.args.body.now)) + 2 = omega (arith, some) in
+    let smaller : 16 * nodes_in (trees_of c.args.nodes.now) + 2 < 16 * (nodes_in (trees_of c.args.nodes.now) + nodes (tree_of c.args.body.now)) + 2 = omega (arith, some) in
     (search (rules, in_room c.args.context.now _ _ smaller), c.requires.values)
 
 pub evaluate_let-evaluate_tail-requires : goal.evaluate_let-evaluate_tail-requires
 evaluate_let-evaluate_tail-requires t c =
-    let smaller : 3 * nodes (tree_of c.args.body.now) < 3 * (nodes_in (trees_of c.args.nodes.now) + nodes (tree_of c.args.body.now)) + 2 = omega arith in
-    (search (rules, in_room c.args.context.now _ _ smaller), record { tail = c.requires.body.tail; sound = subst (λ d. SoundTree (callable c.args.context.now) in_thread d c.requires.body.tail (tree_of c.args.body.now)) (sym c.in_ok-bind_locals.ensures.count) c.requires.body.sound })
+    let smaller : 16 * nodes (tree_of c.args.body.now) < 16 * (nodes_in (trees_of c.args.nodes.now) + nodes (tree_of c.args.body.now)) + 2 = omega arith in
+    (search (rules, in_room c.args.context.now _ _ smaller), record { tail = c.requires.body.tail; sound = subst (λ d. SoundTree (callable c.args.context.now) (zone_in c.args.context.now) d c.requires.body.tail (tree_of c.args.body.now)) (sym c.in_ok-bind_locals.ensures.count) c.requires.body.sound })
 
 pub evaluate_let-returns-clause-value : goal.evaluate_let-returns-clause-value
 evaluate_let-returns-clause-value t c =
-    let_done c.args.context.now (trees_of c.args.nodes.now) (tree_of c.args.body.now) c.args.locals.now.items c.args.printed.now.items c.bind_locals.new.locals.items c.bind_locals.new.printed.items c.evaluate_tail.new.printed.items
+    let_done c.args.context.now (trees_of c.args.nodes.now) (tree_of c.args.body.now) c.args.locals.now.items c.args.state.now c.bind_locals.new.locals.items c.bind_locals.new.state c.evaluate_tail.new.state
     (Ok c.in_ok-step.step) c.in_ok-bind_locals.ensures.value c.in_ok-step.ensures.value
 
 pub evaluate_loop-run_turns-requires : goal.evaluate_loop-run_turns-requires
@@ -396,10 +231,10 @@ evaluate_loop-run_turns-requires t c =
     let b = c.len-before.result in
     let place : b ≡ length c.args.locals.now.items = search rules in
     let counted = c.in_ok-bind_locals.ensures.count in
-    let smaller : 3 * nodes body + 1 < 3 * (nodes_in es + nodes body) + 2 = omega arith in
+    let smaller : 16 * nodes body + 1 < 16 * (nodes_in es + nodes body) + 2 = omega arith in
     let low : b ≤ length now = omega (arith, place, counted) in
     let many : count es ≡ length now - b = omega (arith, place, counted) in
-    (search (rules, in_room c.args.context.now _ _ smaller), (low, subst₂ (λ d k. SoundTree (callable c.args.context.now) in_thread d (Some k) body) (sym counted) many c.requires.body))
+    (search (rules, in_room c.args.context.now _ _ smaller), (low, subst₂ (λ d k. SoundTree (callable c.args.context.now) (zone_in c.args.context.now) d (Some k) body) (sym counted) many c.requires.body))
 
 pub evaluate_loop-returns-clause-value : goal.evaluate_loop-returns-clause-value
 evaluate_loop-returns-clause-value t c =
@@ -411,13 +246,13 @@ evaluate_loop-returns-clause-value t c =
     let counted = c.in_ok-bind_locals.ensures.count in
     let many : length now - b ≡ count es = omega (arith, place, counted) in
     let kept : take b now ≡ c.args.locals.now.items = subst (λ k. take k now ≡ c.args.locals.now.items) (sym place) c.in_ok-bind_locals.ensures.kept in
-    loop_done c.args.context.now es body c.args.locals.now.items c.args.printed.now.items now c.bind_locals.new.printed.items c.run_turns.new.printed.items (Ok (AValue c.in_ok-value.value)) c.in_ok-bind_locals.ensures.value b (length now - b) place many kept c.in_ok-value.ensures.value
+    loop_done c.args.context.now es body c.args.locals.now.items c.args.state.now now c.bind_locals.new.state c.run_turns.new.state (Ok (AValue c.in_ok-value.value)) c.in_ok-bind_locals.ensures.value b (length now - b) place many kept c.in_ok-value.ensures.value
 
 pub run_turns-evaluate_tail-requires : goal.run_turns-evaluate_tail-requires
 run_turns-evaluate_tail-requires t c =
-    let smaller : 3 * nodes (tree_of c.args.body.now) < 3 * nodes (tree_of c.args.body.now) + 1 = omega arith in
+    let smaller : 16 * nodes (tree_of c.args.body.now) < 16 * nodes (tree_of c.args.body.now) + 1 = omega arith in
     let tail = Some (length c.args.locals.now.items - c.args.before) in
-    (search (rules, in_room c.args.context.now _ _ smaller), record { tail = tail; sound = subst (λ d. SoundTree (callable c.args.context.now) in_thread d tail (tree_of c.args.body.now)) (sym c.loop-turn.invariant.1) c.requires.body })
+    (search (rules, in_room c.args.context.now _ _ smaller), record { tail = tail; sound = subst (λ d. SoundTree (callable c.args.context.now) (zone_in c.args.context.now) d tail (tree_of c.args.body.now)) (sym c.loop-turn.invariant.1) c.requires.body })
 
 pub run_turns-returns-in_err-value-clause-value : goal.run_turns-returns-in_err-value-clause-value
 run_turns-returns-in_err-value-clause-value t c =
@@ -426,8 +261,8 @@ run_turns-returns-in_err-value-clause-value t c =
     let b = c.args.before in
     let old = c.args.locals.now.items in
     let now = c.loop-turn.locals.items in
-    let out = c.loop-turn.printed.items in
-    let later = c.evaluate_tail.new.printed.items in
+    let out = c.loop-turn.state in
+    let later = c.evaluate_tail.new.state in
     let d = length old - b in
     let k = n.turns - c.loop-turn._turn in
     let m = n.turns - (c.loop-turn._turn + 1) in
@@ -435,7 +270,7 @@ run_turns-returns-in_err-value-clause-value t c =
     let many : length (drop b now) ≡ d = length-drop b now ∙ ap (λ l. l - b) c.loop-turn.invariant.1 in
     let y = c.in_err-value.field-0.0 in
     let rest = turn_stop n body b d k m (take b old) now out later left c.loop-turn.invariant.0 many y c.in_err-value.ensures.value in
-    stops_gives c.from_residual.result y later (turns_mean n n.turns d body (take b old) (drop b old) c.args.printed.now.items) (search rules) (subst (λ w. Stops y later w) (sym c.loop-turn.invariant.2) rest)
+    stops_gives (λ v. v) (is_on n.world) c.from_residual.result y (part n.world later) (turns_mean n n.turns d body (take b old) (drop b old) c.args.state.now) (search rules) (subst (λ w. StopsAt n y later w) (sym c.loop-turn.invariant.2) rest)
 
 pub run_turns-returns-in-Value-clause-value : goal.run_turns-returns-in-Value-clause-value
 run_turns-returns-in-Value-clause-value t c =
@@ -444,14 +279,14 @@ run_turns-returns-in-Value-clause-value t c =
     let b = c.args.before in
     let old = c.args.locals.now.items in
     let now = c.loop-turn.locals.items in
-    let out = c.loop-turn.printed.items in
-    let later = c.evaluate_tail.new.printed.items in
+    let out = c.loop-turn.state in
+    let later = c.evaluate_tail.new.state in
     let d = length old - b in
     let k = n.turns - c.loop-turn._turn in
     let m = n.turns - (c.loop-turn._turn + 1) in
     let left : k ≡ suc m = omega (arith, c.loop-turn-test.true, c.turns-turn-end.ensures) in
     let many : length (drop b now) ≡ d = length-drop b now ∙ ap (λ l. l - b) c.loop-turn.invariant.1 in
-    let is = subst (λ s. Steps (Ok s) later (means n body now out)) c.in-Value.is c.in_ok-value.ensures.value in
+    let is = subst (λ s. Steps n (Ok s) later (means n body now out)) c.in-Value.is c.in_ok-value.ensures.value in
     c.loop-turn.invariant.2 ∙ turn_value n body b d k m (take b old) now out later left c.loop-turn.invariant.0 many c.in-Value.value is
 
 pub run_turns-loop-turn-preserved : goal.run_turns-loop-turn-preserved
@@ -461,8 +296,8 @@ run_turns-loop-turn-preserved t c =
     let b = c.args.before in
     let old = c.args.locals.now.items in
     let now = c.loop-turn.locals.items in
-    let out = c.loop-turn.printed.items in
-    let later = c.evaluate_tail.new.printed.items in
+    let out = c.loop-turn.state in
+    let later = c.evaluate_tail.new.state in
     let d = length old - b in
     let k = n.turns - c.loop-turn._turn in
     let m = n.turns - (c.loop-turn._turn + 1) in
@@ -470,9 +305,9 @@ run_turns-loop-turn-preserved t c =
     let many : length (drop b now) ≡ d = length-drop b now ∙ ap (λ l. l - b) c.loop-turn.invariant.1 in
     let ws = c.in-Recur.values.items in
     let next = c.rebind.new.locals.items in
-    let is = subst (λ s. Steps (Ok s) later (means n body now out)) c.in-Recur.is c.in_ok-value.ensures.value in
-    let sound = subst (λ l. SoundTree (callable c.args.context.now) in_thread l (Some d) body) (sym c.loop-turn.invariant.1) c.requires.body in
-    let counted : length ws ≡ d = recurs_many n (callable n) body (length now) now out later ws d sound is in
+    let is = subst (λ s. Steps n (Ok s) later (means n body now out)) c.in-Recur.is c.in_ok-value.ensures.value in
+    let sound = subst (λ l. SoundTree (callable c.args.context.now) (zone_in c.args.context.now) l (Some d) body) (sym c.loop-turn.invariant.1) c.requires.body in
+    let counted : length ws ≡ d = recurs_many n c.is_sound.ensures body (length now) now out later ws d sound is in
     let low : b ≤ length now = omega (arith, c.requires.place, c.loop-turn.invariant.1) in
     let put : next ≡ take b now ++ ws = c.in_ok-rebind-in-Recur.ensures ∙ ap (λ l. take b l ++ ws) c.in_ok-value.ensures.kept in
     let bound = rebound b now next ws low put in (
@@ -487,23 +322,23 @@ run_turns-returns-clause-value t c =
     let b = c.args.before in
     let old = c.args.locals.now.items in
     let over : n.turns - c.loop-turn._turn ≡ 0 = omega (arith, c.loop-turn-test.false, c.turns-turn-end.ensures) in
-    c.loop-turn.invariant.2 ∙ ap (λ k. turns_mean n k (length old - b) (tree_of c.args.body.now) (take b old) (drop b c.loop-turn.locals.items) c.loop-turn.printed.items) over
+    c.loop-turn.invariant.2 ∙ ap (λ k. turns_mean n k (length old - b) (tree_of c.args.body.now) (take b old) (drop b c.loop-turn.locals.items) c.loop-turn.state) over
 
 pub bind_locals-evaluate-requires : goal.bind_locals-evaluate-requires
 bind_locals-evaluate-requires t c =
     let ns = c.args.nodes.now in
     let fewer = item_smaller ns c.loop-node.node-index c.node-item.result c.loop-node-test.true c.node-item.is in
-    (search (rules, in_room c.args.context.now _ _ fewer), (SoundLet-from ns c.loop-node.node-index c.node-item.result c.loop-node-test.true c.node-item.is (callable c.args.context.now) in_thread (length c.loop-node.locals.items) c.loop-node.invariant.2).0)
+    (search (rules, in_room c.args.context.now _ _ fewer), (SoundLet-from ns c.loop-node.node-index c.node-item.result c.loop-node-test.true c.node-item.is (callable c.args.context.now) (zone_in c.args.context.now) (length c.loop-node.locals.items) c.loop-node.invariant.2).0)
 
 pub bind_locals-returns-in_err-value-clause-value : goal.bind_locals-returns-in_err-value-clause-value
 bind_locals-returns-in_err-value-clause-value t c =
     let n = c.args.context.now in
-    let out = c.evaluate.new.printed.items in
+    let out = c.evaluate.new.state in
     let y = c.in_err-value.field-0.0 in
     let now = c.loop-node.locals.items in
-    let rest = locals_stop n c.args.nodes.now c.loop-node.node-index c.node-item.result c.loop-node-test.true c.node-item.is now now c.loop-node.printed.items out refl y c.in_err-value.ensures.value in
-    let whole = subst (λ m. Stops y out m) (sym c.loop-node.invariant.3) rest in
-    stops_all _ c.from_residual.result y out (locals_mean n (trees_of c.args.nodes.now) c.args.locals.now.items c.args.printed.now.items) (search rules) whole
+    let rest = locals_stop n c.args.nodes.now c.loop-node.node-index c.node-item.result c.loop-node-test.true c.node-item.is now now c.loop-node.state out refl y c.in_err-value.ensures.value in
+    let whole = subst (λ m. StopsAt n y out m) (sym c.loop-node.invariant.3) rest in
+    stops_gives _ (is_on n.world) c.from_residual.result y (part n.world out) (locals_mean n (trees_of c.args.nodes.now) c.args.locals.now.items c.args.state.now) (search rules) whole
 
 pub bind_locals-loop-node-preserved : goal.bind_locals-loop-node-preserved
 bind_locals-loop-node-preserved t c =
@@ -521,8 +356,8 @@ bind_locals-loop-node-preserved t c =
     let rest = trees_of (drop (i + 1) ns) in (
       take_kept c.args.locals.now.items now c.push.new.self.items v c.loop-node.invariant.0 pushed,
       omega (arith, longer, fewer, c.loop-node.invariant.1),
-      subst (λ d. SoundLet (callable c.args.context.now) in_thread d rest) (sym longer) (SoundLet-from ns i x lt is (callable c.args.context.now) in_thread (length now) c.loop-node.invariant.2).1,
-      c.loop-node.invariant.3 ∙ locals_more n ns i x lt is now now c.loop-node.printed.items c.evaluate.new.printed.items refl v c.push.new.self.items c.in_ok-value.ensures.value pushed,
+      subst (λ d. SoundLet (callable c.args.context.now) (zone_in c.args.context.now) d rest) (sym longer) (SoundLet-from ns i x lt is (callable c.args.context.now) (zone_in c.args.context.now) (length now) c.loop-node.invariant.2).1,
+      c.loop-node.invariant.3 ∙ locals_more n ns i x lt is now now c.loop-node.state c.evaluate.new.state refl v c.push.new.self.items c.in_ok-value.ensures.value pushed,
     )
 
 pub evaluate_do-loop-node-preserved : goal.evaluate_do-loop-node-preserved
@@ -533,8 +368,8 @@ evaluate_do-loop-node-preserved t c =
     let lt = c.loop-node-test.true in
     let is = c.node-item.is in (
       c.in_ok-evaluate.ensures.kept ∙ c.loop-node.invariant.0,
-      (SoundAll-from before i c.node-item.result lt is (callable c.args.context.now) in_thread (length c.args.locals.now.items) c.loop-node.invariant.1).1,
-      c.loop-node.invariant.2 ∙ do_more n before i c.node-item.result lt is c.args.locals.now.items c.loop-node.locals.items c.loop-node.printed.items c.evaluate.new.printed.items c.loop-node.invariant.0 (tree_of c.in-Some.last.now) c.in_ok-evaluate.field-0 c.in_ok-evaluate.ensures.value,
+      (SoundAll-from before i c.node-item.result lt is (callable c.args.context.now) (zone_in c.args.context.now) (length c.args.locals.now.items) c.loop-node.invariant.1).1,
+      c.loop-node.invariant.2 ∙ do_more n before i c.node-item.result lt is c.args.locals.now.items c.loop-node.locals.items c.loop-node.state c.evaluate.new.state c.loop-node.invariant.0 (tree_of c.in-Some.last.now) c.in_ok-evaluate.field-0 c.in_ok-evaluate.ensures.value,
     )
 
 pub evaluate_do-returns-clause-value : goal.evaluate_do-returns-clause-value
@@ -543,10 +378,10 @@ evaluate_do-returns-clause-value t c =
     let last = tree_of c.in-Some.last.now in
     let env = c.args.locals.now.items in
     let r = c.evaluate_tail.result in
-    let out = c.evaluate_tail.new.printed.items in
+    let out = c.evaluate_tail.new.state in
     let end = drop_all c.loop-node.node-index c.in-Some.before.now c.loop-node-test.false in
-    let whole : do_means n (trees_of c.args.nodes.now) env c.args.printed.now.items ≡ means n last env c.loop-node.printed.items = c.loop-node.invariant.2 ∙ ap (λ l. do_then n (trees_of l) last env c.loop-node.printed.items) end in
-    subst (λ m. Steps r out m) (sym whole) (subst (λ l. Steps r out (means n last l c.loop-node.printed.items)) c.loop-node.invariant.0 c.evaluate_tail.ensures.value)
+    let whole : do_means n (trees_of c.args.nodes.now) env c.args.state.now ≡ means n last env c.loop-node.state = c.loop-node.invariant.2 ∙ ap (λ l. do_then n (trees_of l) last env c.loop-node.state) end in
+    subst (λ m. Steps n r out m) (sym whole) (subst (λ l. Steps n r out (means n last l c.loop-node.state)) c.loop-node.invariant.0 c.evaluate_tail.ensures.value)
 
 pub evaluate_do-returns-clause-kept : goal.evaluate_do-returns-clause-kept
 evaluate_do-returns-clause-kept t c =
@@ -557,14 +392,14 @@ evaluate_let-returns-in_err-bind_locals-clause-value t c =
     let y = c.in_err-bind_locals.field-0.0 in
     let es = trees_of c.args.nodes.now in
     let body = tree_of c.args.body.now in
-    let out = c.bind_locals.new.printed.items in
-    stops_steps c.from_residual.result y out (let_means c.args.context.now es body c.args.locals.now.items c.args.printed.now.items) (search rules)
-    (let_stop c.args.context.now es body c.args.locals.now.items c.args.printed.now.items y out c.in_err-bind_locals.ensures.value)
+    let out = c.bind_locals.new.state in
+    stops_steps (is_on c.args.context.now.world) c.from_residual.result y (part c.args.context.now.world out) (let_means c.args.context.now es body c.args.locals.now.items c.args.state.now) (search rules)
+    (let_stop c.args.context.now es body c.args.locals.now.items c.args.state.now y out c.in_err-bind_locals.ensures.value)
 
 pub evaluate_loop-bind_locals-requires : goal.evaluate_loop-bind_locals-requires
 evaluate_loop-bind_locals-requires t c =
     let some = nodes-some (tree_of c.args.body.now) in
-    let smaller : 3 * nodes_in (trees_of c.args.nodes.now) + 2 < 3 * (nodes_in (trees_of c.args.nodes.now) + nodes (tree_of c.args.body.now)) + 2 = omega (arith, some) in
+    let smaller : 16 * nodes_in (trees_of c.args.nodes.now) + 2 < 16 * (nodes_in (trees_of c.args.nodes.now) + nodes (tree_of c.args.body.now)) + 2 = omega (arith, some) in
     (search (rules, in_room c.args.context.now _ _ smaller), c.requires.values)
 
 pub evaluate_loop-returns-in_err-bind_locals-clause-value : goal.evaluate_loop-returns-in_err-bind_locals-clause-value
@@ -572,18 +407,18 @@ evaluate_loop-returns-in_err-bind_locals-clause-value t c =
     let y = c.in_err-bind_locals.field-0.0 in
     let es = trees_of c.args.nodes.now in
     let body = tree_of c.args.body.now in
-    let out = c.bind_locals.new.printed.items in
-    stops_steps c.from_residual.result y out (loop_means c.args.context.now es body c.args.locals.now.items c.args.printed.now.items) (search rules)
-    (loop_stop c.args.context.now es body c.args.locals.now.items c.args.printed.now.items y out c.in_err-bind_locals.ensures.value)
+    let out = c.bind_locals.new.state in
+    stops_steps (is_on c.args.context.now.world) c.from_residual.result y (part c.args.context.now.world out) (loop_means c.args.context.now es body c.args.locals.now.items c.args.state.now) (search rules)
+    (loop_stop c.args.context.now es body c.args.locals.now.items c.args.state.now y out c.in_err-bind_locals.ensures.value)
 
 pub evaluate_let-returns-in_err-step-clause-value : goal.evaluate_let-returns-in_err-step-clause-value
 evaluate_let-returns-in_err-step-clause-value t c =
     let y = c.in_err-step.field-0.0 in
     let es = trees_of c.args.nodes.now in
     let body = tree_of c.args.body.now in
-    let out = c.evaluate_tail.new.printed.items in
-    let whole = let_done c.args.context.now es body c.args.locals.now.items c.args.printed.now.items c.bind_locals.new.locals.items c.bind_locals.new.printed.items out (Err y) c.in_ok-bind_locals.ensures.value c.in_err-step.ensures.value in
-    stops_steps c.from_residual-in_err-step.result y out (let_means c.args.context.now es body c.args.locals.now.items c.args.printed.now.items) (search rules) whole
+    let out = c.evaluate_tail.new.state in
+    let whole = let_done c.args.context.now es body c.args.locals.now.items c.args.state.now c.bind_locals.new.locals.items c.bind_locals.new.state out (Err y) c.in_ok-bind_locals.ensures.value c.in_err-step.ensures.value in
+    stops_steps (is_on c.args.context.now.world) c.from_residual-in_err-step.result y (part c.args.context.now.world out) (let_means c.args.context.now es body c.args.locals.now.items c.args.state.now) (search rules) whole
 
 pub evaluate_loop-returns-in_err-value-clause-value : goal.evaluate_loop-returns-in_err-value-clause-value
 evaluate_loop-returns-in_err-value-clause-value t c =
@@ -596,93 +431,624 @@ evaluate_loop-returns-in_err-value-clause-value t c =
     let many : length now - b ≡ count es = omega (arith, place, counted) in
     let kept : take b now ≡ c.args.locals.now.items = subst (λ k. take k now ≡ c.args.locals.now.items) (sym place) c.in_ok-bind_locals.ensures.kept in
     let y = c.in_err-value.field-0.0 in
-    let out = c.run_turns.new.printed.items in
-    let whole = loop_done c.args.context.now es body c.args.locals.now.items c.args.printed.now.items now c.bind_locals.new.printed.items out (Err y) c.in_ok-bind_locals.ensures.value b (length now - b) place many kept c.in_err-value.ensures.value in
-    stops_steps c.from_residual-in_err-value.result y out (loop_means c.args.context.now es body c.args.locals.now.items c.args.printed.now.items) (search rules) whole
+    let out = c.run_turns.new.state in
+    let whole = loop_done c.args.context.now es body c.args.locals.now.items c.args.state.now now c.bind_locals.new.state out (Err y) c.in_ok-bind_locals.ensures.value b (length now - b) place many kept c.in_err-value.ensures.value in
+    stops_steps (is_on c.args.context.now.world) c.from_residual-in_err-value.result y (part c.args.context.now.world out) (loop_means c.args.context.now es body c.args.locals.now.items c.args.state.now) (search rules) whole
 
 pub run_turns-returns-in-Value-clause-kept : goal.run_turns-returns-in-Value-clause-kept
 run_turns-returns-in-Value-clause-kept t c =
     ap (λ l. take c.args.before l) c.in_ok-value.ensures.kept ∙ c.loop-turn.invariant.0
 
-pub evaluate_tail-meet-requires : goal.evaluate_tail-meet-requires
-evaluate_tail-meet-requires t c =
-    let n = c.args.node.now in
-    let is = look_node n c.in-Look.form c.in-Look.cell c.deref-in-Look.result.now c.in-Look.is c.deref-in-Look.ensures in
-    let sound = subst (λ e. SoundTree (callable c.args.context.now) in_thread (length c.args.locals.now.items) c.requires.tail e) is c.requires.sound in
-    let smaller : 3 * (nodes (tree_of c.deref-in-Look.result.now) + nodes_in none) + 2 < 3 * nodes (tree_of n) = omega (arith, ap nodes is) in
+pub act_inside-returns-in_err-cell : goal.act_inside-returns-in_err-cell
+act_inside-returns-in_err-cell t c =
+    let x = c.args.context.now in
+    let r = plain_view c.args.world in
+    let m = mark_of c.args.span c.args.wanted in
+    let y = c.in_err-cell.field-0.0 in
+    let before = tx_state c.args.tx.now in
+    let told = subst (λ f. Told {A = CellId} (Err y) (result_of (cell_of (rule f) true c.args.value) c.args.span tt)) c.form.ensures c.in_err-cell.ensures in
+    stops_gives (λ v. v) true c.from_residual.result y before (inside_means x r c.args.act m c.args.value c.args.args.items before) (search rules) (untaken_inside x r m c.args.value before c.args.act c.args.args.items y c.requires told)
+
+pub act_outside-returns-in_err-cell : goal.act_outside-returns-in_err-cell
+act_outside-returns-in_err-cell t c =
+    let x = c.args.context.now in
+    let y = c.in_err-cell.field-0.0 in
+    let before = thread_state c.args.thread.now in
+    let told = subst (λ f. Told {A = CellId} (Err y) (result_of (cell_of (rule f) false c.args.value) c.args.span tt)) c.form.ensures c.in_err-cell.ensures in
+    λ wanted. stops_gives (λ v. v) false c.from_residual.result y before (outside_means x c.args.act (mark_of c.args.span wanted) c.args.value c.args.args.items before) (search rules)
+    (untaken_outside x (mark_of c.args.span wanted) c.args.value before c.args.act c.args.args.items y c.requires told)
+
+pub alter-returns-in_err-new : goal.alter-returns-in_err-new
+alter-returns-in_err-new t c =
+    let x = c.args.context.now in
+    let r = plain_view c.args.world in
+    let m = mark_of c.args.span true in
+    let y = c.in_err-new.field-0.0 in
+    let before = tx_state c.args.tx.now in
+    let after = tx_state c.take.new.self in
+    stops_gives (λ v. v) true c.from_residual-in_err-new.result y after (alter_means x r c.args.callee c.args.cell c.args.args.items c.args.span before) (search rules)
+    (alter_stop x c.is_sound.ensures r c.args.callee c.args.cell c.args.args.items m before after c.in_ok-value.value c.requires.callee c.in_ok-value.ensures y c.in_err-new.ensures)
+
+pub alter-returns : goal.alter-returns
+alter-returns t c =
+    let x = c.args.context.now in
+    let r = plain_view c.args.world in
+    let m = mark_of c.args.span true in
+    let before = tx_state c.args.tx.now in
+    let after = tx_state c.take.new.self in
+    alter_done x c.is_sound.ensures r c.args.callee c.args.cell c.args.args.items m before after c.in_ok-value.value c.requires.callee c.in_ok-value.ensures c.in_ok-new.new c.set.result (tx_state c.set.new.self) c.in_ok-new.ensures c.set.ensures
+
+pub apply_callee-call-requires : goal.apply_callee-call-requires
+apply_callee-call-requires t c =
+    let x = c.args.context.now in
+    let fits = subst (λ f. SoundCallee (callable x) f (length c.args.values.items)) c.in-Function.is c.requires in
+    let w : PlainView = record { cells = []; place = 0 } in
+    let here = pure_here (on_view x w) c.in-Function.number (length c.args.values.items) fits in
+    let smaller : room c.on-inner.result < room x + 1 = omega (arith, room_on x c.on-inner.result w c.on-inner.ensures) in
+    (search (rules, smaller), subst (λ y. SoundCall (callable y) (zone_in y) c.in-Function.number (length c.args.values.items)) (sym c.on-inner.ensures) here)
+
+pub apply_callee-returns-in-Function : goal.apply_callee-returns-in-Function
+apply_callee-returns-in-Function t c =
+    let x = c.args.context.now in
+    let fits = subst (λ f. SoundCallee (callable x) f (length c.args.values.items)) c.in-Function.is c.requires in
+    called_alone x c.on-inner.result _ c.on-inner.ensures c.is_sound.ensures c.args.span c.args.callee c.in-Function.number c.args.values.items c.in-Function.is fits c.call.result c.new-state.result c.call.new.state c.call.ensures
+
+pub commit-returns-in-Ok-2-clause-value : goal.commit-returns-in-Ok-2-clause-value
+commit-returns-in-Ok-2-clause-value t c =
+    let x = c.args.context.now in
+    let m = mark_of c.args.dosync.span c.args.dosync.wanted in
+    let body = tree_of c.args.dosync.body.now in
+    let env = c.args.locals.now.items in
+    let e = c.args.event.now in
+    let before = thread_state c.args.thread.now in
+    let r = c.in-Ok.run' in
+    let ws = c.args.writes.now in
+    let sent = c.args.sends.now in
+    let last = c.in-Ok-2.field-0.items in
+    let other : (same_writes last ws && same_actions r.work.done.sends sent) ≡ false = search rules in
+    (refl, commit_other x m body env e before c.is_sound.ensures r c.in-Ok.ensures.value c.in-Ok.ensures.sound ws sent last c.in-Ok-2.ensures other)
+
+pub commit-returns-in-Err-final_writes-clause-value : goal.commit-returns-in-Err-final_writes-clause-value
+commit-returns-in-Err-final_writes-clause-value t c =
+    let x = c.args.context.now in
+    let m = mark_of c.args.dosync.span c.args.dosync.wanted in
+    let body = tree_of c.args.dosync.body.now in
+    let env = c.args.locals.now.items in
+    let e = c.args.event.now in
+    let before = thread_state c.args.thread.now in
+    let r = c.in-Ok.run' in
+    let ws = c.args.writes.now in
+    let sent = c.args.sends.now in
+    let y = c.in-Err-final_writes.stop in
+    subst (λ z. Stops false z before (commit_means x m body env (seen_event e) ws sent before)) (sym c.without_fault-in-Err-final_writes.ensures)
+    (commit_stop x m body env e before c.is_sound.ensures r c.in-Ok.ensures.value c.in-Ok.ensures.sound ws sent y c.in-Err-final_writes.ensures)
+
+pub commit-returns-clause-value : goal.commit-returns-clause-value
+commit-returns-clause-value t c =
+    let x = c.args.context.now in
+    let m = mark_of c.args.dosync.span c.args.dosync.wanted in
+    let body = tree_of c.args.dosync.body.now in
+    let env = c.args.locals.now.items in
+    let e = c.args.event.now in
+    let before = thread_state c.args.thread.now in
+    let r = c.in-Ok.run' in
+    let ws = c.args.writes.now in
+    let sent = c.args.sends.now in
+    let last = c.in-Ok-final_writes.last.items in
+    let same : (same_writes last ws && same_actions r.work.done.sends sent) ≡ true = search rules in
+    commit_same x m body env e before c.is_sound.ensures r c.in-Ok.ensures.value c.in-Ok.ensures.sound ws sent last c.in-Ok-final_writes.ensures same c.args.thread.now.txs.items c.push.new.self.items refl c.in_ok-push.ensures.items
+    ∙ ap (λ v. Completes v (thread_state (record c.args.thread.now { txs = c.push.new.self }))) (sym c.in_ok-value.ensures)
+
+pub commute-returns-in_err-new : goal.commute-returns-in_err-new
+commute-returns-in_err-new t c =
+    let x = c.args.context.now in
+    let r = plain_view c.args.world in
+    let m = mark_of c.args.span c.args.wanted in
+    let y = c.in_err-new.field-0.0 in
+    let before = tx_state c.args.tx.now in
+    let told = subst (λ us. Told {A = Value} (Err y) (applied x c.args.callee us c.args.span)) (c.in_ok-values.ensures ∙ ap (λ l. c.in_ok-value.value ∷ l) c.as_slice.ensures.value) c.in_err-new.ensures in
+    stops_gives (λ v. v) true c.from_residual-in_err-new.result y before (commute_means x r c.args.callee c.args.cell c.args.args.items m before) (search rules)
+    (commute_stop x c.is_sound.ensures r c.args.callee c.args.cell c.args.args.items m before c.in_ok-value.value c.requires.callee c.in_ok-value.ensures y told)
+
+pub commute-returns : goal.commute-returns
+commute-returns t c =
+    let x = c.args.context.now in
+    let r = plain_view c.args.world in
+    let m = mark_of c.args.span c.args.wanted in
+    let before = tx_state c.args.tx.now in
+    let told = subst (λ us. Told (Ok c.in_ok-new.new) (applied x c.args.callee us c.args.span)) (c.in_ok-values.ensures ∙ ap (λ l. c.in_ok-value.value ∷ l) c.as_slice.ensures.value) c.in_ok-new.ensures in
+    commute_done x c.is_sound.ensures r c.args.callee c.args.cell c.args.args.items m before c.in_ok-value.value c.requires.callee c.in_ok-value.ensures c.in_ok-new.new c.keep_commute.result (tx_state c.keep_commute.new.self) told c.keep_commute.ensures
+
+pub do_act-returns-in-Some : goal.do_act-returns-in-Some
+do_act-returns-in-Some t c =
+    let x = c.args.context.now in
+    let is = sym c.world.ensures ∙ ap plain_world c.in-Some.is in
+    acted_inside x c.args.act (mark_of c.args.span c.args.wanted) c.args.value c.args.args.items c.act_inside.result c.args.state.now (record c.args.state.now { tx = c.act_inside.new.tx }) (plain_view c.in-Some.world) is c.act_inside.ensures
+
+pub do_act-returns-in-None : goal.do_act-returns-in-None
+do_act-returns-in-None t c =
+    let x = c.args.context.now in
+    let is = sym c.world.ensures ∙ ap plain_world c.in-None.is in
+    acted_outside x c.args.act (mark_of c.args.span c.args.wanted) c.args.value c.args.args.items c.act_outside.result c.args.state.now (record c.args.state.now { thread = c.act_outside.new.thread }) is (c.act_outside.ensures c.args.wanted)
+
+tries_are : suc reruns ≡ 10000
+unfolding reruns
+tries_are = refl
+
+pub eat_dosync-loop-try-init : goal.eat_dosync-loop-try-init
+eat_dosync-loop-try-init t c =
+    let x = c.args.context.now in
+    let m = mark_of c.args.dosync.span c.args.dosync.wanted in
+    let body = tree_of c.args.dosync.body.now in
+    let env = c.args.locals.now.items in
+    (refl, ap (λ k. eat_means x k m body env (thread_state c.args.thread.now)) tries_are)
+
+pub eat_dosync-returns-in_err-event-clause-value : goal.eat_dosync-returns-in_err-event-clause-value
+eat_dosync-returns-in_err-event-clause-value t c =
+    let x = c.args.context.now in
+    let m = mark_of c.args.dosync.span c.args.dosync.wanted in
+    let body = tree_of c.args.dosync.body.now in
+    let env = c.args.locals.now.items in
+    let now = thread_state c.loop-try.thread in
+    let after = thread_state c.eat.new.self in
+    let k = 10000 - (c.loop-try._try + 1) in
+    let left : 10000 - c.loop-try._try ≡ suc k = omega (arith, c.loop-try-test.true) in
+    let here = c.loop-try.invariant.1 ∙ ap (λ j. eat_means x j m body env now) left in
+    let y = c.in_err-event.field-0.0 in
+    stops_gives (λ v. v) false c.from_residual.result y after (eat_means x (suc reruns) m body env (thread_state c.args.thread.now)) (search rules)
+    (subst (λ w. Stops false y after w) (sym here) (eats_none (transacting x m body env) (at_end x m.span) k y now after c.in_err-event.ensures))
+
+pub eat_dosync-returns-then-not-is_retry-clause-value : goal.eat_dosync-returns-then-not-is_retry-clause-value
+eat_dosync-returns-then-not-is_retry-clause-value t c =
+    let x = c.args.context.now in
+    let m = mark_of c.args.dosync.span c.args.dosync.wanted in
+    let body = tree_of c.args.dosync.body.now in
+    let env = c.args.locals.now.items in
+    let now = thread_state c.loop-try.thread in
+    let after = thread_state c.eat.new.self in
+    let k = 10000 - (c.loop-try._try + 1) in
+    let left : 10000 - c.loop-try._try ≡ suc k = omega (arith, c.loop-try-test.true) in
+    let here = c.loop-try.invariant.1 ∙ ap (λ j. eat_means x j m body env now) left in
+    let e = c.in_ok-event.event.now in
+    let ends : is_retry e.kind.now ≡ false = search rules in
+    let whole = here ∙ eats_end (transacting x m body env) (at_end x m.span) k e now after c.in_ok-event.ensures ends in
+    subst (λ w. Gives false c.end_dosync.result (thread_state c.end_dosync.new.thread) w) (sym whole)
+    (subst (λ l. Gives false c.end_dosync.result (thread_state c.end_dosync.new.thread) (end_means x m body l (seen_event e) after)) c.loop-try.invariant.0 c.end_dosync.ensures.value)
+
+pub eat_dosync-loop-try-preserved : goal.eat_dosync-loop-try-preserved
+eat_dosync-loop-try-preserved t c =
+    let x = c.args.context.now in
+    let m = mark_of c.args.dosync.span c.args.dosync.wanted in
+    let body = tree_of c.args.dosync.body.now in
+    let env = c.args.locals.now.items in
+    let now = thread_state c.loop-try.thread in
+    let after = thread_state c.eat.new.self in
+    let k = 10000 - (c.loop-try._try + 1) in
+    let left : 10000 - c.loop-try._try ≡ suc k = omega (arith, c.loop-try-test.true) in
+    let here = c.loop-try.invariant.1 ∙ ap (λ j. eat_means x j m body env now) left in
+    let e = c.in_ok-event.event.now in
+    let more : is_retry e.kind.now ≡ true = search rules in
+    (c.loop-try.invariant.0, here ∙ eats_more (transacting x m body env) (at_end x m.span) k e now after c.in_ok-event.ensures more)
+
+pub evaluate_form-returns-in_err-args-clause-value : goal.evaluate_form-returns-in_err-args-clause-value
+evaluate_form-returns-in_err-args-clause-value t c =
+    let x = c.args.context.now in
+    let m = mark_of c.args.span c.args.wanted in
+    let cell = tree_of c.args.cell.now in
+    let args = trees_of c.args.args.now in
+    let env = c.args.locals.now.items in
+    let out = c.args.state.now in
+    let out1 = c.evaluate.new.state in
+    let v = c.in_ok-cell.cell in
+    let y = c.in_err-args.field-0.0 in
+    let out2 = c.evaluate_all.new.state in
+    stops_steps (is_on x.world) c.from_residual-in_err-args.result y (part x.world out2) (form_means x c.args.act m cell args env out) (search rules)
+    (args_stop x c.args.act m cell args env out v out1 c.in_ok-cell.ensures.value c.evaluate.new.locals.items c.in_ok-cell.ensures.kept (λ (vs : Vec Value Global). vs.items) y out2 c.in_err-args.ensures.value)
+
+pub evaluate_form-returns-in_err-value-clause-value : goal.evaluate_form-returns-in_err-value-clause-value
+evaluate_form-returns-in_err-value-clause-value t c =
+    let x = c.args.context.now in
+    let m = mark_of c.args.span c.args.wanted in
+    let cell = tree_of c.args.cell.now in
+    let args = trees_of c.args.args.now in
+    let env = c.args.locals.now.items in
+    let out = c.args.state.now in
+    let out1 = c.evaluate.new.state in
+    let v = c.in_ok-cell.cell in
+    let y = c.in_err-value.field-0.0 in
+    let out2 = c.evaluate_all.new.state in
+    let out3 = c.do_act.new.state in
+    stops_steps (is_on x.world) c.from_residual-in_err-value.result y (part x.world out3) (form_means x c.args.act m cell args env out) (search rules)
+    (act_stop x c.args.act m cell args env out v out1 c.in_ok-cell.ensures.value c.evaluate.new.locals.items c.in_ok-cell.ensures.kept c.in_ok-args.args.items out2 c.in_ok-args.ensures.value y out3 c.in_err-value.ensures)
+
+pub evaluate_form-returns-clause-value : goal.evaluate_form-returns-clause-value
+evaluate_form-returns-clause-value t c =
+    let x = c.args.context.now in
+    let m = mark_of c.args.span c.args.wanted in
+    let cell = tree_of c.args.cell.now in
+    let args = trees_of c.args.args.now in
+    let env = c.args.locals.now.items in
+    let out = c.args.state.now in
+    let out1 = c.evaluate.new.state in
+    let v = c.in_ok-cell.cell in
+    let out2 = c.evaluate_all.new.state in
+    let out3 = c.do_act.new.state in
+    act_done x c.args.act m cell args env out v out1 c.in_ok-cell.ensures.value c.evaluate.new.locals.items c.in_ok-cell.ensures.kept c.in_ok-args.args.items out2 c.in_ok-args.ensures.value c.in_ok-value.value out3 c.in_ok-value.ensures
+
+pub evaluate_if-returns-clause-value : goal.evaluate_if-returns-clause-value
+evaluate_if-returns-clause-value t c =
+    let x = c.args.context.now in
+    let other : false ≡ is_false c.in_ok-value.value = search rules in
+    if_goes x (tree_of c.args.test.now) (tree_of c.args.yes.now) (tree_of c.args.no.now) c.args.locals.now.items c.args.state.now c.in_ok-value.value false c.evaluate.new.locals.items c.evaluate.new.state c.evaluate_tail-2.new.state c.evaluate_tail-2.result c.in_ok-value.ensures.value other c.in_ok-value.ensures.kept c.evaluate_tail-2.ensures.value
+
+pub fail-returns-in-Ok-clause-value : goal.fail-returns-in-Ok-clause-value
+fail-returns-in-Ok-clause-value t c =
+    let x = c.args.context.now in
+    let m = mark_of c.args.dosync.span c.args.dosync.wanted in
+    let body = tree_of c.args.dosync.body.now in
+    let env = c.args.locals.now.items in
+    let e = c.args.event.now in
+    let before = thread_state c.args.thread.now in
+    (refl, fail_given x m body env e before c.is_sound.ensures c.in_ok-run.run' c.in_ok-run.ensures.value c.in_ok-run.ensures.sound c.in-Ok.field-0.items c.in-Ok.ensures)
+
+pub fail-returns-clause-value : goal.fail-returns-clause-value
+fail-returns-clause-value t c =
+    let x = c.args.context.now in
+    let m = mark_of c.args.dosync.span c.args.dosync.wanted in
+    let body = tree_of c.args.dosync.body.now in
+    let env = c.args.locals.now.items in
+    let e = c.args.event.now in
+    let before = thread_state c.args.thread.now in
+    fail_stop x m body env e before c.is_sound.ensures c.in_ok-run.run' c.in_ok-run.ensures.value c.in_ok-run.ensures.sound c.in-Err.stop c.in-Err.ensures
+
+pub final_writes-loop-cell-init : goal.final_writes-loop-cell-init
+final_writes-loop-cell-init t c =
+    let x = c.args.context.now in
+    let w = c.args.done.now in
+    let r = plain_view c.args.world in
+    let ds = c.as_slice-cell-items.result.now in
+    let are : ds ≡ commuted w = search rules in
+    let first : c.in_ok-writes.writes.items ≡ valued ds (world_of r) = search rules in
+    ap (λ ws. redone_means x c.args.span (by_ref ds w.commutes) ws) (sym first)
+
+pub final_writes-returns-in_err-redo : goal.final_writes-returns-in_err-redo
+final_writes-returns-in_err-redo t c =
+    let x = c.args.context.now in
+    let w = c.args.done.now in
+    let r = plain_view c.args.world in
+    let ds = c.as_slice-cell-items.result.now in
+    let are : ds ≡ commuted w = search rules in
+    let i = c.loop-cell.cell-index in
+    let other : CellId = record { kind = Ref; number = 0 } in
+    let d : CellId = get_or ds i other in
+    let ws = c.loop-cell.writes.items in
+    let y = c.in_err-redo.field-0.0 in
+    let told = subst (λ cs. Told {A = Writes} (Err y) (redone_means x c.args.span (commutes_of d.number cs) ws)) c.commutes.ensures c.in_err-redo.ensures in
+    let rest = phase_stop x c.args.span w.commutes ds i other d c.loop-cell-test.true refl ws y told in
+    stops_gives (λ (us : Vec (CellId × Value) Global). us.items) true c.from_residual-in_err-redo.result y tt (final_means x w r c.args.span) (search rules)
+    (finals_stop x c.args.span w r ds are y (subst (λ q. Told {A = Writes} (Err y) q) (sym c.loop-cell.invariant) rest))
+
+pub final_writes-loop-cell-preserved : goal.final_writes-loop-cell-preserved
+final_writes-loop-cell-preserved t c =
+    let x = c.args.context.now in
+    let w = c.args.done.now in
+    let r = plain_view c.args.world in
+    let ds = c.as_slice-cell-items.result.now in
+    let are : ds ≡ commuted w = search rules in
+    let i = c.loop-cell.cell-index in
+    let ws = c.loop-cell.writes.items in
+    let other : CellId = record { kind = Ref; number = 0 } in
+    let d : CellId = get_or ds i other in
+    let done = subst (λ cs. redone_means x c.args.span (commutes_of d.number cs) ws ≡ Completes c.redo.new.writes.items tt) c.commutes.ensures c.in_ok-redo.ensures in
+    c.loop-cell.invariant ∙ phase_more x c.args.span w.commutes ds i other d c.loop-cell-test.true refl ws c.redo.new.writes.items done
+
+pub final_writes-returns : goal.final_writes-returns
+final_writes-returns t c =
+    let x = c.args.context.now in
+    let w = c.args.done.now in
+    let r = plain_view c.args.world in
+    let ds = c.as_slice-cell-items.result.now in
+    let are : ds ≡ commuted w = search rules in
+    let ws = c.loop-cell.writes.items in
+    let end = drop_all c.loop-cell.cell-index ds c.loop-cell-test.false in
+    let phase = c.loop-cell.invariant ∙ ap (λ l. redone_means x c.args.span (by_ref l w.commutes) ws) end in
+    let made : c.merge.new.writes.items ≡ merged c.in_ok-last.last.items ws = search rules in
+    finals_done x c.args.span w r ds are ws c.in_ok-last.last.items c.merge.new.writes.items phase c.in_ok-last.ensures made
+
+pub finish-returns-in_ok-print_line-in-Println : goal.finish-returns-in_ok-print_line-in-Println
+finish-returns-in_ok-print_line-in-Println t c =
+    let before = c.args.state.now in
+    let after = record before { thread = record before.thread { printed = c.print_line.new.printed } } in
+    print_done c.args.context.now c.args.strict c.args.span c.args.values.items before after c.in-Println.is c.requires (ap (λ l. record (thread_state before.thread) { printed = l }) c.in_ok-print_line-in-Println.ensures)
+
+pub redo-redo_one-requires : goal.redo-redo_one-requires
+redo-redo_one-requires t c =
+    let x = c.args.context.now in
+    let smaller : room x + 2 < room x + 3 = omega arith in
+    (search (rules, smaller), sound_at (callable x) c.args.commutes.now c.loop-commute.commute-index c.commute-item.result c.requires c.loop-commute-test.true c.commute-item.is)
+
+pub refuse-returns-in-Err-final_writes-clause-value : goal.refuse-returns-in-Err-final_writes-clause-value
+refuse-returns-in-Err-final_writes-clause-value t c =
+    let x = c.args.context.now in
+    let m = mark_of c.args.dosync.span c.args.dosync.wanted in
+    let body = tree_of c.args.dosync.body.now in
+    let env = c.args.locals.now.items in
+    let e = c.args.event.now in
+    let before = thread_state c.args.thread.now in
+    subst (λ z. Stops false z before (refuse_means x m body env (seen_event e) before)) (sym c.without_fault-in-Err-final_writes.ensures)
+    (refuse_stop x m body env e before c.is_sound.ensures c.in-Ok.run' c.in-Ok.ensures.value c.in-Ok.ensures.sound c.in-Err-final_writes.stop c.in-Err-final_writes.ensures)
+
+pub refuse-returns-clause-value : goal.refuse-returns-clause-value
+refuse-returns-clause-value t c =
+    let x = c.args.context.now in
+    let m = mark_of c.args.dosync.span c.args.dosync.wanted in
+    let body = tree_of c.args.dosync.body.now in
+    let env = c.args.locals.now.items in
+    let e = c.args.event.now in
+    let before = thread_state c.args.thread.now in
+    refuse_given x m body env e before c.is_sound.ensures c.in-Ok.run' c.in-Ok.ensures.value c.in-Ok.ensures.sound c.in_default.field-0.items c.in_default.ensures c.args.thread.now.txs.items c.push.new.self.items refl c.in_ok-push.ensures.items
+
+pub run_body-evaluate-requires : goal.run_body-evaluate-requires
+run_body-evaluate-requires t c =
+    let x = c.args.context.now in
+    let m = mark_of c.args.dosync.span c.args.dosync.wanted in
+    let body = tree_of c.args.dosync.body.now in
+    let env = c.args.locals.now.items in
+    let inner = c.on-inner.result in
+    let w = plain_view c.args.world in
+    let smaller : room inner + (16 * nodes body + 1) < room x + (16 * nodes body + 2) = omega (arith, room_on x inner w c.on-inner.ensures) in
+    (search (rules, smaller), subst (λ y. SoundTree (callable y) (zone_in y) (length env) None body) (sym c.on-inner.ensures) c.requires)
+
+pub run_body-returns-in_err-result-clause-value : goal.run_body-returns-in_err-result-clause-value
+run_body-returns-in_err-result-clause-value t c =
+    let x = c.args.context.now in
+    let m = mark_of c.args.dosync.span c.args.dosync.wanted in
+    let body = tree_of c.args.dosync.body.now in
+    let env = c.args.locals.now.items in
+    let inner = c.on-inner.result in
+    let w = plain_view c.args.world in
+    let y = c.in_err-result.field-0.0 in
+    let stops = body_stop x inner w c.on-inner.ensures body env c.new-state.result c.new-state.ensures.tx y c.evaluate.new.state c.in_err-result.ensures.value in
+    let err : c.from_residual.result ≡ Err y = search rules in
+    subst (λ r. Runs r m body env (body_means x body env w)) (sym err) stops
+
+pub run_body-returns-clause-value : goal.run_body-returns-clause-value
+run_body-returns-clause-value t c =
+    let x = c.args.context.now in
+    let m = mark_of c.args.dosync.span c.args.dosync.wanted in
+    let body = tree_of c.args.dosync.body.now in
+    let env = c.args.locals.now.items in
+    let inner = c.on-inner.result in
+    let w = plain_view c.args.world in
+    let v = c.in_ok-result.result in
+    let kept : c.from_vec.result ≡ env = search rules in (
+      body_done x inner w c.on-inner.ensures body env c.new-state.result c.new-state.ensures.tx v c.evaluate.new.state c.in_ok-result.ensures.value,
+      ap (λ l. record { body = body; locals = l; wanted = m.wanted; result = v; state = tx_state c.evaluate.new.state.tx }) kept,
+    )
+
+pub run_body-returns-clause-sound : goal.run_body-returns-clause-sound
+run_body-returns-clause-sound t c =
+    let x = c.args.context.now in
+    let m = mark_of c.args.dosync.span c.args.dosync.wanted in
+    let body = tree_of c.args.dosync.body.now in
+    let env = c.args.locals.now.items in
+    let inner = c.on-inner.result in
+    let w = plain_view c.args.world in
+    body_keeps x inner w c.on-inner.ensures body env c.new-state.result c.new-state.ensures.tx c.is_sound.ensures (length env) c.in_ok-result.result c.evaluate.new.state c.requires c.in_ok-result.ensures.value
+
+pub swap-returns-in-Ok : goal.swap-returns-in-Ok
+swap-returns-in-Ok t c =
+    let x = c.args.context.now in
+    let e = c.in_ok-event.event.now in
+    let before = thread_state c.args.thread.now in
+    let after = thread_state c.eat.new.self in
+    let ate = subst (λ b. Ate b e before after) c.home.ensures c.in_ok-event.ensures in
+    let new = c.in-Some.new.now in
+    let to : swap_of e.kind.now ≡ Some new = search rules in
+    let same : true ≡ same_value c.in-Ok.value new = search rules in
+    swap_same x c.is_sound.ensures c.args.callee c.args.cell c.args.args.items c.args.span e before after ate c.requires new to c.in_ok-value.value c.in_ok-value.ensures c.in-Ok.value c.in-Ok.ensures same
+
+pub swap-returns-in-Ok-2 : goal.swap-returns-in-Ok-2
+swap-returns-in-Ok-2 t c =
+    let x = c.args.context.now in
+    let e = c.in_ok-event.event.now in
+    let before = thread_state c.args.thread.now in
+    let after = thread_state c.eat.new.self in
+    let ate = subst (λ b. Ate b e before after) c.home.ensures c.in_ok-event.ensures in
+    let new = c.in-Some.new.now in
+    let to : swap_of e.kind.now ≡ Some new = search rules in
+    let other : false ≡ same_value c.in-Ok-2.field-0 new = search rules in
+    (refl, swap_other x c.is_sound.ensures c.args.callee c.args.cell c.args.args.items c.args.span e before after ate c.requires new to c.in_ok-value.value c.in_ok-value.ensures c.in-Ok-2.field-0 c.in-Ok-2.ensures other)
+
+pub swap-returns-in-Err : goal.swap-returns-in-Err
+swap-returns-in-Err t c =
+    let x = c.args.context.now in
+    let e = c.in_ok-event.event.now in
+    let before = thread_state c.args.thread.now in
+    let after = thread_state c.eat.new.self in
+    let ate = subst (λ b. Ate b e before after) c.home.ensures c.in_ok-event.ensures in
+    let new = c.in-Some.new.now in
+    let to : swap_of e.kind.now ≡ Some new = search rules in
+    subst (λ z. Stops false z after (swap_means x c.args.callee c.args.cell c.args.args.items c.args.span before)) (sym c.without_fault.ensures)
+    (swap_stop x c.is_sound.ensures c.args.callee c.args.cell c.args.args.items c.args.span e before after ate c.requires new to c.in_ok-value.value c.in_ok-value.ensures c.in-Err.stop c.in-Err.ensures)
+
+pub swap-returns : goal.swap-returns
+swap-returns t c =
+    let x = c.args.context.now in
+    let e = c.in_ok-event.event.now in
+    let before = thread_state c.args.thread.now in
+    let after = thread_state c.eat.new.self in
+    let ate = subst (λ b. Ate b e before after) c.home.ensures c.in_ok-event.ensures in
+    let broken : is_broke e.kind.now ≡ true = search rules in
+    let whole = broken_gives x c.is_sound.ensures c.args.callee c.args.cell c.args.args.items c.args.span e before after ate c.requires broken c.in_ok-value-2.value c.in_ok-value-2.ensures c.apply_on-2.result c.apply_on-2.ensures in
+    let ends : all_wrong c.apply_on-2.result ≡ c.match-apply_on-2.result = elim c.match-apply_on-2.branch [ swap-in-Ok-apply_on w ↦ search rules | swap-in-Err-apply_on w ↦ search rules ] in
+    subst (λ q. Gives false q after (swap_means x c.args.callee c.args.cell c.args.args.items c.args.span before)) ends whole
+
+pub evaluate_tail-evaluate_strict-requires : goal.evaluate_tail-evaluate_strict-requires
+evaluate_tail-evaluate_strict-requires t c =
+    let is = recur_node c.args.node.now c.in-Recur.args c.deref-in-Recur.result.now c.in-Recur.is c.deref-in-Recur.ensures.value in
+    let sound = subst (λ e. SoundTree (callable c.args.context.now) (zone_in c.args.context.now) (length c.args.locals.now.items) c.requires.tail e) is c.requires.sound in
+    let smaller : 16 * nodes_in (trees_of c.deref-in-Recur.result.now) + 4 < 16 * nodes (tree_of c.args.node.now) = omega (arith, ap nodes is) in
     (search (rules, in_room c.args.context.now _ _ smaller), (sound.1, tt))
 
-pub evaluate_tail-meet-requires-in-Put : goal.evaluate_tail-meet-requires-in-Put
-evaluate_tail-meet-requires-in-Put t c =
-    let n = c.args.node.now in
-    let is = put_node n c.in-Put.form c.in-Put.cell c.in-Put.new c.deref-in-Put.result.now c.deref-in-Put-2.result.now c.in-Put.is c.deref-in-Put.ensures c.deref-in-Put-2.ensures in
-    let sound = subst (λ e. SoundTree (callable c.args.context.now) in_thread (length c.args.locals.now.items) c.requires.tail e) is c.requires.sound in
-    let smaller : 3 * (nodes (tree_of c.deref-in-Put.result.now) + nodes_in (trees_of c.from_ref.result.now)) + 2 < 3 * nodes (tree_of n) = omega (arith, ap nodes is, ap (λ l. nodes_in (trees_of l)) c.from_ref.ensures.value) in
-    (search (rules, in_room c.args.context.now _ _ smaller), (sound.1, subst (λ l. SoundAll (callable c.args.context.now) in_thread (length c.args.locals.now.items) (trees_of l)) (sym c.from_ref.ensures.value) (sound.2, tt)))
+pub evaluate_tail-evaluate_strict-requires-in-Core : goal.evaluate_tail-evaluate_strict-requires-in-Core
+evaluate_tail-evaluate_strict-requires-in-Core t c =
+    let is = core_node c.args.node.now c.in-Core.op c.in-Core.args c.deref-in-Core.result.now c.in-Core.is c.deref-in-Core.ensures.value in
+    let sound = subst (λ e. SoundTree (callable c.args.context.now) (zone_in c.args.context.now) (length c.args.locals.now.items) c.requires.tail e) is c.requires.sound in
+    let smaller : 16 * nodes_in (trees_of c.deref-in-Core.result.now) + 4 < 16 * nodes (tree_of c.args.node.now) = omega (arith, ap nodes is) in
+    (search (rules, in_room c.args.context.now _ _ smaller), (sound.1, sound.0.0))
 
-pub evaluate_tail-meet-requires-in-Update : goal.evaluate_tail-meet-requires-in-Update
-evaluate_tail-meet-requires-in-Update t c =
-    let n = c.args.node.now in
-    let is = update_node n c.in-Update.form c.in-Update.cell c.in-Update.field-2 c.in-Update.args c.deref-in-Update.result.now c.deref-in-Update-2.result.now c.in-Update.is c.deref-in-Update.ensures c.deref-in-Update-2.ensures.value in
-    let sound = subst (λ e. SoundTree (callable c.args.context.now) in_thread (length c.args.locals.now.items) c.requires.tail e) is c.requires.sound in
-    let smaller : 3 * (nodes (tree_of c.deref-in-Update.result.now) + nodes_in (trees_of c.deref-in-Update-2.result.now)) + 2 < 3 * nodes (tree_of n) = omega (arith, ap nodes is) in
-    (search (rules, in_room c.args.context.now _ _ smaller), (sound.1, sound.3))
+pub evaluate_tail-evaluate_strict-requires-in-Call : goal.evaluate_tail-evaluate_strict-requires-in-Call
+evaluate_tail-evaluate_strict-requires-in-Call t c =
+    let is = call_node c.args.node.now c.in-Call.function c.in-Call.args c.deref-in-Call.result.now c.in-Call.is c.deref-in-Call.ensures.value in
+    let sound = subst (λ e. SoundTree (callable c.args.context.now) (zone_in c.args.context.now) (length c.args.locals.now.items) c.requires.tail e) is c.requires.sound in
+    let smaller : 16 * nodes_in (trees_of c.deref-in-Call.result.now) + 4 < 16 * nodes (tree_of c.args.node.now) = omega (arith, ap nodes is) in
+    (search (rules, in_room c.args.context.now _ _ smaller), (sound.1, sound.0))
 
-pub evaluate_tail-meet-requires-in-Send : goal.evaluate_tail-meet-requires-in-Send
-evaluate_tail-meet-requires-in-Send t c =
+pub evaluate_tail-evaluate_strict-requires-in-Vector : goal.evaluate_tail-evaluate_strict-requires-in-Vector
+evaluate_tail-evaluate_strict-requires-in-Vector t c =
+    let is = vector_node c.args.node.now c.in-Vector.args c.deref-in-Vector.result.now c.in-Vector.is c.deref-in-Vector.ensures.value in
+    let sound = subst (λ e. SoundTree (callable c.args.context.now) (zone_in c.args.context.now) (length c.args.locals.now.items) c.requires.tail e) is c.requires.sound in
+    let smaller : 16 * nodes_in (trees_of c.deref-in-Vector.result.now) + 4 < 16 * nodes (tree_of c.args.node.now) = omega (arith, ap nodes is) in
+    (search (rules, in_room c.args.context.now _ _ smaller), (sound.1, tt))
+
+pub evaluate_tail-evaluate_strict-requires-in-Println : goal.evaluate_tail-evaluate_strict-requires-in-Println
+evaluate_tail-evaluate_strict-requires-in-Println t c =
+    let is = println_node c.args.node.now c.in-Println.args c.deref-in-Println.result.now c.in-Println.is c.deref-in-Println.ensures.value in
+    let sound = subst (λ e. SoundTree (callable c.args.context.now) (zone_in c.args.context.now) (length c.args.locals.now.items) c.requires.tail e) is c.requires.sound in
+    let smaller : 16 * nodes_in (trees_of c.deref-in-Println.result.now) + 4 < 16 * nodes (tree_of c.args.node.now) = omega (arith, ap nodes is) in
+    (search (rules, in_room c.args.context.now _ _ smaller), (sound.2, sound.0))
+
+pub evaluate_tail-returns-in-Recur-clause-value : goal.evaluate_tail-returns-in-Recur-clause-value
+evaluate_tail-returns-in-Recur-clause-value t c =
+    let is = recur_node c.args.node.now c.in-Recur.args c.deref-in-Recur.result.now c.in-Recur.is c.deref-in-Recur.ensures.value in
+    subst (λ e. Steps c.args.context.now c.evaluate_strict.result c.evaluate_strict.new.state (means c.args.context.now e c.args.locals.now.items c.args.state.now)) (sym is) c.evaluate_strict.ensures.value
+
+pub evaluate_tail-returns-in-Core-clause-value : goal.evaluate_tail-returns-in-Core-clause-value
+evaluate_tail-returns-in-Core-clause-value t c =
+    let is = core_node c.args.node.now c.in-Core.op c.in-Core.args c.deref-in-Core.result.now c.in-Core.is c.deref-in-Core.ensures.value in
+    subst (λ e. Steps c.args.context.now c.evaluate_strict-in-Core.result c.evaluate_strict-in-Core.new.state (means c.args.context.now e c.args.locals.now.items c.args.state.now)) (sym is) c.evaluate_strict-in-Core.ensures.value
+
+pub evaluate_tail-returns-in-Call-clause-value : goal.evaluate_tail-returns-in-Call-clause-value
+evaluate_tail-returns-in-Call-clause-value t c =
+    let is = call_node c.args.node.now c.in-Call.function c.in-Call.args c.deref-in-Call.result.now c.in-Call.is c.deref-in-Call.ensures.value in
+    subst (λ e. Steps c.args.context.now c.evaluate_strict-in-Call.result c.evaluate_strict-in-Call.new.state (means c.args.context.now e c.args.locals.now.items c.args.state.now)) (sym is) c.evaluate_strict-in-Call.ensures.value
+
+pub evaluate_tail-returns-in-Vector-clause-value : goal.evaluate_tail-returns-in-Vector-clause-value
+evaluate_tail-returns-in-Vector-clause-value t c =
+    let is = vector_node c.args.node.now c.in-Vector.args c.deref-in-Vector.result.now c.in-Vector.is c.deref-in-Vector.ensures.value in
+    subst (λ e. Steps c.args.context.now c.evaluate_strict-in-Vector.result c.evaluate_strict-in-Vector.new.state (means c.args.context.now e c.args.locals.now.items c.args.state.now)) (sym is) c.evaluate_strict-in-Vector.ensures.value
+
+pub evaluate_tail-returns-in-Println-clause-value : goal.evaluate_tail-returns-in-Println-clause-value
+evaluate_tail-returns-in-Println-clause-value t c =
+    let is = println_node c.args.node.now c.in-Println.args c.deref-in-Println.result.now c.in-Println.is c.deref-in-Println.ensures.value in
+    subst (λ e. Steps c.args.context.now c.evaluate_strict-in-Println.result c.evaluate_strict-in-Println.new.state (means c.args.context.now e c.args.locals.now.items c.args.state.now)) (sym is) c.evaluate_strict-in-Println.ensures.value
+
+pub evaluate_tail-evaluate_form-requires-in-Update : goal.evaluate_tail-evaluate_form-requires-in-Update
+evaluate_tail-evaluate_form-requires-in-Update t c =
     let n = c.args.node.now in
-    let is = send_node n c.in-Send.agent c.in-Send.field-1 c.in-Send.args c.deref-in-Send.result.now c.deref-in-Send-2.result.now c.in-Send.is c.deref-in-Send.ensures c.deref-in-Send-2.ensures.value in
-    let sound = subst (λ e. SoundTree (callable c.args.context.now) in_thread (length c.args.locals.now.items) c.requires.tail e) is c.requires.sound in
-    let smaller : 3 * (nodes (tree_of c.deref-in-Send.result.now) + nodes_in (trees_of c.deref-in-Send-2.result.now)) + 2 < 3 * nodes (tree_of n) = omega (arith, ap nodes is) in
-    (search (rules, in_room c.args.context.now _ _ smaller), (sound.0, sound.2))
+    let is = update_node n c.in-Update.form c.in-Update.cell c.in-Update.callee c.in-Update.args c.deref-in-Update.result.now c.deref-in-Update-2.result.now c.in-Update.is c.deref-in-Update.ensures c.deref-in-Update-2.ensures.value in
+    let sound = subst (λ e. SoundTree (callable c.args.context.now) (zone_in c.args.context.now) (length c.args.locals.now.items) c.requires.tail e) is c.requires.sound in
+    let smaller : 16 * (nodes (tree_of c.deref-in-Update.result.now) + nodes_in (trees_of c.deref-in-Update-2.result.now)) + 10 < 16 * nodes (tree_of n) = omega (arith, ap nodes is) in
+    (search (rules, in_room c.args.context.now _ _ smaller), (sound.1, (sound.3, (sound.0, sound.2))))
+
+pub evaluate_tail-evaluate_form-requires-in-Send : goal.evaluate_tail-evaluate_form-requires-in-Send
+evaluate_tail-evaluate_form-requires-in-Send t c =
+    let n = c.args.node.now in
+    let is = send_node n c.in-Send.agent c.in-Send.callee c.in-Send.args c.deref-in-Send.result.now c.deref-in-Send-2.result.now c.in-Send.is c.deref-in-Send.ensures c.deref-in-Send-2.ensures.value in
+    let sound = subst (λ e. SoundTree (callable c.args.context.now) (zone_in c.args.context.now) (length c.args.locals.now.items) c.requires.tail e) is c.requires.sound in
+    let smaller : 16 * (nodes (tree_of c.deref-in-Send.result.now) + nodes_in (trees_of c.deref-in-Send-2.result.now)) + 10 < 16 * nodes (tree_of n) = omega (arith, ap nodes is) in
+    (search (rules, in_room c.args.context.now _ _ smaller), (sound.0, (sound.2, tt)))
+
+pub evaluate_tail-returns-in-If-clause-value : goal.evaluate_tail-returns-in-If-clause-value
+evaluate_tail-returns-in-If-clause-value t c =
+    let n = c.args.node.now in
+    let is = if_node n c.in-If.test c.in-If.yes c.in-If.no c.deref.result.now c.deref-in-If.result.now c.deref-in-If-2.result.now c.in-If.is c.deref.ensures c.deref-in-If.ensures c.deref-in-If-2.ensures in
+    subst (λ e. Steps c.args.context.now c.evaluate_if.result c.evaluate_if.new.state (means c.args.context.now e c.args.locals.now.items c.args.state.now)) (sym is) c.evaluate_if.ensures.value
+
+pub evaluate_tail-returns-in-Dosync-clause-value : goal.evaluate_tail-returns-in-Dosync-clause-value
+evaluate_tail-returns-in-Dosync-clause-value t c =
+    let n = c.args.node.now in
+    let is = dosync_node n c.in-Dosync.body c.deref-in-Dosync.result.now c.in-Dosync.is c.deref-in-Dosync.ensures in
+    subst (λ e. Steps c.args.context.now c.evaluate_dosync.result c.evaluate_dosync.new.state (means c.args.context.now e c.args.locals.now.items c.args.state.now)) (sym is) c.evaluate_dosync.ensures.value
 
 pub evaluate_tail-returns-in-Look-clause-value : goal.evaluate_tail-returns-in-Look-clause-value
 evaluate_tail-returns-in-Look-clause-value t c =
     let n = c.args.node.now in
     let is = look_node n c.in-Look.form c.in-Look.cell c.deref-in-Look.result.now c.in-Look.is c.deref-in-Look.ensures in
-    let sound = subst (λ e. SoundTree (callable c.args.context.now) in_thread (length c.args.locals.now.items) c.requires.tail e) is c.requires.sound in
-    steps_look c.args.context.now (tree_of n) (mark_of n.span n.wanted) c.args.locals.now.items c.args.printed.now.items c.meet.new.printed.items c.meet.result c.in-Look.form (tree_of c.deref-in-Look.result.now) is sound.0 c.meet.ensures.value
+    subst (λ e. Steps c.args.context.now c.evaluate_form.result c.evaluate_form.new.state (means c.args.context.now e c.args.locals.now.items c.args.state.now)) (sym is) c.evaluate_form.ensures.value
 
 pub evaluate_tail-returns-in-Put-clause-value : goal.evaluate_tail-returns-in-Put-clause-value
 evaluate_tail-returns-in-Put-clause-value t c =
+    let x = c.args.context.now in
     let n = c.args.node.now in
+    let env = c.args.locals.now.items in
+    let r = c.evaluate_form-in-Put.result in
+    let out = c.evaluate_form-in-Put.new.state in
+    let m = mark_of n.span n.wanted in
+    let cell = tree_of c.deref-in-Put.result.now in
+    let value = tree_of c.deref-in-Put-2.result.now in
     let is = put_node n c.in-Put.form c.in-Put.cell c.in-Put.new c.deref-in-Put.result.now c.deref-in-Put-2.result.now c.in-Put.is c.deref-in-Put.ensures c.deref-in-Put-2.ensures in
-    let sound = subst (λ e. SoundTree (callable c.args.context.now) in_thread (length c.args.locals.now.items) c.requires.tail e) is c.requires.sound in
-    let b = c.deref-in-Put-2.result.now in
-    let each = subst (λ l. (go : Acts) → Lacks (form_of.Put c.in-Put.form) n.span go → Steps c.meet-in-Put.result c.meet-in-Put.new.printed.items (form_means c.args.context.now (tree_of c.deref-in-Put.result.now) (trees_of l) go c.args.locals.now.items c.args.printed.now.items)) c.from_ref.ensures.value c.meet-in-Put.ensures.value in
-    steps_put c.args.context.now (tree_of n) (mark_of n.span n.wanted) c.args.locals.now.items c.args.printed.now.items c.meet-in-Put.new.printed.items c.meet-in-Put.result c.in-Put.form (tree_of c.deref-in-Put.result.now) (tree_of b) is sound.0 each
+    let one = subst (λ l. Steps x r out (form_means x (a_put c.in-Put.form) m cell (trees_of l) env c.args.state.now)) c.from_ref.ensures.value c.evaluate_form-in-Put.ensures.value in
+    subst (λ q. Steps x r out q) (put_whole x c.in-Put.form cell value m env c.args.state.now ∙ ap (λ e. means x e env c.args.state.now) (sym is)) one
 
 pub evaluate_tail-returns-in-Update-clause-value : goal.evaluate_tail-returns-in-Update-clause-value
 evaluate_tail-returns-in-Update-clause-value t c =
     let n = c.args.node.now in
-    let is = update_node n c.in-Update.form c.in-Update.cell c.in-Update.field-2 c.in-Update.args c.deref-in-Update.result.now c.deref-in-Update-2.result.now c.in-Update.is c.deref-in-Update.ensures c.deref-in-Update-2.ensures.value in
-    let sound = subst (λ e. SoundTree (callable c.args.context.now) in_thread (length c.args.locals.now.items) c.requires.tail e) is c.requires.sound in
-    steps_update c.args.context.now (tree_of n) (mark_of n.span n.wanted) c.args.locals.now.items c.args.printed.now.items c.meet-in-Update.new.printed.items c.meet-in-Update.result c.in-Update.form (tree_of c.deref-in-Update.result.now) c.in-Update.field-2 (trees_of c.deref-in-Update-2.result.now) is sound.0 c.meet-in-Update.ensures.value
+    let is = update_node n c.in-Update.form c.in-Update.cell c.in-Update.callee c.in-Update.args c.deref-in-Update.result.now c.deref-in-Update-2.result.now c.in-Update.is c.deref-in-Update.ensures c.deref-in-Update-2.ensures.value in
+    subst (λ e. Steps c.args.context.now c.evaluate_form-in-Update.result c.evaluate_form-in-Update.new.state (means c.args.context.now e c.args.locals.now.items c.args.state.now)) (sym is) c.evaluate_form-in-Update.ensures.value
 
 pub evaluate_tail-returns-in-Send-clause-value : goal.evaluate_tail-returns-in-Send-clause-value
 evaluate_tail-returns-in-Send-clause-value t c =
     let n = c.args.node.now in
-    let is = send_node n c.in-Send.agent c.in-Send.field-1 c.in-Send.args c.deref-in-Send.result.now c.deref-in-Send-2.result.now c.in-Send.is c.deref-in-Send.ensures c.deref-in-Send-2.ensures.value in
-    steps_send c.args.context.now (tree_of n) (mark_of n.span n.wanted) c.args.locals.now.items c.args.printed.now.items c.meet-in-Send.new.printed.items c.meet-in-Send.result (tree_of c.deref-in-Send.result.now) c.in-Send.field-1 (trees_of c.deref-in-Send-2.result.now) is c.meet-in-Send.ensures.value
+    let is = send_node n c.in-Send.agent c.in-Send.callee c.in-Send.args c.deref-in-Send.result.now c.deref-in-Send-2.result.now c.in-Send.is c.deref-in-Send.ensures c.deref-in-Send-2.ensures.value in
+    subst (λ e. Steps c.args.context.now c.evaluate_form-in-Send.result c.evaluate_form-in-Send.new.state (means c.args.context.now e c.args.locals.now.items c.args.state.now)) (sym is) c.evaluate_form-in-Send.ensures.value
 
-pub meet-evaluate-requires : goal.meet-evaluate-requires
-meet-evaluate-requires t c =
-    let smaller : 3 * nodes (tree_of c.args.cell.now) + 1 < 3 * (nodes (tree_of c.args.cell.now) + nodes_in (trees_of c.args.args.now)) + 2 = omega arith in
-    (search (rules, in_room c.args.context.now _ _ smaller), c.requires.cell)
+pub evaluate_dosync-returns-in_err-value-clause-value : goal.evaluate_dosync-returns-in_err-value-clause-value
+evaluate_dosync-returns-in_err-value-clause-value t c =
+    let x = c.args.context.now in
+    let m = mark_of c.args.dosync.span c.args.dosync.wanted in
+    let body = tree_of c.args.dosync.body.now in
+    let env = c.args.locals.now.items in
+    let before = c.args.state.now in
+    let on : is_some c.world.result ≡ true = search rules in
+    let inside = running c.world.result x.world c.world.ensures ∙ on in
+    let y = c.in_err-value.field-0.0 in
+    let out = c.evaluate.new.state in
+    stops_steps (is_on x.world) c.from_residual.result y (part x.world out) (dosync_means x m body env before) (search rules) (joined x m body env before out inside (Err y) c.in_err-value.ensures.value)
 
-pub meet-evaluate_all-requires : goal.meet-evaluate_all-requires
-meet-evaluate_all-requires t c =
-    let some = nodes-some (tree_of c.args.cell.now) in
-    let smaller : 3 * nodes_in (trees_of c.args.args.now) + 2 < 3 * (nodes (tree_of c.args.cell.now) + nodes_in (trees_of c.args.args.now)) + 2 = omega (arith, some) in
-    (search (rules, in_room c.args.context.now _ _ smaller), subst (λ l. SoundAll (callable c.args.context.now) in_thread (length l) (trees_of c.args.args.now)) (sym c.in_ok-evaluate.ensures.kept) c.requires.args)
+pub evaluate_dosync-returns-then-is_some-clause-value : goal.evaluate_dosync-returns-then-is_some-clause-value
+evaluate_dosync-returns-then-is_some-clause-value t c =
+    let x = c.args.context.now in
+    let m = mark_of c.args.dosync.span c.args.dosync.wanted in
+    let body = tree_of c.args.dosync.body.now in
+    let env = c.args.locals.now.items in
+    let before = c.args.state.now in
+    let on : is_some c.world.result ≡ true = search rules in
+    let inside = running c.world.result x.world c.world.ensures ∙ on in
+    joined x m body env before c.evaluate.new.state inside (Ok c.in_ok-value.value) c.in_ok-value.ensures.value
 
-pub meet-returns-in_err-evaluate_all-clause-value : goal.meet-returns-in_err-evaluate_all-clause-value
-meet-returns-in_err-evaluate_all-clause-value t c go lacks =
-    let y = c.in_err-evaluate_all.field-0.0 in
-    let out = c.evaluate_all.new.printed.items in
-    let whole = args_stop c.args.context.now c.args.form (mark_of c.args.span true) (tree_of c.args.cell.now) (trees_of c.args.args.now) go lacks c.args.locals.now.items c.args.printed.now.items c.in_ok-evaluate.field-0 c.evaluate.new.printed.items c.in_ok-evaluate.ensures.value y out c.evaluate.new.locals.items c.in_ok-evaluate.ensures.kept c.in_err-evaluate_all.ensures.value in
-    stops_steps c.from_residual-in_err-evaluate_all.result y out (form_means c.args.context.now (tree_of c.args.cell.now) (trees_of c.args.args.now) go c.args.locals.now.items c.args.printed.now.items) (search rules) whole
+pub evaluate_dosync-returns-in_err-value-2-clause-value : goal.evaluate_dosync-returns-in_err-value-2-clause-value
+evaluate_dosync-returns-in_err-value-2-clause-value t c =
+    let x = c.args.context.now in
+    let m = mark_of c.args.dosync.span c.args.dosync.wanted in
+    let body = tree_of c.args.dosync.body.now in
+    let env = c.args.locals.now.items in
+    let before = c.args.state.now in
+    let off : is_some c.world.result ≡ false = search rules in
+    let outside = running c.world.result x.world c.world.ensures ∙ off in
+    let after = record before { thread = c.eat_dosync.new.thread } in
+    let y = c.in_err-value-2.field-0.0 in
+    stops_steps (is_on x.world) c.from_residual-in_err-value-2.result y (part x.world after) (dosync_means x m body env before) (search rules) (begun x m body env before after outside (Err y) c.in_err-value-2.ensures.value)
 
-pub meet-returns-clause-value : goal.meet-returns-clause-value
-meet-returns-clause-value t c go lacks =
-    args_done c.args.context.now c.args.form (mark_of c.args.span true) (tree_of c.args.cell.now) (trees_of c.args.args.now) go lacks c.args.locals.now.items c.args.printed.now.items c.in_ok-evaluate.field-0 c.evaluate.new.printed.items c.in_ok-evaluate.ensures.value c.in_ok-evaluate_all.field-0.items c.evaluate.new.locals.items c.evaluate_all.new.printed.items c.stop_of-stop.result c.in_ok-evaluate.ensures.kept c.in_ok-evaluate_all.ensures.value c.stop_of-stop.ensures
+pub evaluate_dosync-returns-clause-value : goal.evaluate_dosync-returns-clause-value
+evaluate_dosync-returns-clause-value t c =
+    let x = c.args.context.now in
+    let m = mark_of c.args.dosync.span c.args.dosync.wanted in
+    let body = tree_of c.args.dosync.body.now in
+    let env = c.args.locals.now.items in
+    let before = c.args.state.now in
+    let off : is_some c.world.result ≡ false = search rules in
+    let outside = running c.world.result x.world c.world.ensures ∙ off in
+    let after = record before { thread = c.eat_dosync.new.thread } in
+    begun x m body env before after outside (Ok c.in_ok-value-2.value) c.in_ok-value-2.ensures.value
