@@ -9,3 +9,4 @@ pub mod Older
 pub mod Serves
 pub mod Sizes
 pub mod Storing
+pub mod Zipping

@@ -1,6 +1,6 @@
 -- Agents' mail and inboxes.
 use Rattle.std.proofs.Common.{◌≡◌, ◌≢◌, ◌≤◌, ◌<◌, ◌+◌, ℕ, zero, suc, Bool, true, false, ◌==◌, List, [], ◌∷◌, ◌++◌, length, take, drop, get_or, set, Option, Some, None, Result, Ok, Err, refl, sym, ap, ◌∙◌, subst, arith, append_assoc, if◌then◌else◌}
-use Rattle.std.specs.Prelude.{nat_lt, is_some, OnErr}
+use Rattle.std.specs.Prelude.{nat_lt, is_some, OnErr, OnOk}
 use Rattle.std.proofs.lemmas.Bool.{false≢true, ltb-true}
 use Rattle.std.proofs.lemmas.Bool.Decides.{nat_tests}
 use Rattle.std.proofs.lemmas.List.{get_or-set_same, get_or-set_other, length-set, take_more}
@@ -13,7 +13,7 @@ use Rattle.txs_value.specs.Places.{nth}
 use Rattle.txs_value.specs.declared.fault.Fault.{Fault}
 use Rattle.txs_value.specs.declared.value.Value.{Value}
 use Rattle.txs_world.specs.Book.{goes_on, is_there, Mail, no_mail, mail_after, sent_to, mailed, acted, mail_changed, mail_from}
-use Rattle.txs_world.specs.Inboxes.{PlainInbox, plain_inbox, plain_inboxes, with_action, taken_up, fault_of, finished, no_inbox, mailed_all, all_sent_below, rooms, HaveRoom, open_inboxes, inbox_of, taken_of}
+use Rattle.txs_world.specs.Inboxes.{PlainInbox, plain_inbox, plain_inboxes, with_action, taken_up, fault_of, finished, no_inbox, mailed_all, all_sent_below, rooms, HaveRoom, RoomFor, promises, Promised, open_inboxes, inbox_of, taken_of}
 use Rattle.txs_world.specs.Kept.{IsKept}
 use Rattle.txs_world.specs.Store.{first_action, none_taken}
 use Rattle.txs_world.specs.declared.cell.StoreCell.{StoreCell}
@@ -25,6 +25,11 @@ use Rattle.txs_world.proofs.Merging.{both}
 pub on_err : {T E : Type 0} (r : Result T E) (P : Type 0) → P → OnErr r P
 on_err (Ok v) P p = tt
 on_err (Err e) P p = p
+
+-- what follows where there is none
+pub on_ok : {T E : Type 0} (r : Result T E) (P Q : Type 0) → (P → Q) → OnOk r P → OnOk r Q
+on_ok (Ok v) P Q f p = f p
+on_ok (Err e) P Q f p = tt
 
 pub equal : (a b : ℕ) → (a == b) ≡ true → a ≡ b
 equal a b e = grind (arith, nat_tests)
@@ -118,14 +123,6 @@ no_fault None e = refl
 no_fault (Some f) e = absurd (false≢true (sym e))
 
 -- ---- room
-
-pub room_last : (ns : List ℕ) (n : ℕ) (xs : List Action) (x : Action) → HaveRoom ns n xs → n ≤ get_or ns x.agent.number 0 → HaveRoom ns n (xs ++ x ∷ [])
-room_last ns n [] x h le = (le, tt)
-room_last ns n (y ∷ ys) x h le = (h.0, room_last ns n ys x h.1 le)
-
-pub room_more : (ns ms : List ℕ) (n m : ℕ) (xs : List Action) → ((k : ℕ) → n ≤ get_or ns k 0 → m ≤ get_or ms k 0) → HaveRoom ns n xs → HaveRoom ms m xs
-room_more ns ms n m [] f h = tt
-room_more ns ms n m (x ∷ xs) f h = (f x.agent.number h.0, room_more ns ms n m xs f h.1)
 
 pub rooms_many : (bs : List Inbox) → length (rooms bs) ≡ length bs
 rooms_many [] = refl
@@ -266,13 +263,6 @@ no_less_room (b ∷ bs) zero old new at le (suc k) = omega arith
 no_less_room (b ∷ bs) (suc i) old new at le zero = omega arith
 no_less_room (b ∷ bs) (suc i) old new at le (suc k) = no_less_room bs i old new at le k
 
-pub one_less_room : (bs : List Inbox) (i : ℕ) (old new : Inbox) → old ≡ get_or bs i old → new.mailbox.room + 1 ≡ old.mailbox.room → (k : ℕ) → get_or (rooms bs) k 0 ≤ suc (get_or (rooms (set bs i new)) k 0)
-one_less_room [] i old new at le k = omega arith
-one_less_room (b ∷ bs) zero old new at le zero = let e : old.mailbox.room ≡ b.mailbox.room = ap (λ (y : Inbox). y.mailbox.room) at in omega (arith, le, e)
-one_less_room (b ∷ bs) zero old new at le (suc k) = omega arith
-one_less_room (b ∷ bs) (suc i) old new at le zero = omega arith
-one_less_room (b ∷ bs) (suc i) old new at le (suc k) = one_less_room bs i old new at le k
-
 pub new_room : (bs : List Inbox) (i n m : ℕ) (new : Inbox) → i ≡ n → n < length bs → m ≤ new.mailbox.room → m ≤ get_or (rooms (set bs i new)) n 0
 new_room bs i n m new is lt le = subst (λ k. m ≤ get_or (rooms (set bs k new)) n 0) (sym is) (go bs n lt)
   where
@@ -281,12 +271,183 @@ new_room bs i n m new is lt le = subst (λ k. m ≤ get_or (rooms (set bs k new)
     go (c ∷ cs) zero l = le
     go (c ∷ cs) (suc k) l = go cs k (omega (arith, l))
 
--- room for one action less
-pub room_used : (ns ms : List ℕ) (n : ℕ) (xs : List Action) → ((k : ℕ) → get_or ns k 0 ≤ suc (get_or ms k 0)) → HaveRoom ns (suc n) xs → HaveRoom ms n xs
-room_used ns ms n xs f h = room_more ns ms (suc n) n xs (λ k le. let r = f k in omega (arith, le, r)) h
+-- an inbox that has one action more, in the place of the one that was read
+pub put_room : (bs : List Inbox) (i : ℕ) (x : Action) (old new : Inbox) → old ≡ get_or bs i old → i ≡ x.agent.number → x.agent.number < length bs → new.mailbox.room + 1 ≡ old.mailbox.room
+    → (k : ℕ) → get_or (rooms bs) k 0 ≤ length (sent_to k (x ∷ [])) + get_or (rooms (set bs i new)) k 0
+put_room bs i x old new at is lt e k = subst (λ l. get_or (rooms bs) k 0 ≤ length (sent_to k (x ∷ [])) + get_or l k 0) (sym now) (go (x.agent.number == k) refl)
+  where
+    n : ℕ
+    n = x.agent.number
 
-pub room_kept : (ns ms : List ℕ) (n : ℕ) (xs : List Action) → ((k : ℕ) → get_or ns k 0 ≤ get_or ms k 0) → HaveRoom ns n xs → HaveRoom ms n xs
-room_kept ns ms n xs f h = room_more ns ms n n xs (λ k le. let r = f k in omega (arith, le, r)) h
+    now : rooms (set bs i new) ≡ set (rooms bs) n new.mailbox.room
+    now = rooms_set bs i new ∙ ap (λ j. set (rooms bs) j new.mailbox.room) is
+
+    here : get_or (rooms bs) n 0 ≤ 1 + get_or (set (rooms bs) n new.mailbox.room) n 0
+    here =
+        let many = rooms_many bs in
+        let a = get_or-set_same (rooms bs) n new.mailbox.room 0 (omega (arith, lt, many)) in
+        let b = old_room bs i n old at is lt in
+        omega (arith, a, b, e)
+
+    go : (t : Bool) → (n == k) ≡ t → get_or (rooms bs) k 0 ≤ length (if t then x ∷ [] else []) + get_or (set (rooms bs) n new.mailbox.room) k 0
+    go true q = subst (λ j. get_or (rooms bs) j 0 ≤ 1 + get_or (set (rooms bs) n new.mailbox.room) j 0) (equal n k q) here
+    go false q = let a = get_or-set_other (rooms bs) n k new.mailbox.room 0 (λ p. unequal n k q (sym p)) in omega (arith, a)
+
+-- room for those that are left
+pub room_used : (ns ms : List ℕ) (a : Action) (rest : List Action) → ((k : ℕ) → get_or ns k 0 ≤ length (sent_to k (a ∷ [])) + get_or ms k 0) → HaveRoom ns (a ∷ rest) → HaveRoom ms rest
+room_used ns ms a rest f h = λ k. go k (a.agent.number == k) (f k) (h k)
+  where
+    go : (k : ℕ) (t : Bool) → get_or ns k 0 ≤ length (if t then a ∷ [] else []) + get_or ms k 0 → length (if t then a ∷ sent_to k rest else sent_to k rest) ≤ get_or ns k 0 → length (sent_to k rest) ≤ get_or ms k 0
+    go k true p q = omega (arith, p, q)
+    go k false p q = omega (arith, p, q)
+
+own_number : (n : ℕ) → (n == n) ≡ true
+own_number n = grind (arith, nat_tests)
+
+-- the first of some that have room has it
+pub room_first : (ns : List ℕ) (a : Action) (rest : List Action) → HaveRoom ns (a ∷ rest) → 0 < get_or ns a.agent.number 0
+room_first ns a rest h =
+    let n = a.agent.number in
+    let room = h n in
+    let e : length (sent_to n (a ∷ rest)) ≡ suc (length (sent_to n rest)) = ap (λ t. length (if t then a ∷ sent_to n rest else sent_to n rest)) (own_number n) in
+    omega (arith, room, e)
+
+-- ---- what is promised
+
+pub promises_set : (bs : List Inbox) (i : ℕ) (b : Inbox) → promises (set bs i b) ≡ set (promises bs) i b.promised
+promises_set [] i b = refl
+promises_set (x ∷ bs) zero b = refl
+promises_set (x ∷ bs) (suc i) b = ap (λ l. x.promised ∷ l) (promises_set bs i b)
+
+pub promises_many : (bs : List Inbox) → length (promises bs) ≡ length bs
+promises_many [] = refl
+promises_many (b ∷ bs) = ap suc (promises_many bs)
+
+promise_at : (bs : List Inbox) (i : ℕ) (d : Inbox) → i < length bs → get_or (promises bs) i 0 ≡ (get_or bs i d).promised
+promise_at [] i d lt = absurd (omega (arith, lt))
+promise_at (x ∷ bs) zero d lt = refl
+promise_at (x ∷ bs) (suc i) d lt = promise_at bs i d (omega (arith, lt))
+
+-- what the inbox that was read was promised
+pub old_promise : (bs : List Inbox) (i n : ℕ) (old : Inbox) → old ≡ get_or bs i old → i ≡ n → n < length bs → old.promised ≡ get_or (promises bs) n 0
+old_promise bs i n old at is lt = ap (λ (b : Inbox). b.promised) (subst (λ k. old ≡ get_or bs k old) is at) ∙ sym (promise_at bs n old lt)
+
+-- one more is promised
+pub new_promise : (bs : List Inbox) (i n : ℕ) (old new : Inbox) → old ≡ get_or bs i old → i ≡ n → n < length bs → new.promised ≡ suc old.promised → promises (set bs i new) ≡ set (promises bs) n (suc (get_or (promises bs) n 0))
+new_promise bs i n old new at is lt e =
+    promises_set bs i new ∙ ap (λ k. set (promises bs) k new.promised) is ∙ ap (set (promises bs) n) (e ∙ ap suc (old_promise bs i n old at is lt))
+
+pub sent_more : (k : ℕ) (xs : List Action) (a : Action) → length (sent_to k (xs ++ a ∷ [])) ≡ length (sent_to k (a ∷ [])) + length (sent_to k xs)
+sent_more k [] a = omega arith
+sent_more k (x ∷ xs) a = go (x.agent.number == k) (sent_more k xs a)
+  where
+    go : (t : Bool) → length (sent_to k (xs ++ a ∷ [])) ≡ length (sent_to k (a ∷ [])) + length (sent_to k xs)
+        → length (if t then x ∷ sent_to k (xs ++ a ∷ []) else sent_to k (xs ++ a ∷ [])) ≡ length (sent_to k (a ∷ [])) + length (if t then x ∷ sent_to k xs else sent_to k xs)
+    go true r = omega (arith, r)
+    go false r = r
+
+-- no more are sent to an agent than there are
+pub sent_few : (k i : ℕ) (xs : List Action) → length (sent_to k (take i xs)) ≤ i
+sent_few k zero [] = omega arith
+sent_few k zero (x ∷ xs) = omega arith
+sent_few k (suc i) [] = omega arith
+sent_few k (suc i) (x ∷ xs) = go (x.agent.number == k) (sent_few k i xs)
+  where
+    go : (t : Bool) → length (sent_to k (take i xs)) ≤ i → length (if t then x ∷ sent_to k (take i xs) else sent_to k (take i xs)) ≤ suc i
+    go true r = omega (arith, r)
+    go false r = omega (arith, r)
+
+pub promised_at : (ps : List ℕ) (earlier xs : List Action) (i : ℕ) (a : Action) → i < length xs → a ≡ get_or xs i a → Promised ps earlier xs → get_or ps a.agent.number 0 ≡ length (sent_to a.agent.number earlier)
+promised_at ps earlier [] i a lt at h = absurd (omega (arith, lt))
+promised_at ps earlier (x ∷ xs) zero a lt at h = subst (λ (y : Action). get_or ps y.agent.number 0 ≡ length (sent_to y.agent.number earlier)) (sym at) h.0
+promised_at ps earlier (x ∷ xs) (suc i) a lt at h = promised_at ps earlier xs i a (omega (arith, lt)) at h.1
+
+promised_more : (ps : List ℕ) (earlier xs : List Action) (a : Action) → a.agent.number < length ps → get_or ps a.agent.number 0 ≡ length (sent_to a.agent.number earlier) → Promised ps earlier xs → Promised (set ps a.agent.number (suc (get_or ps a.agent.number 0))) (earlier ++ a ∷ []) xs
+promised_more ps earlier [] a lt e h = tt
+promised_more ps earlier (x ∷ xs) a lt e h = (go (n == x.agent.number) refl (sent_more x.agent.number earlier a), promised_more ps earlier xs a lt e h.1)
+  where
+    n : ℕ
+    n = a.agent.number
+
+    here : get_or (set ps n (suc (get_or ps n 0))) n 0 ≡ suc (length (sent_to n earlier))
+    here = get_or-set_same ps n (suc (get_or ps n 0)) 0 lt ∙ ap suc e
+
+    go : (t : Bool) → (n == x.agent.number) ≡ t → length (sent_to x.agent.number (earlier ++ a ∷ [])) ≡ length (if t then a ∷ [] else []) + length (sent_to x.agent.number earlier) → get_or (set ps n (suc (get_or ps n 0))) x.agent.number 0 ≡ length (sent_to x.agent.number (earlier ++ a ∷ []))
+    go true q m =
+        let now : suc (length (sent_to x.agent.number earlier)) ≡ length (sent_to x.agent.number (earlier ++ a ∷ [])) = omega (arith, m) in
+        subst (λ k. get_or (set ps n (suc (get_or ps n 0))) k 0 ≡ suc (length (sent_to k earlier))) (equal n x.agent.number q) here ∙ now
+    go false q m = get_or-set_other ps n x.agent.number (suc (get_or ps n 0)) 0 (λ p. unequal n x.agent.number q (sym p)) ∙ h.0 ∙ omega (arith, m)
+
+-- one more of some actions: as much is promised as these need
+pub promised_next : (ps qs : List ℕ) (xs : List Action) (i : ℕ) (a : Action) → i < length xs → a ≡ get_or xs i a → a.agent.number < length ps → qs ≡ set ps a.agent.number (suc (get_or ps a.agent.number 0))
+    → Promised ps (take i xs) xs → Promised qs (take (i + 1) xs) xs
+promised_next ps qs xs i a lt at in_ps is h =
+    subst (λ l. Promised l (take (i + 1) xs) xs) (sym is)
+    (subst (λ l. Promised (set ps a.agent.number (suc (get_or ps a.agent.number 0))) l xs) (sym (take_more xs i a lt ∙ ap (λ y. take i xs ++ y ∷ []) (sym at)))
+    (promised_more ps (take i xs) xs a in_ps (promised_at ps (take i xs) xs i a lt at h) h))
+
+room_kept : (ns ms : List ℕ) (all xs : List Action) → ((k : ℕ) → get_or ns k 0 ≤ get_or ms k 0) → RoomFor ns all xs → RoomFor ms all xs
+room_kept ns ms all [] f h = tt
+room_kept ns ms all (x ∷ xs) f h = (let r = f x.agent.number in let s = h.0 in omega (arith, r, s), room_kept ns ms all xs f h.1)
+
+room_last : (ns : List ℕ) (all xs : List Action) (a : Action) → RoomFor ns all xs → length (sent_to a.agent.number all) ≤ get_or ns a.agent.number 0 → RoomFor ns all (xs ++ a ∷ [])
+room_last ns all [] a h le = (le, tt)
+room_last ns all (x ∷ xs) a h le = (h.0, room_last ns all xs a h.1 le)
+
+-- one more agent that has the room that was promised
+pub room_next : (ns ms ps : List ℕ) (xs : List Action) (i : ℕ) (a : Action) → i < length xs → a ≡ get_or xs i a → ((k : ℕ) → get_or ns k 0 ≤ get_or ms k 0) → Promised ps xs xs → RoomFor ns xs (take i xs)
+    → get_or ps a.agent.number 0 ≤ get_or ms a.agent.number 0 → RoomFor ms xs (take (i + 1) xs)
+room_next ns ms ps xs i a lt at f p h le =
+    subst (RoomFor ms xs) (sym (take_more xs i a lt ∙ ap (λ y. take i xs ++ y ∷ []) (sym at)))
+    (room_last ms xs (take i xs) a (room_kept ns ms xs (take i xs) f h) (subst (λ n. n ≤ get_or ms a.agent.number 0) (promised_at ps xs xs i a lt at p) le))
+
+room_of : (ns : List ℕ) (all xs : List Action) (k : ℕ) → RoomFor ns all xs → 0 < length (sent_to k xs) → length (sent_to k all) ≤ get_or ns k 0
+room_of ns all [] k h lt = absurd (omega (arith, lt))
+room_of ns all (x ∷ xs) k h lt = go (room_of ns all xs k h.1) (x.agent.number == k) refl lt
+  where
+    go : (0 < length (sent_to k xs) → length (sent_to k all) ≤ get_or ns k 0) → (t : Bool) → (x.agent.number == k) ≡ t → 0 < length (if t then x ∷ sent_to k xs else sent_to k xs) → length (sent_to k all) ≤ get_or ns k 0
+    go r true q l = subst (λ j. length (sent_to j all) ≤ get_or ns j 0) (equal x.agent.number k q) h.0
+    go r false q l = r l
+
+-- where the agent of each has room, there is room for all
+room_all : (ns : List ℕ) (xs : List Action) → RoomFor ns xs xs → HaveRoom ns xs
+room_all ns xs h = λ k. go k (length (sent_to k xs)) refl
+  where
+    go : (k n : ℕ) → length (sent_to k xs) ≡ n → n ≤ get_or ns k 0
+    go k zero e = omega arith
+    go k (suc n) e = subst (λ m. m ≤ get_or ns k 0) e (room_of ns xs xs k h (omega (arith, e)))
+
+take_past : (xs : List Action) (i : ℕ) → length xs ≤ i → take i xs ≡ xs
+take_past [] zero le = refl
+take_past [] (suc i) le = refl
+take_past (x ∷ xs) zero le = absurd (omega (arith, le))
+take_past (x ∷ xs) (suc i) le = ap (λ l. x ∷ l) (take_past xs i (omega (arith, le)))
+
+-- where all were gone through
+pub room_last_all : (ns : List ℕ) (xs : List Action) (i : ℕ) → length xs ≤ i → RoomFor ns xs (take i xs) → HaveRoom ns xs
+room_last_all ns xs i le h = room_all ns xs (subst (RoomFor ns xs) (take_past xs i le) h)
+
+-- an inbox that was promised as much as the one that was read
+pub same_promises : (bs : List Inbox) (i : ℕ) (old new : Inbox) → old ≡ get_or bs i old → new.promised ≡ old.promised → promises (set bs i new) ≡ promises bs
+same_promises [] i old new at e = refl
+same_promises (b ∷ bs) zero old new at e = ap (λ p. p ∷ promises bs) (e ∙ ap (λ (y : Inbox). y.promised) at)
+same_promises (b ∷ bs) (suc i) old new at e = ap (λ l. b.promised ∷ l) (same_promises bs i old new at e)
+
+none_more : (ps : List ℕ) (xs : List Action) (a : Action) → a.agent.number < length ps → Promised ps [] xs → Promised (set ps a.agent.number 0) [] (xs ++ a ∷ [])
+none_more ps [] a lt h = (get_or-set_same ps a.agent.number 0 0 lt, tt)
+none_more ps (x ∷ xs) a lt h = (go (a.agent.number == x.agent.number) refl, none_more ps xs a lt h.1)
+  where
+    go : (t : Bool) → (a.agent.number == x.agent.number) ≡ t → get_or (set ps a.agent.number 0) x.agent.number 0 ≡ 0
+    go true q = subst (λ k. get_or (set ps a.agent.number 0) k 0 ≡ 0) (equal a.agent.number x.agent.number q) (get_or-set_same ps a.agent.number 0 0 lt)
+    go false q = get_or-set_other ps a.agent.number x.agent.number 0 0 (λ p. unequal a.agent.number x.agent.number q (sym p)) ∙ h.0
+
+-- one more agent to which nothing is promised
+pub none_next : (bs cs : List Inbox) (j : ℕ) (b : Inbox) (xs : List Action) (i : ℕ) (a : Action) → i < length xs → a ≡ get_or xs i a → a.agent.number < length bs → cs ≡ set bs j b → j ≡ a.agent.number → b.promised ≡ 0
+    → Promised (promises bs) [] (take i xs) → Promised (promises cs) [] (take (i + 1) xs)
+none_next bs cs j b xs i a lt at in_bs is place zero_is h =
+    let many = promises_many bs in
+    subst (λ l. Promised l [] (take (i + 1) xs)) (sym (ap promises is ∙ promises_set bs j b ∙ ap (λ k. set (promises bs) k b.promised) place ∙ ap (set (promises bs) a.agent.number) zero_is))
+    (subst (Promised (set (promises bs) a.agent.number 0) []) (sym (take_more xs i a lt ∙ ap (λ y. take i xs ++ y ∷ []) (sym at))) (none_more (promises bs) (take i xs) a (omega (arith, in_bs, many)) h))
 
 -- ---- actions in their places
 
@@ -304,12 +465,6 @@ pub below_next : (n : ℕ) (xs : List Action) (i : ℕ) → all_sent_below n (dr
 below_next n xs i h =
     let e : suc i ≡ i + 1 = omega arith in
     subst (λ k. all_sent_below n (drop k xs) ≡ true) e (below_suc n xs i h)
-
--- room for those up to a place, and for the one there
-pub room_next : (ns ms : List ℕ) (n : ℕ) (xs : List Action) (i : ℕ) (a : Action) → i < length xs → a ≡ get_or xs i a → ((k : ℕ) → get_or ns k 0 ≤ get_or ms k 0) → HaveRoom ns n (take i xs) → n ≤ get_or ms a.agent.number 0 → HaveRoom ms n (take (i + 1) xs)
-room_next ns ms n xs i a lt at f h le =
-    subst (HaveRoom ms n) (sym (take_more xs i a lt))
-    (room_last ms n (take i xs) (get_or xs i a) (room_kept ns ms n (take i xs) f h) (subst (λ (y : Action). n ≤ get_or ms y.agent.number 0) at le))
 
 -- as many inboxes, where they are the same without their room
 pub plain_same_many : (bs cs : List Inbox) → plain_inboxes bs ≡ plain_inboxes cs → length bs ≡ length cs

@@ -1,6 +1,6 @@
 -- What a commit writes: refs of the store that ascend, and of what was set and what was commuted none was written since.
-use Rattle.std.proofs.Common.{◌≡◌, ◌≢◌, ◌≤◌, ◌<◌, ◌+◌, ℕ, zero, suc, Bool, true, false, ◌&&◌, ◌==◌, List, [], ◌∷◌, ◌++◌, length, drop, get_or, set, Option, Some, None, refl, sym, ap, ◌∙◌, subst, arith, if◌then◌else◌}
-use Rattle.std.specs.Prelude.{nat_lt, nat_le, insert}
+use Rattle.std.proofs.Common.{◌≡◌, ◌≢◌, ◌≤◌, ◌<◌, ◌+◌, ℕ, zero, suc, Bool, true, false, ◌&&◌, ◌==◌, List, [], ◌∷◌, ◌++◌, length, drop, get_or, Option, Some, None, refl, sym, ap, ◌∙◌, subst, arith, if◌then◌else◌}
+use Rattle.std.specs.Prelude.{nat_lt, nat_le}
 use Rattle.std.proofs.lemmas.Bool.{false≢true, ltb-true, ltb-false, eqb-true}
 use Rattle.std.proofs.lemmas.Bool.Decides.{nat_tests}
 use Rattle.txs_asks.specs.Ask.{Writes, with_write}
@@ -8,7 +8,6 @@ use Rattle.txs_asks.specs.declared.event.Event.{Event}
 use Rattle.txs_value.specs.declared.value.CellId.{CellId}
 use Rattle.txs_value.specs.declared.value.Value.{Value}
 use Rattle.txs_world.specs.Book.{has_ref, cells_in, are_refs, has_refs, written, least, least_written, Untouched}
-use Rattle.txs_world.specs.Places.{place_of}
 use Rattle.txs_world.specs.Store.{merged}
 use Rattle.txs_world.specs.declared.cell.StoreCell.{StoreCell}
 use Rattle.txs_world.proofs.Growth.{unwritten_later}
@@ -23,7 +22,7 @@ joined a b p q = ap (λ t. t && b) p ∙ q
 le_true : (m n : ℕ) → m ≤ n → nat_le m n ≡ true
 le_true m n h = grind (arith, nat_tests, h)
 
-true_le : (m n : ℕ) → nat_le m n ≡ true → m ≤ n
+pub true_le : (m n : ℕ) → nat_le m n ≡ true → m ≤ n
 true_le m n h = grind (arith, nat_tests, h)
 
 -- refs that ascend are refs
@@ -188,65 +187,16 @@ found_next cells book p cs i d found new lt h e =
           ∙ ap (least found) (sym (least_joined book p (x ∷ []) (drop (suc i) cs))) ∙ ap (λ l. least found (least_written book p l)) (sym there) ∙ h.1,
     )
 
--- ---- places
+-- ---- a write among others
 
-tested : (ws : Writes) (w : CellId × Value) (c : CellId) (v : Value) (s t : Bool) → (w.0.number == c.number) ≡ s → nat_lt c.number w.0.number ≡ t → with_write (w ∷ ws) c v ≡ (if s then (c, v) ∷ ws else if t then (c, v) ∷ w ∷ ws else w ∷ with_write ws c v)
+pub tested : (ws : Writes) (w : CellId × Value) (c : CellId) (v : Value) (s t : Bool) → (w.0.number == c.number) ≡ s → nat_lt c.number w.0.number ≡ t → with_write (w ∷ ws) c v ≡ (if s then (c, v) ∷ ws else if t then (c, v) ∷ w ∷ ws else w ∷ with_write ws c v)
 tested ws w c v s t e f = ap (λ x. if x then (c, v) ∷ ws else if nat_lt c.number w.0.number then (c, v) ∷ w ∷ ws else w ∷ with_write ws c v) e ∙ ap (λ x. if s then (c, v) ∷ ws else if x then (c, v) ∷ w ∷ ws else w ∷ with_write ws c v) f
 
-eqb_yes : (m n : ℕ) → m ≡ n → (m == n) ≡ true
-eqb_yes m n h = grind (arith, nat_tests, h)
-
-eqb_no : (m n : ℕ) → m ≢ n → (m == n) ≡ false
+pub eqb_no : (m n : ℕ) → m ≢ n → (m == n) ≡ false
 eqb_no m n h = grind (arith, nat_tests, h)
 
 pub ltb_yes : (m n : ℕ) → m < n → nat_lt m n ≡ true
 ltb_yes m n h = grind (arith, nat_tests, h)
 
-ltb_no : (m n : ℕ) → n ≤ m → nat_lt m n ≡ false
+pub ltb_no : (m n : ℕ) → n ≤ m → nat_lt m n ≡ false
 ltb_no m n h = grind (arith, nat_tests, h)
-
--- the earlier value of the cell is replaced
-pub put_there : (ws : Writes) (c : CellId) (v : Value) (d : CellId × Value) → place_of c.number ws < length ws → (get_or ws (place_of c.number ws) d).0.number ≡ c.number → set ws (place_of c.number ws) (c, v) ≡ with_write ws c v
-put_there [] c v d lt e = absurd (omega (arith, lt))
-put_there (w ∷ ws) c v d lt e = go (nat_lt w.0.number c.number) refl (λ l f. put_there ws c v d l f) lt e
-  where
-    go : (t : Bool) → nat_lt w.0.number c.number ≡ t → (place_of c.number ws < length ws → (get_or ws (place_of c.number ws) d).0.number ≡ c.number → set ws (place_of c.number ws) (c, v) ≡ with_write ws c v)
-        → (if t then suc (place_of c.number ws) else 0) < suc (length ws) → (get_or (w ∷ ws) (if t then suc (place_of c.number ws) else 0) d).0.number ≡ c.number → set (w ∷ ws) (if t then suc (place_of c.number ws) else 0) (c, v) ≡ with_write (w ∷ ws) c v
-    go true f r lt e =
-        let less : w.0.number < c.number = ltb-true w.0.number c.number f in
-        ap (λ xs. w ∷ xs) (r (omega (arith, lt)) e) ∙ sym (tested ws w c v false false (eqb_no w.0.number c.number (λ q. absurd (omega (arith, less, q)))) (ltb_no c.number w.0.number (omega (arith, less))))
-    go false f r lt e = sym (tested ws w c v true (nat_lt c.number w.0.number) (eqb_yes w.0.number c.number e) refl)
-
--- a cell that has none gets its value in order
-pub put_new : (ws : Writes) (c : CellId) (v : Value) → ((d : CellId × Value) → place_of c.number ws < length ws → (get_or ws (place_of c.number ws) d).0.number ≢ c.number) → insert ws (place_of c.number ws) (c, v) ≡ with_write ws c v
-put_new [] c v other = refl
-put_new (w ∷ ws) c v other = go (nat_lt w.0.number c.number) refl (λ o. put_new ws c v o) other
-  where
-    go : (t : Bool) → nat_lt w.0.number c.number ≡ t → (((d : CellId × Value) → place_of c.number ws < length ws → (get_or ws (place_of c.number ws) d).0.number ≢ c.number) → insert ws (place_of c.number ws) (c, v) ≡ with_write ws c v)
-        → ((d : CellId × Value) → (if t then suc (place_of c.number ws) else 0) < suc (length ws) → (get_or (w ∷ ws) (if t then suc (place_of c.number ws) else 0) d).0.number ≢ c.number) → insert (w ∷ ws) (if t then suc (place_of c.number ws) else 0) (c, v) ≡ with_write (w ∷ ws) c v
-    go true f r other =
-        let less : w.0.number < c.number = ltb-true w.0.number c.number f in
-        ap (λ xs. w ∷ xs) (r (λ d lt. other d (omega (arith, lt)))) ∙ sym (tested ws w c v false false (eqb_no w.0.number c.number (λ q. absurd (omega (arith, less, q)))) (ltb_no c.number w.0.number (omega (arith, less))))
-    go false f r other =
-        let low : c.number ≤ w.0.number = ltb-false w.0.number c.number f in
-        let differ : w.0.number ≢ c.number = other w (omega arith) in
-        sym (tested ws w c v false true (eqb_no w.0.number c.number differ) (ltb_yes c.number w.0.number (omega (arith, low, differ))))
-
--- the item that was read at a place, whatever stands for one that isn't there
-pub read_at : (ws : Writes) (i : ℕ) (x d : CellId × Value) → i < length ws → x ≡ get_or ws i x → x ≡ get_or ws i d
-read_at [] i x d lt e = absurd (omega (arith, lt))
-read_at (w ∷ ws) zero x d lt e = e
-read_at (w ∷ ws) (suc i) x d lt e = read_at ws i x d (omega (arith, lt)) e
-
-pub put_there_at : (ws : Writes) (c : CellId) (v : Value) (i : ℕ) (x : CellId × Value) → i ≡ place_of c.number ws → i < length ws → x ≡ get_or ws i x → x.0.number ≡ c.number → set ws i (c, v) ≡ with_write ws c v
-put_there_at ws c v i x is lt e f =
-    ap (λ k. set ws k (c, v)) is
-    ∙ put_there ws c v x (subst (λ k. k < length ws) is lt) (ap (λ k. (get_or ws k x).0.number) (sym is) ∙ ap (λ (y : CellId × Value). y.0.number) (sym e) ∙ f)
-
-pub put_new_at : (ws : Writes) (c : CellId) (v : Value) (i : ℕ) (x : CellId × Value) → i ≡ place_of c.number ws → x ≡ get_or ws i x → x.0.number ≢ c.number → insert ws i (c, v) ≡ with_write ws c v
-put_new_at ws c v i x is e other =
-    ap (λ k. insert ws k (c, v)) is
-    ∙ put_new ws c v (λ d lt f. other (ap (λ (y : CellId × Value). y.0.number) (read_at ws i x d (subst (λ k. k < length ws) (sym is) lt) e) ∙ ap (λ k. (get_or ws k d).0.number) is ∙ f))
-
-pub put_new_past : (ws : Writes) (c : CellId) (v : Value) (i : ℕ) → i ≡ place_of c.number ws → length ws ≤ i → insert ws i (c, v) ≡ with_write ws c v
-put_new_past ws c v i is le = ap (λ k. insert ws k (c, v)) is ∙ put_new ws c v (λ d lt f. absurd (omega (arith, lt, le, is)))

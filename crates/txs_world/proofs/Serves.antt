@@ -78,6 +78,7 @@ pub record Lawful (s : PlainStore) (a at view : ℕ) (sets commuted : Writes) (e
   pub refs_set : are_refs s.cells 0 (cells_in sets) ≡ true
   pub refs_ensured : has_refs s.cells ensured ≡ true
   pub refs_commuted : are_refs s.cells 0 (cells_in commuted) ≡ true
+  pub apart : are_apart (cells_in commuted) (cells_in sets) ≡ true
   pub to_agents : are_sends s.cells sends ≡ true
   pub end : may_end s.book a at view ≡ true
 
@@ -89,7 +90,7 @@ lawful_commit s a at view sets commuted ensured sends h =
     let m3 = both (are_refs s.cells 0 (cells_in commuted)) _ m2.1 in
     let m4 = both (are_apart (cells_in commuted) (cells_in sets)) _ m3.1 in
     let m5 = both (are_sends s.cells sends) _ m4.1 in
-    record { thread = m0.0; refs_set = m1.0; refs_ensured = m2.0; refs_commuted = m3.0; to_agents = m5.0; end = m5.1 }
+    record { thread = m0.0; refs_set = m1.0; refs_ensured = m2.0; refs_commuted = m3.0; apart = m4.0; to_agents = m5.0; end = m5.1 }
 
 -- what was set or ensured are refs of the store
 pub refs_tested : (s : PlainStore) (a at view : ℕ) (sets commuted : Writes) (ensured : List CellId) (sends : List Action) → Lawful s a at view sets commuted ensured sends → has_refs s.cells (cells_in sets ++ ensured) ≡ true

@@ -1,11 +1,11 @@
 -- What a store keeps of its agents beside their states, without the room that there is.
-use Rattle.std.specs.Prelude.{◌≤◌, ℕ, suc, Bool, true, false, ◌&&◌, nat_lt, List, [], ◌∷◌, map, Option, Some, None, Result, Ok, Err, is_some}
+use Rattle.std.specs.Prelude.{◌≡◌, ◌≤◌, ℕ, suc, Bool, true, false, ◌&&◌, nat_lt, List, [], ◌∷◌, length, map, Option, Some, None, Result, Ok, Err, is_some}
 use Rattle.std.proofs.Common.{get_or, set}
 use Rattle.txs_mail.specs.Mailbox.{PlainMailbox, empty, put, take, finish}
 use Rattle.txs_value.specs.declared.action.Action.{Action}
 use Rattle.txs_value.specs.declared.fault.Fault.{Fault}
 use Rattle.txs_value.specs.declared.value.Value.{Value}
-use Rattle.txs_world.specs.Book.{Mail}
+use Rattle.txs_world.specs.Book.{Mail, sent_to}
 use Rattle.txs_world.specs.declared.cell.StoreCell.{StoreCell}
 use Rattle.txs_world.specs.declared.inbox.Inbox.{Inbox}
 
@@ -69,10 +69,23 @@ all_sent_below n (x ∷ xs) = nat_lt x.agent.number n && all_sent_below n xs
 abbrev pub rooms : List Inbox → List ℕ
 rooms bs = map (λ (b : Inbox). b.mailbox.room) bs
 
--- each agent of these actions has room for so many more
-abbrev pub HaveRoom : List ℕ → ℕ → List Action → Type 0
-HaveRoom ns n [] = Unit {0}
-HaveRoom ns n (x ∷ xs) = (n ≤ get_or ns x.agent.number 0) × HaveRoom ns n xs
+-- each agent has room for those of these actions that are its own
+abbrev pub HaveRoom : List ℕ → List Action → Type 0
+HaveRoom ns xs = (k : ℕ) → length (sent_to k xs) ≤ get_or ns k 0
+
+-- how many more actions each inbox was promised room for
+abbrev pub promises : List Inbox → List ℕ
+promises bs = map (λ (b : Inbox). b.promised) bs
+
+-- the agents of the later actions have room for those of all that are their own
+abbrev pub RoomFor : List ℕ → List Action → List Action → Type 0
+RoomFor ns all [] = Unit {0}
+RoomFor ns all (x ∷ xs) = (length (sent_to x.agent.number all) ≤ get_or ns x.agent.number 0) × RoomFor ns all xs
+
+-- to the agents of the later actions as much was promised as the earlier ones need
+abbrev pub Promised : List ℕ → List Action → List Action → Type 0
+Promised ps earlier [] = Unit {0}
+Promised ps earlier (x ∷ xs) = (get_or ps x.agent.number 0 ≡ length (sent_to x.agent.number earlier)) × Promised ps earlier xs
 
 -- the inbox of an agent with this mail
 abbrev pub inbox_of : Bool → Bool → Mail → PlainInbox

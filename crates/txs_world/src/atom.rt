@@ -199,8 +199,13 @@ impl AtomBook {
     {
         let value = self.share_newest()?;
         let cell = self.cell;
-        self.push(actor, EventKind::Read { cell })?;
-        Ok(value)
+        match self.push(actor, EventKind::Read { cell }) {
+            Ok(()) => Ok(value),
+            Err(refused) => {
+                drop(value);
+                Err(refused)
+            }
+        }
     }
 
     /// Adds a swap. The book and the atom share the new value.
@@ -209,9 +214,23 @@ impl AtomBook {
         ensures added { OnOk result (self.new ≡ atom_with self.old (self.old.book ++ event_of actor (event.Swap new) ∷ [])) }
         ensures same { OnErr result (self.new ≡ self.old) }
     {
-        let value = copy_value(&new)?;
-        self.swapped = self.journal.add(actor, EventKind::Swap { new })?;
-        drop(self.value.replace(value));
-        Ok(())
+        let value = match copy_value(&new) {
+            Ok(value) => value,
+            Err(refused) => {
+                drop(new);
+                return Err(refused);
+            }
+        };
+        match self.journal.add(actor, EventKind::Swap { new }) {
+            Ok(events) => {
+                self.swapped = events;
+                drop(self.value.replace(value));
+                Ok(())
+            }
+            Err(refused) => {
+                drop(value);
+                Err(refused)
+            }
+        }
     }
 }

@@ -8,10 +8,11 @@ ghost use Rattle.txs_value.specs.Limits.{most_events};
 ghost use Rattle.txs_world.specs.Book.{cells_in, are_refs, are_sends, has_ref, has_refs, has_agent, may_end, least, least_written, first_failed, is_failed, LegalKind, Guarded};
 ghost use Rattle.txs_world.specs.Inboxes.{plain_inboxes, all_sent_below, rooms, HaveRoom};
 ghost use Rattle.txs_world.specs.Kept.{IsEnd};
-ghost use Rattle.txs_world.specs.Store.{store_with, is_lawful, event_of, adds, merged, serve, Replies};
+ghost use Rattle.txs_world.specs.Places.{Ascend};
+ghost use Rattle.txs_world.specs.Store.{store_with, is_lawful, event_of, adds, are_apart, merged, serve, Replies};
 
 use crate::inbox::{Inbox, fill_queue, mail_all, make_room_for};
-use crate::slot::{fill, merge, put_all};
+use crate::slot::{fill, join_writes, put_all};
 use crate::store::Store;
 use std::alloc::{AllocError, Global};
 use std::collections::VecDeque;
@@ -54,18 +55,18 @@ fn prepare(
     copies: &mut Vec<(CellId, Value)>,
     queue: &mut VecDeque<Action>,
     inboxes: &mut Vec<Inbox>,
-    writes: &[(CellId, Value)],
-    sends: &[Action],
+    writes: &Listed<(CellId, Value)>,
+    sends: &Listed<Action>,
 ) -> Result<(), AllocError>
     requires { all_sent_below (length inboxes.old.items) sends.now ≡ true }
     ensures same { plain_inboxes inboxes.new.items ≡ plain_inboxes inboxes.old.items }
     ensures copies { OnOk result (copies.new.items ≡ writes.now) }
     ensures queue { OnOk result (queue.new.items ≡ sends.now) }
-    ensures room { OnOk result (HaveRoom (rooms inboxes.new.items) (length sends.now) sends.now) }
+    ensures room { OnOk result (HaveRoom (rooms inboxes.new.items) sends.now) }
 {
-    fill(copies, writes)?;
-    fill_queue(alloc, queue, sends)?;
-    make_room_for(inboxes, sends, sends.len())
+    fill(copies, writes.as_slice())?;
+    fill_queue(alloc, queue, sends.as_slice())?;
+    make_room_for(inboxes, sends.as_slice())
 }
 
 impl Store {
@@ -244,11 +245,15 @@ impl Store {
         sends: Listed<Action>,
     ) -> Reply
         requires thread { nat_lt actor self.old.threads ≡ true }
+        requires ascend { Ascend 0 commuted.now }
+        requires apart { are_apart (cells_in commuted.now) (cells_in sets) ≡ true }
         requires legal { LegalKind self.old.cells self.old.book actor (event.Commit at view (merged sets commuted.now) sends) }
         requires guarded { Guarded self.old.book (event.Commit at view (merged sets commuted.now) sends) }
         ensures { Replies self.old (adds actor (event.Commit at view (merged sets commuted.now) sends) reply.Done self.old.book) result self.new }
     {
         if self.is_full() {
+            drop(sets);
+            drop(sends);
             return Reply::Full;
         }
         match self.join(actor, at, view, sets, commuted, sends) {
@@ -269,14 +274,20 @@ impl Store {
     ) -> Result<(), AllocError>
         requires room { length self.old.book < most_events }
         requires thread { nat_lt actor self.old.threads ≡ true }
+        requires ascend { Ascend 0 commuted.now }
+        requires apart { are_apart (cells_in commuted.now) (cells_in sets) ≡ true }
         requires legal { LegalKind self.old.cells self.old.book actor (event.Commit at view (merged sets commuted.now) sends) }
         requires guarded { Guarded self.old.book (event.Commit at view (merged sets commuted.now) sends) }
         ensures added { OnOk result (self.new ≡ store_with self.old.cells self.old.threads (self.old.book ++ event_of actor (event.Commit at view (merged sets commuted.now) sends) ∷ []) self.old.taken) }
         ensures same { OnErr result (self.new ≡ self.old) }
     {
-        let mut writes = sets.into_vec();
-        merge(&mut writes, commuted)?;
-        self.write(actor, at, view, Listed::from_vec(writes), sends)
+        match join_writes(self.alloc, sets, commuted) {
+            Ok(writes) => self.write(actor, at, view, writes, sends),
+            Err(refused) => {
+                drop(sends);
+                Err(refused)
+            }
+        }
     }
 
     /// Adds a commit, writes what it wrote and puts its sends into the inboxes. The book keeps the lists; the slots share their
@@ -296,14 +307,21 @@ impl Store {
         ensures added { OnOk result (self.new ≡ store_with self.old.cells self.old.threads (self.old.book ++ event_of actor (event.Commit at view writes sends) ∷ []) self.old.taken) }
         ensures same { OnErr result (self.new ≡ self.old) }
     {
-        prepare(
+        match prepare(
             self.alloc,
             &mut self.spare,
             &mut self.queue,
             &mut self.inboxes,
-            writes.as_slice(),
-            sends.as_slice(),
-        )?;
+            &writes,
+            &sends,
+        ) {
+            Ok(()) => (),
+            Err(refused) => {
+                drop(writes);
+                drop(sends);
+                return Err(refused);
+            }
+        }
         let kind = EventKind::Commit {
             at,
             view,

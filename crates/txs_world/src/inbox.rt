@@ -3,7 +3,8 @@
 ghost use Rattle.std.specs.Prelude.{◌≡◌, ◌+◌, ◌<◌, ◌≤◌, ◌∷◌, [], ℕ, suc, false, length, set, true, Some, is_some, IfOk, OnErr, OnOk};
 ghost use Rattle.std.proofs.Common.{get_or};
 ghost use Rattle.txs_mail.specs.Mailbox.{next};
-ghost use Rattle.txs_world.specs.Inboxes.{plain_inbox, plain_inboxes, no_inbox, open_inboxes, with_action, mailed_all, taken_up, finished, all_sent_below, rooms, HaveRoom};
+ghost use Rattle.txs_world.specs.Book.{sent_to};
+ghost use Rattle.txs_world.specs.Inboxes.{plain_inbox, plain_inboxes, no_inbox, open_inboxes, with_action, mailed_all, taken_up, finished, all_sent_below, rooms, HaveRoom, promises, Promised};
 
 use crate::cell::StoreCell;
 use std::alloc::{AllocError, Global};
@@ -18,6 +19,8 @@ pub(crate) struct Inbox {
     pub(crate) mailbox: Mailbox,
     pub(crate) fault: Option<Fault>,
     pub(crate) acts: u32,
+    /// How many actions of the commit in hand were promised room: counted while room is made, and else of no meaning.
+    pub(crate) promised: usize,
 }
 
 impl Inbox {
@@ -28,6 +31,25 @@ impl Inbox {
         ensures kept { self.old.mailbox.room ≤ self.new.mailbox.room }
     {
         self.mailbox.reserve(additional)
+    }
+
+    /// Promises room for one more action.
+    fn promise(&mut self)
+        requires { self.old.promised < usize.MAX }
+        ensures same { plain_inbox self.new ≡ plain_inbox self.old }
+        ensures promised { self.new.promised ≡ suc self.old.promised }
+    {
+        self.promised += 1;
+    }
+
+    /// Makes the room that was promised.
+    fn keep_promise(&mut self) -> Result<(), AllocError>
+        ensures same { plain_inbox self.new ≡ plain_inbox self.old }
+        ensures promised { self.new.promised ≡ self.old.promised }
+        ensures room { OnOk result (self.old.promised ≤ self.new.mailbox.room) }
+        ensures kept { self.old.mailbox.room ≤ self.new.mailbox.room }
+    {
+        self.mailbox.reserve(self.promised)
     }
 
     /// Puts an action behind the others.
@@ -84,6 +106,7 @@ pub(crate) fn open_inboxes(alloc: Global, cells: &[StoreCell]) -> Result<Vec<Inb
             mailbox: Mailbox::new(alloc, cell.goes_on),
             fault: None,
             acts: 0,
+            promised: 0,
         })?;
     }
     Ok(inboxes)
@@ -128,7 +151,7 @@ pub(crate) fn put_at(inboxes: &mut Vec<Inbox>, action: Action)
     requires room { 0 < get_or (rooms inboxes.old.items) action.agent.number 0 }
     ensures many { length inboxes.new.items ≡ length inboxes.old.items }
     ensures put { plain_inboxes inboxes.new.items ≡ mailed_all (plain_inboxes inboxes.old.items) (action ∷ []) }
-    ensures room { (k : ℕ) → get_or (rooms inboxes.old.items) k 0 ≤ suc (get_or (rooms inboxes.new.items) k 0) }
+    ensures room { (k : ℕ) → get_or (rooms inboxes.old.items) k 0 ≤ length (sent_to k (action ∷ [])) + get_or (rooms inboxes.new.items) k 0 }
 {
     let place = usize::from(action.agent.number);
     let inbox = &mut inboxes[place];
@@ -182,26 +205,74 @@ pub(crate) fn finish_at(inboxes: &mut Vec<Inbox>, number: u16, fault: Option<Fau
     inbox.finish(fault);
 }
 
-/// Makes room for so many more actions in the inbox of each agent that is sent one.
-pub(crate) fn make_room_for(
-    inboxes: &mut Vec<Inbox>,
-    actions: &[Action],
-    additional: usize,
-) -> Result<(), AllocError>
+/// Makes room for these actions in the inboxes of their agents, in each for its own alone: they are counted first, so that an
+/// inbox grows once.
+pub(crate) fn make_room_for(inboxes: &mut Vec<Inbox>, actions: &[Action]) -> Result<(), AllocError>
     requires { all_sent_below (length inboxes.old.items) actions.now ≡ true }
     ensures same { plain_inboxes inboxes.new.items ≡ plain_inboxes inboxes.old.items }
-    ensures room { OnOk result (HaveRoom (rooms inboxes.new.items) additional actions.now) }
+    ensures room { OnOk result (HaveRoom (rooms inboxes.new.items) actions.now) }
 {
+    promise_none(inboxes, actions);
+    promise_all(inboxes, actions);
     for action in actions {
-        reserve_at(inboxes, action.agent.number, additional)?;
+        keep_promise_at(inboxes, action.agent.number)?;
     }
     Ok(())
+}
+
+/// Nothing is promised to the agents of these actions.
+fn promise_none(inboxes: &mut Vec<Inbox>, actions: &[Action])
+    requires { all_sent_below (length inboxes.old.items) actions.now ≡ true }
+    ensures same { plain_inboxes inboxes.new.items ≡ plain_inboxes inboxes.old.items }
+    ensures promised { Promised (promises inboxes.new.items) [] actions.now }
+{
+    for action in actions {
+        let place = usize::from(action.agent.number);
+        inboxes[place].promised = 0;
+    }
+}
+
+/// Promises each agent room for those of these actions that are its own.
+fn promise_all(inboxes: &mut Vec<Inbox>, actions: &[Action])
+    requires places { all_sent_below (length inboxes.old.items) actions.now ≡ true }
+    requires none { Promised (promises inboxes.old.items) [] actions.now }
+    ensures same { plain_inboxes inboxes.new.items ≡ plain_inboxes inboxes.old.items }
+    ensures promised { Promised (promises inboxes.new.items) actions.now actions.now }
+{
+    for action in actions {
+        promise_at(inboxes, action.agent.number);
+    }
+}
+
+/// Promises room for one more action in one inbox.
+fn promise_at(inboxes: &mut Vec<Inbox>, number: u16)
+    requires place { number < length inboxes.old.items }
+    requires few { get_or (promises inboxes.old.items) number 0 < usize.MAX }
+    ensures same { plain_inboxes inboxes.new.items ≡ plain_inboxes inboxes.old.items }
+    ensures promised { promises inboxes.new.items ≡ set (promises inboxes.old.items) number (suc (get_or (promises inboxes.old.items) number 0)) }
+{
+    let place = usize::from(number);
+    let inbox = &mut inboxes[place];
+    inbox.promise();
+}
+
+/// Makes the room that was promised in one inbox. What the inboxes hold is as before, and none has less room.
+fn keep_promise_at(inboxes: &mut Vec<Inbox>, number: u16) -> Result<(), AllocError>
+    requires { number < length inboxes.old.items }
+    ensures same { plain_inboxes inboxes.new.items ≡ plain_inboxes inboxes.old.items }
+    ensures promised { promises inboxes.new.items ≡ promises inboxes.old.items }
+    ensures kept { (k : ℕ) → get_or (rooms inboxes.old.items) k 0 ≤ get_or (rooms inboxes.new.items) k 0 }
+    ensures room { OnOk result (get_or (promises inboxes.old.items) number 0 ≤ get_or (rooms inboxes.new.items) number 0) }
+{
+    let place = usize::from(number);
+    let inbox = &mut inboxes[place];
+    inbox.keep_promise()
 }
 
 /// Puts actions into the inboxes of their agents, in order.
 pub(crate) fn mail_all(inboxes: &mut Vec<Inbox>, actions: &mut VecDeque<Action>)
     requires places { all_sent_below (length inboxes.old.items) actions.old.items ≡ true }
-    requires room { HaveRoom (rooms inboxes.old.items) (length actions.old.items) actions.old.items }
+    requires room { HaveRoom (rooms inboxes.old.items) actions.old.items }
     ensures { plain_inboxes inboxes.new.items ≡ mailed_all (plain_inboxes inboxes.old.items) actions.old.items }
 {
     while let Some(action) = actions.pop_front() {

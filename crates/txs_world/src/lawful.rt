@@ -1,41 +1,19 @@
 //! Which asks the store takes.
 
 ghost use Rattle.std.specs.Prelude.{◌≡◌, ◌≤◌, ◌<◌, ◌==◌, ◌↔◌, length, true, false, IsTrue, if◌then◌else◌};
+ghost use Rattle.txs_asks.specs.declared.ask.Ask.TheVariants as ask;
 ghost use Rattle.txs_value.specs.Forms.{same_kind};
 ghost use Rattle.txs_value.specs.declared.value.CellKind.TheVariants as kind;
 ghost use Rattle.txs_world.specs.Book.{has_cell, has_ref, has_agent, has_readable, are_refs, has_refs, are_sends, cells_in, actor_of, agents_below, all_before, may_name, may_end};
 ghost use Rattle.txs_world.specs.Kept.{StandsAt};
-ghost use Rattle.txs_world.specs.Store.{is_lawful, may_ask, has_named, is_taken, is_among, are_apart};
+ghost use Rattle.txs_world.specs.Store.{is_lawful, may_ask, has_named, is_taken};
 
 use crate::cell::StoreCell;
 use crate::journal::stand_of;
+use crate::slot::are_apart;
 use crate::store::Store;
 use txs_asks::Ask;
-use txs_value::{Action, CellId, CellKind, Value};
-
-/// Whether the cell with this number is one of these.
-fn is_among(number: u16, writes: &[(CellId, Value)]) -> bool
-    ensures { result ≡ is_among number (cells_in writes.now) }
-{
-    for write in writes {
-        if write.0.number == number {
-            return true;
-        }
-    }
-    false
-}
-
-/// Whether none of these cells is one of the others.
-fn are_apart(commuted: &[(CellId, Value)], sets: &[(CellId, Value)]) -> bool
-    ensures { result ≡ are_apart (cells_in commuted.now) (cells_in sets.now) }
-{
-    for write in commuted {
-        if is_among(write.0.number, sets) {
-            return false;
-        }
-    }
-    true
-}
+use txs_value::{Action, CellId, CellKind, Listed, Value};
 
 /// How many agents there are among the cells with a lesser number.
 fn agents_below(cells: &[StoreCell], number: u16) -> usize
@@ -96,15 +74,7 @@ impl Store {
                 view,
                 commuted,
                 sends,
-            } => {
-                let (sets, commuted) = (sets.as_slice(), commuted.as_slice());
-                self.are_written(sets)
-                    && self.has_refs(ensured.as_slice())
-                    && self.are_written(commuted)
-                    && are_apart(commuted, sets)
-                    && self.are_sends(sends.as_slice())
-                    && self.may_end(actor, *at, *view)
-            }
+            } => self.has_commit(actor, *at, sets, ensured, *view, commuted, sends),
             Ask::Fail { at, view } => self.may_end(actor, *at, *view),
             Ask::Peek { cell } => cell.kind != CellKind::Atom && self.has_cell(*cell),
             Ask::Send { action } => self.has_agent(action.agent),
@@ -112,6 +82,28 @@ impl Store {
             Ask::Finish { agent, .. } => self.has_agent(*agent) && self.is_taken(*agent),
             Ask::OpenAt { .. } | Ask::CloseAt { .. } | Ask::Broke { .. } => false,
         }
+    }
+
+    /// Whether the store has what a commit names.
+    fn has_commit(
+        &self,
+        actor: u16,
+        at: u32,
+        sets: &Listed<(CellId, Value)>,
+        ensured: &Listed<CellId>,
+        view: u32,
+        commuted: &Listed<(CellId, Value)>,
+        sends: &Listed<Action>,
+    ) -> bool
+        ensures { result ≡ has_named self.now actor (ask.Commit at sets.now ensured.now view commuted.now sends.now) }
+    {
+        let (sets, commuted) = (sets.as_slice(), commuted.as_slice());
+        self.are_written(sets)
+            && self.has_refs(ensured.as_slice())
+            && self.are_written(commuted)
+            && are_apart(commuted, sets)
+            && self.are_sends(sends.as_slice())
+            && self.may_end(actor, at, view)
     }
 
     /// Whether this is the agent's actor.

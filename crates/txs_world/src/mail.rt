@@ -51,6 +51,7 @@ impl Store {
         let agent = action.agent;
         let has_failed = self.is_failed(agent);
         if has_failed {
+            drop(action);
             return self.tell(
                 actor,
                 EventKind::SendRefused { agent },
@@ -58,6 +59,7 @@ impl Store {
             );
         }
         if self.is_full() {
+            drop(action);
             return Reply::Full;
         }
         match self.put(actor, action) {
@@ -74,10 +76,23 @@ impl Store {
         ensures added { OnOk result (self.new ≡ store_with self.old.cells self.old.threads (self.old.book ++ event_of actor (event.Send action) ∷ []) self.old.taken) }
         ensures same { OnErr result (self.new ≡ self.old) }
     {
-        let copy = ready_at(self.alloc, &mut self.inboxes, &action)?;
-        self.journal.add(actor, EventKind::Send { action })?;
-        put_at(&mut self.inboxes, copy);
-        Ok(())
+        let copy = match ready_at(self.alloc, &mut self.inboxes, &action) {
+            Ok(copy) => copy,
+            Err(refused) => {
+                drop(action);
+                return Err(refused);
+            }
+        };
+        match self.journal.add(actor, EventKind::Send { action }) {
+            Ok(_) => {
+                put_at(&mut self.inboxes, copy);
+                Ok(())
+            }
+            Err(refused) => {
+                drop(copy);
+                Err(refused)
+            }
+        }
     }
 
     /// The agent's first action, which is taken, with its number and the agent's state; nothing where the agent has failed or
@@ -131,7 +146,13 @@ impl Store {
         ensures same { OnErr result (self.new ≡ self.old) }
     {
         let state = self.share_newest(agent)?;
-        let action = take_at(self.alloc, &mut self.inboxes, agent.number)?;
+        let action = match take_at(self.alloc, &mut self.inboxes, agent.number) {
+            Ok(action) => action,
+            Err(refused) => {
+                drop(state);
+                return Err(refused);
+            }
+        };
         Ok((action, state))
     }
 

@@ -1,14 +1,14 @@
 //! The newest values of cells, and where each actor stands.
 
-ghost use Rattle.std.specs.Prelude.{◌≡◌, ◌<◌, ◌≤◌, length, set, true, IfOk, OnOk};
-ghost use Rattle.txs_asks.specs.Ask.{with_write};
+ghost use Rattle.std.specs.Prelude.{◌≡◌, ◌<◌, ◌≤◌, ◌++◌, ◌∷◌, [], length, set, true, IfOk, OnOk};
+ghost use Rattle.txs_world.specs.Book.{cells_in};
 ghost use Rattle.txs_world.specs.Kept.{slot_of, open_slots, put_all, all_below};
-ghost use Rattle.txs_world.specs.Store.{cell_of, cells_of, merged};
-ghost use Rattle.txs_world.specs.Places.{place_of};
+ghost use Rattle.txs_world.specs.Store.{cell_of, cells_of, are_apart, merged};
+ghost use Rattle.txs_world.specs.Places.{place_of, Ascend, is_first};
 
 use crate::cell::{StoreCell, continues};
 use std::alloc::{AllocError, Global};
-use txs_value::{CellDefinition, CellId, Value, copy_value};
+use txs_value::{CellDefinition, CellId, Listed, Value, copy_value};
 
 /// The newest value of a cell, and how many events the book has up to the last one that wrote it: 0
 /// where none did.
@@ -88,9 +88,25 @@ pub(crate) fn fill(
     ensures { OnOk result (copies.new.items ≡ writes.now) }
 {
     copies.clear();
+    append(copies, writes)
+}
+
+/// Adds the same writes.
+fn append(copies: &mut Vec<(CellId, Value)>, writes: &[(CellId, Value)]) -> Result<(), AllocError>
+    ensures { OnOk result (copies.new.items ≡ copies.old.items ++ writes.now) }
+{
     for write in writes {
-        copies.push((write.0, copy_value(&write.1)?))?;
+        push_copy(copies, write)?;
     }
+    Ok(())
+}
+
+/// Adds the same write.
+fn push_copy(copies: &mut Vec<(CellId, Value)>, write: &(CellId, Value)) -> Result<(), AllocError>
+    ensures { OnOk result (copies.new.items ≡ copies.old.items ++ write.now ∷ []) }
+{
+    let own = copy_value(&write.1)?;
+    copies.push((write.0, own))?;
     Ok(())
 }
 
@@ -107,33 +123,78 @@ fn place_for(writes: &[(CellId, Value)], number: u16) -> usize
     writes.len()
 }
 
-/// The cell gets the value: in the place of its earlier one, else in order.
-fn put_write(
-    writes: &mut Vec<(CellId, Value)>,
-    cell: CellId,
-    value: &Value,
-) -> Result<(), AllocError>
-    ensures { OnOk result (writes.new.items ≡ with_write writes.old.items cell value.now) }
+/// Whether the first of these writes is of the ref with this number.
+fn is_first(writes: &[(CellId, Value)], number: u16) -> bool
+    ensures { result ≡ is_first number writes.now }
 {
-    let own = copy_value(value)?;
-    let i = place_for(writes.as_slice(), cell.number);
-    if i < writes.len() && writes[i].0.number == cell.number {
-        writes[i] = (cell, own);
-        return Ok(());
+    match writes.first() {
+        Some(write) => write.0.number == number,
+        None => false,
     }
-    writes.insert(i, (cell, own))?;
+}
+
+/// Whether none of the refs that were commuted was set. Both lists are gone through once.
+pub(crate) fn are_apart(commuted: &[(CellId, Value)], sets: &[(CellId, Value)]) -> bool
+    requires commuted { Ascend 0 commuted.now }
+    requires sets { Ascend 0 sets.now }
+    ensures { result ≡ are_apart (cells_in commuted.now) (cells_in sets.now) }
+{
+    let mut rest = sets;
+    for write in commuted {
+        let (_, later) = rest.split_at(place_for(rest, write.0.number));
+        if is_first(later, write.0.number) {
+            return false;
+        }
+        rest = later;
+    }
+    true
+}
+
+/// What was set, and among it what was commuted, in the order of the refs. Both lists are gone through once.
+fn merge(
+    joined: &mut Vec<(CellId, Value)>,
+    sets: &[(CellId, Value)],
+    commuted: &[(CellId, Value)],
+) -> Result<(), AllocError>
+    requires empty { joined.old.items ≡ [] }
+    requires ascend { Ascend 0 commuted.now }
+    requires apart { are_apart (cells_in commuted.now) (cells_in sets.now) ≡ true }
+    ensures { OnOk result (joined.new.items ≡ merged sets.now commuted.now) }
+{
+    let mut rest = commuted;
+    for write in sets {
+        let (earlier, later) = rest.split_at(place_for(rest, write.0.number));
+        append(joined, earlier)?;
+        push_copy(joined, write)?;
+        rest = later;
+    }
+    append(joined, rest)?;
     Ok(())
 }
 
-/// Puts what was commuted among what was set.
-pub(crate) fn merge(
-    writes: &mut Vec<(CellId, Value)>,
+/// What a commit writes: what was set, and among it what was commuted.
+pub(crate) fn join_writes(
+    alloc: Global,
+    sets: Listed<(CellId, Value)>,
     commuted: &[(CellId, Value)],
-) -> Result<(), AllocError>
-    ensures { OnOk result (writes.new.items ≡ merged writes.old.items commuted.now) }
+) -> Result<Listed<(CellId, Value)>, AllocError>
+    requires ascend { Ascend 0 commuted.now }
+    requires apart { are_apart (cells_in commuted.now) (cells_in sets) ≡ true }
+    ensures { IfOk result (λ ws. ws ≡ merged sets commuted.now) }
 {
-    for write in commuted {
-        put_write(writes, write.0, &write.1)?;
+    if commuted.is_empty() {
+        return Ok(sets);
     }
-    Ok(())
+    let mut joined = Vec::new(alloc);
+    match merge(&mut joined, sets.as_slice(), commuted) {
+        Ok(()) => {
+            drop(sets);
+            Ok(Listed::from_vec(joined))
+        }
+        Err(refused) => {
+            drop(sets);
+            drop(joined);
+            Err(refused)
+        }
+    }
 }

@@ -1,8 +1,8 @@
-use Rattle.std.proofs.Common.{◌≡◌, ap, arith, sym, ◌∙◌, subst, length, true, nat_lt}
+use Rattle.std.proofs.Common.{◌≡◌, ap, sym, ◌∙◌, subst, length, true, nat_lt}
 use Rattle.std.proofs.lemmas.Bool.{ltb-true}
 use Rattle.txs_world.specs.Inboxes.{plain_inboxes, mailed_all, all_sent_below, rooms, HaveRoom}
 use Rattle.txs_world.proofs.Merging.{both}
-use Rattle.txs_world.proofs.Mailing.{room_used}
+use Rattle.txs_world.proofs.Mailing.{room_first, room_used}
 use Rattle.txs_world.proofs.inbox.mail_all.Goals as goal
 
 pub put_at-requires : goal.put_at-requires
@@ -12,8 +12,8 @@ put_at-requires c =
     let rest = c.pop_front.new.self.items in
     let inv = c.loop-action.invariant in
     let places = subst (λ l. all_sent_below (length bs) l ≡ true) c.in-Some.ensures.items inv.places in
-    let room = subst (λ l. HaveRoom (rooms bs) (length l) l) c.in-Some.ensures.items inv.room in
-    record { place = ltb-true a.agent.number (length bs) (both (nat_lt a.agent.number (length bs)) (all_sent_below (length bs) rest) places).0; room = omega (arith, room.0) }
+    let room = subst (HaveRoom (rooms bs)) c.in-Some.ensures.items inv.room in
+    record { place = ltb-true a.agent.number (length bs) (both (nat_lt a.agent.number (length bs)) (all_sent_below (length bs) rest) places).0; room = room_first (rooms bs) a rest room }
 
 pub loop-action-preserved : goal.loop-action-preserved
 loop-action-preserved c =
@@ -24,9 +24,9 @@ loop-action-preserved c =
     let inv = c.loop-action.invariant in
     let is = c.in-Some.ensures.items in
     let places = subst (λ l. all_sent_below (length bs) l ≡ true) is inv.places in
-    let room = subst (λ l. HaveRoom (rooms bs) (length l) l) is inv.room in
+    let room = subst (HaveRoom (rooms bs)) is inv.room in
     record {
       places = subst (λ n. all_sent_below n rest ≡ true) (sym c.put_at.ensures.many) (both (nat_lt a.agent.number (length bs)) (all_sent_below (length bs) rest) places).1;
-      room = room_used (rooms bs) (rooms now) (length rest) rest c.put_at.ensures.room room.1;
+      room = room_used (rooms bs) (rooms now) a rest c.put_at.ensures.room room;
       whole = ap (λ b. mailed_all b rest) c.put_at.ensures.put ∙ ap (mailed_all (plain_inboxes bs)) (sym is) ∙ inv.whole;
     }

@@ -11,6 +11,6 @@ abbrev pub invariant-loop-action : goal.invariant-loop-action
 invariant-loop-action l =
     record {
       places : all_sent_below (length l.inboxes.items) l.actions.items ≡ true;
-      room : HaveRoom (rooms l.inboxes.items) (length l.actions.items) l.actions.items;
+      room : HaveRoom (rooms l.inboxes.items) l.actions.items;
       whole : mailed_all (plain_inboxes l.inboxes.items) l.actions.items ≡ mailed_all (plain_inboxes l.fn.inboxes.items) l.fn.actions.items;
     }

@@ -1,19 +1,34 @@
-use Rattle.std.proofs.Common.{◌<◌, ◌∙◌, subst, sym}
-use Rattle.txs_world.specs.Inboxes.{rooms}
-use Rattle.txs_world.proofs.Mailing.{below_at, below_next, room_next}
+use Rattle.std.proofs.Common.{arith, ◌≡◌, ◌+◌, ◌∙◌, subst, sym, drop, true}
+use Rattle.txs_world.specs.Inboxes.{all_sent_below, rooms, promises, Promised}
+use Rattle.txs_world.proofs.Mailing.{below_at, below_next, plain_same_many, room_next, room_last_all}
 use Rattle.txs_world.proofs.inbox.make_room_for.Goals as goal
 
-pub reserve_at-requires : goal.reserve_at-requires
-reserve_at-requires c =
-    let inv = c.loop-action.invariant in
-    subst (λ n. c.action-item.result.agent.number < n) (sym inv.many) (below_at _ c.args.actions.now c.loop-action.action-index c.action-item.result c.loop-action-test.true c.action-item.is inv.places)
+pub promise_all-requires : goal.promise_all-requires
+promise_all-requires c =
+    record {
+      places = subst (λ n. all_sent_below n c.args.actions.now ≡ true) (sym (plain_same_many c.promise_none.new.inboxes.items c.args.inboxes.now.items c.promise_none.ensures.same)) c.requires;
+      none = c.promise_none.ensures.promised;
+    }
+
+pub keep_promise_at-requires : goal.keep_promise_at-requires
+keep_promise_at-requires c = below_at _ c.args.actions.now c.loop-action.action-index c.action-item.result c.loop-action-test.true c.action-item.is c.loop-action.invariant.places
 
 pub loop-action-preserved : goal.loop-action-preserved
 loop-action-preserved c =
     let inv = c.loop-action.invariant in
+    let i = c.loop-action.action-index in
+    let bs = c.loop-action.inboxes.items in
+    let now = c.keep_promise_at.new.inboxes.items in
+    let a = c.action-item.result in
+    let lt = c.loop-action-test.true in
     record {
-      many = c.reserve_at.ensures.many ∙ inv.many;
-      places = below_next _ c.args.actions.now c.loop-action.action-index inv.places;
-      same = c.reserve_at.ensures.same ∙ inv.same;
-      room = room_next (rooms c.loop-action.inboxes.items) (rooms c.reserve_at.new.inboxes.items) c.args.additional c.args.actions.now c.loop-action.action-index c.action-item.result c.loop-action-test.true c.action-item.is c.reserve_at.ensures.kept inv.room c.in_ok-reserve_at.ensures.room;
+      places = subst (λ n. all_sent_below n (drop (i + 1) c.args.actions.now) ≡ true) (sym (plain_same_many now bs c.keep_promise_at.ensures.same)) (below_next _ c.args.actions.now i inv.places);
+      same = c.keep_promise_at.ensures.same ∙ inv.same;
+      promised = subst (λ l. Promised l c.args.actions.now c.args.actions.now) (sym c.keep_promise_at.ensures.promised) inv.promised;
+      room = room_next (rooms bs) (rooms now) (promises bs) c.args.actions.now i a lt c.action-item.is c.keep_promise_at.ensures.kept inv.promised inv.room c.in_ok-keep_promise_at.ensures.room;
     }
+
+pub returns-clause-room : goal.returns-clause-room
+returns-clause-room c =
+    let out = c.loop-action-test.false in
+    room_last_all (rooms c.loop-action.inboxes.items) c.args.actions.now c.loop-action.action-index (omega (arith, out)) c.loop-action.invariant.room

@@ -4,6 +4,7 @@ use Rattle.txs_world.specs.declared.commit.End.TheVariants.{Reruns, Redoes, Refu
 use Rattle.txs_world.proofs.Answering.{ended_as, commit_ends}
 use Rattle.txs_world.proofs.Merging.{refs_has}
 use Rattle.txs_world.proofs.Serves.{lawful_commit}
+use Rattle.txs_world.proofs.Zipping.{ascend_refs}
 use Rattle.txs_world.proofs.store.Store.commit.Goals as goal
 
 pub test-end-requires : goal.test-end-requires
@@ -28,6 +29,14 @@ refuse-requires-clause-legal c = ended_as c.args.self.now c.args.actor c.args.at
 
 pub done-requires-clause-legal : goal.done-requires-clause-legal
 done-requires-clause-legal c = (ended_as c.args.self.now c.args.actor c.args.at c.args.view c.args.sets c.as_slice.result.now c.args.commuted.now c.args.ensured.now c.args.sends c.as_slice-2.result.now Commits c.requires c.as_slice.ensures c.as_slice-2.ensures c.in-Commits.ensures).0
+
+pub done-requires-clause-ascend : goal.done-requires-clause-ascend
+done-requires-clause-ascend c =
+    let s = c.args.self.now in
+    ascend_refs s.cells 0 c.args.commuted.now (lawful_commit s c.args.actor c.args.at c.args.view c.args.sets c.args.commuted.now c.args.ensured.now c.args.sends c.requires).refs_commuted
+
+pub done-requires-clause-apart : goal.done-requires-clause-apart
+done-requires-clause-apart c = (lawful_commit c.args.self.now c.args.actor c.args.at c.args.view c.args.sets c.args.commuted.now c.args.ensured.now c.args.sends c.requires).apart
 
 pub done-requires-clause-guarded : goal.done-requires-clause-guarded
 done-requires-clause-guarded c = (ended_as c.args.self.now c.args.actor c.args.at c.args.view c.args.sets c.as_slice.result.now c.args.commuted.now c.args.ensured.now c.args.sends c.as_slice-2.result.now Commits c.requires c.as_slice.ensures c.as_slice-2.ensures c.in-Commits.ensures).1

@@ -8,15 +8,15 @@ use Rattle.txs_world.proofs.Kept.{sent, same_stands}
 use Rattle.txs_world.proofs.Storing.{stored, entered_leaves}
 use Rattle.txs_world.proofs.store.Store.put.Goals as goal
 
-pub invariant_of-self-in_err-add : goal.invariant_of-self-in_err-add
-invariant_of-self-in_err-add c =
+pub invariant_of-self-in-Err-add : goal.invariant_of-self-in-Err-add
+invariant_of-self-in-Err-add c =
     let x = c.self.inside in
     let bs = plain_inboxes x.inboxes.items in
     same_stands x.cells.items x.threads x.slots.items bs (plain_inboxes c.ready_at.new.inboxes.items) x.journal.views.items x.journal.tries.items c.add.new.self.views.items c.add.new.self.tries.items x.journal.book.items c.add.new.self.book.items
-    c.ready_at.ensures.same c.in_err-add.ensures.same_views c.in_err-add.ensures.same_tries c.in_err-add.ensures.same c.self.invariant
+    c.ready_at.ensures.same c.in-Err-add.ensures.same_views c.in-Err-add.ensures.same_tries c.in-Err-add.ensures.same c.self.invariant
 
-pub invariant_of-self-2 : goal.invariant_of-self-2
-invariant_of-self-2 c =
+pub invariant_of-self-in-Ok-add : goal.invariant_of-self-in-Ok-add
+invariant_of-self-in-Ok-add c =
     let x = c.self.inside in
     let bs = plain_inboxes x.inboxes.items in
     let d = Send c.args.action in
@@ -24,11 +24,11 @@ invariant_of-self-2 c =
     let legal : LegalKind x.cells.items x.journal.book.items c.args.actor d = subst (λ (s : PlainStore). LegalKind s.cells s.book c.args.actor d) (sym c.self.view_is) c.requires.legal in
     let made : makes x.cells.items x.threads c.args.actor d ≡ true = subst (λ (s : PlainStore). makes s.cells s.threads c.args.actor d ≡ true) (sym c.self.view_is) c.requires.thread in
     sent x.cells.items x.threads x.slots.items bs (plain_inboxes c.put_at.new.inboxes.items) x.journal.views.items x.journal.tries.items c.add.new.self.views.items c.add.new.self.tries.items x.journal.book.items c.add.new.self.book.items
-    c.args.actor c.args.action c.self.invariant room made legal c.in_ok-add.ensures.views c.in_ok-add.ensures.tries c.in_ok-add.ensures.added
-    (c.put_at.ensures.put ∙ ap (λ b. mailed_all b (c.in_ok-copy.copy ∷ [])) c.ready_at.ensures.same ∙ ap (λ a. mailed_all bs (a ∷ [])) c.in_ok-copy.ensures.copy)
+    c.args.actor c.args.action c.self.invariant room made legal c.in-Ok-add.ensures.views c.in-Ok-add.ensures.tries c.in-Ok-add.ensures.added
+    (c.put_at.ensures.put ∙ ap (λ b. mailed_all b (c.in-Ok.copy ∷ [])) c.ready_at.ensures.same ∙ ap (λ a. mailed_all bs (a ∷ [])) c.in-Ok.ensures.copy)
 
-pub returns-clause-added : goal.returns-clause-added
-returns-clause-added c =
+pub returns-in-Ok-add-clause-added : goal.returns-in-Ok-add-clause-added
+returns-in-Ok-add-clause-added c =
     let x = c.self.inside in
     stored c.args.self.now x.cells.items x.threads x.journal.book.items c.add.new.self.book.items (plain_inboxes x.inboxes.items) (plain_inboxes c.put_at.new.inboxes.items) (event_of c.args.actor (Send c.args.action))
-    c.self.view_is c.in_ok-add.ensures.added (entered_leaves _ _ _ (c.in_ok-copy.copy ∷ []) c.ready_at.ensures.same c.put_at.ensures.put)
+    c.self.view_is c.in-Ok-add.ensures.added (entered_leaves _ _ _ (c.in-Ok.copy ∷ []) c.ready_at.ensures.same c.put_at.ensures.put)
