@@ -28,7 +28,7 @@ use Rattle.txs_resolve.specs.declared.parts.Special.TheVariants as special
 use Rattle.txs_resolve.specs.Answers.{◌>>=◌, refuse}
 use Rattle.txs_resolve.specs.Expansions.{alone, body, expand_once, hidden}
 use Rattle.txs_resolve.specs.Expressions.{Answer, Bound, Core, whole, parted, Resolver, are_wanted, bound_name, binding_node, callee_of, change_node, changing, choice_node, core_of, is_wanted, made, named, named_all, named_bindings, narrow, put_together, resolved, sequence_node, single_node, spot_at, spot_mark}
-use Rattle.txs_resolve.specs.Given.{Fills, Pushes, PushesAll, PushesBound}
+use Rattle.txs_resolve.specs.Given.{Fills, Pushes, PushesAll, PushesBound, Wants, WantsNode}
 use Rattle.txs_resolve.specs.Parts.{IsMade, couple_node, hidden_choice, part_form, plain, special_form}
 use Rattle.txs_resolve.proofs.Building.{parts_plain, roomy}
 
@@ -76,6 +76,16 @@ named_part at room scope wanted written p s same is =
     ∙ ap (resolved (named (room - 1)) room scope wanted) same
     ∙ ap (λ f. core_of scope here (expand_once f) >>= made (named (room - 1)) scope here) (sym (part_same at p))
     ∙ ap (part_made scope p) (sym is)
+
+-- a part that is not refused itself
+pub wants_part : (at : Span) (room : ℕ) (scope : Scope) (wanted : Bool) (written p : Part) (s : Spot) → alone (part_form at written) ≡ part_form at p → s ≡ spot_at room (place (part_form at p)) wanted
+    → (o : Answer Core) → core_of scope s (expand_once (part_form s.span p)) ≡ o → WantsNode scope s o → Wants scope (spot_at room at wanted) (alone (part_form at written))
+wants_part at room scope wanted written p s same is o e w =
+    let here = spot_at room (place (part_form at p)) wanted in
+    subst (Wants scope (spot_at room at wanted)) (sym same)
+    (subst (λ f. WantsNode scope here (core_of scope here (expand_once f))) (part_same at p)
+    (subst (λ (z : Spot). WantsNode scope z (core_of scope z (expand_once (part_form z.span p)))) is
+    (subst (WantsNode scope s) (sym e) w)))
 
 -- the node of a part, where its spot is told
 pub at_spot : (i : Spot) (room : ℕ) (at : Span) (wanted : Bool) (scope : Scope) (p : Part) → i ≡ spot_at room at wanted → named i.room scope i.wanted (part_form i.span p) ≡ named room scope wanted (part_form at p)

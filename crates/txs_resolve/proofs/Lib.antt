@@ -3,6 +3,7 @@ pub mod Defining
 pub mod Fillings
 pub mod HiddenLocals
 pub mod Laws
+pub mod Leaves
 pub mod LevelLists
 pub mod Literals
 pub mod NodeTrees

@@ -12,11 +12,6 @@ use Rattle.txs_resolve.specs.declared.error.Stop.{Stop}
 use Rattle.txs_resolve.specs.declared.error.Stop.TheVariants.{Refused, Memory}
 use Rattle.txs_resolve.specs.Parts.{plain}
 
--- a stop that was handed on
-pub failed_locals : {A B : Type 0} (f : A → B) (s : Stop) (names : List (List ℕ)) (a : Answer B) (b : Answer (List (List ℕ))) → Gives f (Err s) a → ((e : ResolveError) → a ≡ Err e → b ≡ Err e) → GivesLocals (Err s) names b
-failed_locals f (Refused e) names a b h go = go e h
-failed_locals f Memory names a b h go = tt
-
 pub not_one_form : (name : List ℕ) (at : Span) (fs : List Form) → (length fs ≡ 1 → ⊥) → named_form (first (leaf (symbol name) at) (plain fs)) ≡ None
 not_one_form name at [] h = refl
 not_one_form name at (f ∷ []) h = absurd (h refl)
@@ -37,6 +32,7 @@ one_name [] d h = absurd (omega (arith, h))
 one_name (f ∷ []) d h = refl
 one_name (f ∷ g ∷ fs) d h = absurd (omega (arith, h))
 
+-- a stop that was handed on
 pub failed_binding : {C : Type 0} (s : Stop) (names : List (List ℕ)) (now : C) (a : Answer (List (List ℕ))) (b : Answer C) → GivesLocals (Err s) names a → ((e : ResolveError) → a ≡ Err e → b ≡ Err e) → Leaves (Err s) now b
 failed_binding (Refused e) names now a b h go = go e h
 failed_binding Memory names now a b h go = tt

@@ -32,7 +32,7 @@ is_more m n h = grind (arith, nat_tests)
 not_more : (m n : ℕ) → n ≤ m → nat_lt m n ≡ false
 not_more m n h = grind (arith, nat_tests)
 
-length-threads_of : (ts : List Thread) → length (threads_of ts) ≡ length ts
+pub length-threads_of : (ts : List Thread) → length (threads_of ts) ≡ length ts
 length-threads_of [] = refl
 length-threads_of (t ∷ ts) = ap suc (length-threads_of ts)
 

@@ -1,14 +1,14 @@
 -- What a resolver's answer says.
-use Rattle.std.specs.Prelude.{◌≡◌, ◌≤◌, ◌<◌, ◌-◌, ℕ, List, [], ◌∷◌, ◌++◌, drop, length, Result, Ok, Err}
-use Rattle.std.specs.Borrow.{Bor}
+use Rattle.std.specs.Prelude.{◌≡◌, ◌≤◌, ◌<◌, ◌-◌, ℕ, List, [], ◌∷◌, ◌++◌, drop, length, Result, Ok, Err, IsOk}
 use Rattle.txs_tree.specs.Tree.{Tree, Trees, Mark}
 use Rattle.txs_tree.specs.declared.node.Node.{Node}
 use Rattle.txs_tree.specs.View.{tree_of, trees_of}
-use Rattle.txs_reader.specs.Tree.{Tree as Form}
+use Rattle.txs_reader.specs.Tree.{Tree as Form, place}
 use Rattle.txs_names.specs.Scope.{Scope, with_local, with_locals}
 use Rattle.txs_resolve.specs.declared.error.ResolveErrorKind.TheVariants.{TooMany}
 use Rattle.txs_resolve.specs.declared.nodes.Spot.{Spot}
-use Rattle.txs_resolve.specs.Expressions.{Answer, Bound, bound_name}
+use Rattle.txs_resolve.specs.Expressions.{Answer, Bound, Core, whole, parted, core_of, leaf_node, spot_at}
+use Rattle.txs_resolve.specs.Expansions.{expand_once}
 use Rattle.txs_resolve.specs.Parts.{IsMade}
 use Rattle.txs_resolve.specs.declared.parts.Special.{Special}
 use Rattle.txs_resolve.specs.declared.error.Stop.{Stop}
@@ -39,6 +39,18 @@ PushesBound (Ok u) before now scope wanted = (ns : List Node) × (now ≡ before
 PushesBound (Err (Refused e)) before now scope wanted = wanted ≡ Err e
 PushesBound (Err Memory) before now scope wanted = Unit {0}
 
+-- a form that is not refused itself, whatever its parts are: for its node memory may be wanted
+abbrev pub WantsNode : Scope → Spot → Answer Core → Type 0
+WantsNode scope s (Ok (whole x)) = IsOk (leaf_node scope x s)
+WantsNode scope s (Ok (parted form)) = 1 ≤ s.room
+WantsNode scope s (Err e) = ⊥
+
+-- the same of a form at a spot, which is no other's only part
+abbrev pub Wants : Scope → Spot → Form → Type 0
+Wants scope s form =
+    let here = spot_at s.room (place form) s.wanted in
+    WantsNode scope here (core_of scope here (expand_once form))
+
 -- these nodes are those of the parts of a special form
 abbrev pub Fills : Result (Unit {0}) Stop → Special → List Node → Mark → Answer Tree → Type 0
 Fills (Ok u) special now m wanted = (t : Tree) × IsMade special now m t × (wanted ≡ Ok t)
@@ -55,13 +67,8 @@ IsWithin outer inner =
 abbrev pub Hides : Result ℕ Stop → Spot → Scope → Scope → Type 0
 Hides (Ok n) s before now = (n ≡ length before.locals) × (length before.locals < most_locals) × (now ≡ with_local [] before)
 Hides (Err (Refused e)) s before now = (most_locals ≤ length before.locals) × (e ≡ record { kind = TooMany; at = s.span })
-Hides (Err Memory) s before now = Unit {0}
-
--- the answer is the name that the form binds, for which there is room
-abbrev pub BindsName : Result (Bor (List ℕ)) Stop → Scope → Form → Type 0
-BindsName (Ok name) scope form = (length scope.locals < most_locals) × (bound_name scope form ≡ Ok name.now)
-BindsName (Err (Refused e)) scope form = bound_name scope form ≡ Err e
-BindsName (Err Memory) scope form = ⊥
+-- only the name wants memory
+Hides (Err Memory) s before now = length before.locals < most_locals
 
 -- the definition's names are those of the locals
 abbrev pub GivesLocals : Result (Unit {0}) Stop → List (List ℕ) → Answer (List (List ℕ)) → Type 0

@@ -5,6 +5,7 @@ pub mod Expansions
 pub mod Expressions
 pub mod Given
 pub mod Literals
+pub mod Memory
 pub mod Names
 pub mod Parts
 pub mod Reported

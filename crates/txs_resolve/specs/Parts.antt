@@ -5,8 +5,9 @@ use Rattle.txs_reader.specs.declared.form.Bracket.TheVariants.{Round}
 use Rattle.txs_reader.specs.declared.form.Form.{Form as AForm}
 use Rattle.txs_reader.specs.Tree.{Tree as Form, Trees as Forms, Leaf, leaf, group, first, symbol, nil, truth, tree, trees, trees_of}
 use Rattle.txs_value.specs.declared.value.Value.{Value}
+use Rattle.txs_value.specs.declared.value.Value.TheVariants.{Nil, Truth, Cell}
 use Rattle.txs_reader.specs.Tree.{none as no_forms}
-use Rattle.txs_tree.specs.Tree.{Tree, Mark, Const, Core as CoreNode, Put, more, none}
+use Rattle.txs_tree.specs.Tree.{Tree, Mark, Const, Local, Core as CoreNode, Put, more, none}
 use Rattle.txs_tree.specs.declared.node.Node.{Node}
 use Rattle.txs_tree.specs.View.{tree_of}
 use Rattle.txs_tree.specs.View as view
@@ -21,6 +22,8 @@ use Rattle.txs_resolve.specs.declared.nodes.Change.TheVariants as change_by
 use Rattle.txs_resolve.specs.declared.nodes.Couple.{Couple}
 use Rattle.txs_resolve.specs.declared.nodes.Couple.TheVariants as couple
 use Rattle.txs_resolve.specs.declared.nodes.Sequence.TheVariants as sequence
+use Rattle.txs_resolve.specs.declared.nodes.Simple.{Simple}
+use Rattle.txs_resolve.specs.declared.nodes.Simple.TheVariants as simple
 use Rattle.txs_resolve.specs.declared.nodes.Spot.{Spot}
 use Rattle.txs_resolve.specs.declared.parts.Part.{Part}
 use Rattle.txs_resolve.specs.declared.parts.Part.TheVariants as part
@@ -30,7 +33,7 @@ use Rattle.txs_resolve.specs.declared.parts.Special.{Special}
 use Rattle.txs_resolve.specs.declared.parts.Special.TheVariants as special
 use Rattle.txs_resolve.specs.declared.parts.Core.{Core}
 use Rattle.txs_resolve.specs.declared.parts.Core.TheVariants as core
-use Rattle.txs_resolve.specs.Answers.{◌>>=◌, refuse}
+use Rattle.txs_resolve.specs.Answers.{refuse}
 use Rattle.txs_resolve.specs.Expansions.{body, expand_once, form_at, hidden, is_alone, list, three, two}
 use Rattle.txs_resolve.specs.Expressions.{Answer, binding_node, choice_node, sequence_node, single_node}
 use Rattle.txs_resolve.specs.Expressions as spec
@@ -86,6 +89,30 @@ WholeFits scope (whole.Literal f) = IsQuoted (tree f.now)
 WholeFits scope whole.Nil = Unit {0}
 WholeFits scope whole.Truth = Unit {0}
 WholeFits scope (whole.Hidden n) = local_number [] scope ≡ Some n
+
+-- the value of a literal without parts
+abbrev pub scalar : Form → Answer Value
+scalar (leaf (symbol name) at) = refuse BadForm at
+scalar (leaf x at) = Ok (spec.leaf_value x)
+scalar (group b forms at) = refuse BadForm at
+
+-- the same spot, with room for one node
+abbrev pub with_room : Spot → Spot
+with_room s = spec.spot_at 1 s.span s.wanted
+
+-- the tree of what has no parts
+abbrev pub simple_tree : Simple → Mark → Tree
+simple_tree (simple.Local n) m = Local n m
+simple_tree (simple.Constant v) m = Const v.now m
+simple_tree (simple.Cell c) m = Const (Cell c) m
+simple_tree (simple.Literal f) m = Const (spec.leaf_value (leaf_of (tree f.now))) m
+simple_tree simple.Nil m = Const Nil m
+simple_tree simple.Truth m = Const (Truth true) m
+
+-- a literal in it has no parts
+abbrev pub IsSimple : Simple → Type 0
+IsSimple (simple.Literal f) = IsQuoted (tree f.now)
+IsSimple _ = Unit {0}
 
 -- a special form and its parts, as the definition sees them; what an expansion makes stands at this place
 abbrev pub special_form : Span → Special → spec.Special
@@ -177,10 +204,6 @@ logic_name true = kind.Or
 abbrev pub binding_name : Bool → FormName
 binding_name false = kind.Let
 binding_name true = kind.Loop
-
--- the constant of a literal, once it has a value, if there is room for it
-abbrev pub constant_of : Spot → Answer Value → Answer Tree
-constant_of s made = made >>= λ v. spec.in_room s (Ok (Const v (spec.spot_mark s)))
 
 -- the first of these forms, else nil
 abbrev pub first_or_nil : Forms → Span → Form

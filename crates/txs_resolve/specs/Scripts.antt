@@ -1,12 +1,12 @@
 -- What a script has defined so far, as plain data.
-use Rattle.std.specs.Prelude.{◌≡◌, ◌≤◌, ℕ, List, [], ◌∷◌, length, map, Option, Some, None}
+use Rattle.std.specs.Prelude.{◌≡◌, ◌≤◌, ℕ, List, [], ◌∷◌, length, map, true, Option, Some, None, Ok}
 use Rattle.std.specs.Borrow.{Bor}
 use Rattle.txs_reader.specs.declared.form.Form.{Form as AForm}
-use Rattle.txs_reader.specs.Tree.{tree, trees, trees_of}
+use Rattle.txs_reader.specs.Tree.{Trees as Forms, tree, trees, trees_of}
 use Rattle.txs_tree.specs.Known.{Known, known}
 use Rattle.txs_tree.specs.Scoped.{ScopedFunctions, ScopedThreads}
 use Rattle.txs_tree.specs.View.{functions_of, threads_of}
-use Rattle.txs_value.specs.Limits.{most_definitions, most_threads}
+use Rattle.txs_value.specs.Limits.{most_definitions, most_levels, most_threads}
 use Rattle.txs_value.specs.Places.{nth}
 use Rattle.txs_value.specs.declared.fault.Span.{Span}
 use Rattle.txs_names.specs.declared.scope.Definition.{Definition}
@@ -14,8 +14,11 @@ use Rattle.txs_names.specs.declared.scope.Definition.TheVariants.{Constant, Cell
 use Rattle.txs_resolve.specs.declared.definition.Opening.{Opening}
 use Rattle.txs_resolve.specs.declared.script.Script.{Script}
 use Rattle.txs_resolve.specs.declared.script.Signature.{Signature}
-use Rattle.txs_resolve.specs.Names.{State, Defining, Written, NamedForm}
-use Rattle.txs_names.specs.Scope.{Entry}
+use Rattle.txs_resolve.specs.Names.{State, Defining, Written, NamedForm, with_function}
+use Rattle.txs_names.specs.Scope.{Entry, with_locals}
+use Rattle.txs_resolve.specs.Answers.{◌>>=◌}
+use Rattle.txs_resolve.specs.Expansions.{body}
+use Rattle.txs_resolve.specs.Expressions.{Answer, named}
 
 -- what a script has defined so far, as the resolver keeps it
 abbrev pub state_of : Script → State
@@ -54,6 +57,16 @@ pub record IsScript (s : Script) : Type 0 where
   pub idle : s.scope.current ≡ None
   pub levels : s.levels.items ≡ map (λ k. k.levels) (known (functions_of s.functions.items))
   pub scoped : ScopedState (state_of s)
+
+-- the same script with no local in scope
+abbrev pub at_top : Script → Script
+at_top s = record { scope = with_locals [] s.scope; cells = s.cells; functions = s.functions; threads = s.threads; levels = s.levels; defs = s.defs }
+
+-- a function of this name, with these locals as its parameters, whose body is these forms
+abbrev pub function_with : List (List ℕ) → State → List ℕ → Span → Forms → Answer State
+function_with locals s name span forms =
+    named most_levels (record { locals = locals; defined = s.defined; current = Some name }) true (body forms span) >>= λ node.
+    Ok (with_function s name (length locals) node span)
 
 -- what a definition is of, with its literal as the definition sees it
 abbrev pub opened_as : Opening → Defining

@@ -5,12 +5,12 @@ ghost use Rattle.txs_resolve.specs.Reported.{report_number, report_name};
 ghost use Rattle.txs_resolve.specs.declared.error.Stop.TheVariants.{Refused, Memory};
 
 use std::alloc::{AllocError, AllocFailed};
-use std::fmt::{self, Display, Formatter, Write};
+use std::fmt::{self, Debug, Display, Formatter, Write};
 use thiserror::Error;
 use txs_value::Span;
 
 /// The reasons for which forms are no program.
-#[derive(Clone, Copy, Debug, PartialEq, Eq, Error)]
+#[derive(Clone, Copy, PartialEq, Eq, Error)]
 pub enum ResolveErrorKind {
     /// A name that stands for nothing here.
     UnknownName,
@@ -61,6 +61,12 @@ impl ResolveErrorKind {
             ResolveErrorKind::TooMany => "TooMany",
             ResolveErrorKind::Memory => "Memory",
         }
+    }
+}
+
+impl Debug for ResolveErrorKind {
+    fn fmt<W: Write>(&self, f: &mut Formatter<W>) -> fmt::Result {
+        f.write_str(self.name())
     }
 }
 

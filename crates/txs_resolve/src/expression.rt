@@ -1,10 +1,12 @@
 //! Expressions: forms to nodes.
 
-ghost use Rattle.std.specs.Prelude.{◌≡◌, ◌≤◌, ◌+◌, ◌-◌, [], length, OnOk};
+ghost use Rattle.std.specs.Prelude.{◌≡◌, ◌≤◌, ◌+◌, ◌-◌, [], length, IfErr, OnOk};
 ghost use Rattle.txs_reader.specs.Tree.{tree};
 ghost use Rattle.txs_resolve.specs.Expressions.{changing, made, named, named_all, named_bindings, narrow, parted, put_together, spot_mark};
-ghost use Rattle.txs_resolve.specs.Given.{Fills, IsWithin, Pushes, PushesAll, PushesBound};
+ghost use Rattle.txs_resolve.specs.Expansions.{alone};
+ghost use Rattle.txs_resolve.specs.Given.{Fills, IsWithin, Pushes, PushesAll, PushesBound, Wants};
 ghost use Rattle.txs_resolve.specs.Parts.{part_form, plain, special_form, PartFits, SpecialFits};
+ghost use Rattle.txs_resolve.specs.declared.error.Stop.TheVariants.{Memory};
 ghost use Rattle.txs_resolve.specs.declared.parts.Special.TheVariants as special;
 
 use crate::error::{ResolveErrorKind, Stop, refused};
@@ -31,11 +33,12 @@ pub fn expression<'a>(
     requires { PartFits scope.old part }
     ensures node { Pushes result nodes.old.items nodes.new.items (named spot.room scope.old spot.wanted (part_form spot.span part.entry)) }
     ensures kept { OnOk result (scope.new ≡ scope.old) }
+    ensures memory { IfErr result (λ e. e ≡ Memory → Wants scope.old spot (alone (part_form spot.span part.entry))) }
 {
     let part = alone(part);
     let spot = spot.at(part.span(spot.span));
     match plan(scope, spot, part)? {
-        Core::Whole(whole) => push_whole(alloc, scope, nodes, spot, whole),
+        Core::Whole(whole) => push_whole(scope, nodes, spot, whole),
         Core::Parted(special) => parted(alloc, scope, nodes, spot, special),
         Core::Changing(change, cell, function, args) => changed(
             alloc, scope, nodes, spot, change, cell, function, args,
@@ -55,6 +58,7 @@ fn parted<'a>(
     requires { SpecialFits scope.old special }
     ensures node { Pushes result nodes.old.items nodes.new.items (made (named (spot.room - 1)) scope.old spot (parted (special_form spot.span special.entry))) }
     ensures kept { OnOk result (scope.new ≡ scope.old) }
+    ensures memory { IfErr result (λ e. e ≡ Memory → 1 ≤ spot.room) }
 {
     if spot.room == 0 {
         return Err(refused(ResolveErrorKind::TooMany, spot.span));
@@ -78,6 +82,7 @@ fn changed<'a>(
 ) -> Result<(), Stop>
     ensures node { Pushes result nodes.old.items nodes.new.items (made (named (spot.room - 1)) scope.old spot (parted (changing change (tree cell.now) (tree function.now) (plain args.now)))) }
     ensures kept { OnOk result (scope.new ≡ scope.old) }
+    ensures memory { IfErr result (λ e. e ≡ Memory → 1 ≤ spot.room) }
 {
     if spot.room == 0 {
         return Err(refused(ResolveErrorKind::TooMany, spot.span));

@@ -2,6 +2,7 @@
 
 ghost use Rattle.std.specs.Prelude.{◌≡◌, ◌≤◌, length, IfOk};
 ghost use Rattle.txs_resolve.specs.Given.{Gives};
+ghost use Rattle.txs_resolve.specs.Parts.{scalar};
 ghost use Rattle.txs_resolve.specs.Literals.{is_literal, are_literals, literal, literals};
 ghost use Rattle.txs_reader.specs.Tree.{tree, trees, trees_of};
 ghost use Rattle.txs_value.specs.Limits.{most_depth};
@@ -40,6 +41,21 @@ fn are_literals(forms: &[Form]) -> bool
     true
 }
 
+/// The value of a literal without parts; nothing else has one.
+pub fn scalar(form: &Form) -> Result<Value, Stop>
+    ensures value { Gives (λ v. v) result (scalar (tree form.now)) }
+    ensures flat { IfOk result (λ v. depth (plain_of v) ≡ 0) }
+{
+    match form {
+        Form::Nil(_) => Ok(Value::Nil),
+        Form::Truth(b, _) => Ok(Value::Truth(*b)),
+        Form::Number(n, _) => Ok(Value::Int(*n)),
+        Form::Text(text, _) => Ok(Value::Text(text.share()?)),
+        Form::Keyword(name, _) => Ok(Value::Key(name.share()?)),
+        _ => Err(refused(ResolveErrorKind::BadForm, form.span())),
+    }
+}
+
 /// The value of a literal whose vectors may have so many levels.
 #[cycle(literal)]
 pub fn literal(alloc: Global, room: usize, form: &Form) -> Result<Value, Stop>
@@ -48,11 +64,6 @@ pub fn literal(alloc: Global, room: usize, form: &Form) -> Result<Value, Stop>
     ensures depth { IfOk result (λ v. depth (plain_of v) ≤ room) }
 {
     match form {
-        Form::Nil(_) => Ok(Value::Nil),
-        Form::Truth(b, _) => Ok(Value::Truth(*b)),
-        Form::Number(n, _) => Ok(Value::Int(*n)),
-        Form::Text(text, _) => Ok(Value::Text(text.share()?)),
-        Form::Keyword(name, _) => Ok(Value::Key(name.share()?)),
         Form::Group(Bracket::Square, forms, span) => {
             if room == 0 || forms.len() > MOST_ITEMS {
                 return Err(refused(ResolveErrorKind::TooMany, *span));
@@ -60,7 +71,7 @@ pub fn literal(alloc: Global, room: usize, form: &Form) -> Result<Value, Stop>
             let items = literals(alloc, room - 1, forms)?;
             Ok(Value::Vector(Items::from_vec(alloc, items)?))
         }
-        _ => Err(refused(ResolveErrorKind::BadForm, form.span())),
+        _ => scalar(form),
     }
 }
 

@@ -1,26 +1,27 @@
 //! Nodes of what is resolved, and what names are where they stand.
 
-ghost use Rattle.std.specs.Prelude.{◌≡◌, ◌<◌, ◌≤◌, ◌+◌, ◌-◌, ◌||◌, [], ◌∷◌, ◌++◌, List, length, drop, Ok, IfOk, OnOk};
-ghost use Rattle.txs_resolve.specs.Expressions.{are_wanted, are_pairs, bound_name, callee_at, callee_of, change_node, choice_node, flag, folds, is_wanted, single_node, in_room, is_chain, is_symbol, leaf_node, binding_node, sequence_node, spot_at, spot_mark, symbol_node};
-ghost use Rattle.txs_resolve.specs.Given.{BindsName, Gives, Hides, Pushes};
-ghost use Rattle.txs_resolve.specs.Literals.{literal};
-ghost use Rattle.txs_resolve.specs.Parts.{constant_of, couple_node, whole_leaf, IsMade, WholeFits};
+ghost use Rattle.std.specs.Prelude.{◌≡◌, ◌<◌, ◌≤◌, ◌+◌, ◌-◌, ◌||◌, [], ◌∷◌, ◌++◌, List, length, drop, Ok, IfOk, IfErr, IsOk, OnOk};
+ghost use Rattle.txs_resolve.specs.Expressions.{are_wanted, are_pairs, bound_name, callee_at, callee_of, change_node, choice_node, flag, folds, is_wanted, single_node, is_chain, is_symbol, leaf_node, binding_node, sequence_node, spot_at, spot_mark, symbol_node};
+ghost use Rattle.txs_resolve.specs.Given.{Hides, Pushes};
+ghost use Rattle.txs_resolve.specs.Parts.{couple_node, seen, simple_tree, whole_leaf, with_room, IsMade, IsSimple, WholeFits};
+ghost use Rattle.txs_resolve.specs.declared.error.Stop.TheVariants.{Memory};
 ghost use Rattle.txs_names.specs.Scope.{meaning};
 ghost use Rattle.txs_names.specs.Viewed.{meant};
 ghost use Rattle.txs_reader.specs.Tree.{tree, trees, trees_of};
-ghost use Rattle.txs_tree.specs.Tree.{Tree, Mark, Const, Local};
+ghost use Rattle.txs_tree.specs.Tree.{Tree, Mark};
 ghost use Rattle.txs_tree.specs.declared.node.Node.{Node as ANode};
 ghost use Rattle.txs_tree.specs.View.{kind_tree, tree_of, trees_of as nodes_tree};
+ghost use Rattle.txs_value.specs.Limits.{most_locals};
 
 use crate::error::{ResolveError, ResolveErrorKind, Stop, refusal, refused};
-use crate::literal::literal;
+use crate::literal::scalar;
 use crate::parts::{Special, Whole};
 use std::alloc::{AllocError, Global};
 use txs_names::{Definition, Found, Scope, may_bind};
 use txs_reader::Form;
 use txs_tree::{Node, NodeKind};
 use txs_value::limits::MOST_LOCALS;
-use txs_value::{Callee, LookForm, Name, Op, PutForm, Span, UpdateForm, Value, copy_value};
+use txs_value::{Callee, CellId, LookForm, Name, Op, PutForm, Span, UpdateForm, Value, copy_value};
 
 /// Where a node stands: how many levels it may have, its span, and whether its result is wanted.
 #[derive(Clone, Copy)]
@@ -129,6 +130,17 @@ pub enum Change {
     Send,
 }
 
+/// What a form without parts is: a local, or a value.
+#[derive(Clone, Copy)]
+pub enum Simple<'s> {
+    Local(u8),
+    Constant(&'s Value),
+    Cell(CellId),
+    Literal(&'s Form),
+    Nil,
+    Truth,
+}
+
 /// The branches of a choice, or another two nodes.
 #[derive(Drop)]
 struct Branches {
@@ -136,74 +148,72 @@ struct Branches {
     other: Box<Node>,
 }
 
-/// The node of a symbol: a local, a constant or a cell.
-fn symbol(scope: &Scope<'_>, name: &Name, spot: Spot) -> Result<Node, Stop>
-    ensures { Gives tree_of result (symbol_node (meaning name.now scope.now) spot) }
+/// What a name is as a value: a local, a constant or a cell.
+fn symbol<'s>(scope: &'s Scope<'_>, name: &Name, spot: Spot) -> Result<Simple<'s>, ResolveError>
+    ensures value { seen (λ x. simple_tree x (spot_mark spot)) result ≡ symbol_node (meaning name.now scope.now) (with_room spot) }
+    ensures quoted { IfOk result IsSimple }
 {
     match scope.lookup(name) {
-        Found::Local(number) => local(number, spot),
-        Found::Defined(Definition::Constant(value)) => constant(copy_value(value)?, spot),
-        Found::Defined(Definition::Cell(cell)) => constant(Value::Cell(*cell), spot),
-        Found::Unknown => Err(refused(ResolveErrorKind::UnknownName, spot.span)),
-        _ => Err(refused(ResolveErrorKind::BadForm, spot.span)),
+        Found::Local(number) => Ok(Simple::Local(number)),
+        Found::Defined(Definition::Constant(value)) => Ok(Simple::Constant(value)),
+        Found::Defined(Definition::Cell(cell)) => Ok(Simple::Cell(*cell)),
+        Found::Unknown => Err(refusal(ResolveErrorKind::UnknownName, spot.span)),
+        _ => Err(refusal(ResolveErrorKind::BadForm, spot.span)),
     }
 }
 
-/// The node of a local.
-fn local(number: u8, spot: Spot) -> Result<Node, Stop>
-    ensures { Gives tree_of result (in_room spot (Ok (Local number (spot_mark spot)))) }
-{
-    if spot.room == 0 {
-        return Err(refused(ResolveErrorKind::TooMany, spot.span));
-    }
-    Ok(spot.node(NodeKind::Local(number)))
-}
-
-/// The node of a constant.
-fn constant(value: Value, spot: Spot) -> Result<Node, Stop>
-    ensures { Gives tree_of result (in_room spot (Ok (Const value (spot_mark spot)))) }
-{
-    if spot.room == 0 {
-        return Err(refused(ResolveErrorKind::TooMany, spot.span));
-    }
-    Ok(spot.node(NodeKind::Const(value)))
-}
-
-/// The node of a literal without parts.
-fn quoted(alloc: Global, form: &Form, spot: Spot) -> Result<Node, Stop>
-    ensures { Gives tree_of result (constant_of spot (literal 0 (tree form.now))) }
-{
-    let value = literal(alloc, 0, form)?;
-    constant(value, spot)
-}
-
-/// The node of a form without parts.
-fn whole_node(alloc: Global, scope: &Scope<'_>, spot: Spot, whole: Whole<'_>) -> Result<Node, Stop>
+/// What a form without parts is, where there is room for a node.
+fn as_simple<'s>(
+    scope: &'s Scope<'_>,
+    spot: Spot,
+    whole: Whole<'s>,
+) -> Result<Simple<'s>, ResolveError>
     requires { WholeFits scope.now whole }
-    ensures { Gives tree_of result (leaf_node scope.now (whole_leaf whole.entry) spot) }
+    ensures value { seen (λ x. simple_tree x (spot_mark spot)) result ≡ leaf_node scope.now (whole_leaf whole.entry) (with_room spot) }
+    ensures quoted { IfOk result IsSimple }
 {
     match whole {
         Whole::Name(name) => symbol(scope, name, spot),
-        Whole::Literal(form) => quoted(alloc, form, spot),
-        Whole::Nil => constant(Value::Nil, spot),
-        Whole::Truth => constant(Value::Truth(true), spot),
-        Whole::Hidden(number) => local(number, spot),
+        Whole::Literal(form) => Ok(Simple::Literal(form)),
+        Whole::Nil => Ok(Simple::Nil),
+        Whole::Truth => Ok(Simple::Truth),
+        Whole::Hidden(number) => Ok(Simple::Local(number)),
+    }
+}
+
+/// The kind of the node of what has no parts. Nothing is refused here.
+fn simple_kind(simple: Simple<'_>) -> Result<NodeKind, Stop>
+    requires { IsSimple simple }
+    ensures kind { IfOk result (λ k. (m : Mark) → kind_tree k m ≡ simple_tree simple.entry m) }
+    ensures memory { IfErr result (λ e. e ≡ Memory) }
+{
+    match simple {
+        Simple::Local(number) => Ok(NodeKind::Local(number)),
+        Simple::Constant(value) => Ok(NodeKind::Const(copy_value(value)?)),
+        Simple::Cell(cell) => Ok(NodeKind::Const(Value::Cell(cell))),
+        Simple::Literal(form) => Ok(NodeKind::Const(scalar(form)?)),
+        Simple::Nil => Ok(NodeKind::Const(Value::Nil)),
+        Simple::Truth => Ok(NodeKind::Const(Value::Truth(true))),
     }
 }
 
 /// The node of a form without parts, behind these nodes.
 pub fn push_whole(
-    alloc: Global,
     scope: &Scope<'_>,
     nodes: &mut Vec<Node>,
     spot: Spot,
     whole: Whole<'_>,
 ) -> Result<(), Stop>
     requires { WholeFits scope.now whole }
-    ensures { Pushes result nodes.old.items nodes.new.items (leaf_node scope.now (whole_leaf whole.entry) spot) }
+    ensures node { Pushes result nodes.old.items nodes.new.items (leaf_node scope.now (whole_leaf whole.entry) spot) }
+    ensures memory { IfErr result (λ e. e ≡ Memory → IsOk (leaf_node scope.now (whole_leaf whole.entry) spot)) }
 {
-    let node = whole_node(alloc, scope, spot, whole)?;
-    nodes.push(node)?;
+    let simple = as_simple(scope, spot, whole)?;
+    if spot.room == 0 {
+        return Err(refused(ResolveErrorKind::TooMany, spot.span));
+    }
+    let kind = simple_kind(simple)?;
+    nodes.push(spot.node(kind))?;
     Ok(())
 }
 
@@ -431,20 +441,21 @@ pub fn flag_at(inner: bool, last: bool, forms: &[Form], i: usize) -> bool
 }
 
 /// The name that the form binds, where one more local may be in scope.
-pub fn bindable<'f>(scope: &Scope<'_>, form: &'f Form) -> Result<&'f Name, Stop>
-    ensures { BindsName result scope.now (tree form.now) }
+pub fn bindable<'f>(scope: &Scope<'_>, form: &'f Form) -> Result<&'f Name, ResolveError>
+    ensures name { seen (λ n. n.now) result ≡ bound_name scope.now (tree form.now) }
+    ensures room { OnOk result (length scope.now.locals < most_locals) }
 {
     match form {
         Form::Symbol(name, at) => {
             if !may_bind(name.as_bytes()) {
-                return Err(refused(ResolveErrorKind::BadForm, *at));
+                return Err(refusal(ResolveErrorKind::BadForm, *at));
             }
             if scope.len() >= MOST_LOCALS {
-                return Err(refused(ResolveErrorKind::TooMany, *at));
+                return Err(refusal(ResolveErrorKind::TooMany, *at));
             }
             Ok(name)
         }
-        _ => Err(refused(ResolveErrorKind::BadForm, form.span())),
+        _ => Err(refusal(ResolveErrorKind::BadForm, form.span())),
     }
 }
 

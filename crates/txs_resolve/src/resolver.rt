@@ -2,8 +2,10 @@
 
 ghost use Rattle.std.specs.Prelude.{◌≡◌, ◌≢◌, ◌⊎◌, IfOk, IfErr, OnOk};
 ghost use Rattle.txs_resolve.specs.Given.{Leaves};
-ghost use Rattle.txs_resolve.specs.Names.{Resolves, ResolveStops, no_memory, behind_namespace, steps};
+ghost use Rattle.txs_resolve.specs.Names.{Resolves, ResolveStops, no_memory, nothing, behind_namespace, steps};
+ghost use Rattle.txs_resolve.specs.Memory.{OneWants};
 ghost use Rattle.txs_resolve.specs.Scripts.{state_of, IsScript};
+ghost use Rattle.txs_resolve.specs.declared.error.Stop.TheVariants as stop;
 ghost use Rattle.txs_resolve.specs.declared.error.ResolveErrorKind.TheVariants.{Memory};
 ghost use Rattle.txs_reader.specs.Tree.{trees};
 ghost use Rattle.txs_tree.specs.View.{program_of};
@@ -30,6 +32,7 @@ fn steps<'a>(alloc: Global, script: &mut Script<'a>, forms: &'a [Form]) -> Resul
     requires { IsScript script.old }
     ensures state { Leaves result (state_of script.new) (steps (state_of script.old) (trees forms.now)) }
     ensures next { OnOk result (IsScript script.new) }
+    ensures memory { IfErr result (λ e. e ≡ stop.Memory → OneWants (state_of script.old) (trees forms.now)) }
 {
     for form in forms {
         step(alloc, script, form)?;
@@ -50,6 +53,7 @@ fn steps<'a>(alloc: Global, script: &mut Script<'a>, forms: &'a [Form]) -> Resul
 pub fn resolve(alloc: Global, forms: &[Form]) -> Result<Raw, ResolveError>
     ensures ok { IfOk result (λ raw. Resolves (trees forms.now) (program_of raw)) }
     ensures err { IfErr result (λ e. e.kind ≢ Memory → ResolveStops (trees forms.now) e) }
+    ensures memory { IfErr result (λ e. OneWants nothing (behind_namespace (trees forms.now)) ⊎ ResolveStops (trees forms.now) e) }
     ensures told { IfErr result (λ e. (e ≡ no_memory) ⊎ ResolveStops (trees forms.now) e) }
 {
     let mut script = Script::new(alloc);

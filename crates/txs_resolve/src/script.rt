@@ -1,22 +1,26 @@
 //! Top-level forms: definitions, functions and threads.
 
-ghost use Rattle.std.specs.Prelude.{◌≡◌, ◌<◌, ◌≤◌, [], length, Some, None, OnOk, Ok, IfOk};
+ghost use Rattle.std.specs.Prelude.{◌≡◌, ◌<◌, ◌≤◌, [], ◌∷◌, ◌++◌, length, Some, None, OnOk, Ok, IfOk, IfErr};
 ghost use Rattle.txs_resolve.specs.Given.{Gives, GivesLocals, Leaves};
+ghost use Rattle.txs_resolve.specs.Parts.{seen};
+ghost use Rattle.txs_resolve.specs.Memory.{DefinitionWants, FormWants, FunctionWants};
+ghost use Rattle.txs_resolve.specs.declared.error.Stop.TheVariants.{Memory};
 ghost use Rattle.txs_resolve.specs.Expansions.{body, form_at};
 ghost use Rattle.txs_resolve.specs.Names.{nothing, entered, new_cell, new_name, named_form, define, untold, written, function, future, parameter, parameters, are_symbols, step, with_cell, with_constant, with_definition, with_function, names_space, is_namespace};
 ghost use Rattle.txs_resolve.specs.Expressions.{is_symbol, named};
 ghost use Rattle.txs_names.specs.declared.names.FormName.TheVariants.{Ns};
+ghost use Rattle.txs_names.specs.declared.scope.Definition.TheVariants.{Function as AFunction};
 ghost use Rattle.txs_names.specs.Scope.{definition_of, with_locals};
-ghost use Rattle.txs_resolve.specs.Scripts.{opened_as, state_of, IsScript, written_in, name_and_form};
+ghost use Rattle.txs_resolve.specs.Scripts.{at_top, function_with, opened_as, state_of, IsScript, written_in, name_and_form};
 ghost use Rattle.txs_reader.specs.declared.form.Bracket.TheVariants.{Round};
 ghost use Rattle.txs_reader.specs.Tree.{tree, trees, trees_of, group};
 ghost use Rattle.txs_tree.specs.Known.{known, levels};
 ghost use Rattle.txs_tree.specs.Scoped.{ScopedTree};
-ghost use Rattle.txs_tree.specs.View.{functions_of, tree_of};
-ghost use Rattle.txs_value.specs.Limits.{most_definitions, most_levels, most_parameters};
+ghost use Rattle.txs_tree.specs.View.{functions_of, threads_of, tree_of};
+ghost use Rattle.txs_value.specs.Limits.{most_definitions, most_levels, most_parameters, most_threads};
 
 use crate::definition::{CellSort, Opening, defining_of};
-use crate::error::{ResolveErrorKind, Stop, refused};
+use crate::error::{ResolveError, ResolveErrorKind, Stop, refusal, refused};
 use crate::expression::expression;
 use crate::levels::levels;
 use crate::literal::literal;
@@ -68,18 +72,18 @@ pub struct Signature<'a> {
 }
 
 /// The name, where it can be defined: then it isn't defined yet.
-fn new_name<'a>(scope: &Scope<'_>, name: &'a Name, at: Span) -> Result<&'a Name, Stop>
-    ensures name { Gives (λ n. n.now) result (new_name scope.now.defined name.now at) }
+fn new_name<'a>(scope: &Scope<'_>, name: &'a Name, at: Span) -> Result<&'a Name, ResolveError>
+    ensures name { seen (λ n. n.now) result ≡ new_name scope.now.defined name.now at }
     ensures new { IfOk result (λ n. definition_of n.now scope.now.defined ≡ None) }
 {
     if !may_bind(name.as_bytes()) {
-        return Err(refused(ResolveErrorKind::BadForm, at));
+        return Err(refusal(ResolveErrorKind::BadForm, at));
     }
     if operation_of(name.as_bytes()).is_some() {
-        return Err(refused(ResolveErrorKind::Redefined, at));
+        return Err(refusal(ResolveErrorKind::Redefined, at));
     }
     if scope.definition(name).is_some() {
-        return Err(refused(ResolveErrorKind::Redefined, at));
+        return Err(refusal(ResolveErrorKind::Redefined, at));
     }
     Ok(name)
 }
@@ -179,8 +183,13 @@ fn enter<'a>(
     ensures next { OnOk result (IsScript script.new) }
 {
     let value = literal(alloc, usize::from(MOST_DEPTH), opening.value)?;
-    let name = new_name(&script.scope, name, at)?;
-    with_definition(opening.sort, script, name, value)
+    match new_name(&script.scope, name, at) {
+        Ok(name) => with_definition(opening.sort, script, name, value),
+        Err(error) => {
+            drop(value);
+            Err(Stop::Refused(error))
+        }
+    }
 }
 
 /// What the script has defined behind a `def` with these parts.
@@ -193,6 +202,7 @@ fn define<'a>(
     requires { IsScript script.old }
     ensures state { Leaves result (state_of script.new) (define (state_of script.old) span (trees_of (trees parts.now))) }
     ensures next { OnOk result (IsScript script.new) }
+    ensures memory { IfErr result (λ e. e ≡ Memory → DefinitionWants (state_of script.old) (named_form (trees_of (trees parts.now)))) }
 {
     let Some((name, at, what)) = named_form(parts) else {
         return Err(refused(ResolveErrorKind::BadForm, span));
@@ -252,21 +262,21 @@ fn signature_of(parts: &[Form]) -> Option<Signature<'_>>
 }
 
 /// The name of a parameter after so many.
-fn parameter(count: usize, form: &Form) -> Result<&Name, Stop>
-    ensures name { Gives (λ n. n.now) result (parameter count (tree form.now)) }
+fn parameter(count: usize, form: &Form) -> Result<&Name, ResolveError>
+    ensures name { seen (λ n. n.now) result ≡ parameter count (tree form.now) }
     ensures room { OnOk result (count < most_parameters) }
 {
     match form {
         Form::Symbol(name, at) => {
             if !may_bind(name.as_bytes()) {
-                return Err(refused(ResolveErrorKind::BadForm, *at));
+                return Err(refusal(ResolveErrorKind::BadForm, *at));
             }
             if count >= MOST_PARAMETERS {
-                return Err(refused(ResolveErrorKind::TooMany, *at));
+                return Err(refusal(ResolveErrorKind::TooMany, *at));
             }
             Ok(name)
         }
-        _ => Err(refused(ResolveErrorKind::BadForm, form.span())),
+        _ => Err(refusal(ResolveErrorKind::BadForm, form.span())),
     }
 }
 
@@ -308,6 +318,23 @@ fn body<'a>(
     }
 }
 
+/// The name of the function of this number is defined, and its levels are behind those of the functions before it.
+fn name_function<'a>(
+    scope: &mut Scope<'a>,
+    levels: &mut Vec<u16>,
+    name: &'a Name,
+    number: u16,
+    depth: u16,
+) -> Result<(), AllocError>
+    requires { definition_of name.now scope.old.defined ≡ None }
+    ensures named { OnOk result (scope.new ≡ record { locals = scope.old.locals; defined = scope.old.defined ++ (record { name = name.now; what = AFunction number depth }) ∷ []; current = scope.old.current }) }
+    ensures counted { OnOk result (levels.new.items ≡ levels.old.items ++ depth ∷ []) }
+{
+    levels.push(depth)?;
+    scope.define(name, Definition::Function(number, depth))?;
+    Ok(())
+}
+
 /// A function is defined, of so many parameters and with this body.
 fn with_function<'a>(
     script: &mut Script<'a>,
@@ -332,11 +359,35 @@ fn with_function<'a>(
         body,
         span,
     })?;
-    script.levels.push(depth)?;
-    script
-        .scope
-        .define(name, Definition::Function(number, depth))?;
+    name_function(&mut script.scope, &mut script.levels, name, number, depth)?;
     Ok(())
+}
+
+/// What the script has defined behind a function of this name, whose parameters are the locals in scope.
+fn named_function<'a>(
+    alloc: Global,
+    script: &mut Script<'a>,
+    name: &'a Name,
+    span: Span,
+    forms: &'a [Form],
+) -> Result<(), Stop>
+    requires script { IsScript (at_top script.old) }
+    requires new { definition_of name.now script.old.scope.defined ≡ None }
+    requires room { length script.old.functions.items < most_definitions }
+    requires few { length script.old.scope.locals ≤ most_parameters }
+    ensures state { Leaves result (state_of script.new) (function_with script.old.scope.locals (state_of script.old) name.now span (trees_of (trees forms.now))) }
+    ensures next { OnOk result (IsScript script.new) }
+{
+    let parameters = script.scope.len() as u8;
+    script.scope.begin(name);
+    let spot = Spot {
+        room: MOST_LEVELS,
+        span,
+        wanted: true,
+    };
+    let body = body(alloc, &mut script.scope, spot, forms)?;
+    script.scope.end();
+    with_function(script, name, parameters, body, span)
 }
 
 /// What the script has defined behind a function as it is written.
@@ -349,22 +400,14 @@ fn function_as<'a>(
     requires { IsScript script.old }
     ensures state { Leaves result (state_of script.new) (function (state_of script.old) span (written_in (Some written.entry))) }
     ensures next { OnOk result (IsScript script.new) }
+    ensures memory { IfErr result (λ e. e ≡ Memory → FunctionWants (state_of script.old) (written_in (Some written.entry))) }
 {
     if script.functions.len() >= MOST_DEFINITIONS {
         return Err(refused(ResolveErrorKind::TooMany, span));
     }
     let name = new_name(&script.scope, written.name, written.at)?;
     bind_parameters(&mut script.scope, written.parameters)?;
-    let parameters = script.scope.len() as u8;
-    script.scope.begin(name);
-    let spot = Spot {
-        room: MOST_LEVELS,
-        span,
-        wanted: true,
-    };
-    let body = body(alloc, &mut script.scope, spot, written.body)?;
-    script.scope.end();
-    with_function(script, name, parameters, body, span)
+    named_function(alloc, script, name, span, written.body)
 }
 
 /// What the script has defined behind a `defn` with these parts.
@@ -377,6 +420,7 @@ fn function<'a>(
     requires { IsScript script.old }
     ensures state { Leaves result (state_of script.new) (function (state_of script.old) span (written (trees_of (trees parts.now)))) }
     ensures next { OnOk result (IsScript script.new) }
+    ensures memory { IfErr result (λ e. e ≡ Memory → FunctionWants (state_of script.old) (written (trees_of (trees parts.now)))) }
 {
     match signature_of(parts) {
         Some(written) => function_as(alloc, script, span, written),
@@ -394,6 +438,7 @@ fn future<'a>(
     requires { IsScript script.old }
     ensures state { Leaves result (state_of script.new) (future (state_of script.old) span (trees_of (trees forms.now))) }
     ensures next { OnOk result (IsScript script.new) }
+    ensures memory { IfErr result (λ e. e ≡ Memory → length (threads_of script.old.threads.items) < most_threads) }
 {
     if script.threads.len() >= MOST_THREADS {
         return Err(refused(ResolveErrorKind::TooMany, span));
@@ -418,6 +463,7 @@ fn list_step<'a>(
     requires { IsScript script.old }
     ensures state { Leaves result (state_of script.new) (step (state_of script.old) (group Round (trees_of (trees forms.now)) span)) }
     ensures next { OnOk result (IsScript script.new) }
+    ensures memory { IfErr result (λ e. e ≡ Memory → FormWants (state_of script.old) (group Round (trees_of (trees forms.now)) span)) }
 {
     let Some((head, parts)) = forms.split_first() else {
         return Err(refused(ResolveErrorKind::BadForm, span));
@@ -435,6 +481,7 @@ pub fn step<'a>(alloc: Global, script: &mut Script<'a>, form: &'a Form) -> Resul
     requires { IsScript script.old }
     ensures state { Leaves result (state_of script.new) (step (state_of script.old) (tree form.now)) }
     ensures next { OnOk result (IsScript script.new) }
+    ensures memory { IfErr result (λ e. e ≡ Memory → FormWants (state_of script.old) (tree form.now)) }
 {
     match form {
         Form::Group(Bracket::Round, forms, span) => list_step(alloc, script, *span, forms),

@@ -1,4 +1,4 @@
-use Rattle.std.proofs.Common.{◌≡◌, ◌<◌, ◌≤◌, ◌+◌, ◌-◌, ◌∷◌, [], ◌++◌, ℕ, suc, Bool, true, List, Ok, Err, length, drop, append-nil, append_assoc, sym, ap, ◌∙◌, subst, arith}
+use Rattle.std.proofs.Common.{◌≡◌, ◌<◌, ◌≤◌, ◌+◌, ◌-◌, ◌∷◌, [], ◌++◌, ℕ, suc, Bool, true, List, Ok, Err, IsOk, length, drop, append-nil, append_assoc, sym, ap, ◌∙◌, subst, arith}
 use Rattle.std.proofs.lemmas.Result.{err_from_is_err_and}
 use Rattle.txs_reader.specs.declared.form.Form.{Form}
 use Rattle.txs_reader.specs.Tree.{tree}
@@ -8,13 +8,15 @@ use Rattle.txs_names.specs.Scope.{Scope, with_local, with_locals}
 use Rattle.txs_resolve.specs.declared.nodes.Spot.{Spot}
 use Rattle.txs_resolve.specs.declared.parts.Part.TheVariants as part
 use Rattle.txs_resolve.specs.declared.parts.Special.TheVariants as special
+use Rattle.txs_resolve.specs.declared.parts.Core.TheVariants as core
 use Rattle.txs_resolve.specs.Answers.{◌>>=◌}
-use Rattle.txs_resolve.specs.Expressions.{bound_name, flag, made, named, named_all, named_bindings, narrow, put_together, spot_at, spot_mark}
-use Rattle.txs_resolve.specs.Given.{Fills, IsWithin, Pushes}
-use Rattle.txs_resolve.specs.Parts.{core_form, part_form, plain, special_form}
+use Rattle.txs_resolve.specs.Expansions.{alone}
+use Rattle.txs_resolve.specs.Expressions.{bound_name, flag, leaf_node, made, named, named_all, named_bindings, narrow, put_together, spot_at, spot_mark}
+use Rattle.txs_resolve.specs.Given.{Fills, IsWithin, Pushes, Wants}
+use Rattle.txs_resolve.specs.Parts.{core_form, part_form, plain, special_form, whole_leaf}
 use Rattle.txs_resolve.proofs.Building.{all_end, all_step, bindings_end, bindings_step, bindings_unvalued, bound_after, within_push}
-use Rattle.txs_resolve.proofs.Fillings.{args_then, bound_filled, changed_whole, choice_filled, hidden_filled, hidden_full, hidden_stops, hidden_whole, named_part, narrow_ok, pair_filled, pair_stops, passed_bound, passed_filling, passed_items, remade, row_filled, single_filled}
-use Rattle.txs_resolve.proofs.Stops.{bound_nil, full_stop}
+use Rattle.txs_resolve.proofs.Fillings.{args_then, bound_filled, changed_whole, choice_filled, hidden_filled, hidden_full, hidden_stops, hidden_whole, named_part, narrow_ok, pair_filled, pair_stops, passed_bound, passed_filling, passed_items, remade, row_filled, single_filled, wants_part}
+use Rattle.txs_resolve.proofs.Stops.{bound_nil, full_stop, wanting, wanting_as}
 use Rattle.txs_resolve.proofs.expression.+resolve.Goals as goal
 
 counted : (before now : List Node) (n : Node) (k : ℕ) → before ≡ [] → now ≡ before ++ n ∷ [] → length now + k ≡ suc k
@@ -41,7 +43,7 @@ expression-returns-in-Whole-clause-node t c =
     (c.at-spot.ensures ∙ ap (λ at. spot_at c.args.spot.room at c.args.spot.wanted) c.span.ensures) in
     subst (Pushes c.push_whole.result c.args.nodes.now.items c.push_whole.new.nodes.items)
     (sym (whole ∙ ap (λ o. o >>= made (named (s.room - 1)) scope s) (sym c.in_ok-whole.ensures.core) ∙ ap (λ k. made (named (s.room - 1)) scope s (core_form s.span k)) c.in-Whole.is))
-    c.push_whole.ensures
+    c.push_whole.ensures.node
 
 pub expression-returns-in-Parted-clause-node : goal.expression-returns-in-Parted-clause-node
 expression-returns-in-Parted-clause-node t c =
@@ -95,6 +97,64 @@ pub parted-build-requires : goal.parted-build-requires
 parted-build-requires t c m =
     let made = c.in_ok-children.ensures.nodes in
     remade c.args.special c.children.new.parts.items (spot_mark c.args.spot) m made.0 made.1
+
+-- ---- where memory is wanted
+
+pub expression-returns-in_err-whole-clause-memory : goal.expression-returns-in_err-whole-clause-memory
+expression-returns-in_err-whole-clause-memory t c =
+    let p = err_from_is_err_and c.from_residual.result c.from_residual.ensures.1 in
+    rw (p.1, p.2) (λ e. absurd cc)
+
+pub expression-returns-in-Whole-clause-memory : goal.expression-returns-in-Whole-clause-memory
+expression-returns-in-Whole-clause-memory t c =
+    let s = c.at-spot.result in
+    let scope = c.args.scope.now in
+    let here = c.args.spot in
+    wanting_as c.push_whole.result (IsOk (leaf_node scope (whole_leaf c.in-Whole.whole) s)) (Wants scope here (alone (part_form here.span c.args.part)))
+    (wants_part here.span here.room scope here.wanted c.args.part c.alone-part.result s (c.alone-part.ensures.form here.span)
+    (c.at-spot.ensures ∙ ap (λ at. spot_at here.room at here.wanted) c.span.ensures) (Ok (core_form s.span (core.Whole c.in-Whole.whole)))
+    (sym c.in_ok-whole.ensures.core ∙ ap (λ k. Ok (core_form s.span k)) c.in-Whole.is))
+    c.push_whole.ensures.memory
+
+pub expression-returns-in-Parted-clause-memory : goal.expression-returns-in-Parted-clause-memory
+expression-returns-in-Parted-clause-memory t c =
+    let s = c.at-spot.result in
+    let scope = c.args.scope.now in
+    let here = c.args.spot in
+    wanting_as c.parted.result (1 ≤ s.room) (Wants scope here (alone (part_form here.span c.args.part)))
+    (wants_part here.span here.room scope here.wanted c.args.part c.alone-part.result s (c.alone-part.ensures.form here.span)
+    (c.at-spot.ensures ∙ ap (λ at. spot_at here.room at here.wanted) c.span.ensures) (Ok (core_form s.span (core.Parted c.in-Parted.special)))
+    (sym c.in_ok-whole.ensures.core ∙ ap (λ k. Ok (core_form s.span k)) c.in-Parted.is))
+    c.parted.ensures.memory
+
+pub expression-returns-in-Changing-clause-memory : goal.expression-returns-in-Changing-clause-memory
+expression-returns-in-Changing-clause-memory t c =
+    let s = c.at-spot.result in
+    let scope = c.args.scope.now in
+    let here = c.args.spot in
+    wanting_as c.changed.result (1 ≤ s.room) (Wants scope here (alone (part_form here.span c.args.part)))
+    (wants_part here.span here.room scope here.wanted c.args.part c.alone-part.result s (c.alone-part.ensures.form here.span)
+    (c.at-spot.ensures ∙ ap (λ at. spot_at here.room at here.wanted) c.span.ensures) (Ok (core_form s.span (core.Changing c.in-Changing.change c.in-Changing.cell c.in-Changing.function c.in-Changing.args)))
+    (sym c.in_ok-whole.ensures.core ∙ ap (λ k. Ok (core_form s.span k)) c.in-Changing.is))
+    c.changed.ensures.memory
+
+pub parted-returns-in_err-children-clause-memory : goal.parted-returns-in_err-children-clause-memory
+parted-returns-in_err-children-clause-memory t c = wanting c.from_residual.result (1 ≤ c.args.spot.room) (omega (arith, c.if-spot-eq0.false))
+
+pub parted-returns-clause-memory : goal.parted-returns-clause-memory
+parted-returns-clause-memory t c = wanting c.build.result (1 ≤ c.args.spot.room) (omega (arith, c.if-spot-eq0.false))
+
+pub changed-returns-in_err-expression-clause-memory : goal.changed-returns-in_err-expression-clause-memory
+changed-returns-in_err-expression-clause-memory t c = wanting c.from_residual.result (1 ≤ c.args.spot.room) (omega (arith, c.if-spot-eq0.false))
+
+pub changed-returns-in_err-callee-clause-memory : goal.changed-returns-in_err-callee-clause-memory
+changed-returns-in_err-callee-clause-memory t c = wanting c.from_residual-in_err-callee.result (1 ≤ c.args.spot.room) (omega (arith, c.if-spot-eq0.false))
+
+pub changed-returns-in_err-items-clause-memory : goal.changed-returns-in_err-items-clause-memory
+changed-returns-in_err-items-clause-memory t c = wanting c.from_residual-in_err-items.result (1 ≤ c.args.spot.room) (omega (arith, c.if-spot-eq0.false))
+
+pub changed-returns-clause-memory : goal.changed-returns-clause-memory
+changed-returns-clause-memory t c = wanting c.build_change.result (1 ≤ c.args.spot.room) (omega (arith, c.if-spot-eq0.false))
 
 -- ---- the parts of special forms
 
@@ -217,7 +277,7 @@ bindings-loop-at-preserved t c =
         n.1 ∙ ap (λ (l : List Node). l ++ n.0 ∷ []) b.1 ∙ append_assoc c.args.values.now.items b.0 (n.0 ∷ []),
         b.2 ∙ bindings_step by c.loop-at.scope c.args.pairs.now c.loop-at.at b.0 c.index-pairs-at-in-loop-at.result d name n.0 c.loop-at-test.true
             (ap (λ (f : Form). by c.loop-at.scope true (tree f)) (sym c.index-pairs-at.is) ∙ ap (λ (s : Spot). named s.room c.loop-at.scope s.wanted (tree d)) (sym c.inner.ensures) ∙ n.2)
-            (ap (λ f. bound_name c.loop-at.scope (tree f)) (sym c.index-pairs-at-in-loop-at.is) ∙ ap (λ (s : Scope). bound_name s (tree c.index-pairs-at-in-loop-at.result)) (sym kept) ∙ c.in_ok-name.ensures.1)
+            (ap (λ f. bound_name c.loop-at.scope (tree f)) (sym c.index-pairs-at-in-loop-at.is) ∙ ap (λ (s : Scope). bound_name s (tree c.index-pairs-at-in-loop-at.result)) (sym kept) ∙ sym c.in_ok-name.ensures.name)
             ∙ ap (λ (s : Scope). bound_after (b.0 ++ n.0 ∷ []) (named_bindings by s (plain (drop (c.loop-at.at + 2) c.args.pairs.now)))) (sym scope),
       );
       within = subst (λ s. IsWithin c.args.scope.now s) (sym scope) (within_push c.args.scope.now c.loop-at.scope name c.loop-at.invariant.within);

@@ -32,7 +32,7 @@ literal-returns-in_err-items-in-Group-Square-default-default-clause-value t c =
     let forms = c.in-Group-Square-default-default.forms in
     let at = c.in-Group-Square-default-default.span in
     let whole : c.args.form.now ≡ Group Square forms at = search (rules, the_lemmas) in
-    let p = err_from_is_err_and c.from_residual-in_err-items-in-Group-Square-default-default.result c.from_residual-in_err-items-in-Group-Square-default-default.ensures.1 in
+    let p = err_from_is_err_and c.from_residual.result c.from_residual.ensures.1 in
     rw (p.1, p.2) (failed (λ (vs : Vec Value Global). vs.items) (λ (v : Value). v) _ _ _ c.in_err-items-in-Group-Square-default-default.ensures.values (λ e no.
     square_fits c.args.room c.args.form.now forms at whole c.if-room-eq0.false (omega (arith, c.len.ensures, forms.ok, c.if-len-gt-MOST_ITEMS.false))
     ∙ then_err (literals (c.args.room - 1) (plain forms.items)) (λ vs. Ok (Vector (plains_of vs))) e (ap (λ l. literals (c.args.room - 1) (plain l)) (sym c.deref.ensures.value) ∙ no)))

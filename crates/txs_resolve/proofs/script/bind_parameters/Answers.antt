@@ -4,9 +4,7 @@ use Rattle.txs_resolve.specs.Expressions.{Answer}
 use Rattle.txs_resolve.specs.Names.{parameter, parameters}
 use Rattle.txs_resolve.specs.Answers.{◌>>=◌}
 use Rattle.txs_names.specs.Scope.{Scope, with_local, with_locals}
-use Rattle.std.specs.Borrow.{Bor}
 use Rattle.std.proofs.lemmas.Result.{err_from_is_err_and}
-use Rattle.txs_resolve.proofs.TopLevel.{failed_locals}
 use Rattle.txs_resolve.specs.Parts.{plain}
 use Rattle.txs_resolve.proofs.Building.{plain_at, drop_all}
 use Rattle.txs_resolve.proofs.script.bind_parameters.Goals as goal
@@ -28,8 +26,7 @@ returns-in_err-name-clause-names c =
     let here = ap (parameters ls) (plain_at fs i c.form-item.result c.loop-form-test.true) in
     let counted = ap (λ (k : ℕ). parameter k (tree c.form-item.result)) (sym c.len.ensures) in
     let p = err_from_is_err_and c.from_residual.result c.from_residual.ensures.1 in
-    rw (p.1, p.2) (failed_locals (λ (n : Bor (List ℕ)). n.now) c.in_err-name.field-0.0 ls (parameter c.len.result (tree c.form-item.result)) (parameters [] (plain fs)) c.in_err-name.ensures.name
-    (λ e stops. c.loop-form.invariant.names ∙ here ∙ ap (λ f. after (parameter (length ls) (tree f))) (sym c.form-item.is) ∙ ap after (counted ∙ stops)))
+    rw (p.1, p.2) (c.loop-form.invariant.names ∙ here ∙ ap (λ f. after (parameter (length ls) (tree f))) (sym c.form-item.is) ∙ ap after (counted ∙ sym c.in_err-name.ensures.name))
 
 pub loop-form-preserved : goal.loop-form-preserved
 loop-form-preserved c =
@@ -39,7 +36,7 @@ loop-form-preserved c =
     let rest = plain (drop (i + 1) fs) in
     let after : Answer (List ℕ) → Answer (List (List ℕ)) = λ (o : Answer (List ℕ)). o >>= λ n. parameters (n ∷ ls) rest in
     let here = ap (parameters ls) (plain_at fs i c.form-item.result c.loop-form-test.true) in
-    let named : parameter (length ls) (tree c.form-item.result) ≡ Ok c.in_ok-name.name.now = ap (λ (k : ℕ). parameter k (tree c.form-item.result)) (sym c.len.ensures) ∙ c.in_ok-name.ensures.name in
+    let named : parameter (length ls) (tree c.form-item.result) ≡ Ok c.in_ok-name.name.now = ap (λ (k : ℕ). parameter k (tree c.form-item.result)) (sym c.len.ensures) ∙ sym c.in_ok-name.ensures.name in
     let found = ap (λ f. after (parameter (length ls) (tree f))) (sym c.form-item.is) ∙ ap after named in
     let bytes = ap (λ (n : List ℕ). parameters (n ∷ ls) rest) (sym c.as_bytes.ensures.value) in
     let pushed = c.in_ok-push.ensures in

@@ -1,6 +1,6 @@
-use Rattle.std.proofs.Common.{sym, ap, ◌∙◌, subst, arith, false, Ok, Err}
+use Rattle.std.proofs.Common.{◌<◌, length, sym, ap, ◌∙◌, subst, arith, false, Ok, Err}
 use Rattle.std.proofs.lemmas.Result.{err_from_is_err_and}
-use Rattle.txs_tree.specs.View.{tree_of}
+use Rattle.txs_tree.specs.View.{threads_of, tree_of}
 use Rattle.txs_resolve.specs.Expansions.{body}
 use Rattle.txs_resolve.specs.Expressions.{named}
 use Rattle.txs_resolve.specs.Given.{Leaves}
@@ -8,10 +8,11 @@ use Rattle.txs_resolve.specs.Names.{State, future}
 use Rattle.txs_resolve.specs.Scripts.{ScopedState, state_of}
 use Rattle.txs_resolve.specs.declared.error.Stop.{Stop}
 use Rattle.txs_resolve.specs.Parts.{plain}
+use Rattle.txs_resolve.proofs.Stops.{wanting}
 use Rattle.txs_resolve.proofs.TopLevel.{failed_leaves}
 use Rattle.txs_resolve.proofs.Scoping.{Every}
 use Rattle.txs_resolve.proofs.ScopedScripts.{future_scoped}
-use Rattle.txs_resolve.proofs.Tops.{future_full, future_as, new_thread}
+use Rattle.txs_resolve.proofs.Tops.{length-threads_of, future_full, future_as, new_thread}
 use Rattle.txs_resolve.proofs.script.future.Goals as goal
 
 pub returns-then-len-ge-MOST_THREADS-clause-state : goal.returns-then-len-ge-MOST_THREADS-clause-state
@@ -45,3 +46,9 @@ returns-clause-next c =
       levels = c.requires.levels;
       scoped = subst (Every ScopedState) (returns-clause-state c) (future_scoped (state_of c.args.script.now) c.args.span (plain c.args.forms.now) c.requires.scoped);
     }
+
+pub returns-in_err-body-clause-memory : goal.returns-in_err-body-clause-memory
+returns-in_err-body-clause-memory c = wanting c.from_residual.result (length (threads_of c.args.script.now.threads.items) < 64) (omega (arith, c.if-len-ge-MOST_THREADS.false, c.len.ensures, length-threads_of c.args.script.now.threads.items))
+
+pub returns-in_err-push-clause-memory : goal.returns-in_err-push-clause-memory
+returns-in_err-push-clause-memory c = wanting c.from_residual-in_err-push.result (length (threads_of c.args.script.now.threads.items) < 64) (omega (arith, c.if-len-ge-MOST_THREADS.false, c.len.ensures, length-threads_of c.args.script.now.threads.items))

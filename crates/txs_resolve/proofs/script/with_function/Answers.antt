@@ -25,21 +25,21 @@ returns-clause-state c =
     let deep = c.levels-depth.ensures ∙ ap (λ ls. depths ls t) c.as_slice.ensures.value ∙ same_depths s t c.requires.script in
     let number : c.len-number.result ≡ length s.functions.items = omega (arith, c.len-number.ensures) in
     let entry : ℕ → Scope = λ (k : ℕ). record { locals = s.scope.locals; defined = s.scope.defined ++ record { name = c.args.name.now; what = Function k c.levels-depth.result } ∷ []; current = s.scope.current } in
-    ap (λ (x : State). Ok x) (state_is s c.args.name.now c.args.parameters c.args.body c.args.span c.levels-depth.result c.define.new.self c.push.new.self.items deep (c.in_ok-define.ensures ∙ ap entry number) c.in_ok-push.ensures.items)
+    ap (λ (x : State). Ok x) (state_is s c.args.name.now c.args.parameters c.args.body c.args.span c.levels-depth.result c.name_function.new.scope c.push.new.self.items deep (c.in_ok-name_function.ensures.named ∙ ap entry number) c.in_ok-push.ensures.items)
 
 pub returns-clause-next : goal.returns-clause-next
 returns-clause-next c =
     let s = c.args.script.now in
     let t = tree_of c.args.body in
-    let e = c.in_ok-define.ensures in
+    let e = c.in_ok-name_function.ensures.named in
     let deep = c.levels-depth.ensures ∙ ap (λ ls. depths ls t) c.as_slice.ensures.value ∙ same_depths s t c.requires.script in
     let number : c.len-number.result ≡ length s.functions.items = omega (arith, c.len-number.ensures) in
     let entry : ℕ → Scope = λ (k : ℕ). record { locals = s.scope.locals; defined = s.scope.defined ++ record { name = c.args.name.now; what = Function k c.levels-depth.result } ∷ []; current = s.scope.current } in
     record {
       outside = ap (λ x. x.locals) e ∙ c.requires.script.outside;
       idle = ap (λ x. x.current) e ∙ c.requires.script.idle;
-      levels = levels_are s c.args.parameters c.args.body c.args.span c.levels-depth.result c.push.new.self.items c.push-2.new.self.items c.requires.script deep c.in_ok-push.ensures.items c.in_ok-push-2.ensures.items;
+      levels = levels_are s c.args.parameters c.args.body c.args.span c.levels-depth.result c.push.new.self.items c.name_function.new.levels.items c.requires.script deep c.in_ok-push.ensures.items c.in_ok-name_function.ensures.counted;
       scoped = subst ScopedState
-          (state_is s c.args.name.now c.args.parameters c.args.body c.args.span c.levels-depth.result c.define.new.self c.push.new.self.items deep (e ∙ ap entry number) c.in_ok-push.ensures.items)
+          (state_is s c.args.name.now c.args.parameters c.args.body c.args.span c.levels-depth.result c.name_function.new.scope c.push.new.self.items deep (e ∙ ap entry number) c.in_ok-push.ensures.items)
           (function_more (state_of s) c.args.name.now c.args.parameters t c.args.span c.requires.script.scoped (functions_count s c.requires.room) c.requires.few (c.requires.scoped, c.requires.levels));
     }

@@ -1,0 +1,38 @@
+use Rattle.std.proofs.Common.{◌≡◌, ◌<◌, ◌+◌, ◌∷◌, ℕ, List, inl, inr, drop, get_or, length, sym, ap, ◌∙◌, subst, drop-cons, add-one}
+use Rattle.std.proofs.lemmas.Result.{err_from_is_err_and}
+use Rattle.txs_reader.specs.declared.form.Form.{Form}
+use Rattle.txs_reader.specs.Tree.{tree, trees}
+use Rattle.txs_resolve.specs.Answers.{◌>>=◌}
+use Rattle.txs_resolve.specs.Expressions.{Answer}
+use Rattle.txs_resolve.specs.Memory.{OneWants}
+use Rattle.txs_resolve.specs.Names.{State, step, steps}
+use Rattle.txs_resolve.specs.Scripts.{state_of}
+use Rattle.txs_resolve.proofs.resolver.steps.Goals as goal
+
+trees_at : (fs : List Form) (i : ℕ) (d : Form) → i < length fs → trees (drop i fs) ≡ tree (get_or fs i d) ∷ trees (drop (i + 1) fs)
+trees_at fs i d lt = ap trees (drop-cons fs i d lt) ∙ ap (λ (k : ℕ). tree (get_or fs i d) ∷ trees (drop k fs)) (sym (add-one i))
+
+pub loop-form-preserved : goal.loop-form-preserved
+loop-form-preserved c =
+    let fs = c.args.forms.now in
+    let i = c.loop-form.form-index in
+    let f = c.form-item.result in
+    let s = state_of c.loop-form.script in
+    let rest = trees (drop (i + 1) fs) in
+    let there = trees_at fs i f c.loop-form-test.true ∙ ap (λ (x : Form). tree x ∷ rest) (sym c.form-item.is) in
+    record {
+      state = c.loop-form.invariant.state ∙ ap (steps s) there ∙ ap (λ (a : Answer State). a >>= λ t. steps t rest) c.in_ok-step.ensures.state;
+      kept = c.in_ok-step.ensures.next;
+      wants = λ w. c.loop-form.invariant.wants (subst (OneWants s) (sym there) (inr (state_of c.step.new.script, c.in_ok-step.ensures.state, w)));
+    }
+
+pub returns-in_err-step-clause-memory : goal.returns-in_err-step-clause-memory
+returns-in_err-step-clause-memory c =
+    let fs = c.args.forms.now in
+    let i = c.loop-form.form-index in
+    let f = c.form-item.result in
+    let s = state_of c.loop-form.script in
+    let rest = trees (drop (i + 1) fs) in
+    let there = trees_at fs i f c.loop-form-test.true ∙ ap (λ (x : Form). tree x ∷ rest) (sym c.form-item.is) in
+    let p = err_from_is_err_and c.from_residual.result c.from_residual.ensures.1 in
+    rw (p.1, p.2) (λ e. c.loop-form.invariant.wants (subst (OneWants s) (sym there) (inl (c.in_err-step.ensures.memory e))))
