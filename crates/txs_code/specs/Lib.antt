@@ -3,6 +3,8 @@ pub mod Fused
 pub mod Laws
 pub mod Machine
 pub mod Opening
+pub mod OwnCells
 pub mod PlainCode
 pub mod RunsToday
+pub mod Spans
 pub mod WellTyped

@@ -1,8 +1,11 @@
 -- The code that today's actors run.
 use Rattle.std.specs.Prelude.{List, [], ◌∷◌}
+use Rattle.txs_value.specs.declared.cell.CellDefinition.{CellDefinition}
 use Rattle.txs_value.specs.declared.form.LookForm.TheVariants.{Deref, Ensure}
 use Rattle.txs_value.specs.declared.form.PutForm.TheVariants.{RefSet, Reset}
 use Rattle.txs_value.specs.declared.form.UpdateForm.TheVariants as update
+use Rattle.txs_value.specs.declared.value.CellKind.{CellKind}
+use Rattle.txs_value.specs.declared.value.CellKind.TheVariants.{Ref, Atom, Agent}
 use Rattle.txs_code.specs.PlainCode.{CodeBody, PlainCode}
 use Rattle.txs_code.specs.declared.instr.Instr.{Instr}
 use Rattle.txs_code.specs.declared.instr.Instr.TheVariants.{Const, Local, Store, Pop, Jump, JumpFalse, Core, Call, Return, Vector, Print, Look, Put, TxBegin, TxEnd, Open, Close, Send, Halt}
@@ -46,7 +49,19 @@ abbrev pub BodiesRunToday : List CodeBody → Type 0
 BodiesRunToday [] = Unit {0}
 BodiesRunToday (b ∷ bs) = AreRunToday b.instrs × BodiesRunToday bs
 
--- The code that today's actors run: none of its bodies has an instruction that they don't.
+-- of cells, refs run today
+abbrev pub KindRunsToday : CellKind → Type 0
+KindRunsToday Ref = Unit {0}
+KindRunsToday Atom = ⊥
+KindRunsToday Agent = ⊥
+
+-- each of these cells does
+abbrev pub CellsRunToday : List CellDefinition → Type 0
+CellsRunToday [] = Unit {0}
+CellsRunToday (d ∷ ds) = KindRunsToday d.kind × CellsRunToday ds
+
+-- The code that today's actors run: none of its bodies has an instruction that they don't, and its cells are refs.
 pub record RunsToday (code : PlainCode) : Type 0 where
   pub functions : BodiesRunToday code.functions
   pub threads : BodiesRunToday code.threads
+  pub cells : CellsRunToday code.cells

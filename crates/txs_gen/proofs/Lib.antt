@@ -7,6 +7,7 @@ pub mod Ends
 pub mod Generation
 pub mod Kept
 pub mod Lists
+pub mod OwnCells
 pub mod Segments
 pub mod Simulates
 pub mod Steps

@@ -17,7 +17,7 @@ use Rattle.txs_code.specs.declared.instr.OpenForm.{OpenForm}
 use Rattle.txs_code.specs.declared.instr.OpenForm.TheVariants as open_form
 use Rattle.txs_code.specs.Machine.{PlainInstr, Store, Pop, Jump, CoreOf, CallOf, Return, MakeVector, PrintOf, TxEnd, LookOf, PutOf, OpenOf, CloseOf, SendOf, Halt}
 use Rattle.txs_code.specs.PlainCode.{CodeBody, PlainCode, parameters_of, plain_instr, plain_instrs}
-use Rattle.txs_code.specs.RunsToday.{IsRunToday, AreRunToday, BodiesRunToday, RunsToday}
+use Rattle.txs_code.specs.RunsToday.{IsRunToday, AreRunToday, BodiesRunToday, RunsToday, CellsRunToday}
 use Rattle.txs_gen.specs.Gen.{then_code, if_code, stores, do_code, opening, callee_code, gen, gen_all, gen_let, gen_do}
 use Rattle.txs_gen.specs.Generated.{IsCodeOf, IsFunctionOf, AreFunctionsOf, IsBodyOf, AreBodiesOf}
 use Rattle.txs_gen.specs.Today.{LooksToday, PutsToday, UpdatesToday, TreeRunsToday, TreesRunToday, FunctionsRunToday, ThreadsRunToday, ProgramRunsToday}
@@ -187,4 +187,5 @@ pub code_runs_today : (code : PlainCode) (p : PlainProgram) → IsCodeOf code p 
 code_runs_today code p made h = record {
   functions = functions_back (parameters_of code.functions) code.constants code.functions p.functions made.functions h.functions;
   threads = threads_back (parameters_of code.functions) code.constants code.threads p.threads made.threads h.threads;
+  cells = subst CellsRunToday (sym made.cells) h.cells;
 }

@@ -5,4 +5,5 @@ pub mod Correct
 pub mod Emission
 pub mod Gen
 pub mod Generated
+pub mod OwnCells
 pub mod Today

@@ -6,6 +6,7 @@ use Rattle.txs_value.specs.declared.form.PutForm.{PutForm}
 use Rattle.txs_value.specs.declared.form.PutForm.TheVariants.{RefSet, Reset}
 use Rattle.txs_value.specs.declared.form.UpdateForm.{UpdateForm}
 use Rattle.txs_value.specs.declared.form.UpdateForm.TheVariants.{Alter, Commute, Swap}
+use Rattle.txs_code.specs.RunsToday.{CellsRunToday}
 use Rattle.txs_tree.specs.Tree.{Tree, Const, Local, If, Do, Let, Loop, Recur, Core, Call, VectorOf, Println, Dosync, Look, Put, Update, Send, Trees, none, more, PlainFunction, PlainThread, PlainProgram}
 
 -- of the forms that read a cell, `deref` runs today
@@ -59,7 +60,8 @@ abbrev pub ThreadsRunToday : List PlainThread → Type 0
 ThreadsRunToday [] = Unit {0}
 ThreadsRunToday (t ∷ ts) = TreeRunsToday t.body × ThreadsRunToday ts
 
--- a program whose forms on cells all run today
+-- a program whose forms on cells all run today, and whose cells are refs
 pub record ProgramRunsToday (p : PlainProgram) : Type 0 where
   pub functions : FunctionsRunToday p.functions
   pub threads : ThreadsRunToday p.threads
+  pub cells : CellsRunToday p.cells

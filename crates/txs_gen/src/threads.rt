@@ -7,6 +7,7 @@ ghost use Rattle.txs_code.specs.declared.instr.Instr.TheVariants.{Return, Halt};
 ghost use Rattle.txs_gen.specs.Bodies.{finished, AreSoundFunctions, AreSoundThreads, AreFunctionsMade, AreThreadsMade};
 ghost use Rattle.txs_gen.specs.Emission.{emission, IsPlaced};
 ghost use Rattle.txs_gen.specs.Generated.{IsCodeOf};
+ghost use Rattle.txs_gen.specs.OwnCells.{ProgramNamesOwnCells};
 ghost use Rattle.txs_gen.specs.Today.{ProgramRunsToday};
 
 use crate::emit::{Around, Emitter, emit};
@@ -33,6 +34,7 @@ struct Bodies {
 /// `AllocError` where there is no memory for the code.
 pub fn generate(alloc: Global, program: &Program) -> Result<Verified, AllocError>
     requires today { ProgramRunsToday (program_of program.now) }
+    requires own_cells { ProgramNamesOwnCells (program_of program.now) }
     ensures { IfOk result (λ code. IsCodeOf code (program_of program.now)) }
 {
     let cells = copy_cells(alloc, program.cells())?;
