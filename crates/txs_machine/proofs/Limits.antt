@@ -6,7 +6,7 @@ use Rattle.txs_asks.specs.declared.ask.Reply.TheVariants as reply
 use Rattle.txs_asks.specs.declared.event.Outcome.{Outcome}
 use Rattle.txs_asks.specs.declared.event.Outcome.TheVariants as outcome
 use Rattle.txs_code.specs.PlainCode.{PlainCode}
-use Rattle.txs_actor.specs.PlainActor.{PlainActor, answered_if, run_again, end_again, refuse}
+use Rattle.txs_actor.specs.PlainActor.{PlainActor, answered_if, run_again, end_again, refuse, unanswered}
 use Rattle.txs_actor.specs.Turns.{Answers, Moves, TurnsFrom, Turns, GoesOnAfter, TurnsOf}
 use Rattle.txs_actor.specs.declared.outcome.Turn.{Turn}
 use Rattle.txs_actor.specs.declared.outcome.Turn.TheVariants as turned
@@ -224,3 +224,38 @@ answered_steps a r = (answer_stays a a.pending r).2
 abbrev pub rounds_left : Option Outcome → PlainActor → ℕ
 rounds_left None a = suc (a.limit - a.steps)
 rounds_left (Some o) a = 0
+
+-- ---- after the end
+
+-- an answer that isn't an ask
+abbrev pub NoAsk : Turn → Type 0
+NoAsk turned.Went = Unit {0}
+NoAsk (turned.Asks q) = ⊥
+NoAsk (turned.Ended o) = Unit {0}
+
+step_free : (code : PlainCode) (a b : PlainActor) (r : Turn) → NoAsk r → Answers code a r b → unanswered b ≡ None
+step_free code a b turned.Went n t = t.1.unanswered
+step_free code a b (turned.Asks q) n t = absurd n
+step_free code a b (turned.Ended outcome.Done) n t = t.1.unanswered
+step_free code a b (turned.Ended (outcome.Failed f)) n t = t.1.unanswered
+step_free code a b (turned.Ended outcome.StepsSpent) n t = absurd t
+step_free code a b (turned.Ended outcome.JournalFull) n t = absurd t
+step_free code a b (turned.Ended outcome.Memory) n t = t.1.unanswered
+
+move_free : (code : PlainCode) (a b : PlainActor) (r : Turn) (may : Bool) → NoAsk r → unanswered a ≡ None → Moves code a may r b → unanswered b ≡ None
+move_free code a b r true n f t = step_free code a b r n t
+move_free code a b r false n f t = subst (λ (x : PlainActor). unanswered x ≡ None) (sym t.1) f
+
+turn_free : (code : PlainCode) (a b : PlainActor) (r : Turn) (o : Option Outcome) → NoAsk r → unanswered a ≡ None → TurnsFrom code a o r b → unanswered b ≡ None
+turn_free code a b r None n f t = move_free code a b r (nat_lt a.steps a.limit) n f t
+turn_free code a b r (Some o) n f t = subst (λ (x : PlainActor). unanswered x ≡ None) (sym t.1) f
+
+-- after turns of which the last asks nothing, nothing is asked
+pub turns_free : (code : PlainCode) (n : ℕ) (a b : PlainActor) (r : Turn) → NoAsk r → unanswered a ≡ None → TurnsOf code n a r b → unanswered b ≡ None
+turns_free code zero a b r no_ask f t = subst (λ (x : PlainActor). unanswered x ≡ None) (sym t.1) f
+turns_free code (suc n) a b r no_ask f t = after_turn (λ e g. turns_free code n t.1 b r no_ask e g) t.0 t.2 t.3
+  where
+    after_turn : (unanswered t.1 ≡ None → TurnsOf code n t.1 r b → unanswered b ≡ None) → (s : Turn) → Turns code a s t.1 → GoesOnAfter s (TurnsOf code n t.1 r b) ((r ≡ s) × (b ≡ t.1)) → unanswered b ≡ None
+    after_turn go turned.Went u g = go (turn_free code a t.1 turned.Went a.outcome tt f u) g
+    after_turn go (turned.Asks q) u g = absurd (subst NoAsk g.0 no_ask)
+    after_turn go (turned.Ended o) u g = subst (λ (x : PlainActor). unanswered x ≡ None) (sym g.1) (turn_free code a t.1 (turned.Ended o) a.outcome tt f u)

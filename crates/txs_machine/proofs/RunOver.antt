@@ -1,5 +1,5 @@
 -- An actor's run over a store, step by step.
-use Rattle.std.proofs.Common.{◌≡◌, ◌==◌, ℕ, zero, suc, List, [], ◌∷◌, ◌++◌, length, map, true, false, Bool, not, ◌&&◌, nat_lt, ◌≤◌, Option, Some, None, refl, sym, ap, subst, ◌∙◌, if◌then◌else◌, arith}
+use Rattle.std.proofs.Common.{◌≡◌, ◌==◌, ℕ, zero, suc, List, [], ◌∷◌, ◌++◌, length, map, true, false, Bool, not, ◌&&◌, nat_lt, ◌≤◌, Option, Some, None, refl, sym, ap, subst, ◌∙◌, ◌+◌, ◌⊎◌, inl, inr, if◌then◌else◌, arith}
 use Rattle.std.proofs.lemmas.Bool.{false≢true, ltb-false}
 use Rattle.txs_asks.specs.Ask.{Writes, Exchange}
 use Rattle.txs_asks.specs.SeenEvent.{home, atoms_below}
@@ -19,7 +19,9 @@ use Rattle.txs_value.specs.declared.action.Action.{Action}
 use Rattle.txs_value.specs.declared.cell.CellDefinition.{CellDefinition}
 use Rattle.txs_value.specs.declared.value.CellId.{CellId}
 use Rattle.txs_value.specs.declared.value.Value.{Value}
-use Rattle.txs_code.specs.Machine.{ThreadCode, Configuration, Turned, Asking, Unfinished, turn, run}
+use Rattle.txs_code.specs.ActorState.{ActorState}
+use Rattle.txs_code.specs.Machine.{ThreadCode, Configuration, Turned, Asking, Unfinished, and_then, turn, run}
+use Rattle.txs_code.proofs.Acts.{run_more}
 use Rattle.txs_code.specs.Opening.{given, opening}
 use Rattle.txs_code.specs.PlainCode.{CodeBody, PlainCode, thread_code}
 use Rattle.txs_code.specs.RunsToday.{AreRunToday, BodiesRunToday, RunsToday}
@@ -29,7 +31,7 @@ use Rattle.txs_follows.specs.RepliesFitTo.{FittingToFits}
 use Rattle.txs_tree.specs.Meaning.{Completion}
 use Rattle.txs_tree.specs.Thread.{ThreadState, thread_meaning}
 use Rattle.txs_actor.specs.Laws.{ActorsRun}
-use Rattle.txs_actor.specs.PlainActor.{PlainActor, MayAnswer, Stops, answered, answered_if, asked_for, run_again, end_again, refuse, unanswered, is_running, configuration_of, state_of, body_or_none, code_of, stands_at, standing, HasRun, HasCome, Runs}
+use Rattle.txs_actor.specs.PlainActor.{PlainActor, MayAnswer, Stops, answered, answered_if, asked_for, run_again, end_again, refuse, unanswered, is_running, configuration_of, state_of, body_or_none, code_of, stands_at, standing, HasAsked, HasRun, HasCome, Runs}
 use Rattle.txs_actor.specs.Turns.{IsNew, OneStep, Answers, Moves, TurnsFrom, Turns, GoesOnAfter, TurnsOf}
 use Rattle.txs_actor.specs.declared.outcome.Turn.{Turn}
 use Rattle.txs_actor.specs.declared.outcome.Turn.TheVariants as turned
@@ -54,9 +56,15 @@ use Rattle.txs_runs.specs.Stages as stages
 use Rattle.txs_runs.specs.Told.{Entry, exchange_of, IsExchanged, ToldBy}
 use Rattle.txs_runs.specs.Told as told_by
 use Rattle.txs_runs.proofs.Growing.{AreOwn, IsFull, Serves, told_stays}
+use Rattle.txs_runs.specs.Printed.{Prints, HasPrinted}
+use Rattle.txs_runs.proofs.Lasts.{apart, still, turn_prints}
 use Rattle.txs_runs.proofs.Serving.{serves}
 use Rattle.txs_machine.specs.Followed.{ActorsExplained, told}
-use Rattle.txs_machine.specs.RunOver.{IsStoreOf, IsIn, IsOwn, RunOver, ExplainsEnd, IsExplained}
+use Rattle.txs_machine.specs.RunOver.{IsStoreOf, IsIn, IsOwn, IsGrownBy, AskedOn, RunOver, ExplainsEnd, IsExplained}
+
+append_nil : {A : Type 0} (xs : List A) → xs ++ [] ≡ xs
+append_nil [] = refl
+append_nil (x ∷ xs) = ap (λ l. x ∷ l) (append_nil xs)
 
 -- what holds of an actor's outcome and ask as they are
 as_is : (b : PlainActor) (st : Stage) (o : Option Outcome) (q : Option Ask) → b.outcome ≡ o → unanswered b ≡ q → IsIn b st o q → IsIn b st b.outcome (unanswered b)
@@ -162,6 +170,45 @@ stands_staged : (code : PlainCode) (xs : List Exchange) (a : PlainActor) → Sta
 stands_staged code xs a known f ran e =
     known a.steps xs (configuration_of a) (subst (λ q. HasCome (code_of code a.number) xs a None q) f (subst (λ o. HasCome (code_of code a.number) xs a o (unanswered a)) e ran)) refl
 
+-- what was printed stays so
+prints_as : (out : List ℕ) (a b : PlainActor) → b.printed ≡ a.printed → Prints out (state_of a) → Prints out (state_of b)
+prints_as out a b e h = (h.0, e ∙ h.1)
+
+-- an ask that has no reply has none after more turns
+waits_on : (code : ThreadCode) (before : List Entry) (a b : PlainActor) → b.steps ≡ a.steps + 1 → (w : AskedOn code before a) → Prints w.waiting.printed (state_of b) → AskedOn code before b
+waits_on code before a b n w p = let e : b.steps ≡ suc a.steps = omega (arith, n) in record {
+  waiting = w.waiting;
+  asking = ap (λ m. run code m (opening code (map exchange_of before))) e ∙ still code a.steps (opening code (map exchange_of before)) w.waiting w.asking;
+  consumed = w.consumed;
+  printed = p;
+}
+
+step_asked : (code : PlainCode) (before : List Entry) (a b : PlainActor) (r : Turn) → Answers code a r b → AskedOn (code_of code a.number) before a → AskedOn (code_of code a.number) before b
+step_asked code before a b turned.Went t w =
+    waits_on (code_of code a.number) before a b t.1.counted w
+    (subst (λ (o : Turned Configuration). HasPrinted w.waiting.printed o) t.0 (turn_prints w.waiting.printed (code_of code a.number) (configuration_of a) w.printed))
+step_asked code before a b (turned.Asks q) t w =
+    waits_on (code_of code a.number) before a b t.1.counted w
+    (subst (λ (o : Turned Configuration). HasPrinted w.waiting.printed o) t.0.asks (turn_prints w.waiting.printed (code_of code a.number) (configuration_of a) w.printed))
+step_asked code before a b (turned.Ended outcome.Done) t w =
+    waits_on (code_of code a.number) before a b t.1.counted w
+    (subst (λ (o : Turned Configuration). HasPrinted w.waiting.printed o) t.0 (turn_prints w.waiting.printed (code_of code a.number) (configuration_of a) w.printed))
+step_asked code before a b (turned.Ended (outcome.Failed f)) t w =
+    waits_on (code_of code a.number) before a b t.1.counted w
+    (subst (λ (o : Turned Configuration). HasPrinted w.waiting.printed o) t.0 (turn_prints w.waiting.printed (code_of code a.number) (configuration_of a) w.printed))
+step_asked code before a b (turned.Ended outcome.StepsSpent) t w = absurd t
+step_asked code before a b (turned.Ended outcome.JournalFull) t w = absurd t
+step_asked code before a b (turned.Ended outcome.Memory) t w =
+    waits_on (code_of code a.number) before a b t.1.counted w (subst (λ (s : ActorState). Prints w.waiting.printed s) (sym t.0) w.printed)
+
+move_asked : (code : PlainCode) (before : List Entry) (a b : PlainActor) (r : Turn) (may : Bool) → Moves code a may r b → AskedOn (code_of code a.number) before a → AskedOn (code_of code a.number) before b
+move_asked code before a b r true t w = step_asked code before a b r t w
+move_asked code before a b r false t w = subst (λ (x : PlainActor). AskedOn (code_of code a.number) before x) (sym t.1) (record { waiting = w.waiting; asking = w.asking; consumed = w.consumed; printed = w.printed })
+
+turn_asked : (code : PlainCode) (before : List Entry) (a b : PlainActor) (r : Turn) (o : Option Outcome) → TurnsFrom code a o r b → AskedOn (code_of code a.number) before a → AskedOn (code_of code a.number) before b
+turn_asked code before a b r None t w = move_asked code before a b r (nat_lt a.steps a.limit) t w
+turn_asked code before a b r (Some o) t w = subst (λ (x : PlainActor). AskedOn (code_of code a.number) before x) (sym t.1) w
+
 -- a turn keeps what an actor has done over a store
 turn_over : ActorsRun → (code : PlainCode) (k : ℕ) (book : List Event) (a b : PlainActor) (r : Turn) → StagedCode (code_of code k) → unanswered a ≡ None → Turns code a r b → RunOver code k book a → RunOver code k book b
 turn_over laws code k book a b r known f t h =
@@ -173,7 +220,8 @@ turn_over laws code k book a b r known f t h =
       ran = laws.turns code (map exchange_of h.entries) a b r f h.ran t;
       told = h.told;
       here = kept.1;
-      own = h.own;
+      asked = λ before e rest s. subst (λ n. AskedOn (code_of code n) before b) h.number
+          (turn_asked code before a b r a.outcome t (subst (λ n. AskedOn (code_of code n) before a) (sym h.number) (h.asked before e rest s)));
       full = λ x. h.full (turn_filled code a b r a.outcome refl t x);
     }
 
@@ -190,6 +238,14 @@ turns_over laws code k book (suc n) a b r known f t h = after_turn (λ i g x. tu
 
 -- ---- the beginning
 
+abbrev is_nil : {A : Type 0} → List A → Type 0
+is_nil [] = Unit {0}
+is_nil (x ∷ xs) = ⊥
+
+no_entry : (before : List Entry) (e : Entry) (rest : List Entry) → [] ≡ before ++ e ∷ rest → ⊥
+no_entry [] e rest h = subst is_nil h tt
+no_entry (b ∷ bs) e rest h = subst is_nil h tt
+
 pub new_over : ActorsRun → (code : PlainCode) (k limit : ℕ) (book : List Event) (a : PlainActor) → book ≡ [] → IsNew code k limit a → RunOver code k book a
 new_over laws code k limit book a e n = subst (λ es. RunOver code k es a) (sym e) (record {
   number = n.number;
@@ -198,7 +254,7 @@ new_over laws code k limit book a e n = subst (λ es. RunOver code k es a) (sym 
   ran = laws.begins code k limit a n;
   told = record { hold = tt; staged = refl; traced = nothing };
   here = as_is a Idle None None n.unended n.unasking (ap stage_of n.opens);
-  own = tt;
+  asked = λ before e rest s. absurd (no_entry before e rest s);
   full = λ x. absurd (subst Unfilled x (subst Unfilled (sym n.unended) tt));
 })
   where
@@ -208,85 +264,89 @@ new_over laws code k limit book a e n = subst (λ es. RunOver code k es a) (sym 
 
 -- ---- answers
 
-again_number : (a : PlainActor) (tx : Transaction) → (run_again a tx).number ≡ a.number
-again_number a Outside = refl
-again_number a (Restarting left) = refl
-again_number a (Running zero inner from) = refl
-again_number a (Running (suc left) inner from) = refl
+-- the number, the steps and what was printed are as they were
+abbrev SameBut : PlainActor → PlainActor → Type 0
+SameBut a b = (b.number ≡ a.number) × (b.steps ≡ a.steps) × (b.printed ≡ a.printed)
 
-end_number : (a : PlainActor) (tx : Transaction) → (end_again a tx).number ≡ a.number
-end_number a Outside = refl
-end_number a (Restarting left) = refl
-end_number a (Running zero inner from) = refl
-end_number a (Running (suc left) inner from) = refl
+again_same : (a : PlainActor) (tx : Transaction) → SameBut a (run_again a tx)
+again_same a Outside = (refl, refl, refl)
+again_same a (Restarting left) = (refl, refl, refl)
+again_same a (Running zero inner from) = (refl, refl, refl)
+again_same a (Running (suc left) inner from) = (refl, refl, refl)
 
-refuse_number : (a : PlainActor) (tx : Transaction) → (refuse a tx).number ≡ a.number
-refuse_number a Outside = refl
-refuse_number a (Restarting left) = refl
-refuse_number a (Running left inner from) = refl
+end_same : (a : PlainActor) (tx : Transaction) → SameBut a (end_again a tx)
+end_same a Outside = (refl, refl, refl)
+end_same a (Restarting left) = (refl, refl, refl)
+end_same a (Running zero inner from) = (refl, refl, refl)
+end_same a (Running (suc left) inner from) = (refl, refl, refl)
 
-answered_number : (a : PlainActor) (p : Option Pending) (r : Reply) → (answered_if a p r).number ≡ a.number
-answered_number a None r = refl
-answered_number a (Some (Begin left from)) (reply.At p) = refl
-answered_number a (Some (Begin left from)) (reply.Is v) = refl
-answered_number a (Some (Begin left from)) (reply.Views p vs) = refl
-answered_number a (Some (Begin left from)) reply.Done = refl
-answered_number a (Some (Begin left from)) (reply.Retry d) = refl
-answered_number a (Some (Begin left from)) (reply.Changed d) = refl
-answered_number a (Some (Begin left from)) (reply.AgentIsFailed g) = refl
-answered_number a (Some (Begin left from)) (reply.Action i x v) = refl
-answered_number a (Some (Begin left from)) reply.Idle = refl
-answered_number a (Some (Begin left from)) (reply.Opened p v) = refl
-answered_number a (Some (Begin left from)) reply.Full = refl
-answered_number a (Some (Begin left from)) reply.Memory = refl
-answered_number a (Some (Read c)) (reply.At p) = refl
-answered_number a (Some (Read c)) (reply.Is v) = refl
-answered_number a (Some (Read c)) (reply.Views p vs) = refl
-answered_number a (Some (Read c)) reply.Done = refl
-answered_number a (Some (Read c)) (reply.Retry d) = again_number a a.tx
-answered_number a (Some (Read c)) (reply.Changed d) = refl
-answered_number a (Some (Read c)) (reply.AgentIsFailed g) = refl
-answered_number a (Some (Read c)) (reply.Action i x v) = refl
-answered_number a (Some (Read c)) reply.Idle = refl
-answered_number a (Some (Read c)) (reply.Opened p v) = refl
-answered_number a (Some (Read c)) reply.Full = refl
-answered_number a (Some (Read c)) reply.Memory = refl
-answered_number a (Some (Open c n)) (reply.At p) = refl
-answered_number a (Some (Open c n)) (reply.Is v) = refl
-answered_number a (Some (Open c n)) (reply.Views p vs) = refl
-answered_number a (Some (Open c n)) reply.Done = refl
-answered_number a (Some (Open c n)) (reply.Retry d) = again_number a a.tx
-answered_number a (Some (Open c n)) (reply.Changed d) = refl
-answered_number a (Some (Open c n)) (reply.AgentIsFailed g) = refl
-answered_number a (Some (Open c n)) (reply.Action i x v) = refl
-answered_number a (Some (Open c n)) reply.Idle = refl
-answered_number a (Some (Open c n)) (reply.Opened p v) = refl
-answered_number a (Some (Open c n)) reply.Full = refl
-answered_number a (Some (Open c n)) reply.Memory = refl
-answered_number a (Some Commit) (reply.At p) = refl
-answered_number a (Some Commit) (reply.Is v) = refl
-answered_number a (Some Commit) (reply.Views p vs) = refl
-answered_number a (Some Commit) reply.Done = refl
-answered_number a (Some Commit) (reply.Retry d) = again_number a a.tx
-answered_number a (Some Commit) (reply.Changed d) = end_number a a.tx
-answered_number a (Some Commit) (reply.AgentIsFailed g) = refuse_number a a.tx
-answered_number a (Some Commit) (reply.Action i x v) = refl
-answered_number a (Some Commit) reply.Idle = refl
-answered_number a (Some Commit) (reply.Opened p v) = refl
-answered_number a (Some Commit) reply.Full = refl
-answered_number a (Some Commit) reply.Memory = refl
-answered_number a (Some (Fail f)) (reply.At p) = refl
-answered_number a (Some (Fail f)) (reply.Is v) = refl
-answered_number a (Some (Fail f)) (reply.Views p vs) = refl
-answered_number a (Some (Fail f)) reply.Done = refl
-answered_number a (Some (Fail f)) (reply.Retry d) = refl
-answered_number a (Some (Fail f)) (reply.Changed d) = refl
-answered_number a (Some (Fail f)) (reply.AgentIsFailed g) = refl
-answered_number a (Some (Fail f)) (reply.Action i x v) = refl
-answered_number a (Some (Fail f)) reply.Idle = refl
-answered_number a (Some (Fail f)) (reply.Opened p v) = refl
-answered_number a (Some (Fail f)) reply.Full = refl
-answered_number a (Some (Fail f)) reply.Memory = refl
+refuse_same : (a : PlainActor) (tx : Transaction) → SameBut a (refuse a tx)
+refuse_same a Outside = (refl, refl, refl)
+refuse_same a (Restarting left) = (refl, refl, refl)
+refuse_same a (Running left inner from) = (refl, refl, refl)
+
+answered_same : (a : PlainActor) (p : Option Pending) (r : Reply) → SameBut a (answered_if a p r)
+answered_same a None r = (refl, refl, refl)
+answered_same a (Some (Begin left from)) (reply.At p) = (refl, refl, refl)
+answered_same a (Some (Begin left from)) (reply.Is v) = (refl, refl, refl)
+answered_same a (Some (Begin left from)) (reply.Views p vs) = (refl, refl, refl)
+answered_same a (Some (Begin left from)) reply.Done = (refl, refl, refl)
+answered_same a (Some (Begin left from)) (reply.Retry d) = (refl, refl, refl)
+answered_same a (Some (Begin left from)) (reply.Changed d) = (refl, refl, refl)
+answered_same a (Some (Begin left from)) (reply.AgentIsFailed g) = (refl, refl, refl)
+answered_same a (Some (Begin left from)) (reply.Action i x v) = (refl, refl, refl)
+answered_same a (Some (Begin left from)) reply.Idle = (refl, refl, refl)
+answered_same a (Some (Begin left from)) (reply.Opened p v) = (refl, refl, refl)
+answered_same a (Some (Begin left from)) reply.Full = (refl, refl, refl)
+answered_same a (Some (Begin left from)) reply.Memory = (refl, refl, refl)
+answered_same a (Some (Read c)) (reply.At p) = (refl, refl, refl)
+answered_same a (Some (Read c)) (reply.Is v) = (refl, refl, refl)
+answered_same a (Some (Read c)) (reply.Views p vs) = (refl, refl, refl)
+answered_same a (Some (Read c)) reply.Done = (refl, refl, refl)
+answered_same a (Some (Read c)) (reply.Retry d) = again_same a a.tx
+answered_same a (Some (Read c)) (reply.Changed d) = (refl, refl, refl)
+answered_same a (Some (Read c)) (reply.AgentIsFailed g) = (refl, refl, refl)
+answered_same a (Some (Read c)) (reply.Action i x v) = (refl, refl, refl)
+answered_same a (Some (Read c)) reply.Idle = (refl, refl, refl)
+answered_same a (Some (Read c)) (reply.Opened p v) = (refl, refl, refl)
+answered_same a (Some (Read c)) reply.Full = (refl, refl, refl)
+answered_same a (Some (Read c)) reply.Memory = (refl, refl, refl)
+answered_same a (Some (Open c n)) (reply.At p) = (refl, refl, refl)
+answered_same a (Some (Open c n)) (reply.Is v) = (refl, refl, refl)
+answered_same a (Some (Open c n)) (reply.Views p vs) = (refl, refl, refl)
+answered_same a (Some (Open c n)) reply.Done = (refl, refl, refl)
+answered_same a (Some (Open c n)) (reply.Retry d) = again_same a a.tx
+answered_same a (Some (Open c n)) (reply.Changed d) = (refl, refl, refl)
+answered_same a (Some (Open c n)) (reply.AgentIsFailed g) = (refl, refl, refl)
+answered_same a (Some (Open c n)) (reply.Action i x v) = (refl, refl, refl)
+answered_same a (Some (Open c n)) reply.Idle = (refl, refl, refl)
+answered_same a (Some (Open c n)) (reply.Opened p v) = (refl, refl, refl)
+answered_same a (Some (Open c n)) reply.Full = (refl, refl, refl)
+answered_same a (Some (Open c n)) reply.Memory = (refl, refl, refl)
+answered_same a (Some Commit) (reply.At p) = (refl, refl, refl)
+answered_same a (Some Commit) (reply.Is v) = (refl, refl, refl)
+answered_same a (Some Commit) (reply.Views p vs) = (refl, refl, refl)
+answered_same a (Some Commit) reply.Done = (refl, refl, refl)
+answered_same a (Some Commit) (reply.Retry d) = again_same a a.tx
+answered_same a (Some Commit) (reply.Changed d) = end_same a a.tx
+answered_same a (Some Commit) (reply.AgentIsFailed g) = refuse_same a a.tx
+answered_same a (Some Commit) (reply.Action i x v) = (refl, refl, refl)
+answered_same a (Some Commit) reply.Idle = (refl, refl, refl)
+answered_same a (Some Commit) (reply.Opened p v) = (refl, refl, refl)
+answered_same a (Some Commit) reply.Full = (refl, refl, refl)
+answered_same a (Some Commit) reply.Memory = (refl, refl, refl)
+answered_same a (Some (Fail f)) (reply.At p) = (refl, refl, refl)
+answered_same a (Some (Fail f)) (reply.Is v) = (refl, refl, refl)
+answered_same a (Some (Fail f)) (reply.Views p vs) = (refl, refl, refl)
+answered_same a (Some (Fail f)) reply.Done = (refl, refl, refl)
+answered_same a (Some (Fail f)) (reply.Retry d) = (refl, refl, refl)
+answered_same a (Some (Fail f)) (reply.Changed d) = (refl, refl, refl)
+answered_same a (Some (Fail f)) (reply.AgentIsFailed g) = (refl, refl, refl)
+answered_same a (Some (Fail f)) (reply.Action i x v) = (refl, refl, refl)
+answered_same a (Some (Fail f)) reply.Idle = (refl, refl, refl)
+answered_same a (Some (Fail f)) (reply.Opened p v) = (refl, refl, refl)
+answered_same a (Some (Fail f)) reply.Full = (refl, refl, refl)
+answered_same a (Some (Fail f)) reply.Memory = (refl, refl, refl)
 
 -- a reply that stops an actor which asks ends it
 stop_ends : (a : PlainActor) (p : Option Pending) (r : Reply) (inside : Bool) (at : ℕ) (done : Work) (q : Ask) → asked_for p inside at done ≡ Some q → Stops r → (o : Outcome) × ((answered_if a p r).outcome ≡ Some o)
@@ -406,10 +466,6 @@ of_store cells threads taken a (ask.OpenAt c) book h = absurd (false≢true (and
 of_store cells threads taken a (ask.CloseAt c p v) book h = absurd (false≢true (and_both (nat_lt a threads) false h).1)
 of_store cells threads taken a (ask.Broke c p) book h = absurd (false≢true (and_both (nat_lt a threads) false h).1)
 
-append_nil : {A : Type 0} (xs : List A) → xs ++ [] ≡ xs
-append_nil [] = refl
-append_nil (x ∷ xs) = ap (λ l. x ∷ l) (append_nil xs)
-
 -- books that are the same tell the same
 told_same : (cells : List CellDefinition) (threads a : ℕ) (books later : ℕ → List Event) (es : List Entry) (st : Stage) → ((n : ℕ) → later n ≡ books n) → ToldBy cells threads books a es st → ToldBy cells threads later a es st
 told_same cells threads a books later es st same t =
@@ -420,10 +476,20 @@ map_append [] e = refl
 map_append (x ∷ xs) e = ap (λ l. exchange_of x ∷ l) (map_append xs e)
 
 -- what the store adds to the book is of the actor that asks
-own_append : (k : ℕ) (book more : List Event) → IsOwn k book → AreOwn k more → IsOwn k (book ++ more)
-own_append k [] [] h o = tt
-own_append k [] (e ∷ more) h o = (o.0, own_append k [] more tt o.1)
+own_of : (k : ℕ) (es : List Event) → AreOwn k es → IsOwn k es
+own_of k [] o = tt
+own_of k (e ∷ es) o = (o.0, own_of k es o.1)
+
+-- a book that is an actor's alone stays so where the actor alone adds to it
+own_append : (k : ℕ) (book more : List Event) → IsOwn k book → IsOwn k more → IsOwn k (book ++ more)
+own_append k [] more h o = o
 own_append k (e ∷ book) more h o = (h.0, own_append k book more h.1 o)
+
+pub own_grown : (k : ℕ) (book later : List Event) → IsOwn k book → IsGrownBy k book later → IsOwn k later
+own_grown k book later h g = subst (IsOwn k) (sym g.grown) (own_append k book g.more h g.own)
+
+pub not_grown : (k : ℕ) (book : List Event) → IsGrownBy k book book
+not_grown k book = record { more = []; grown = sym (append_nil book); own = tt }
 
 module _ (code : PlainCode) (k : ℕ) (book : List Event) (taken : List Bool) (q : Ask) (lawful : is_lawful (store_with (cells_of code.cells) (length code.threads) book taken) k q ≡ true) where
   abbrev v : Served
@@ -438,8 +504,9 @@ module _ (code : PlainCode) (k : ℕ) (book : List Event) (taken : List Bool) (q
   home_is : book_for code.cells q ≡ 0
   home_is = (of_store code.cells (length code.threads) taken k q book lawful).1
 
-  own_served : IsOwn k book → IsOwn k v.book
-  own_served h = subst (λ (x : Served). IsOwn k x.book) same (subst (IsOwn k) (sym known.grown) (own_append k book known.more h known.own))
+  -- what was served adds events of the actor alone
+  served_grows : IsGrownBy k book v.book
+  served_grows = record { more = known.more; grown = ap (λ (x : Served). x.book) (sym same) ∙ known.grown; own = own_of k known.more known.own }
 
   -- a full book stays as it is
   full_keeps : IsFull v.reply → v.book ≡ book
@@ -488,6 +555,38 @@ module _ (code : PlainCode) (k : ℕ) (book : List Event) (taken : List Bool) (q
           (of_store code.cells (length code.threads) taken k q book lawful).2
           (subst (λ (x : Served). IsExchanged x.reply) (sym same) ex)
 
+-- an answer prints nothing, and makes no step
+answer_asked : (code : ThreadCode) (before : List Entry) (a : PlainActor) (r : Reply) → AskedOn code before a → AskedOn code before (answered a r)
+answer_asked code before a r w =
+    let same = answered_same a a.pending r in
+    record {
+      waiting = w.waiting;
+      asking = ap (λ m. run code m (opening code (map exchange_of before))) same.1 ∙ w.asking;
+      consumed = w.consumed;
+      printed = prints_as w.waiting.printed a (answered a r) same.2 w.printed;
+    }
+
+-- on the entries so far the code waits with the actor's ask
+own_asked : (code : ThreadCode) (es : List Entry) (a : PlainActor) (q : Ask) (r : Reply) → HasAsked code (map exchange_of es) a q → AskedOn code es (answered a r)
+own_asked code es a q r h =
+    let same = answered_same a a.pending r in
+    record {
+      waiting = record (state_of a) { wants = Some q };
+      asking = ap (λ m. run code m (opening code (map exchange_of es))) (same.1 ∙ h.2) ∙ run_more code h.0 (opening code (map exchange_of es)) ∙ ap (λ o. and_then o (turn code)) h.3 ∙ h.4.asks;
+      consumed = refl;
+      printed = ([], same.2 ∙ sym (append_nil a.printed));
+    }
+
+-- so it is on the entries before each, with one more
+more_asked : (code : ThreadCode) (es : List Entry) (y : Entry) (a : PlainActor) (q : Ask) (r : Reply) → HasAsked code (map exchange_of es) a q
+    → ((before : List Entry) (e : Entry) (rest : List Entry) → es ≡ before ++ e ∷ rest → AskedOn code before a)
+    → (before : List Entry) (e : Entry) (rest : List Entry) → es ++ y ∷ [] ≡ before ++ e ∷ rest → AskedOn code before (answered a r)
+more_asked code es y a q r h asked before e rest s = go (apart es y before e rest s)
+  where
+    go : (before ≡ es) ⊎ ((less : List Entry) × (es ≡ before ++ e ∷ less)) → AskedOn code before (answered a r)
+    go (inl i) = subst (λ l. AskedOn code l (answered a r)) (sym i) (own_asked code es a q r h)
+    go (inr i) = answer_asked code before a r (asked before e i.0 i.1)
+
 -- an answer that the actor goes on after
 heard_over : ActorsRun → ServedIsTold → (code : PlainCode) (k : ℕ) (book : List Event) (taken : List Bool) (a : PlainActor) (q : Ask) (r : Reply)
     → is_lawful (store_with (cells_of code.cells) (length code.threads) book taken) k q ≡ true
@@ -496,14 +595,16 @@ heard_over : ActorsRun → ServedIsTold → (code : PlainCode) (k : ℕ) (book :
 heard_over laws law code k book taken a q r lawful e f free may on x same h =
     let known = as_known a h.stage None (Some q) e f h.here in
     record {
-      number = answered_number a a.pending r ∙ h.number;
+      number = (answered_same a a.pending r).0 ∙ h.number;
       entries = h.entries ++ entry q r (length book) ∷ [];
       stage = stage_after h.stage q r;
       ran = subst (λ xs. HasRun code xs (answered a r)) (sym (map_append h.entries (entry q r (length book)))) (laws.answers code (map exchange_of h.entries) a q r e f may on h.ran);
       told = subst (λ y. ToldBy code.cells (length code.threads) (alone (serve (cells_of code.cells) k q book).book) k (h.entries ++ entry q y (length book) ∷ []) (stage_after h.stage q y)) (sym same)
           (told_served code k book taken q lawful law h.entries h.stage known.0 h.told (subst IsExchanged same x));
       here = as_is (answered a r) (stage_after h.stage q r) (answered a r).outcome None refl free (in_after (answered a r) (stage_after h.stage q r) (answered a r).outcome (known.1 r may on));
-      own = own_served code k book taken q lawful h.own;
+      asked = more_asked (code_of code k) h.entries (entry q r (length book)) a q r
+          (subst (λ n. HasAsked (code_of code n) (map exchange_of h.entries) a q) h.number
+          (subst (λ o. HasCome (code_of code a.number) (map exchange_of h.entries) a o (Some q)) e (subst (λ y. HasCome (code_of code a.number) (map exchange_of h.entries) a a.outcome y) f h.ran))) h.asked;
       full = λ x. absurd (subst Unfilled x (unfilled_of (answered a r).outcome (unstopped_if a e a.pending r on)));
     }
 
@@ -513,13 +614,13 @@ stopped_over : ActorsRun → (code : PlainCode) (k : ℕ) (book : List Event) (a
 stopped_over laws code k book a q r e f may stop filled h =
     let ends = stop_ends a a.pending r _ a.at a.done q f stop in
     record {
-      number = answered_number a a.pending r ∙ h.number;
+      number = (answered_same a a.pending r).0 ∙ h.number;
       entries = h.entries;
       stage = h.stage;
       ran = laws.stops code (map exchange_of h.entries) a q r e f may stop h.ran;
       told = h.told;
       here = as_is (answered a r) h.stage (Some ends.0) (unanswered (answered a r)) ends.1 refl tt;
-      own = h.own;
+      asked = λ before e rest s. answer_asked (code_of code k) before a r (h.asked before e rest s);
       full = filled;
     }
 
@@ -592,6 +693,27 @@ served_over laws law code s t k a q r of lawful e f free may g h =
     (subst (λ n. is_lawful (store_with (cells_of code.cells) (length code.threads) s.book s.taken) n q ≡ true) h.number (subst (λ (x : PlainStore). is_lawful x a.number q ≡ true) (as_store code s of) lawful)) e f free may
     (subst (λ n. world.Answers (store_with (cells_of code.cells) (length code.threads) s.book s.taken) (serve (cells_of code.cells) n q s.book) (store_after (store_with (cells_of code.cells) (length code.threads) s.book s.taken) q (serve (cells_of code.cells) n q s.book)) r t) h.number
     (subst (λ (x : PlainStore). world.Answers x (serve x.cells a.number q x.book) (store_after x q (serve x.cells a.number q x.book)) r t) (as_store code s of) g)) h
+
+grown_from : (k : ℕ) (q : Ask) (s next t : PlainStore) (v : Served) (r : Reply) → IsGrownBy k s.book next.book → world.Answers s v next r t → IsGrownBy k s.book t.book
+grown_from k q s next t v (reply.At p) h g = subst (λ (x : PlainStore). IsGrownBy k s.book x.book) (sym g.1) h
+grown_from k q s next t v (reply.Is w) h g = subst (λ (x : PlainStore). IsGrownBy k s.book x.book) (sym g.1) h
+grown_from k q s next t v (reply.Views p vs) h g = subst (λ (x : PlainStore). IsGrownBy k s.book x.book) (sym g.1) h
+grown_from k q s next t v reply.Done h g = subst (λ (x : PlainStore). IsGrownBy k s.book x.book) (sym g.1) h
+grown_from k q s next t v (reply.Retry d) h g = subst (λ (x : PlainStore). IsGrownBy k s.book x.book) (sym g.1) h
+grown_from k q s next t v (reply.Changed d) h g = subst (λ (x : PlainStore). IsGrownBy k s.book x.book) (sym g.1) h
+grown_from k q s next t v (reply.AgentIsFailed d) h g = subst (λ (x : PlainStore). IsGrownBy k s.book x.book) (sym g.1) h
+grown_from k q s next t v (reply.Action i x w) h g = subst (λ (x : PlainStore). IsGrownBy k s.book x.book) (sym g.1) h
+grown_from k q s next t v reply.Idle h g = subst (λ (x : PlainStore). IsGrownBy k s.book x.book) (sym g.1) h
+grown_from k q s next t v (reply.Opened p w) h g = subst (λ (x : PlainStore). IsGrownBy k s.book x.book) (sym g.1) h
+grown_from k q s next t v reply.Full h g = subst (λ (x : PlainStore). IsGrownBy k s.book x.book) (sym g.1) h
+grown_from k q s next t v reply.Memory h g = subst (λ (x : PlainStore). IsGrownBy k s.book x.book) (sym g.1) (not_grown k s.book)
+
+-- what the store serves an actor adds that actor's events alone
+pub served_grown : (code : PlainCode) (s t : PlainStore) (k : ℕ) (q : Ask) (r : Reply) → IsStoreOf code s → is_lawful s k q ≡ true
+    → world.Answers s (serve s.cells k q s.book) (store_after s q (serve s.cells k q s.book)) r t → IsGrownBy k s.book t.book
+served_grown code s t k q r of lawful g =
+    grown_from k q s (store_after s q (serve s.cells k q s.book)) t (serve s.cells k q s.book) r
+    (subst (λ (x : PlainStore). IsGrownBy k s.book (serve x.cells k q s.book).book) (sym (as_store code s of)) (served_grows code k s.book s.taken q (subst (λ (x : PlainStore). is_lawful x k q ≡ true) (as_store code s of) lawful))) g
 
 -- ---- the store's replies are those that an ask may have
 

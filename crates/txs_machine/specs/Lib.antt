@@ -1,2 +1,4 @@
 pub mod Followed
+pub mod Playing
 pub mod RunOver
+pub mod Schedule

@@ -1,5 +1,5 @@
 -- What an actor has done over a store, and what the source of its thread says of it.
-use Rattle.std.specs.Prelude.{◌≡◌, ◌≤◌, ℕ, List, [], ◌∷◌, length, map, false, Option, Some, None}
+use Rattle.std.specs.Prelude.{◌≡◌, ◌≤◌, ℕ, List, [], ◌∷◌, ◌++◌, length, map, false, Option, Some, None}
 use Rattle.txs_asks.specs.declared.ask.Ask.{Ask}
 use Rattle.txs_asks.specs.declared.ask.Reply.{Reply}
 use Rattle.txs_asks.specs.declared.event.Event.{Event}
@@ -10,15 +10,19 @@ use Rattle.txs_frame.specs.Frame.{no_work}
 use Rattle.txs_tree.specs.Meaning.{Completion}
 use Rattle.txs_tree.specs.Thread.{ThreadState, thread_meaning}
 use Rattle.txs_tree.specs.Tree.{ThreadSource}
+use Rattle.txs_code.specs.ActorState.{ActorState}
+use Rattle.txs_code.specs.Machine.{ThreadCode, Asking, run}
+use Rattle.txs_code.specs.Opening.{opening as opens}
 use Rattle.txs_code.specs.PlainCode.{PlainCode}
 use Rattle.txs_follows.specs.Follows.{Follows}
 use Rattle.txs_follows.specs.RepliesFit.{Explained}
-use Rattle.txs_actor.specs.PlainActor.{PlainActor, HasRun, MayAnswer, Stops, answered, unanswered, configuration_of, code_of, stating, standing, stands_at}
+use Rattle.txs_actor.specs.PlainActor.{PlainActor, HasRun, MayAnswer, Stops, answered, unanswered, configuration_of, state_of, code_of, stating, standing, stands_at}
 use Rattle.txs_world.specs.Book.{opening}
 use Rattle.txs_value.specs.Limits.{most_events}
 use Rattle.txs_world.specs.Store.{PlainStore, cells_of, is_lawful}
 use Rattle.txs_world.specs.History.{history_of}
 use Rattle.txs_runs.specs.Laws.{alone}
+use Rattle.txs_runs.specs.Printed.{Prints}
 use Rattle.txs_runs.specs.Stages.{Stage, AsksIn, stage_after}
 use Rattle.txs_runs.specs.Staged.{IsStaged, stage_of}
 use Rattle.txs_runs.specs.Told.{Entry, exchange_of, ToldBy}
@@ -41,8 +45,22 @@ abbrev pub IsOwn : ℕ → List Event → Type 0
 IsOwn k [] = Unit {0}
 IsOwn k (e ∷ es) = (e.actor ≡ k) × IsOwn k es
 
--- The actor of the k-th thread has done what the machine does on what the store's book told it. Nobody else has written in the
--- book, and it is full where the actor was stopped for that.
+-- The book has what it had, and behind it events of this actor alone.
+pub record IsGrownBy (k : ℕ) (book later : List Event) : Type 0 where
+  pub more : List Event
+  pub grown : later ≡ book ++ more
+  pub own : IsOwn k more
+
+-- On these entries the code waits with an ask within as many instructions as the actor has made steps, and what it has printed there the
+-- actor has printed.
+pub record AskedOn (code : ThreadCode) (before : List Entry) (a : PlainActor) : Type 0 where
+  pub waiting : ActorState
+  pub asking : run code a.steps (opens code (map exchange_of before)) ≡ Asking waiting
+  pub consumed : waiting.todo ≡ []
+  pub printed : Prints waiting.printed (state_of a)
+
+-- The actor of the k-th thread has done what the machine does on what the store's book told it, whoever else has written in the
+-- book; it asked for each of its entries on those before; and the book is full where the actor was stopped for that.
 pub record RunOver (code : PlainCode) (k : ℕ) (book : List Event) (a : PlainActor) : Type 0 where
   pub number : a.number ≡ k
   pub entries : List Entry
@@ -50,7 +68,7 @@ pub record RunOver (code : PlainCode) (k : ℕ) (book : List Event) (a : PlainAc
   pub ran : HasRun code (map exchange_of entries) a
   pub told : ToldBy code.cells (length code.threads) (alone book) k entries stage
   pub here : IsIn a stage a.outcome (unanswered a)
-  pub own : IsOwn k book
+  pub asked : (before : List Entry) (e : Entry) (rest : List Entry) → entries ≡ before ++ e ∷ rest → AskedOn (code_of code k) before a
   pub full : a.outcome ≡ Some JournalFull → most_events ≤ length book
 
 -- an actor that asks nothing, or has ended so
@@ -73,12 +91,13 @@ pub record IsLimited (limit : ℕ) (a : PlainActor) : Type 0 where
   pub within : a.steps ≤ limit
   pub spent : a.outcome ≡ Some StepsSpent → limit ≤ a.steps
 
--- An actor of the k-th thread has made so many steps over the book, and printed these bytes and ended so: with the last of
+-- An actor of the k-th thread, whose events are all of the book, has made so many steps over it, and printed these bytes and ended so: with the last of
 -- its steps where it is done or failed, with as many as it may make where they were spent, with an ask that adds an event
 -- to a full book, or in the middle of a step for want of memory.
 pub record HasEnded (code : PlainCode) (k limit : ℕ) (book : List Event) (o : Outcome) (out : List ℕ) (steps : ℕ) : Type 0 where
   pub actor : PlainActor
   pub over : RunOver code k book actor
+  pub own : IsOwn k book
   pub limited : IsLimited limit actor
   pub ended : actor.outcome ≡ Some o
   pub printed : actor.printed ≡ out

@@ -3,7 +3,7 @@
 ghost use Rattle.std.specs.Prelude.{◌≡◌, ◌<◌, ℕ, length, IfOk, IfErr, OnOk, OnErr, Some, None, []};
 ghost use Rattle.txs_actor.specs.PlainActor.{Runs, unanswered};
 ghost use Rattle.txs_machine.specs.declared.run.RunError.TheVariants.{Mismatch, Memory};
-ghost use Rattle.txs_machine.specs.RunOver.{IsStoreOf, RunOver, IsAfter, IsExplained, IsLimited, HasEnded, AsksUnlawfully, HasNoAccount};
+ghost use Rattle.txs_machine.specs.RunOver.{IsStoreOf, IsOwn, IsGrownBy, RunOver, IsAfter, IsExplained, IsLimited, HasEnded, AsksUnlawfully, HasNoAccount};
 
 use crate::law::actors_explained;
 use std::alloc::{AllocError, Global};
@@ -36,7 +36,7 @@ pub enum RunError {
 
 /// The actor asked what it may not ask.
 #[derive(Clone, Copy)]
-struct Unlawful;
+pub(crate) struct Unlawful;
 
 impl From<Unlawful> for RunError {
     ghost from_gives = { λ _ e. e ≡ Mismatch };
@@ -74,6 +74,7 @@ fn serve_ask(
     ensures limited { OnOk result (IsLimited actor.old.limit actor.new) }
     ensures of { IsStoreOf code.now store.new }
     ensures over { OnOk result (RunOver code.now k store.new.book actor.new) }
+    ensures grown { OnOk result (IsGrownBy k store.old.book store.new.book) }
     ensures refused { OnErr result (AsksUnlawfully code.now k store.new) }
 {
     let number = actor.number();
@@ -89,7 +90,7 @@ fn serve_ask(
 
 /// So many turns of the actor, or those up to its end, which is the answer, or up to an ask, which is
 /// served. One after which the actor goes on made a step at least.
-fn round(
+pub(crate) fn round(
     actor: &mut Actor,
     code: &Verified,
     store: &mut Store,
@@ -104,10 +105,12 @@ fn round(
     requires over { RunOver code.now k store.old.book actor.old }
     ensures runs { OnOk result (Runs code.now actor.new) }
     ensures after { IfOk result (λ o. IsAfter actor.new o) }
+    ensures free { OnOk result (unanswered actor.new ≡ None) }
     ensures progress { IfOk result (λ o. o ≡ None → actor.old.steps < actor.new.steps) }
     ensures limited { OnOk result (IsLimited actor.old.limit actor.new) }
     ensures of { IsStoreOf code.now store.new }
     ensures over { OnOk result (RunOver code.now k store.new.book actor.new) }
+    ensures grown { OnOk result (IsGrownBy k store.old.book store.new.book) }
     ensures refused { OnErr result (AsksUnlawfully code.now k store.new) }
 {
     actors_run();
@@ -135,10 +138,12 @@ fn run_to_end(
     requires limited { IsLimited actor.old.limit actor.old }
     requires of { IsStoreOf code.now store.old }
     requires over { RunOver code.now k store.old.book actor.old }
+    requires own { IsOwn k store.old.book }
     ensures ended { IfOk result (λ o. actor.new.outcome ≡ Some o) }
     ensures limited { OnOk result (IsLimited actor.old.limit actor.new) }
     ensures of { IsStoreOf code.now store.new }
     ensures over { OnOk result (RunOver code.now k store.new.book actor.new) }
+    ensures own { OnOk result (IsOwn k store.new.book) }
     ensures refused { OnErr result (AsksUnlawfully code.now k store.new) }
 {
     let mut ended = None;

@@ -19,7 +19,7 @@ use Rattle.txs_follows.specs.RepliesFit.{Out, RepliesFit, Explained, Consumed}
 use Rattle.txs_world.specs.Laws.{ServeKeeps}
 use Rattle.txs_runs.specs.Shared.{Shared, book_for, serve_on, may_ask, seen_in}
 use Rattle.txs_runs.specs.Stages.{Stage, Idle, stage_after, phase_of}
-use Rattle.txs_runs.specs.Told.{Entry, Place, exchange_of, served_at, EntryHolds, AllHold, AreStaged, adding, trace_of, seen_before, seen_of, history_of}
+use Rattle.txs_runs.specs.Told.{Entry, Place, exchange_of, served_at, EntryHolds, AllHold, AreStaged, ToldBy, adding, trace_of, seen_before, seen_of, history_of}
 use Rattle.txs_runs.specs.Staged.{StagedCode, IsStaged}
 use Rattle.txs_runs.specs.Invariant.{ActorInvariant, RunInvariant}
 use Rattle.txs_runs.specs.Printed.{Prints, HasPrinted, PrintedBeforeLast, RunPrints}
@@ -62,7 +62,7 @@ has_printed out (Asking s) h = h
 has_printed out (Unfinished c) h = h
 has_printed out Stuck h = tt
 
-turn_prints : (out : List ℕ) (code : ThreadCode) (c : Configuration) → Prints out c.state → HasPrinted out (turn code c)
+pub turn_prints : (out : List ℕ) (code : ThreadCode) (c : Configuration) → Prints out c.state → HasPrinted out (turn code c)
 turn_prints out code c h =
     has_printed out (turn code c)
     (turn_keeps (Prints out) (Prints out) (prints_kept out) (λ s k. k) (λ s more k. (k.0 ++ more, ap (λ l. l ++ more) k.1 ∙ append_assoc out k.0 more)) code c h)
@@ -73,7 +73,7 @@ turn_waits code c s h e =
     (turn_keeps (Waits c.state.printed) (λ t. Unit {0}) (waits_kept c.state.printed) (λ t k. tt) (λ t more k. tt) code c (h, refl))
 
 -- an ask that has no reply has none after more turns
-still : (code : ThreadCode) (m : ℕ) (c : Configuration) (s : ActorState) → run code m c ≡ Asking s → run code (suc m) c ≡ Asking s
+pub still : (code : ThreadCode) (m : ℕ) (c : Configuration) (s : ActorState) → run code m c ≡ Asking s → run code (suc m) c ≡ Asking s
 still code m c s e = run_more code m c ∙ ap (λ o. and_then o (turn code)) e
 
 -- ---- each entry was asked on those before it
@@ -98,7 +98,7 @@ behind [] = []
 behind (x ∷ xs) = xs
 
 -- an entry of a list with one more is that one, or was there
-apart : (xs : List Entry) (y : Entry) (before : List Entry) (e : Entry) (rest : List Entry) → xs ++ y ∷ [] ≡ before ++ e ∷ rest → (before ≡ xs) ⊎ ((less : List Entry) × (xs ≡ before ++ e ∷ less))
+pub apart : (xs : List Entry) (y : Entry) (before : List Entry) (e : Entry) (rest : List Entry) → xs ++ y ∷ [] ≡ before ++ e ∷ rest → (before ≡ xs) ⊎ ((less : List Entry) × (xs ≡ before ++ e ∷ less))
 apart [] y [] e rest h = inl refl
 apart [] y (b ∷ []) e rest h = absurd (subst is_nil (ap behind h) tt)
 apart [] y (b ∷ d ∷ bs) e rest h = absurd (subst is_nil (ap behind h) tt)
@@ -308,8 +308,8 @@ module _ (cells : List CellDefinition) (threads : ℕ) (books : ℕ → List Eve
   staged_before st end [] rest h = (st, refl)
   staged_before st end (e ∷ es) rest h = let g = staged_before (stage_after st e.ask e.reply) end es rest h.1 in (g.0, (h.0, g.1))
 
-  pub printed_before : Lower → (code : ThreadCode) (x : Actor) → ActorInvariant cells threads code books a x → EachWaits code x → PrintedBeforeLast cells code books a x
-  printed_before by code x k l = go (last_of x.entries k.told.hold)
+  pub printed_before : Lower → (code : ThreadCode) (x : Actor) (stage : Stage) → ToldBy cells threads books a x.entries stage → EachWaits code x → PrintedBeforeLast cells code books a x
+  printed_before by code x stage t l = go (last_of x.entries t.hold)
     where
       go : (trace_of cells books a x.entries ≡ []) ⊎ LastOf x.entries → PrintedBeforeLast cells code books a x
       go (inl none) = inl (ap (seen_of cells books) none)
@@ -317,8 +317,8 @@ module _ (cells : List CellDefinition) (threads : ℕ) (books : ℕ → List Eve
           let w = l d.before d.last d.rest d.split in
           let xs = map exchange_of d.before in
           let hs = history_of cells books a d.before in
-          let hold = hold_before d.before (d.last ∷ d.rest) (subst (AllHold cells threads books a) d.split k.told.hold) in
-          let staged = staged_before Idle k.stage d.before (d.last ∷ d.rest) (subst (λ es. AreStaged Idle es k.stage) d.split k.told.staged) in
+          let hold = hold_before d.before (d.last ∷ d.rest) (subst (AllHold cells threads books a) d.split t.hold) in
+          let staged = staged_before Idle stage d.before (d.last ∷ d.rest) (subst (λ es. AreStaged Idle es stage) d.split t.staged) in
           let fits : RepliesFit cells Out xs hs = by.fit cells Out xs hs (phase_of cells books staged.0) (entries_fit by.stays cells threads books a Idle staged.0 d.before hold staged.1) in
           let e : target code x.turns xs ≡ Asking w.waiting = exec_run code x.turns (opening code xs) ∙ ap (λ o. and_then o stated) w.asking in
           inr (
@@ -335,4 +335,5 @@ module _ (cells : List CellDefinition) (threads : ℕ) (books : ℕ → List Eve
 pub run_prints : Lower → ServeKeeps → FreshStands → RunPrints
 run_prints by keeps fresh cells threads codes ys a known =
     let h = plays_wait cells threads keeps codes fresh ys in
-    printed_before cells threads _ a by (codes a) _ (h.holds.actors a known) (h.waits a known)
+    let k = h.holds.actors a known in
+    printed_before cells threads _ a by (codes a) _ k.stage k.told (h.waits a known)

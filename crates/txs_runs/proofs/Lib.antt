@@ -1,12 +1,16 @@
+pub mod Acting
+pub mod Agents
 pub mod Alone
 pub mod CoreKnown
 pub mod Fits
 pub mod Growing
+pub mod Hearing
 pub mod Keeping
 pub mod Known
 pub mod Lasts
 pub mod Lawful
 pub mod Naming
+pub mod Refused
 pub mod Replayed
 pub mod ServedKnown
 pub mod Serving
@@ -17,3 +21,4 @@ pub mod Told
 pub mod Typed
 pub mod Values
 pub mod Whole
+pub mod Working

@@ -1,5 +1,5 @@
 -- What serving an ask does to the books: it adds an event of the actor at most, and keeps what holds of what is shared.
-use Rattle.std.proofs.Common.{◌≡◌, ◌≤◌, ◌<◌, ◌+◌, ℕ, zero, suc, Bool, true, false, not, ◌&&◌, ◌==◌, nat_lt, List, [], ◌∷◌, ◌++◌, if◌then◌else◌, length, map, Option, Some, None, refl, sym, ap, ◌∙◌, subst, arith, ◌⊎◌, inl, inr}
+use Rattle.std.proofs.Common.{◌≡◌, ℕ, zero, suc, Bool, true, false, not, ◌&&◌, ◌==◌, nat_lt, List, [], ◌∷◌, ◌++◌, if◌then◌else◌, length, Option, Some, None, refl, sym, ap, ◌∙◌, subst, arith}
 use Rattle.std.proofs.lemmas.Bool.{false≢true, ltb-false}
 use Rattle.std.proofs.lemmas.Bool.Decides.{nat_tests}
 use Rattle.txs_asks.specs.Ask.{Writes}
@@ -29,7 +29,7 @@ use Rattle.txs_runs.specs.Shared.{Shared, store_of, atom_of, is_atom, has_atom, 
 use Rattle.txs_runs.specs.Told.{IsExchanged}
 use Rattle.txs_runs.specs.Invariant.{SharedStands}
 use Rattle.txs_runs.proofs.Fits.{added}
-use Rattle.txs_runs.proofs.Growing.{AreOwn, IsFull, Serves}
+use Rattle.txs_runs.proofs.Growing.{IsFull, Serves}
 
 append_nil : {A : Type 0} (xs : List A) → xs ++ [] ≡ xs
 append_nil [] = refl

@@ -99,7 +99,7 @@ entry_undisturbed done cells threads books a (ask.OpenAt c) r k h = tt
 entry_undisturbed done cells threads books a (ask.CloseAt c p v) r k h = tt
 entry_undisturbed done cells threads books a (ask.Broke c p) r k h = tt
 
-all_undisturbed : DoneIsUndisturbed → (cells : List CellDefinition) (threads : ℕ) (books : ℕ → List Event) (a : ℕ) (es : List Entry) → AllHold cells threads books a es → CommitsUndisturbed books es
+pub all_undisturbed : DoneIsUndisturbed → (cells : List CellDefinition) (threads : ℕ) (books : ℕ → List Event) (a : ℕ) (es : List Entry) → AllHold cells threads books a es → CommitsUndisturbed books es
 all_undisturbed done cells threads books a [] h = tt
 all_undisturbed done cells threads books a (e ∷ es) h = (entry_undisturbed done cells threads books a e.ask e.reply e.at h.0, all_undisturbed done cells threads books a es h.1)
 

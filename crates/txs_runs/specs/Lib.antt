@@ -1,8 +1,10 @@
+pub mod Agents
 pub mod Explains
 pub mod Invariant
 pub mod Lawful
 pub mod Laws
 pub mod Printed
+pub mod Refused
 pub mod Run
 pub mod Shared
 pub mod Staged

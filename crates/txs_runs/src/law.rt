@@ -1,15 +1,20 @@
 //! What the sources of threads say of runs over what they share. Each law stands on a function of its own, which does nothing when it
 //! runs.
 
+ghost use Rattle.txs_runs.specs.Agents.{ConsumesActions, RunActsMean};
 ghost use Rattle.txs_runs.specs.Explains.{RunExplained, ProgramExplained};
 ghost use Rattle.txs_runs.specs.Invariant.{OpeningHolds, PlayHolds, InvariantExplains};
 ghost use Rattle.txs_runs.specs.Lawful.{RunAsksLawful, TodayStands, TypedStands, TypedActorsStand};
 ghost use Rattle.txs_runs.specs.Laws.{ToldFits, ServedIsTold, OthersLeaveTold, TodayIsStaged, AloneHistory};
 ghost use Rattle.txs_runs.specs.Printed.{RunPrints};
+ghost use Rattle.txs_runs.specs.Refused.{RunRefusals};
 ghost use Rattle.txs_runs.specs.Standing.{StandingIsStaged};
 
 use txs_follows::replies_fit;
-use txs_world::law::{done_is_undisturbed, history_of_whole, serve_keeps, unwritten_stays};
+use txs_world::law::{
+    action_stays, done_is_undisturbed, history_of_whole, refused_is_undisturbed, serve_keeps,
+    unwritten_stays,
+};
 
 /// Every run is explained: its books are legal, each commit was undisturbed, and each source that an actor's code follows means just
 /// what the actor did, with what it printed and how it ended.
@@ -119,4 +124,27 @@ pub fn alone_history()
     ensures { AloneHistory }
 {
     history_of_whole();
+}
+
+/// A turn that asks for an action, or hands one in, goes on with any reply, and has consumed it.
+pub fn actions_are_consumed()
+    ensures { ConsumesActions }
+{}
+
+/// Each action that an agent hands in is what its callee means on the state that the agent found, of the action that was the first in
+/// its mail; where the action has a meaning, the agent's code comes to hand it in.
+pub fn every_action_means()
+    ensures { RunActsMean }
+{
+    action_stays();
+    serve_keeps();
+}
+
+/// What a transaction set or ensured wasn't written before its commit was refused, nor what it commuted since its view; the agent is that
+/// of its first held send whose agent has failed.
+pub fn every_refusal_is_undisturbed()
+    ensures { RunRefusals }
+{
+    refused_is_undisturbed();
+    serve_keeps();
 }

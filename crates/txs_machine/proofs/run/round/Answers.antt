@@ -1,8 +1,8 @@
 use Rattle.std.proofs.Common.{ℕ, ◌<◌, sym, subst}
 use Rattle.txs_machine.specs.RunOver.{IsLimited}
 use Rattle.txs_actor.specs.declared.outcome.Turn.TheVariants.{Went, Asks, Ended}
-use Rattle.txs_machine.proofs.Limits.{turns_limited, turns_count}
-use Rattle.txs_machine.proofs.RunOver.{turns_over, staged_of}
+use Rattle.txs_machine.proofs.Limits.{turns_limited, turns_count, turns_free}
+use Rattle.txs_machine.proofs.RunOver.{turns_over, staged_of, not_grown}
 use Rattle.txs_machine.proofs.run.round.Goals as goal
 
 pub serve_ask-requires-clause-going : goal.serve_ask-requires-clause-going
@@ -57,3 +57,16 @@ pub returns-in_ok-serve_ask-in-Asks-clause-progress : goal.returns-in_ok-serve_a
 returns-in_ok-serve_ask-in-Asks-clause-progress c e =
     subst (λ (n : ℕ). c.args.actor.now.steps < n) (sym c.in_ok-serve_ask-in-Asks.ensures.steps)
     (turns_count c.args.code.now c.args.budget c.args.actor.now c.run.new.self (Asks c.in-Asks.ask) c.requires.some tt c.in-Asks.ensures.turns)
+
+pub returns-in-Ended-clause-grown : goal.returns-in-Ended-clause-grown
+returns-in-Ended-clause-grown c = not_grown c.args.k c.args.store.now.book
+
+pub returns-in-Went-clause-grown : goal.returns-in-Went-clause-grown
+returns-in-Went-clause-grown c = not_grown c.args.k c.args.store.now.book
+
+pub returns-in-Ended-clause-free : goal.returns-in-Ended-clause-free
+returns-in-Ended-clause-free c =
+    turns_free c.args.code.now c.args.budget c.args.actor.now c.run.new.self (Ended c.in-Ended.outcome) tt c.requires.answered c.in-Ended.ensures.turns
+
+pub returns-in-Went-clause-free : goal.returns-in-Went-clause-free
+returns-in-Went-clause-free c = c.in-Went.ensures.says

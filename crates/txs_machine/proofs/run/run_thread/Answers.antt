@@ -27,6 +27,7 @@ returns-clause-ended c =
     record {
       actor = c.run_to_end.new.actor;
       over = c.in_ok-outcome.ensures.over;
+      own = c.in_ok-outcome.ensures.own;
       limited = subst (λ (n : ℕ). IsLimited n c.run_to_end.new.actor) new.limited c.in_ok-outcome.ensures.limited;
       ended = c.in_ok-outcome.ensures.ended;
       printed = search rules;

@@ -1,10 +1,10 @@
-use Rattle.std.proofs.Common.{◌≡◌, ℕ, true, Option, None, rules, sym, subst}
+use Rattle.std.proofs.Common.{◌≡◌, ℕ, true, Option, None, rules, sym, subst, ◌∙◌}
 use Rattle.txs_asks.specs.declared.ask.Ask.{Ask}
 use Rattle.txs_actor.specs.PlainActor.{PlainActor, MayAnswerIf, unanswered}
 use Rattle.txs_world.specs.Store.{Answers, is_lawful, serve, store_after}
-use Rattle.txs_machine.specs.RunOver.{RunOver, IsLimited}
+use Rattle.txs_machine.specs.RunOver.{RunOver, IsLimited, IsGrownBy}
 use Rattle.txs_machine.proofs.Limits.{answered_limited, answered_steps}
-use Rattle.txs_machine.proofs.RunOver.{served_over, served_may}
+use Rattle.txs_machine.proofs.RunOver.{served_over, served_may, served_grown}
 use Rattle.txs_machine.proofs.run.serve_ask.Goals as goal
 
 pub answer-requires-clause-answers : goal.answer-requires-clause-answers
@@ -39,3 +39,11 @@ returns-clause-over c =
     let free = subst (λ (x : PlainActor). unanswered x ≡ None) c.answer.ensures.answered c.answer.ensures.free in
     subst (λ (x : PlainActor). RunOver c.args.code.now c.args.k t.book x) (sym c.answer.ensures.answered)
     (served_over c.actors_run.ensures c.served_is_told.ensures c.args.code.now s t c.args.k a q r c.requires.of named c.requires.going c.requires.asks free may given c.requires.over).1
+
+pub returns-clause-grown : goal.returns-clause-grown
+returns-clause-grown c =
+    let s = c.args.store.now in
+    let q = c.args.ask in
+    let lawful : is_lawful s c.number-number.result q ≡ true = search rules in
+    subst (λ (n : ℕ). IsGrownBy n s.book c.serve-reply.new.self.book) (c.number-number.ensures ∙ c.requires.over.number)
+    (served_grown c.args.code.now s c.serve-reply.new.self c.number-number.result q c.serve-reply.result c.requires.of lawful c.serve-reply.ensures)

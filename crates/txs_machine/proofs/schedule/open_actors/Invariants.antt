@@ -1,0 +1,6 @@
+use Rattle.std.proofs.Common.{◌≡◌, length, []}
+use Rattle.txs_machine.specs.Playing.{AreBetween}
+use Rattle.txs_machine.proofs.schedule.open_actors.Given as goal
+
+abbrev pub invariant-loop-k : goal.invariant-loop-k
+invariant-loop-k l = record { many : length l.actors.items ≡ l.k; between : AreBetween l.code l.max_steps [] 0 l.actors.items }

@@ -1,0 +1,18 @@
+use Rattle.std.proofs.Common.{refl, ◌∙◌}
+use Rattle.txs_machine.proofs.Playing.{later_itself, later_than, played_later}
+use Rattle.txs_machine.proofs.schedule.play_rest.Goals as goal
+
+pub loop-k-init : goal.loop-k-init
+loop-k-init c = record { of = c.requires.of; between = c.requires.between; many = refl; later = later_itself c.args.actors.now.items }
+
+pub loop-k-preserved : goal.loop-k-preserved
+loop-k-preserved c =
+    let e = c.in_ok-play_one.ensures in
+    let i = c.loop-k.invariant in
+    record {
+      of = e.of;
+      between = e.between;
+      many = e.many ∙ i.many;
+      later = later_than c.args.actors.now.items c.loop-k.actors.items c.play_one.new.actors.items i.later
+          (played_later c.loop-k.k c.loop-k.actors.items c.play_one.new.actors.items e.played);
+    }

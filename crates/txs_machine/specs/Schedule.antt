@@ -1,0 +1,118 @@
+-- Runs of all threads of a code over one store, by turns that a schedule names, and what a program's source says of them.
+use Rattle.std.specs.Prelude.{◌≡◌, ◌≤◌, ◌<◌, ℕ, suc, Bool, true, false, ◌&&◌, ◌==◌, nat_lt, List, [], ◌∷◌, ◌++◌, length, map, Option, Some, None, if◌then◌else◌}
+use Rattle.std.proofs.Common.{◌⊎◌}
+use Rattle.txs_asks.specs.SeenEvent.{SeenEvent}
+use Rattle.txs_asks.specs.declared.event.Event.{Event}
+use Rattle.txs_asks.specs.declared.event.Outcome.{Outcome}
+use Rattle.txs_value.specs.Places.{nth}
+use Rattle.txs_value.specs.declared.value.Value.{Value}
+use Rattle.txs_frame.specs.Frame.{no_work}
+use Rattle.txs_tree.specs.Meaning.{Completion}
+use Rattle.txs_tree.specs.Thread.{ThreadState, thread_meaning}
+use Rattle.txs_tree.specs.Tree.{PlainThread, PlainProgram}
+use Rattle.txs_code.specs.PlainCode.{PlainCode, thread_code}
+use Rattle.txs_follows.specs.FollowsAll.{source_of, FollowsAll}
+use Rattle.txs_follows.specs.RepliesFit.{Explained, halted, HasEaten}
+use Rattle.txs_actor.specs.PlainActor.{PlainActor, unanswered, stating, standing}
+use Rattle.txs_world.specs.Book.{Legal, Undisturbed, opening}
+use Rattle.txs_world.specs.History.{history_of}
+use Rattle.txs_world.specs.Store.{PlainStore, cells_of}
+use Rattle.txs_runs.specs.Explains.{CommitsUndisturbed}
+use Rattle.txs_runs.specs.Laws.{alone}
+use Rattle.txs_runs.specs.Told.{places_by}
+use Rattle.txs_machine.specs.RunOver.{RunOver, IsLimited, AsksUnlawfully}
+use Rattle.txs_machine.specs.declared.schedule.Place.{Place}
+use Rattle.txs_machine.specs.declared.schedule.Play.{Play}
+use Rattle.txs_machine.specs.declared.schedule.Play.TheVariants as play
+use Rattle.txs_machine.specs.declared.schedule.ThreadReport.{ThreadReport}
+use Rattle.txs_machine.specs.declared.schedule.ScheduleError.{ScheduleError}
+use Rattle.txs_machine.specs.declared.schedule.ScheduleError.TheVariants.{NoActor, Mismatch, Memory}
+
+-- ---- plays
+
+-- whose play it is
+abbrev pub player : Play → ℕ
+player (play.Turn k) = k
+player (play.Ask k) = k
+
+-- how many of these plays name this thread
+abbrev pub plays_of : ℕ → List Play → ℕ
+plays_of k [] = 0
+plays_of k (y ∷ ys) = if player y == k then suc (plays_of k ys) else plays_of k ys
+
+-- whether each play names one of so many threads
+abbrev pub all_named : ℕ → List Play → Bool
+all_named n [] = true
+all_named n (y ∷ ys) = nat_lt (player y) n && all_named n ys
+
+-- ---- what the actors did
+
+-- the places of the store's book
+abbrev pub in_store : List ℕ → List Place
+in_store [] = []
+in_store (k ∷ ks) = record { book = 0; at = k } ∷ in_store ks
+
+-- An entry of a report says what the actor of the k-th thread did over the book: after so many steps, of which it makes no more than its limit, and
+-- all where they were spent, it is where the machine's meaning comes to on what the book told it; it has printed these bytes, and ended so if it
+-- has; the trace names its events of the book and no others. What its transactions set or ensured wasn't written between read point and commit.
+pub record HasDone (code : PlainCode) (k limit : ℕ) (book : List Event) (ran : ThreadReport) : Type 0 where
+  pub actor : PlainActor
+  pub over : RunOver code k book actor
+  pub waits : unanswered actor ≡ None
+  pub limited : IsLimited limit actor
+  pub ended : actor.outcome ≡ ran.outcome
+  pub printed : actor.printed ≡ ran.printed.items
+  pub counted : actor.steps ≡ ran.steps
+  pub traced : ran.trace.items ≡ in_store (places_by k 0 book)
+  pub undisturbed : CommitsUndisturbed (alone book) over.entries
+
+-- A report has one entry for each thread, which says what its actor did.
+pub record AreDone (code : PlainCode) (limit : ℕ) (book : List Event) (rans : List ThreadReport) : Type 0 where
+  pub one_each : length rans ≡ length code.threads
+  pub each : (k : ℕ) (ran : ThreadReport) → nth rans k ≡ Some ran → HasDone code k limit book ran
+
+-- a thread that hasn't ended has made at least as many steps as there are plays of it
+abbrev pub ArePlayed : List Play → List ThreadReport → Type 0
+ArePlayed ys rans = (k : ℕ) (ran : ThreadReport) → nth rans k ≡ Some ran → ran.outcome ≡ None → plays_of k ys ≤ ran.steps
+
+-- every thread has ended
+abbrev pub HaveEnded : List ThreadReport → Type 0
+HaveEnded rans = (k : ℕ) (ran : ThreadReport) → nth rans k ≡ Some ran → ran.outcome ≡ None → ⊥
+
+-- ---- what the source says
+
+-- A source's meaning explains a thread that has printed these bytes, and ended so if it has: one that was stopped, or hasn't ended, has printed a
+-- part of what the source means.
+abbrev pub ExplainsSo : Option Outcome → List ℕ → Completion ThreadState Value → Type 0
+ExplainsSo o out r = Explained (standing o (stating out 0 no_work) (stating out 0 no_work)) r
+
+-- What the source means on all that a thread did but the last, for some bound on its loops, the thread has printed, and maybe more. Of one
+-- that did nothing this says nothing.
+abbrev pub HasPrintedLeast : PlainProgram → PlainThread → List SeenEvent → List ℕ → Type 0
+HasPrintedLeast p t did out =
+    (did ≡ []) ⊎ ((hs : List SeenEvent) × (e : SeenEvent) × (did ≡ hs ++ e ∷ []) × (n : ℕ) × (least : List ℕ) × HasEaten least (halted (thread_meaning (source_of p t) n hs)) × (rest : List ℕ) × (out ≡ least ++ rest))
+
+-- A program's thread explains an entry of a report: the trace names the thread's events in the book, each once and in order, and no others; and the source's
+-- meaning on just these events, each with its worlds in the book, and for some bound on its loops, is what the thread printed and how it ended.
+pub record ExplainsThread (p : PlainProgram) (k : ℕ) (t : PlainThread) (book : List Event) (ran : ThreadReport) : Type 0 where
+  pub traced : ran.trace.items ≡ in_store (places_by k 0 book)
+  pub means : (n : ℕ) × ExplainsSo ran.outcome ran.printed.items (thread_meaning (source_of p t) n (history_of (opening (cells_of p.cells)) k book))
+  pub least : HasPrintedLeast p t (history_of (opening (cells_of p.cells)) k book) ran.printed.items
+
+-- A program explains a run: there is one entry for each of its threads, the book is legal, no ref that a commit wrote was written between its view
+-- and its place, and each thread explains its entry.
+pub record Explains (p : PlainProgram) (book : List Event) (rans : List ThreadReport) : Type 0 where
+  pub one_each : length rans ≡ length p.threads
+  pub legal : Legal (cells_of p.cells) (length p.threads) book
+  pub undisturbed : Undisturbed book
+  pub each : (k : ℕ) (t : PlainThread) (ran : ThreadReport) → nth p.threads k ≡ Some t → nth rans k ≡ Some ran → ExplainsThread p k t book ran
+
+-- each program of the code's cells that the code follows explains the run
+abbrev pub IsExplainedBy : PlainCode → List Event → List ThreadReport → Type 0
+IsExplainedBy code book rans = (p : PlainProgram) → p.cells ≡ code.cells → FollowsAll (map (thread_code code) code.threads) p → Explains p book rans
+
+-- Why there is no report: a play names no thread, and nothing was run; or a thread asks what it may not ask; or there was no memory.
+abbrev pub HasNoReport : PlainCode → List Play → PlainStore → PlainStore → ScheduleError → Type 0
+HasNoReport code ys before after NoActor = (all_named (length code.threads) ys ≡ false) × (after ≡ before)
+HasNoReport code ys before after Mismatch = (all_named (length code.threads) ys ≡ true) × ((k : ℕ) × AsksUnlawfully code k after)
+HasNoReport code ys before after Memory = all_named (length code.threads) ys ≡ true
