@@ -1,0 +1,21 @@
+use Rattle.std.proofs.Common.{◌≡◌, ◌<◌, ◌≤◌, ◌∷◌, ◌++◌, length, ◌∙◌, sym, rules, arith}
+use Rattle.std.specs.Int.{w32, to_be_bytes}
+use Rattle.txs_code.specs.declared.instr.Instr.TheVariants.{Halt}
+use Rattle.txs_bytes.proofs.WrittenLemmas.{on_ok, pairs_next, pairs_done}
+use Rattle.txs_bytes.proofs.encoding.put_body.Goals as goal
+
+pub loop-i-preserved : goal.loop-i-preserved
+loop-i-preserved c =
+    let b = c.args.body.now in
+    let n : length b.spans ≡ length b.instrs = search rules in
+    let lt : c.loop-i.i < length b.instrs = search rules in
+    let ex = rw c.instrs-instrs.ensures at c.instr_at.ensures in
+    let ey = rw c.spans-spans.ensures.value at c.span_at.ensures in
+    pairs_next b.instrs b.spans c.loop-i.i Halt (record { from = 0; to = 0 }) c.instr_at.result c.span_at.result c.args.out.now.items (b.parameters ∷ b.locals ∷ to_be_bytes w32 (length b.instrs)) c.loop-i.out.items c.put_placed.new.out.items n lt ex ey c.loop-i.invariant c.in_ok-put_placed.ensures
+
+pub returns : goal.returns
+returns c =
+    let b = c.args.body.now in
+    let n : length b.spans ≡ length b.instrs = search rules in
+    let le : length b.instrs ≤ c.loop-i.i = search rules in
+    pairs_done b.instrs b.spans c.loop-i.i c.args.out.now.items c.loop-i.out.items b.parameters b.locals n le c.loop-i.invariant

@@ -1,0 +1,13 @@
+use Rattle.std.proofs.Common.{◌≡◌, ◌-◌, length}
+use Rattle.txs_bytes.specs.CodeForm.{paired}
+use Rattle.txs_bytes.specs.Format.{many_at}
+use Rattle.txs_bytes.specs.InstrForm.{placed_format}
+use Rattle.txs_bytes.proofs.Many.{with_front}
+use Rattle.txs_bytes.proofs.instrs.instrs_at.Given as goal
+
+abbrev pub invariant-loop : goal.invariant-loop
+invariant-loop l =
+    record {
+      told : with_front (paired l.instrs.items l.spans.items) (many_at (placed_format l.constants l.functions).read (l.count - l.counter) l.rest) ≡ many_at (placed_format l.constants l.functions).read l.count l.bytes;
+      as_many : length l.spans.items ≡ length l.instrs.items;
+    }

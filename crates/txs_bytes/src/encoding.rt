@@ -1,0 +1,131 @@
+//! Code, written.
+
+ghost use Rattle.std.specs.Prelude.{◌≡◌, ◌<◌, ◌^◌, ◌++◌, length, slice_index_or, OnOk, IfOk};
+ghost use Rattle.txs_code.specs.declared.instr.Instr.TheVariants as instr;
+ghost use Rattle.std.specs.Int.{w16, w32};
+ghost use Rattle.txs_bytes.specs.CellForm.{cell_bytes, constant_bytes, kind_byte, mode_byte};
+ghost use Rattle.txs_bytes.specs.CodeForm.{AreBodies, AreCells, AreConstants, HasForm, body_bytes, counted_bytes, form};
+ghost use Rattle.txs_bytes.specs.ValueForm.{IsWritable};
+ghost use Rattle.txs_value.specs.View.{plain_of};
+
+use crate::written::{put_name, put_placed, put_value};
+use std::alloc::{AllocError, Global};
+use txs_code::{Body, Code, Instr};
+use txs_value::{CellDefinition, CellKind, ErrorMode, Span, Value};
+
+/// The byte of a kind of cells.
+fn kind_byte(kind: CellKind) -> u8
+    ensures { result ≡ kind_byte kind }
+{
+    match kind {
+        CellKind::Ref => 0,
+        CellKind::Atom => 1,
+        CellKind::Agent => 2,
+    }
+}
+
+/// The byte of an error mode.
+fn mode_byte(mode: ErrorMode) -> u8
+    ensures { result ≡ mode_byte mode }
+{
+    match mode {
+        ErrorMode::Fail => 0,
+        ErrorMode::Continue => 1,
+    }
+}
+
+/// Appends a cell.
+fn put_cell(cell: &CellDefinition, out: &mut Vec<u8>) -> Result<(), AllocError>
+    requires { IsWritable (plain_of cell.now.opening) }
+    ensures { OnOk result (out.new.items ≡ out.old.items ++ cell_bytes cell.now) }
+{
+    out.push(kind_byte(cell.kind))?;
+    out.push(mode_byte(cell.error_mode))?;
+    put_name(&cell.name, out)?;
+    put_value(&cell.opening, out)
+}
+
+/// Appends cells behind their count.
+fn put_cells(cells: &[CellDefinition], out: &mut Vec<u8>) -> Result<(), AllocError>
+    requires few { length cells.now < 2 ^ 16 }
+    requires writable { AreCells cells.now }
+    ensures { OnOk result (out.new.items ≡ out.old.items ++ counted_bytes w16 cell_bytes cells.now) }
+{
+    out.extend_from_slice(&(cells.len() as u16).to_be_bytes())?;
+    for cell in cells {
+        put_cell(cell, out)?;
+    }
+    Ok(())
+}
+
+/// Appends constants behind their count.
+fn put_constants(constants: &[Value], out: &mut Vec<u8>) -> Result<(), AllocError>
+    requires few { length constants.now < 2 ^ 32 }
+    requires writable { AreConstants constants.now }
+    ensures { OnOk result (out.new.items ≡ out.old.items ++ counted_bytes w32 constant_bytes constants.now) }
+{
+    out.extend_from_slice(&(constants.len() as u32).to_be_bytes())?;
+    for constant in constants {
+        put_value(constant, out)?;
+    }
+    Ok(())
+}
+
+/// The instruction at a place.
+fn instr_at(instrs: &[Instr], place: usize) -> Instr
+    requires { place < length instrs.now }
+    ensures { result ≡ slice_index_or instrs.now place instr.Halt }
+{
+    instrs[place]
+}
+
+/// The span at a place.
+fn span_at(spans: &[Span], place: usize) -> Span
+    requires { place < length spans.now }
+    ensures { result ≡ slice_index_or spans.now place (record { from = 0; to = 0 }) }
+{
+    spans[place]
+}
+
+/// Appends a body.
+fn put_body(body: &Body, out: &mut Vec<u8>) -> Result<(), AllocError>
+    requires { length body.now.instrs < 2 ^ 32 }
+    ensures { OnOk result (out.new.items ≡ out.old.items ++ body_bytes body.now) }
+{
+    let instrs = body.instrs();
+    let spans = body.spans();
+    out.push(body.parameters())?;
+    out.push(body.locals())?;
+    out.extend_from_slice(&(instrs.len() as u32).to_be_bytes())?;
+    for i in 0..instrs.len() {
+        put_placed(instr_at(instrs, i), span_at(spans, i), out)?;
+    }
+    Ok(())
+}
+
+/// Appends bodies behind their count.
+fn put_bodies(bodies: &[Body], out: &mut Vec<u8>) -> Result<(), AllocError>
+    requires few { length bodies.now < 2 ^ 16 }
+    requires short { AreBodies bodies.now }
+    ensures { OnOk result (out.new.items ≡ out.old.items ++ counted_bytes w16 body_bytes bodies.now) }
+{
+    out.extend_from_slice(&(bodies.len() as u16).to_be_bytes())?;
+    for body in bodies {
+        put_body(body, out)?;
+    }
+    Ok(())
+}
+
+/// The byte form of code.
+pub fn encode(alloc: Global, code: &Code) -> Result<Vec<u8>, AllocError>
+    requires { HasForm code.now }
+    ensures { IfOk result (λ bytes. bytes.items ≡ form code.now) }
+{
+    let mut out = Vec::new(alloc);
+    out.extend_from_slice(b"TXS1")?;
+    put_cells(code.cells(), &mut out)?;
+    put_constants(code.constants(), &mut out)?;
+    put_bodies(code.functions(), &mut out)?;
+    put_bodies(code.threads(), &mut out)?;
+    Ok(out)
+}

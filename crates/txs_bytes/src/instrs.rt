@@ -1,0 +1,134 @@
+//! Instructions, read.
+
+ghost use Rattle.std.specs.Prelude.{◌≡◌, length, IfOk};
+ghost use Rattle.txs_bytes.specs.Format.{Gives, many_at};
+ghost use Rattle.txs_bytes.specs.CodeForm.{paired};
+ghost use Rattle.txs_bytes.specs.InstrForm.{opcode_format, operands, instr_format, span_format, placed_format};
+
+use crate::error::{CodeErrorKind, Stop, refused};
+use crate::fields::{room_for, u8_at, u32_at};
+use crate::opcode::Opcode;
+use crate::operands::{
+    alter_at, call_at, commute_at, const_at, core_at, jump_at, jump_false_at, local_at, print_at,
+    send_at, store_at, swap_at, vector_at,
+};
+use std::alloc::Global;
+use txs_code::Instr;
+use txs_value::{LookForm, PutForm, Span, UpdateForm};
+
+/// Which instruction stands here.
+#[tactic(auto, unfolding(crate::specs::InstrForm::opcode_format))]
+fn opcode_at(bytes: &[u8]) -> Result<(Opcode, &[u8]), Stop>
+    ensures { Gives (λ x. (x.0, x.1.now)) result (opcode_format.read bytes.now) }
+{
+    let (byte, rest) = u8_at(bytes)?;
+    match Opcode::from_byte(byte) {
+        Some(opcode) => Ok((opcode, rest)),
+        None => Err(refused(CodeErrorKind::BadOpcode, bytes)),
+    }
+}
+
+/// The instruction of this byte whose operands stand here, where there are so many constants and functions.
+fn operands_at(
+    constants: usize,
+    functions: usize,
+    opcode: Opcode,
+    bytes: &[u8],
+) -> Result<(Instr, &[u8]), Stop>
+    ensures { Gives (λ x. (x.0, x.1.now)) result ((operands constants functions opcode).read bytes.now) }
+{
+    match opcode {
+        Opcode::Const => const_at(constants, bytes),
+        Opcode::Local => local_at(bytes),
+        Opcode::Store => store_at(bytes),
+        Opcode::Pop => Ok((Instr::Pop, bytes)),
+        Opcode::Jump => jump_at(bytes),
+        Opcode::JumpFalse => jump_false_at(bytes),
+        Opcode::Core => core_at(bytes),
+        Opcode::Call => call_at(functions, bytes),
+        Opcode::Return => Ok((Instr::Return, bytes)),
+        Opcode::Vector => vector_at(bytes),
+        Opcode::Print => print_at(bytes),
+        Opcode::Deref => Ok((Instr::Look(LookForm::Deref), bytes)),
+        Opcode::TxBegin => Ok((Instr::TxBegin, bytes)),
+        Opcode::TxEnd => Ok((Instr::TxEnd, bytes)),
+        Opcode::RefSet => Ok((Instr::Put(PutForm::RefSet), bytes)),
+        Opcode::AlterOpen => alter_at(bytes),
+        Opcode::AlterClose => Ok((Instr::Close(UpdateForm::Alter), bytes)),
+        Opcode::CommuteOpen => commute_at(functions, bytes),
+        Opcode::CommuteClose => Ok((Instr::Close(UpdateForm::Commute), bytes)),
+        Opcode::Ensure => Ok((Instr::Look(LookForm::Ensure), bytes)),
+        Opcode::SwapOpen => swap_at(functions, bytes),
+        Opcode::SwapClose => Ok((Instr::Close(UpdateForm::Swap), bytes)),
+        Opcode::Reset => Ok((Instr::Put(PutForm::Reset), bytes)),
+        Opcode::Send => send_at(functions, bytes),
+        Opcode::Halt => Ok((Instr::Halt, bytes)),
+    }
+}
+
+/// An instruction, where there are so many constants and functions.
+#[tactic(auto, unfolding(crate::specs::InstrForm::instr_format))]
+fn instr_at(constants: usize, functions: usize, bytes: &[u8]) -> Result<(Instr, &[u8]), Stop>
+    ensures { Gives (λ x. (x.0, x.1.now)) result ((instr_format constants functions).read bytes.now) }
+{
+    let (opcode, rest) = opcode_at(bytes)?;
+    operands_at(constants, functions, opcode, rest)
+}
+
+/// A span, which doesn't end before it begins.
+#[tactic(auto, unfolding(crate::specs::InstrForm::span_format))]
+fn span_at(bytes: &[u8]) -> Result<(Span, &[u8]), Stop>
+    ensures { Gives (λ x. (x.0, x.1.now)) result (span_format.read bytes.now) }
+{
+    let (from, rest) = u32_at(bytes)?;
+    let (to, after) = u32_at(rest)?;
+    if from > to {
+        return Err(refused(CodeErrorKind::BadOperand, rest));
+    }
+    Ok((Span { from, to }, after))
+}
+
+/// An instruction and its span.
+#[tactic(auto, unfolding(crate::specs::InstrForm::placed_format))]
+fn placed_at(
+    constants: usize,
+    functions: usize,
+    bytes: &[u8],
+) -> Result<((Instr, Span), &[u8]), Stop>
+    ensures { Gives (λ x. (x.0, x.1.now)) result ((placed_format constants functions).read bytes.now) }
+{
+    let (instr, rest) = instr_at(constants, functions, bytes)?;
+    let (span, rest) = span_at(rest)?;
+    Ok(((instr, span), rest))
+}
+
+/// Instructions, each with its span.
+#[derive(Drop)]
+pub(crate) struct Instructions {
+    pub(crate) instrs: Vec<Instr>,
+    pub(crate) spans: Vec<Span>,
+}
+
+/// So many instructions, where there are so many constants and functions.
+pub(crate) fn instrs_at(
+    alloc: Global,
+    constants: usize,
+    functions: usize,
+    count: u32,
+    bytes: &[u8],
+) -> Result<(Instructions, &[u8]), Stop>
+    ensures value { Gives (λ x. (paired x.0.instrs.items x.0.spans.items, x.1.now)) result (many_at (placed_format constants functions).read count bytes.now) }
+    ensures as_many { IfOk result (λ x. length x.0.spans.items ≡ length x.0.instrs.items) }
+{
+    let room = bytes.len().min(count as usize);
+    let mut instrs = room_for(alloc, room, bytes)?;
+    let mut spans = room_for(alloc, room, bytes)?;
+    let mut rest = bytes;
+    for _ in 0..count {
+        let ((instr, span), after) = placed_at(constants, functions, rest)?;
+        instrs.push(instr)?;
+        spans.push(span)?;
+        rest = after;
+    }
+    Ok((Instructions { instrs, spans }, rest))
+}

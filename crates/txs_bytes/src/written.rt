@@ -1,0 +1,128 @@
+//! Names, values and instructions, written.
+
+ghost use Rattle.std.specs.Prelude.{◌≡◌, ◌++◌, ◌∷◌, OnOk};
+ghost use Rattle.txs_value.specs.PlainValue.{plain_row};
+ghost use Rattle.txs_value.specs.View.{plain_of};
+ghost use Rattle.txs_bytes.specs.InstrForm.{callee_bytes, instr_bytes, opcode_byte, opcode_of, operand_bytes, placed_bytes, span_bytes};
+ghost use Rattle.txs_bytes.specs.ValueForm.{AreWritable, IsWritable, name_bytes, row_bytes, value_bytes};
+
+use crate::opcode::Opcode;
+use std::alloc::AllocError;
+use txs_code::{Instr, OpenForm};
+use txs_value::{Callee, Items, Name, Span, Value};
+
+/// Appends a name behind its length.
+pub(crate) fn put_name(name: &Name, out: &mut Vec<u8>) -> Result<(), AllocError>
+    ensures { OnOk result (out.new.items ≡ out.old.items ++ name_bytes name.now) }
+{
+    let bytes = name.as_bytes();
+    out.push(bytes.len() as u8)?;
+    out.extend_from_slice(bytes)
+}
+
+/// Appends a value behind its tag.
+#[cycle(put)]
+pub(crate) fn put_value(value: &Value, out: &mut Vec<u8>) -> Result<(), AllocError>
+    requires { IsWritable (plain_of value.now) }
+    ensures { OnOk result (out.new.items ≡ out.old.items ++ value_bytes (plain_of value.now)) }
+{
+    match value {
+        Value::Nil => Ok(out.push(0)?),
+        Value::Truth(false) => Ok(out.push(1)?),
+        Value::Truth(true) => Ok(out.push(2)?),
+        Value::Int(n) => {
+            out.push(3)?;
+            out.extend_from_slice(&n.cast_unsigned().to_be_bytes())
+        }
+        Value::Key(name) => {
+            out.push(4)?;
+            put_name(name, out)
+        }
+        Value::Text(text) => {
+            let bytes = text.as_str().as_bytes();
+            out.push(5)?;
+            out.extend_from_slice(&(bytes.len() as u16).to_be_bytes())?;
+            out.extend_from_slice(bytes)
+        }
+        Value::Vector(items) => {
+            out.push(6)?;
+            out.extend_from_slice(&(items.len() as u16).to_be_bytes())?;
+            put_items(items, out)
+        }
+        Value::Cell(cell) => {
+            out.push(7)?;
+            out.extend_from_slice(&cell.number.to_be_bytes())
+        }
+    }
+}
+
+/// Appends the items of a vector, one behind the other.
+#[cycle(put)]
+fn put_items(items: &Items, out: &mut Vec<u8>) -> Result<(), AllocError>
+    requires { AreWritable (plain_row items.now) }
+    ensures { OnOk result (out.new.items ≡ out.old.items ++ row_bytes (plain_row items.now)) }
+{
+    for i in 0..items.len() {
+        put_value(items.get(i), out)?;
+    }
+    Ok(())
+}
+
+/// Appends a callee.
+fn put_callee(callee: Callee, out: &mut Vec<u8>) -> Result<(), AllocError>
+    ensures { OnOk result (out.new.items ≡ out.old.items ++ callee_bytes callee) }
+{
+    match callee {
+        Callee::Core(op) => {
+            out.push(0)?;
+            out.extend_from_slice(&u16::from(op.number()).to_be_bytes())
+        }
+        Callee::Function(function) => {
+            out.push(1)?;
+            out.extend_from_slice(&function.to_be_bytes())
+        }
+    }
+}
+
+/// Appends the operands of an instruction.
+fn put_operands(instr: Instr, out: &mut Vec<u8>) -> Result<(), AllocError>
+    ensures { OnOk result (out.new.items ≡ out.old.items ++ operand_bytes instr) }
+{
+    match instr {
+        Instr::Const(number) | Instr::Jump(number) | Instr::JumpFalse(number) => {
+            out.extend_from_slice(&number.to_be_bytes())
+        }
+        Instr::Local(local) | Instr::Store(local) => Ok(out.push(local)?),
+        Instr::Core(op, count) => {
+            out.push(op.number())?;
+            out.extend_from_slice(&count.to_be_bytes())
+        }
+        Instr::Call(number)
+        | Instr::Vector(number)
+        | Instr::Print(number)
+        | Instr::Open(OpenForm::Alter, number) => out.extend_from_slice(&number.to_be_bytes()),
+        Instr::Open(OpenForm::Commute(callee) | OpenForm::Swap(callee), count)
+        | Instr::Send(callee, count) => {
+            put_callee(callee, out)?;
+            out.extend_from_slice(&count.to_be_bytes())
+        }
+        Instr::Pop
+        | Instr::Return
+        | Instr::Look(_)
+        | Instr::Put(_)
+        | Instr::TxBegin
+        | Instr::TxEnd
+        | Instr::Close(_)
+        | Instr::Halt => Ok(()),
+    }
+}
+
+/// Appends an instruction and its span.
+pub(crate) fn put_placed(instr: Instr, span: Span, out: &mut Vec<u8>) -> Result<(), AllocError>
+    ensures { OnOk result (out.new.items ≡ out.old.items ++ placed_bytes (instr, span)) }
+{
+    out.push(Opcode::of(instr).byte())?;
+    put_operands(instr, out)?;
+    out.extend_from_slice(&span.from.to_be_bytes())?;
+    out.extend_from_slice(&span.to.to_be_bytes())
+}

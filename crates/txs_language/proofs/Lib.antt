@@ -1,0 +1,13 @@
+pub mod Ascending
+pub mod Bodies
+pub mod Earliest
+pub mod First
+pub mod FirstForm
+pub mod Levels
+pub mod Logic
+pub mod Names
+pub mod Reading
+pub mod Shapes
+pub mod Spreads
+pub mod Told
+pub mod Windows

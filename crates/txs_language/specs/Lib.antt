@@ -1,0 +1,4 @@
+pub mod FirstForm
+pub mod Logic
+pub mod Standing
+pub mod TextOrder

@@ -1,0 +1,108 @@
+//! Laws of scripts, told of the text, the program and its meaning together.
+
+ghost use Rattle.std.specs.Prelude.{◌≡◌, ◌≢◌, ◌≤◌, ◌<◌, ◌∷◌, [], ◌++◌, suc, ℕ, Bool, true, false, List, Some, None, Ok, Err, length};
+ghost use Rattle.txs_check.specs.Faulty.{FaultIn, IsBody};
+ghost use Rattle.txs_check.specs.Order.{Ascend};
+ghost use Rattle.txs_check.specs.Refused.{Body, CheckStops, in_order};
+ghost use Rattle.txs_check.specs.declared.error.CheckError.{CheckError};
+ghost use Rattle.txs_names.specs.Nearest.{NoneNamed};
+ghost use Rattle.txs_names.specs.Scope.{Scope, a_local, defined_as, operation, unknown, definition_of, is_current, may_bind, meaning, operations, with_local, with_name};
+ghost use Rattle.txs_names.specs.declared.names.FormName.TheVariants.{And, Or};
+ghost use Rattle.txs_names.specs.declared.scope.Definition.{Definition};
+ghost use Rattle.txs_reader.specs.Script.{Reads};
+ghost use Rattle.txs_reader.specs.Tree.{Tree as Form, Trees as Forms, first, place, trees_of};
+ghost use Rattle.txs_reader.specs.Tree.{none as no_forms};
+ghost use Rattle.txs_resolve.specs.Expansions.{body, list};
+ghost use Rattle.txs_resolve.specs.Expressions.{named};
+ghost use Rattle.txs_resolve.specs.Names.{Resolves, ResolveStops};
+ghost use Rattle.txs_resolve.specs.declared.error.ResolveError.{ResolveError};
+ghost use Rattle.txs_tree.specs.Known.{known};
+ghost use Rattle.txs_tree.specs.Meaning.{Completion, Effects, eval};
+ghost use Rattle.txs_tree.specs.Tree.{Tree, Const, PlainProgram};
+ghost use Rattle.txs_tree.specs.View.{mark_of};
+ghost use Rattle.txs_value.specs.Limits.{most_locals};
+ghost use Rattle.txs_value.specs.Operations.{op_name};
+ghost use Rattle.txs_value.specs.declared.fault.Span.{Span};
+ghost use Rattle.txs_value.specs.declared.op.Op.{Op};
+ghost use Rattle.txs_value.specs.declared.value.Value.{Value};
+ghost use Rattle.txs_value.specs.declared.value.Value.TheVariants.{Nil, Truth};
+ghost use Rattle.txs_language.specs.FirstForm.{StopsAt};
+ghost use Rattle.txs_language.specs.Logic.{AndDoes, OrDoes, and_tree, or_tree};
+ghost use Rattle.txs_language.specs.Standing.{HasTree, StandsIn};
+ghost use Rattle.txs_language.specs.TextOrder.{NestIn, Nests};
+
+/// The forms of a text stand in it one behind the other, and so do the parts of each form inside it.
+pub fn forms_stand_in_order()
+    ensures { (bytes : List ℕ) (forms : List Form) → Reads bytes forms → NestIn 0 (length bytes) (trees_of forms) }
+{}
+
+/// The bodies of what is read and resolved begin one behind the other, in the order in which they are checked.
+pub fn bodies_stand_in_order()
+    ensures { (bytes : List ℕ) (forms : List Form) (p : PlainProgram) → Reads bytes forms → Resolves forms p → Ascend (in_order p.functions p.threads) }
+{}
+
+/// The resolution of names stops at the first form that is refused: those before it are resolved, and what stands behind it is of no account.
+pub fn names_refuse_the_first_form()
+    ensures { (forms : List Form) (e : ResolveError) → ResolveStops forms e → StopsAt forms e }
+{}
+
+/// What ends before the place of a refusal was resolved, in its scope and with its levels: so no fault stands in it. Of a written form,
+/// whose parts stand in order, and of the body of a function or of a future.
+pub fn what_ends_before_a_refusal_is_resolved()
+    ensures written { (room k : ℕ) (scope outer : Scope) (wanted : Bool) (part form : Form) (e : ResolveError) → Nests form → named k outer wanted form ≡ Err e
+        → StandsIn room scope part k outer form → (place part).to ≤ e.at.from → HasTree room scope part }
+    ensures bodies { (room k : ℕ) (scope outer : Scope) (wanted : Bool) (part : Form) (at : Span) (from : ℕ) (forms : Forms) (e : ResolveError) → at.from < from → NestIn from at.to forms
+        → named k outer wanted (body forms at) ≡ Err e → StandsIn room scope part k outer (body forms at) → (place part).to ≤ e.at.from → HasTree room scope part }
+{}
+
+/// The refusal of a script's program is the first in its text: no form with a fault begins before it.
+pub fn checks_refuse_the_first()
+    ensures { (bytes : List ℕ) (forms : List Form) (p : PlainProgram) (e : CheckError) → Reads bytes forms → Resolves forms p → CheckStops p e
+        → (b : Body) → IsBody b (in_order p.functions p.threads) → (d : CheckError) → FaultIn (known p.functions) b.zone b.target b.tree d → e.at.from ≤ d.at.from }
+{}
+
+/// Behind a binding the name means the new local, and every other name what it meant; so no name of a script means a hidden local.
+pub fn a_binding_hides_its_name()
+    ensures bound { (name : List ℕ) (scope : Scope) → may_bind name ≡ true → meaning name (with_local name scope) ≡ a_local (length scope.locals) }
+    ensures others { (name other : List ℕ) (scope : Scope) → other ≢ name → meaning other (with_local name scope) ≡ meaning other scope }
+{}
+
+/// A name that no local has, and not the function that is being defined, means its definition, else a core operation, else nothing.
+pub fn names_without_locals()
+    ensures definition { (name : List ℕ) (scope : Scope) → may_bind name ≡ true → NoneNamed name scope.locals → is_current name scope.current ≡ false
+        → (d : Definition) → definition_of name scope.defined ≡ Some d → meaning name scope ≡ defined_as d }
+    ensures operation { (name : List ℕ) (scope : Scope) → may_bind name ≡ true → NoneNamed name scope.locals → is_current name scope.current ≡ false
+        → (op : Op) → definition_of name scope.defined ≡ None → with_name op_name name operations ≡ Some op → meaning name scope ≡ operation op }
+    ensures nothing { (name : List ℕ) (scope : Scope) → may_bind name ≡ true → NoneNamed name scope.locals → is_current name scope.current ≡ false
+        → definition_of name scope.defined ≡ None → with_name op_name name operations ≡ None → meaning name scope ≡ unknown }
+{}
+
+/// A form that has a tree where it may have so many levels has the same tree where it may have one more: the limit refuses, and changes nothing.
+pub fn one_level_more_changes_no_tree()
+    ensures { (room : ℕ) (scope : Scope) (wanted : Bool) (form : Form) (t : Tree) → named room scope wanted form ≡ Ok t → named (suc room) scope wanted form ≡ Ok t }
+{}
+
+/// `(and)` is true, `(or)` is nil, and `(and e)` and `(or e)` are e.
+pub fn short_logic()
+    ensures and_none { (room : ℕ) (scope : Scope) (wanted : Bool) (at : Span) → named (suc room) scope wanted (list And no_forms at) ≡ Ok (Const (Truth true) (mark_of at wanted)) }
+    ensures or_none { (room : ℕ) (scope : Scope) (wanted : Bool) (at : Span) → named (suc room) scope wanted (list Or no_forms at) ≡ Ok (Const Nil (mark_of at wanted)) }
+    ensures and_one { (room : ℕ) (scope : Scope) (wanted : Bool) (e : Form) (at : Span) → named room scope wanted (list And (first e no_forms) at) ≡ named room scope wanted e }
+    ensures or_one { (room : ℕ) (scope : Scope) (wanted : Bool) (e : Form) (at : Span) → named room scope wanted (list Or (first e no_forms) at) ≡ named room scope wanted e }
+{}
+
+/// `(and e f ..)` and `(or e f ..)` are choices by the value of e, which the rest sees in a local that no name of a script means.
+pub fn longer_logic()
+    ensures and_is { (room : ℕ) (scope : Scope) (wanted : Bool) (at : Span) (e f : Form) (rest : Forms) (x y : Tree) → length scope.locals < most_locals
+        → named (suc (suc room)) scope true e ≡ Ok x → named (suc room) (with_local [] scope) wanted (list And (first f rest) at) ≡ Ok y
+        → named (suc (suc (suc room))) scope wanted (list And (first e (first f rest)) at) ≡ Ok (and_tree (length scope.locals) x y at wanted) }
+    ensures or_is { (room : ℕ) (scope : Scope) (wanted : Bool) (at : Span) (e f : Form) (rest : Forms) (x y : Tree) → length scope.locals < most_locals
+        → named (suc (suc room)) scope true e ≡ Ok x → named (suc room) (with_local [] scope) wanted (list Or (first f rest) at) ≡ Ok y
+        → named (suc (suc (suc room))) scope wanted (list Or (first e (first f rest)) at) ≡ Ok (or_tree (length scope.locals) x y at wanted) }
+{}
+
+/// Of such a choice, whatever effects its parts have: `(and x y ..)` is x's value where that is nil or false, else what `(and y ..)` is, and
+/// `(or x y ..)` is x's value where that is neither, else what `(or y ..)` is. x is evaluated once.
+pub fn logic_does<S>()
+    ensures and_does { AndDoes S }
+    ensures or_does { OrDoes S }
+{}
