@@ -1,1 +1,2 @@
+pub mod OwnCells
 pub mod Today

@@ -1,6 +1,8 @@
 -- The forms of a script of which none is left out are a program that runs today.
-use Rattle.std.proofs.Common.{◌≡◌, ◌||◌, ℕ, zero, suc, Bool, true, false, nat_lt, if◌then◌else◌, List, [], ◌∷◌, ◌++◌, length, Option, Some, None, Ok, Err, refl, subst}
+use Rattle.std.proofs.Common.{◌≡◌, ◌&&◌, ◌||◌, ℕ, zero, suc, Bool, true, false, nat_lt, if◌then◌else◌, List, [], ◌∷◌, ◌++◌, length, Option, Some, None, Ok, Err, refl, subst}
 use Rattle.txs_value.specs.Limits.{most_definitions, most_depth, most_levels, most_threads}
+use Rattle.txs_value.specs.declared.cell.CellDefinition.{CellDefinition}
+use Rattle.txs_value.specs.declared.cell.ErrorMode.{ErrorMode}
 use Rattle.txs_value.specs.declared.fault.Span.{Span}
 use Rattle.txs_value.specs.declared.form.CellForm.{CellForm}
 use Rattle.txs_value.specs.declared.form.CellForm.TheVariants as on_cell
@@ -10,6 +12,7 @@ use Rattle.txs_value.specs.declared.form.UpdateForm.TheVariants.{Alter}
 use Rattle.txs_value.specs.declared.op.Op.{Op}
 use Rattle.txs_value.specs.declared.op.Callee.{Callee}
 use Rattle.txs_value.specs.declared.op.Callee.TheVariants.{Core as CoreOp, Function as TheFunction}
+use Rattle.txs_value.specs.declared.value.CellKind.TheVariants.{Ref}
 use Rattle.txs_value.specs.declared.value.Value.{Value}
 use Rattle.txs_value.specs.declared.value.Value.TheVariants.{Cell}
 use Rattle.txs_reader.specs.declared.form.Bracket.TheVariants.{Round, Square}
@@ -31,11 +34,12 @@ use Rattle.txs_resolve.specs.declared.nodes.Spot.{Spot}
 use Rattle.txs_resolve.specs.Answers.{◌>>=◌, refuse}
 use Rattle.txs_resolve.specs.Expansions.{alone, body, expand_once, expansion, expansion_by, form_at, hidden, is_alone, is_even, let_hidden, list, or_same, three}
 use Rattle.txs_resolve.specs.Expressions.{Answer, Bound, Special, row, one_part, putting, choice, binding, changing, Core as ACore, whole, parted, Resolver, spot_at, spot_mark, in_room, some_room, narrow, symbol_node, leaf_node, leaf_value, callee_of, flag, sequence_node, are_wanted, choice_node, single_node, is_wanted, change_node, binding_node, are_pairs, bound_in, of_family, special, is_chain, all_but_last, last_of, operands, applied, list_core, core_of, bound_name, named_all, named_bindings, put_together, made, resolved, named}
-use Rattle.txs_resolve.specs.Literals.{literal}
-use Rattle.txs_resolve.specs.Names.{State, nothing, program, new_name, Defining, defining_of, with_definition, defined_as_one, NamedForm, named_form, defined_at, parameters, Written, written_behind, untold, written, are_symbols, with_function, function, with_thread, future, top_level, step, steps, is_namespace, behind_namespace, Resolves}
+use Rattle.txs_code.specs.RunsToday.{KindRunsToday, CellsRunToday}
+use Rattle.txs_resolve.specs.Literals.{is_literal, literal}
+use Rattle.txs_resolve.specs.Names.{State, nothing, program, new_name, Defining, only_literal, mode_behind, opened, cell_of, kind_at, defining_of, new_cell, with_definition, defined_as_one, NamedForm, named_form, defined_at, parameters, Written, written_behind, untold, written, are_symbols, with_function, function, with_thread, future, top_level, step, steps, is_namespace, behind_namespace, Resolves}
 use Rattle.txs_resolve.proofs.Scoping.{Every, then_every, one_every, two_every, three_every, if_every}
 use Rattle.txs_gen.specs.Today.{LooksToday, PutsToday, UpdatesToday, TreeRunsToday, TreesRunToday, FunctionsRunToday, ThreadsRunToday, ProgramRunsToday}
-use Rattle.txs_compile.specs.LeftOut.{or_else, head_form, runs_later, left_out_in, left_out_among, is_future, is_left_out, left_out_from, left_out}
+use Rattle.txs_compile.specs.LeftOut.{or_else, head_form, runs_later, makes_later, defines, left_out_in, left_out_among, is_future, third, has_later_cell, is_later_definition, is_left_out, left_out_from, left_out}
 
 -- ---- forms of which none is left out
 
@@ -432,6 +436,7 @@ named_today (suc room) scope wanted form h =
 record StateToday (s : State) : Type 0 where
   functions : FunctionsRunToday s.functions
   threads : ThreadsRunToday s.threads
+  cells : CellsRunToday s.cells
 
 functions_more : (fs : List PlainFunction) (f : PlainFunction) → FunctionsRunToday fs → TreeRunsToday f.body → FunctionsRunToday (fs ++ f ∷ [])
 functions_more [] f h k = (k, tt)
@@ -441,20 +446,65 @@ threads_more : (ts : List PlainThread) (t : PlainThread) → ThreadsRunToday ts 
 threads_more [] t h k = (k, tt)
 threads_more (u ∷ ts) t h k = (h.0, threads_more ts t h.1 k)
 
-definition_today : (sort : Option CellSort) (s : State) (name : List ℕ) (v : Value) → StateToday s → StateToday (with_definition sort s name v)
-definition_today None s name v h = record { functions = h.functions; threads = h.threads }
-definition_today (Some sort) s name v h = record { functions = h.functions; threads = h.threads }
+cells_more : (cells : List CellDefinition) (d : CellDefinition) → CellsRunToday cells → KindRunsToday d.kind → CellsRunToday (cells ++ d ∷ [])
+cells_more [] d h k = (k, tt)
+cells_more (c ∷ cells) d h k = (h.0, cells_more cells d h.1 k)
 
-one_today : (s : State) (name : List ℕ) (at span : Span) (o : Option Defining) → StateToday s → Every StateToday (defined_as_one s name at span o)
-one_today s name at span None h = tt
-one_today s name at span (Some d) h =
+-- a cell that is defined is a ref
+abbrev SortToday : Option CellSort → Type 0
+SortToday None = Unit {0}
+SortToday (Some sort) = KindRunsToday sort.kind
+
+abbrev DefiningToday : Option Defining → Type 0
+DefiningToday None = Unit {0}
+DefiningToday (Some d) = SortToday d.sort
+
+only_today : (sort : Option CellSort) (form : Form) → SortToday sort → DefiningToday (only_literal sort form)
+only_today sort form h = here (is_literal form) where
+  here : (b : Bool) → DefiningToday (if b then Some (record { sort = sort; value = form }) else None)
+  here true = h
+  here false = tt
+
+opened_today : (mode : Option ErrorMode) (form : Form) → DefiningToday (opened Ref mode form)
+opened_today None form = tt
+opened_today (Some mode) form = only_today (Some (record { kind = Ref; error_mode = mode })) form tt
+
+cell_today : (o : Option FormName) (args : Forms) → makes_later o ≡ false → DefiningToday (cell_of (kind_at o) args)
+cell_today (Some kind.Atom) args e = absurd (later e)
+cell_today (Some kind.Agent) args e = absurd (later e)
+cell_today (Some kind.Ref) no_forms e = tt
+cell_today (Some kind.Ref) (first form behind) e = opened_today (mode_behind Ref behind) form
+cell_today _ args e = tt
+
+defining_today : (form : Form) → makes_later (head_form form) ≡ false → DefiningToday (defining_of form)
+defining_today (leaf x at) e = only_today None (leaf x at) tt
+defining_today (group Square forms at) e = only_today None (group Square forms at) tt
+defining_today (group Round no_forms at) e = only_today None (group Round no_forms at) tt
+defining_today (group Round (first head args) at) e = cell_today (form_at head) args e
+
+definition_today : (sort : Option CellSort) (s : State) (name : List ℕ) (v : Value) → SortToday sort → StateToday s → StateToday (with_definition sort s name v)
+definition_today None s name v k h = record { functions = h.functions; threads = h.threads; cells = h.cells }
+definition_today (Some sort) s name v k h = record { functions = h.functions; threads = h.threads; cells = cells_more s.cells (new_cell name sort v) h.cells k }
+
+one_today : (s : State) (name : List ℕ) (at span : Span) (o : Option Defining) → DefiningToday o → StateToday s → Every StateToday (defined_as_one s name at span o)
+one_today s name at span None k h = tt
+one_today s name at span (Some d) k h =
     if_every StateToday (nat_lt s.defs most_definitions) (literal most_depth d.value >>= λ v. new_name s.defined name at >>= λ n. Ok (with_definition d.sort s n v)) (record { kind = TooMany; at = span })
     (λ _. two_every Any Any StateToday (literal most_depth d.value) (new_name s.defined name at) (λ v n. with_definition d.sort s n v) (any (literal most_depth d.value)) (any (new_name s.defined name at))
-    (λ v n _ _. definition_today d.sort s n v h))
+    (λ v n _ _. definition_today d.sort s n v k h))
 
-defined_today : (s : State) (span : Span) (o : Option NamedForm) → StateToday s → Every StateToday (defined_at s span o)
-defined_today s span None h = tt
-defined_today s span (Some f) h = one_today s f.name f.at span (defining_of f.form) h
+-- a form that is named makes no cell but a ref
+abbrev NamedToday : Option NamedForm → Type 0
+NamedToday None = Unit {0}
+NamedToday (Some f) = makes_later (head_form f.form) ≡ false
+
+defined_today : (s : State) (span : Span) (o : Option NamedForm) → NamedToday o → StateToday s → Every StateToday (defined_at s span o)
+defined_today s span None k h = tt
+defined_today s span (Some f) k h = one_today s f.name f.at span (defining_of f.form) (defining_today f.form k) h
+
+form_today : (head : Form) (forms : Forms) (at : Span) → has_later_cell (third (group Round (first head forms) at)) ≡ false → NamedToday (named_form forms)
+form_today head (first (leaf (symbol name) there) (first form no_forms)) at e = e
+form_today head _ at e = tt
 
 abbrev KeptWritten : Option Written → Type 0
 KeptWritten None = Unit {0}
@@ -497,7 +547,7 @@ function_today s span (Some w) k h =
     (λ name _. then_every Any StateToday (parameters [] w.parameters) (rest name) (any (parameters [] w.parameters))
     (λ locals _. one_every TreeRunsToday StateToday (node name locals) (λ t. with_function s name (length locals) t span)
     (named_today most_levels (record { locals = locals; defined = s.defined; current = Some name }) true (body w.body span) (body_kept w.body span k))
-    (λ t p. record { functions = functions_more s.functions (record { parameters = length locals; body = t; span = span }) h.functions p; threads = h.threads })))) where
+    (λ t p. record { functions = functions_more s.functions (record { parameters = length locals; body = t; span = span }) h.functions p; threads = h.threads; cells = h.cells })))) where
       all : Answer (List ℕ)
       all = new_name s.defined w.name w.at
 
@@ -516,55 +566,34 @@ future_today s span forms k h =
     if_every StateToday (nat_lt (length s.threads) most_threads) (node >>= λ t. Ok (with_thread s t span)) (record { kind = TooMany; at = span })
     (λ _. one_every TreeRunsToday StateToday node (λ t. with_thread s t span)
     (named_today most_levels (record { locals = []; defined = s.defined; current = None }) false (body forms span) (body_kept forms span k))
-    (λ t p. record { functions = h.functions; threads = threads_more s.threads (record { body = t; span = span }) h.threads p }))
+    (λ t p. record { functions = h.functions; threads = threads_more s.threads (record { body = t; span = span }) h.threads p; cells = h.cells }))
 
-top_today : (o : Option FormName) (s : State) (span : Span) (forms : Forms) → AllKept forms → StateToday s → Every StateToday (top_level o s span forms)
-top_today None s span forms k h = tt
-top_today (Some kind.Def) s span forms k h = defined_today s span (named_form forms) h
-top_today (Some kind.Defn) s span forms k h = function_today s span (written forms) (written_kept forms k) h
-top_today (Some kind.Future) s span forms k h = future_today s span forms k h
-top_today (Some kind.Ns) s span forms k h = tt
-top_today (Some kind.If) s span forms k h = tt
-top_today (Some kind.Do) s span forms k h = tt
-top_today (Some kind.Let) s span forms k h = tt
-top_today (Some kind.Loop) s span forms k h = tt
-top_today (Some kind.Recur) s span forms k h = tt
-top_today (Some kind.When) s span forms k h = tt
-top_today (Some kind.WhenNot) s span forms k h = tt
-top_today (Some kind.IfNot) s span forms k h = tt
-top_today (Some kind.And) s span forms k h = tt
-top_today (Some kind.Or) s span forms k h = tt
-top_today (Some kind.Cond) s span forms k h = tt
-top_today (Some kind.Println) s span forms k h = tt
-top_today (Some kind.Dosync) s span forms k h = tt
-top_today (Some kind.Deref) s span forms k h = tt
-top_today (Some kind.RefSet) s span forms k h = tt
-top_today (Some kind.Alter) s span forms k h = tt
-top_today (Some kind.Commute) s span forms k h = tt
-top_today (Some kind.Ensure) s span forms k h = tt
-top_today (Some kind.Swap) s span forms k h = tt
-top_today (Some kind.Reset) s span forms k h = tt
-top_today (Some kind.Send) s span forms k h = tt
-top_today (Some kind.Ref) s span forms k h = tt
-top_today (Some kind.Atom) s span forms k h = tt
-top_today (Some kind.Agent) s span forms k h = tt
+top_today : (o : Option FormName) (s : State) (span : Span) (head : Form) (forms : Forms) → (defines o && has_later_cell (third (group Round (first head forms) span))) ≡ false → AllKept forms → StateToday s → Every StateToday (top_level o s span forms)
+top_today (Some kind.Def) s span head forms e k h = defined_today s span (named_form forms) (form_today head forms span e) h
+top_today (Some kind.Defn) s span head forms e k h = function_today s span (written forms) (written_kept forms k) h
+top_today (Some kind.Future) s span head forms e k h = future_today s span forms k h
+top_today _ s span head forms e k h = tt
 
-step_today : (s : State) (form : Form) → Kept form → StateToday s → Every StateToday (step s form)
-step_today s (leaf x at) k h = tt
-step_today s (group Square forms at) k h = tt
-step_today s (group Round no_forms at) k h = tt
-step_today s (group Round (first head forms) at) k h = top_today (form_at head) s at forms k.1.1 h
+either_false : (a b : Bool) → (a || b) ≡ false → b ≡ false
+either_false true b e = absurd (later e)
+either_false false b e = e
+
+step_today : (s : State) (form : Form) → is_later_definition form ≡ false → Kept form → StateToday s → Every StateToday (step s form)
+step_today s (leaf x at) e k h = tt
+step_today s (group Square forms at) e k h = tt
+step_today s (group Round no_forms at) e k h = tt
+step_today s (group Round (first head forms) at) e k h = top_today (form_at head) s at head forms e k.1.1 h
 
 steps_today : (forms : List Form) (second : Bool) (s : State) → left_out_from second forms ≡ None → StateToday s → Every StateToday (steps s forms)
 steps_today [] second s e h = h
 steps_today (form ∷ forms) second s e h =
     let test = unless (is_left_out second form) (place form) (or_else (left_out_in form) (left_out_from (second || is_future form) forms)) e in
     let both = neither (left_out_in form) (left_out_from (second || is_future form) forms) test.1 in
-    then_every StateToday StateToday (step s form) (λ t. steps t forms) (step_today s form (kept form both.0) h)
+    then_every StateToday StateToday (step s form) (λ t. steps t forms) (step_today s form (either_false (second && is_future form) (is_later_definition form) test.0) (kept form both.0) h)
     (λ t g. steps_today forms (second || is_future form) t both.1 g)
 
 nothing_today : StateToday nothing
-nothing_today = record { functions = tt; threads = tt }
+nothing_today = record { functions = tt; threads = tt; cells = tt }
 
 script_today : (forms : List Form) → left_out forms ≡ None → Every StateToday (steps nothing (behind_namespace forms))
 script_today [] e = nothing_today
@@ -581,4 +610,4 @@ pub runs_today : (forms : List Form) (p : PlainProgram) → left_out forms ≡ N
 runs_today forms p kept_all e =
     subst (Every ProgramRunsToday) e
     (one_every StateToday ProgramRunsToday (steps nothing (behind_namespace forms)) program (script_today forms kept_all)
-    (λ s h. record { functions = h.functions; threads = h.threads }))
+    (λ s h. record { functions = h.functions; threads = h.threads; cells = h.cells }))

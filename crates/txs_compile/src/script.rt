@@ -2,9 +2,11 @@
 
 ghost use Rattle.std.specs.Prelude.{◌≡◌, Some, None, IfOk, IfErr};
 ghost use Rattle.txs_check.specs.Refused.{CheckStops};
+ghost use Rattle.txs_code.specs.OwnCells.{NamesOwnCells};
 ghost use Rattle.txs_code.specs.PlainCode.{function_codes};
 ghost use Rattle.txs_follows.specs.FollowsAgent.{FollowsAgents};
 ghost use Rattle.txs_follows.specs.FollowsAll.{FollowsAll};
+ghost use Rattle.txs_gen.specs.OwnCells.{ProgramNamesOwnCells};
 ghost use Rattle.txs_gen.specs.Today.{ProgramRunsToday};
 ghost use Rattle.txs_reader.specs.Script.{Reads};
 ghost use Rattle.txs_reader.specs.Tree.{trees};
@@ -68,6 +70,7 @@ fn program_of_forms(alloc: Global, bytes: &[u8], forms: &[Form]) -> Result<Progr
     requires whole { left_out (trees forms.now) ≡ None }
     ensures ok { IfOk result (λ p. IsProgramOf bytes.now (program_of p)) }
     ensures today { IfOk result (λ p. ProgramRunsToday (program_of p)) }
+    ensures own_cells { IfOk result (λ p. ProgramNamesOwnCells (program_of p)) }
     ensures err { IfErr result (λ e. IsRefusal bytes.now e) }
 {
     let raw = raw_of(alloc, bytes, forms)?;
@@ -92,6 +95,7 @@ pub fn compile(alloc: Global, bytes: &[u8]) -> Result<(Program, Verified), Compi
     ensures code { IfOk result (λ c. FollowsAll (codes_of c.1) (program_of c.0)) }
     ensures agents { IfOk result (λ c. FollowsAgents (function_codes c.1) (program_of c.0).functions) }
     ensures cells { IfOk result (λ c. c.1.cells ≡ c.0.cells) }
+    ensures own_cells { IfOk result (λ c. NamesOwnCells c.1) }
     ensures refused { IfErr result (λ e. IsRefusal bytes.now e) }
 {
     let forms = forms_of(alloc, bytes)?;

@@ -1,4 +1,5 @@
 use Rattle.txs_tree.specs.View.{program_of}
+use Rattle.txs_gen.proofs.OwnCells.{code_names_own_cells}
 use Rattle.txs_compile.proofs.script.compile.Goals as goal
 
 pub returns-clause-code : goal.returns-clause-code
@@ -8,3 +9,7 @@ returns-clause-code c =
 pub returns-clause-agents : goal.returns-clause-agents
 returns-clause-agents c =
     c.code_of_agents_follows.ensures c.in_ok-verified.verified (program_of c.in_ok-program.program) c.in_ok-program.ensures.ok.sound c.in_ok-verified.ensures
+
+pub returns-clause-own_cells : goal.returns-clause-own_cells
+returns-clause-own_cells c =
+    code_names_own_cells c.in_ok-verified.verified (program_of c.in_ok-program.program) c.in_ok-verified.ensures c.in_ok-program.ensures.own_cells
