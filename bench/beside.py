@@ -1,6 +1,6 @@
 """What the programs that time scripts share: a script in txs and in real Clojure, turn and turn about in one run, with
 what both printed. They need Debian's package `clojure`, and the built program (./txs builds it)."""
-import os, subprocess, sys, tempfile, time
+import os, re, subprocess, sys, tempfile, time
 HERE = os.path.dirname(os.path.abspath(__file__))
 JARS = ["clojure.jar", "spec.alpha.jar", "core.specs.alpha.jar"]
 JAVA = ["java", "-Xmx2g", "-cp", ":".join(os.path.join(os.sep, "usr", "share", "java", j) for j in JARS), "clojure.main"]
@@ -21,11 +21,13 @@ def timed(command):
         return seconds, usage.ru_maxrss, out.read().decode(), err.read().decode().strip()
 
 
-def filled(folder, name, size):
-    """The script with its size, as a file."""
-    with open(os.path.join(HERE, "scripts", name + ".clj"), encoding="utf-8") as h:
+def filled(folder, name, size, ending=".clj"):
+    """The script with its size, and with 1,000 accounts where it names them, as a file."""
+    with open(os.path.join(HERE, "scripts", name + ending), encoding="utf-8") as h:
         text = h.read().replace("@N@", str(size))
-    path = os.path.join(folder, name + ".clj")
+    names = ["account-%d" % i for i in range(1000)]
+    text = text.replace("@ACCOUNTS@", "\n".join("(def %s (ref 100))" % it for it in names)).replace("@NAMES@", " ".join(names))
+    path = os.path.join(folder, name + ending)
     with open(path, "w", encoding="utf-8") as h:
         h.write(text)
     return path
@@ -46,6 +48,13 @@ def warm_clojure(path, warm, runs):
 def txs(path):
     """The whole command."""
     return timed([TXS, "run", "--steps", STEPS, path])
+
+
+def counted(path):
+    """Machine instructions of the whole command, by callgrind (Debian's package `valgrind`)."""
+    done = subprocess.run(["valgrind", "--tool=callgrind", "--callgrind-out-file=/dev/null", TXS, "run", "--steps", STEPS, path],
+                          capture_output=True, text=True, check=True)
+    return int(re.search(r"Collected : (\d+)", done.stderr)[1])
 
 
 def need_the_program():

@@ -6,6 +6,8 @@
 #[cfg(test)]
 mod atoms;
 #[cfg(test)]
+mod bytes;
+#[cfg(test)]
 mod frame;
 #[cfg(test)]
 mod mail;

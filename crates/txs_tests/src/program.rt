@@ -673,7 +673,7 @@ fn agrees(alloc: Global, script: &str) -> Result<bool, Fail> {
     if program.threads().is_empty() || code.code().threads().is_empty() {
         return Ok(program.threads().is_empty() && code.code().threads().is_empty());
     }
-    let meaning = eval_thread(alloc, &program, 0, 10_000)?;
+    let meaning = eval_thread(alloc, &program, 0, &[], 10_000)?;
     let threads = u16::try_from(code.code().threads().len())?;
     let mut store = Store::open(alloc, code.code().cells(), threads)?;
     let ran = run_thread(alloc, &code, 0, 100_000_000, &mut store)?;

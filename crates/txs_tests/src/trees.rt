@@ -17,11 +17,11 @@ fn evaluates_a_call(rt: HostRuntime) -> Result<(), Fail> {
     if program.threads().is_empty() {
         panic!(rt; "a thread");
     }
-    let meaning = eval_thread(alloc, &program, 0, 1)?;
+    let meaning = eval_thread(alloc, &program, 0, &[], 1)?;
     assert_eq!(rt; meaning.printed.as_slice(), b"[2 1]\n".as_slice());
     assert!(rt; meaning.needs == Needs::Nothing);
     assert!(rt; meaning.outcome == Some(Outcome::Done));
-    let short = eval_thread(alloc, &program, 0, 0)?;
+    let short = eval_thread(alloc, &program, 0, &[], 0)?;
     assert_eq!(rt; short.printed.as_slice(), b"".as_slice());
     assert!(rt; short.needs == Needs::Turns);
     assert!(rt; short.outcome == None);
