@@ -8,8 +8,11 @@ use Rattle.txs_tree.specs.declared.node.Node.{Node}
 use Rattle.std.proofs.lemmas.List.{drop_more}
 use Rattle.txs_operations.specs.Core.{takes}
 use Rattle.txs_value.specs.declared.op.Op.{Op}
-use Rattle.txs_tree.proofs.Evaluation.{trees_from}
 use Rattle.txs_tree.specs.declared.node.Thread.{Thread}
+
+-- the nodes from a place on: the one at the place, and those after it
+pub trees_from : (ns : List Node) (i : ℕ) (n : Node) → i < length ns → n ≡ get_or ns i n → trees_of (drop i ns) ≡ more (tree_of n) (trees_of (drop (i + 1) ns))
+trees_from ns i n lt is = ap trees_of (drop_more ns i n lt) ∙ ap (λ m. more (tree_of m) (trees_of (drop (i + 1) ns))) (sym is)
 
 pub SoundLet-room : (ks : List Known) (zone : Zone) (d : ℕ) (es : Trees) → SoundLet ks zone d es → d + count es ≤ 200
 SoundLet-room ks zone d none h = omega (arith, h)

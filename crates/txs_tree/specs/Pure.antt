@@ -1,5 +1,5 @@
 -- What pure code means: code with no form on cells, that prints nothing and runs no transaction.
-use Rattle.std.specs.Prelude.{◌≡◌, ℕ, Bool, true, false, List, length, Result, Ok, Err, ⊤}
+use Rattle.std.specs.Prelude.{◌≡◌, ℕ, Bool, true, false, List, length}
 use Rattle.txs_operations.specs.Core.{takes}
 use Rattle.txs_value.specs.declared.fault.Span.{Span}
 use Rattle.txs_value.specs.declared.op.Callee.{Callee}
@@ -9,8 +9,6 @@ use Rattle.txs_tree.specs.Known.{Known}
 use Rattle.txs_tree.specs.Meaning.{Completion, Completes, Recurs, Faults, Retries, Waits, OutOfTurns, Invalid, Effects, apply, call_at}
 use Rattle.txs_tree.specs.Sound.{PureCall}
 use Rattle.txs_tree.specs.Tree.{PlainFunction}
-use Rattle.txs_tree.specs.declared.pure_call.EvalStop.{EvalStop}
-use Rattle.txs_tree.specs.declared.pure_call.EvalStop.TheVariants.{Fault, Turns, Memory}
 
 -- the forms that pure code hasn't
 abbrev pub no_effects : Effects (Unit {0})
@@ -49,11 +47,3 @@ Lasts Invalid q = q ≡ Invalid
 abbrev pub PureCallee : List Known → Callee → ℕ → Type 0
 PureCallee ks (CoreOp op) n = takes op n ≡ true
 PureCallee ks (Function f) n = PureCall ks f n
-
--- The value, the fault, and a want of turns are those of the meaning, or there was no memory for it. There is nothing
--- that the meaning may wait for.
-abbrev pub PureGives : Result Value EvalStop → Completion (Unit {0}) Value → Type 0
-PureGives (Ok v) c = c ≡ Completes v tt
-PureGives (Err (Fault f)) c = c ≡ Faults f tt
-PureGives (Err Turns) c = c ≡ OutOfTurns tt
-PureGives (Err Memory) c = ⊤

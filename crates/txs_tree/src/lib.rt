@@ -1,32 +1,12 @@
-//! Programs as trees, and what they mean. A node is a plain tree to every contract (`tree_of`), a program
-//! the sound program of its cells, functions and threads. `eval_thread` answers exactly the thread meaning on
-//! a list of events, each with its worlds: its printed bytes, what it needs, how it ends, how many events it
-//! ate, and what is told of its transactions. `eval_tx` answers exactly the meaning of a transaction's body on
-//! one world of refs, and `eval_pure` the pure meaning of a callee.
+//! Programs as trees. A node is a plain tree to every contract (`tree_of`), a program the sound program of its cells,
+//! functions and threads. What trees mean is in the definitions: `pure_meaning` of a callee, `tx_meaning` of a transaction's
+//! body on one world of refs, `thread_meaning` of a thread on a list of events.
 #![tactic(auto)]
 
-mod context;
-mod evaluate;
-pub mod meaning;
 pub mod node;
 pub mod program;
-pub mod pure_call;
 pub mod raw;
-mod same;
-pub mod seen;
-mod state;
-mod stop;
-mod thread;
-pub mod transaction;
-pub mod view;
-mod work;
-mod writes;
 
-pub use meaning::{Needs, ThreadMeaning, eval_thread};
 pub use node::{Function, Node, NodeKind, Thread};
 pub use program::Program;
-pub use pure_call::{EvalStop, eval_pure, more_turns_change_no_answer};
 pub use raw::Raw;
-pub use seen::Seen;
-pub use transaction::{TxMeaning, eval_tx};
-pub use view::RefView;

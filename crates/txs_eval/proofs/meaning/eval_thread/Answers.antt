@@ -1,0 +1,22 @@
+use Rattle.std.proofs.Common.{[], ap, length, sym, subst}
+use Rattle.txs_eval.specs.Events.{seen_events}
+use Rattle.txs_tree.specs.Sound.{SoundFunctions}
+use Rattle.txs_tree.specs.View.{functions_of}
+use Rattle.txs_eval.proofs.Ends.{whole_of, sound_body, told_account}
+use Rattle.txs_eval.proofs.meaning.eval_thread.Goals as goal
+
+pub new-context-requires : goal.new-context-requires
+new-context-requires c = subst (λ fs. SoundFunctions [] (functions_of fs)) (sym c.functions.ensures) c.is_sound.ensures.functions
+
+pub evaluate-end-requires : goal.evaluate-end-requires
+evaluate-end-requires c =
+    let p = c.args.program.now in
+    let whole = whole_of c.new-context.result c.cells.result.now p.cells c.functions.result.now p.functions c.args.turns _ c.new-context.ensures c.cells.ensures c.functions.ensures in
+    sound_body c.threads.result.now p c.args.thread c.index-threads-thread.result c.threads.ensures.value c.requires c.index-threads-thread.is c.args.turns c.new-context.result whole (length c.new-locals.result.items) (ap length c.new-locals.ensures.items) c.threads.ensures.sound
+
+pub returns : goal.returns
+returns c =
+    let p = c.args.program.now in
+    let whole = whole_of c.new-context.result c.cells.result.now p.cells c.functions.result.now p.functions c.args.turns _ c.new-context.ensures c.cells.ensures c.functions.ensures in
+    told_account c.threads.result.now p c.args.thread c.index-threads-thread.result c.threads.ensures.value c.requires c.index-threads-thread.is c.args.turns c.new-context.result whole c.account.result (length c.args.events.now) (seen_events c.args.events.now) c.new-locals.result.items c.new-state.result c.evaluate-end.new.state c.evaluate-end.result
+    _ _ c.new-locals.ensures.items c.new-state.ensures.thread c.evaluate-end.ensures.value c.in_ok-needs.ensures c.account.ensures

@@ -1,0 +1,521 @@
+-- What the plain evaluators answer.
+use Rattle.std.specs.Prelude.{◌≡◌, ◌&&◌, ◌==◌, ◌||◌, ◌-◌, ◌<◌, ℕ, zero, suc, Bool, true, false, List, [], ◌∷◌, ◌++◌, map, drop, length, Option, Some, None, Result, Ok, Err, if◌then◌else◌, ⊤}
+use Rattle.txs_asks.specs.Ask.{Writes, same_value, same_writes, same_actions}
+use Rattle.txs_asks.specs.SeenEvent.{SeenEvent, home}
+use Rattle.txs_asks.specs.declared.event.EventKind.{EventKind}
+use Rattle.txs_asks.specs.declared.event.EventKind.TheVariants.{Read, Send as Sent, SendRefused, Swap as Swapped, Broke}
+use Rattle.txs_asks.specs.declared.event.Outcome.{Outcome}
+use Rattle.txs_asks.specs.declared.event.Outcome.TheVariants.{Done, Failed}
+use Rattle.txs_frame.specs.Frame.{Work}
+use Rattle.txs_frame.specs.declared.frame.Commute.{Commute}
+use Rattle.txs_operations.specs.Core.{core, vector_of, takes}
+use Rattle.txs_operations.specs.Truth.{choose}
+use Rattle.txs_eval.specs.Events.{seen_event, seen_events}
+use Rattle.txs_tree.specs.Known.{Known}
+use Rattle.txs_tree.specs.Meaning.{Completion, Completes, Recurs, Faults, Retries, Waits, OutOfTurns, Invalid, bind, closed, result_of, Applies, apply, turns, Effects, eval, eval_all, eval_let, eval_do, call_at}
+use Rattle.txs_tree.specs.Pure.{pure_calls}
+use Rattle.txs_eval.specs.Setting.{Setting, callable, zone_in}
+use Rattle.txs_tree.specs.Sound.{Zone, MayStand, SoundCall, SoundCallee}
+use Rattle.txs_tree.specs.Thread.{TxRun, ThreadState, Surroundings, Transacting, on_events, eats, swaps, over, faultless, faulted, meant, with_tx, run_of, ends_tx, eats_tx}
+use Rattle.txs_tree.specs.Transaction.{TxState, in_transaction, tx_update, tx_meaning, redone, final_writes}
+use Rattle.txs_tree.specs.Tree.{Mark, Tree, Trees, count, PlainProgram, PlainThread, ThreadSource}
+use Rattle.txs_tree.specs.View.{tree_of, functions_of, mark_of}
+use Rattle.txs_eval.specs.Views.{PlainView, world_of}
+use Rattle.txs_eval.specs.declared.shape.Act.{Act}
+use Rattle.txs_eval.specs.declared.shape.Act.TheVariants.{Look as a_look, Put as a_put, Update as an_update, Send as a_send}
+use Rattle.txs_eval.specs.declared.evaluate.Step.{Step}
+use Rattle.txs_eval.specs.declared.evaluate.Step.TheVariants.{Value as AValue, Recur as ARecur}
+use Rattle.txs_eval.specs.declared.shape.Strict.{Strict}
+use Rattle.txs_eval.specs.declared.shape.Strict.TheVariants.{Recur as a_recur, Core as a_core, Call as a_call, Vector as a_vector, Println as a_println}
+use Rattle.txs_eval.specs.declared.meaning.Needs.{Needs}
+use Rattle.txs_eval.specs.declared.meaning.Needs.TheVariants.{Nothing, Event, Turns, Wrong}
+use Rattle.txs_eval.specs.declared.meaning.ThreadMeaning.{ThreadMeaning}
+use Rattle.txs_eval.specs.declared.pure_call.EvalStop.{EvalStop}
+use Rattle.txs_eval.specs.declared.pure_call.EvalStop.TheVariants.{Fault as AFault, Turns as FewTurns, Memory as FullMemory}
+use Rattle.txs_eval.specs.declared.state.Progress.{Progress}
+use Rattle.txs_eval.specs.declared.state.State.{State}
+use Rattle.txs_eval.specs.declared.state.Transacted.{Transacted}
+use Rattle.txs_eval.specs.declared.state.TxWork.{TxWork}
+use Rattle.txs_eval.specs.declared.stop.ThreadStop.{ThreadStop}
+use Rattle.txs_eval.specs.declared.stop.ThreadStop.TheVariants.{Fault, Event as NoEvent, Wrong as OtherEvent, Turns as NoTurns, Memory}
+use Rattle.txs_eval.specs.declared.transaction.TxMeaning.{TxMeaning}
+use Rattle.txs_eval.specs.declared.seen.Seen.{Seen}
+use Rattle.txs_value.specs.Forms.{rule}
+use Rattle.txs_value.specs.Limits.{reruns}
+use Rattle.txs_value.specs.Places.{nth, fault_at}
+use Rattle.txs_value.specs.declared.action.Action.{Action}
+use Rattle.txs_value.specs.declared.fault.Fault as fault
+use Rattle.txs_value.specs.declared.fault.FaultKind.TheVariants.{AgentFailed}
+use Rattle.txs_value.specs.declared.fault.Span.{Span}
+use Rattle.txs_value.specs.declared.form.CellForm.TheVariants as form_of
+use Rattle.txs_value.specs.declared.form.UpdateForm.TheVariants.{Alter, Commute as CommuteForm}
+use Rattle.txs_value.specs.declared.form.Standing.TheVariants.{Outside}
+use Rattle.txs_value.specs.declared.op.Callee.{Callee}
+use Rattle.txs_value.specs.declared.value.CellId.{CellId}
+use Rattle.txs_value.specs.declared.value.CellKind.TheVariants.{Ref}
+use Rattle.txs_value.specs.declared.value.Value.{Value}
+
+-- ---- threads
+
+-- the source of a thread of the program, if there is one
+abbrev pub source_in : PlainProgram → Option PlainThread → Option ThreadSource
+source_in p None = None
+source_in p (Some t) = Some (record { functions = p.functions; cells = p.cells; main = t.body })
+
+-- the thread at a place of a program, with the functions that it may call
+abbrev pub thread_source : PlainProgram → ℕ → Option ThreadSource
+thread_source p k = source_in p (nth p.threads k)
+
+-- what is told of a transaction that was committed or refused: its result, and what it did
+abbrev pub told_tx : TxRun → TxMeaning
+told_tx x = record { result = Ok x.result; done = x.state.done; reads = x.state.reads; used = x.state.used }
+
+-- what was printed, how many events were eaten, the transactions, what is needed, and how the thread ended
+pub record Account (m : ThreadMeaning) (events : ℕ) (s : ThreadState) (lack : Needs) (end : Option Outcome) : Type 0 where
+  pub printed : m.printed ≡ s.printed
+  pub eaten : m.eaten ≡ events - length s.todo
+  pub txs : m.txs ≡ map told_tx s.txs
+  pub needs : m.needs ≡ lack
+  pub outcome : m.outcome ≡ end
+
+-- what a thread needs whose body ends so, and its outcome
+abbrev pub Concluded : Result Value ThreadStop → Needs → Option Outcome → Type 0
+Concluded (Ok v) needs end = (needs ≡ Nothing) × (end ≡ Some Done)
+Concluded (Err (Fault f)) needs end = (needs ≡ Nothing) × (end ≡ Some (Failed f))
+Concluded (Err NoEvent) needs end = (needs ≡ Event) × (end ≡ None)
+Concluded (Err OtherEvent) needs end = (needs ≡ Wrong) × (end ≡ None)
+Concluded (Err NoTurns) needs end = (needs ≡ Turns) × (end ≡ None)
+Concluded (Err Memory) needs end = ⊥
+
+-- An evaluation on so many events tells how the meaning ends, with the bytes that are printed, the events that are eaten and the
+-- transactions until then. A meaning at which the thread doesn't end says what it needs. No thread ends in a recur or runs
+-- again as a whole.
+abbrev pub Tells : ThreadMeaning → ℕ → Completion ThreadState Value → Type 0
+Tells m k (Completes v s) = Account m k s Nothing (Some Done)
+Tells m k (Recurs vs s) = ⊥
+Tells m k (Faults f s) = Account m k s Nothing (Some (Failed f))
+Tells m k (Retries s) = ⊥
+Tells m k (Waits s) = Account m k s Event None
+Tells m k (OutOfTurns s) = Account m k s Turns None
+Tells m k Invalid = (m.needs ≡ Wrong) × (m.outcome ≡ None)
+
+-- before a thread on these events
+abbrev pub idle : List SeenEvent → ThreadState
+idle es = record { todo = es; printed = []; txs = [] }
+
+-- ---- what an evaluation has done
+
+-- what a transaction has done
+abbrev pub tx_state : TxWork → TxState
+tx_state x = record { done = x.done; reads = x.reads.items; used = x.used }
+
+-- a transaction that came to its end
+abbrev pub tx_run : Transacted → TxRun
+tx_run r = record { body = tree_of r.body.now; locals = r.locals; wanted = r.wanted; result = r.result; state = tx_state r.work }
+
+-- what is told of a transaction that was committed or refused
+abbrev pub told_run : Transacted → TxMeaning
+told_run r = record { result = Ok r.result; done = r.work.done; reads = r.work.reads.items; used = r.work.used }
+
+-- how far a thread is
+abbrev pub thread_state : Progress → ThreadState
+thread_state p = record { todo = drop p.eaten (seen_events p.events.now); printed = p.printed.items; txs = map tx_run p.txs.items }
+
+-- with other work
+abbrev pub with_work : Work → TxState → TxState
+with_work w t = record t { done = w }
+
+-- with other work, and a result of a commute used or not
+abbrev pub with_use : Bool → Work → TxState → TxState
+with_use used w t = record t { done = w; used = used }
+
+-- what counts while this transaction runs, or none
+abbrev pub Part : Option PlainView → Type 0
+Part None = ThreadState
+Part (Some r) = TxState
+
+-- whether one runs
+abbrev pub is_on : Option PlainView → Bool
+is_on None = false
+is_on (Some r) = true
+
+-- the part that counts
+abbrev pub part : (o : Option PlainView) → State → Part o
+part None s = thread_state s.thread
+part (Some r) s = tx_state s.tx
+
+-- the forms on cells there
+abbrev pub forms_on : (o : Option PlainView) → Surroundings → ℕ → Effects (Part o)
+forms_on None x d = on_events x d
+forms_on (Some r) x d = in_transaction (world_of r)
+
+-- what surrounds an evaluation
+abbrev pub around_it : Setting → Surroundings
+around_it x = record { cells = x.cells; tries = suc reruns; turns = x.turns; functions = functions_of x.functions }
+
+-- what the forms on cells do here
+abbrev pub forms_in : (x : Setting) → Effects (Part x.world)
+forms_in x = forms_on x.world (around_it x) x.depth
+
+-- what functions mean while this transaction runs, or none
+abbrev pub calls_on : (o : Option PlainView) → Setting → Bool → ℕ → List Value → Part o → Completion (Part o) Value
+calls_on o x = call_at (forms_on o (around_it x)) x.turns (functions_of x.functions) x.depth
+
+-- what functions mean here
+abbrev pub calls_in : (x : Setting) → Bool → ℕ → List Value → Part x.world → Completion (Part x.world) Value
+calls_in x = calls_on x.world x
+
+-- ---- answers
+
+-- A stop is that of the meaning, with the state that it leaves, or there was no memory. In a transaction nothing is waited for,
+-- and nothing can be wrong.
+abbrev pub Stops : {S A : Type 0} → Bool → ThreadStop → S → Completion S A → Type 0
+Stops inside (Fault f) s c = c ≡ Faults f s
+Stops inside NoEvent s c = (inside ≡ false) × (c ≡ Waits s)
+Stops inside OtherEvent s c = (inside ≡ false) × (c ≡ Invalid)
+Stops inside NoTurns s c = c ≡ OutOfTurns s
+Stops inside Memory s c = ⊤
+
+-- the items that were asked for, with the state that is left, are those of the meaning, or it stops so
+abbrev pub GivesOf : {S V A : Type 0} → (V → A) → Bool → Result V ThreadStop → S → Completion S A → Type 0
+GivesOf f inside (Ok v) s c = c ≡ Completes (f v) s
+GivesOf f inside (Err y) s c = Stops inside y s c
+
+-- the value and the state that is left are those of the meaning, or it stops so
+abbrev pub Gives : {S A : Type 0} → Bool → Result A ThreadStop → S → Completion S A → Type 0
+Gives inside r s c = GivesOf (λ v. v) inside r s c
+
+-- the same where there is no state
+abbrev pub Told : {A : Type 0} → Result A ThreadStop → Completion (Unit {0}) A → Type 0
+Told r c = Gives true r tt c
+
+-- the same of parts of what was given
+abbrev pub ToldOf : {V A : Type 0} → (V → A) → Result V ThreadStop → Completion (Unit {0}) A → Type 0
+ToldOf f r c = GivesOf f true r tt c
+
+-- the same here
+abbrev pub Yields : (x : Setting) → {A : Type 0} → Result A ThreadStop → State → Completion (Part x.world) A → Type 0
+Yields x r s c = Gives (is_on x.world) r (part x.world s) c
+
+-- the same of a list of values
+abbrev pub GivesAll : (x : Setting) → {V : Type 0} → (V → List Value) → Result V ThreadStop → State → Completion (Part x.world) (List Value) → Type 0
+GivesAll x f r s c = GivesOf f (is_on x.world) r (part x.world s) c
+
+-- the same of a node in tail position, which may recur, while this transaction runs or none
+abbrev pub StepsOn : {S : Type 0} → Bool → Result Step ThreadStop → S → Completion S Value → Type 0
+StepsOn inside (Ok (AValue v)) s c = c ≡ Completes v s
+StepsOn inside (Ok (ARecur vs)) s c = c ≡ Recurs vs.items s
+StepsOn inside (Err y) s c = Stops inside y s c
+
+-- the same here
+abbrev pub Steps : (x : Setting) → Result Step ThreadStop → State → Completion (Part x.world) Value → Type 0
+Steps x r s c = StepsOn (is_on x.world) r (part x.world s) c
+
+-- a value, as what a node gives
+abbrev pub step_of : Result Value ThreadStop → Result Step ThreadStop
+step_of (Ok v) = Ok (AValue v)
+step_of (Err y) = Err y
+
+-- where no fault may come, one is wrong
+abbrev pub stop_without_fault : ThreadStop → ThreadStop
+stop_without_fault (Fault f) = OtherEvent
+stop_without_fault NoEvent = NoEvent
+stop_without_fault OtherEvent = OtherEvent
+stop_without_fault NoTurns = NoTurns
+stop_without_fault Memory = Memory
+
+-- a value that an event names is the one that was made, and no fault may come
+abbrev pub swapped_to : Result Value ThreadStop → Value → Result Value ThreadStop
+swapped_to (Ok v) new = if same_value v new then Ok v else Err OtherEvent
+swapped_to (Err y) new = Err (stop_without_fault y)
+
+-- where no value may come, one is wrong
+abbrev pub no_value : Result Value ThreadStop → Result Value ThreadStop
+no_value (Ok v) = Err OtherEvent
+no_value (Err y) = Err y
+
+-- an event of the book was eaten
+abbrev pub Ate : ℕ → Seen → ThreadState → ThreadState → Type 0
+Ate book e t u = (t.todo ≡ seen_event e ∷ u.todo) × ((e.book == book) ≡ true) × (u ≡ record t { todo = u.todo })
+
+-- no event is there, or the next one is of another book
+abbrev pub EatsNone : ℕ → ThreadStop → ThreadState → ThreadState → Type 0
+EatsNone book NoEvent t u = (t.todo ≡ []) × (u ≡ t)
+EatsNone book OtherEvent t u = (e : SeenEvent) × (es : List SeenEvent) × (t.todo ≡ e ∷ es) × ((e.book == book) ≡ false)
+EatsNone book (Fault f) t u = ⊥
+EatsNone book NoTurns t u = ⊥
+EatsNone book Memory t u = ⊥
+
+-- where the item with this number stands among ascending ones, or where it would stand
+abbrev pub Finds : {X : Type 0} → (X → ℕ) → List X → ℕ → Result ℕ ℕ → Type 0
+Finds n [] k (Ok i) = ⊥
+Finds n [] k (Err i) = i ≡ 0
+Finds n (x ∷ xs) k (Ok zero) = n x ≡ k
+Finds n (x ∷ xs) k (Ok (suc i)) = (n x < k) × Finds n xs k (Ok i)
+Finds n (x ∷ xs) k (Err zero) = k < n x
+Finds n (x ∷ xs) k (Err (suc i)) = (n x < k) × Finds n xs k (Err i)
+
+-- ---- parts of a meaning
+
+-- what a node means here, with these locals
+abbrev pub means : (x : Setting) → Tree → List Value → State → Completion (Part x.world) Value
+means x e env s = eval (forms_in x) (calls_in x) x.turns (is_on x.world) e env (part x.world s)
+
+-- the same of nodes whose values are all wanted
+abbrev pub all_mean : (x : Setting) → Trees → List Value → State → Completion (Part x.world) (List Value)
+all_mean x es env s = eval_all (forms_in x) (calls_in x) x.turns (is_on x.world) es env (part x.world s)
+
+-- the same of nodes of which the last one's value is wanted
+abbrev pub do_means : (x : Setting) → Trees → List Value → State → Completion (Part x.world) Value
+do_means x es env s = eval_do (forms_in x) (calls_in x) x.turns (is_on x.world) es env (part x.world s)
+
+-- the same of a test and its branches
+abbrev pub if_means : (x : Setting) → Tree → Tree → Tree → List Value → State → Completion (Part x.world) Value
+if_means x c a b env s =
+    bind (means x c env s) (λ v t. choose v (eval (forms_in x) (calls_in x) x.turns (is_on x.world) a env t) (eval (forms_in x) (calls_in x) x.turns (is_on x.world) b env t))
+
+-- the same of a body after its new locals
+abbrev pub let_means : (x : Setting) → Trees → Tree → List Value → State → Completion (Part x.world) Value
+let_means x es body env s =
+    bind (eval_let (forms_in x) (calls_in x) x.turns (is_on x.world) es env (part x.world s)) (λ vs t. eval (forms_in x) (calls_in x) x.turns (is_on x.world) body (env ++ vs) t)
+
+-- the locals with the new ones behind them
+abbrev pub locals_mean : (x : Setting) → Trees → List Value → State → Completion (Part x.world) (List Value)
+locals_mean x es env s = bind (eval_let (forms_in x) (calls_in x) x.turns (is_on x.world) es env (part x.world s)) (λ vs t. Completes (env ++ vs) t)
+
+-- at most k turns of a body, each of which has d locals of its own
+abbrev pub turns_mean : (x : Setting) → ℕ → ℕ → Tree → List Value → List Value → State → Completion (Part x.world) Value
+turns_mean x k d body env vs s = turns k d (λ ws t. eval (forms_in x) (calls_in x) x.turns (is_on x.world) body (env ++ ws) t) vs (part x.world s)
+
+-- the turns of a body after its new locals
+abbrev pub loop_means : (x : Setting) → Trees → Tree → List Value → State → Completion (Part x.world) Value
+loop_means x es body env s =
+    bind (eval_let (forms_in x) (calls_in x) x.turns (is_on x.world) es env (part x.world s))
+    (λ vs t. turns x.turns (count es) (λ ws t1. eval (forms_in x) (calls_in x) x.turns (is_on x.world) body (env ++ ws) t1) vs t)
+
+-- a function on these values
+abbrev pub call_means : (x : Setting) → ℕ → List Value → State → Completion (Part x.world) Value
+call_means x f vs s = calls_in x (is_on x.world) f vs (part x.world s)
+
+-- what is done with the values of a node's parts
+abbrev pub finishes : (x : Setting) → Strict → Span → List Value → Part x.world → Completion (Part x.world) Value
+finishes x a_recur span vs s = Recurs vs s
+finishes x (a_core op) span vs s = result_of (core op vs) span s
+finishes x (a_call f) span vs s = calls_in x (is_on x.world) f vs s
+finishes x a_vector span vs s = result_of (vector_of vs) span s
+finishes x a_println span vs s = (forms_in x).print (is_on x.world) vs s
+
+-- it may be done with so many values
+abbrev pub Finishes : Setting → Strict → ℕ → Type 0
+Finishes x a_recur n = Unit {0}
+Finishes x (a_core op) n = takes op n ≡ true
+Finishes x (a_call f) n = SoundCall (callable x) (zone_in x) f n
+Finishes x a_vector n = Unit {0}
+Finishes x a_println n = MayStand (zone_in x) Outside
+
+-- what is done with these values
+abbrev pub finish_means : (x : Setting) → Strict → Span → List Value → State → Completion (Part x.world) Value
+finish_means x strict span vs s = finishes x strict span vs (part x.world s)
+
+-- the values of parts, and then what is done with them
+abbrev pub strict_means : (x : Setting) → Strict → Span → Trees → List Value → State → Completion (Part x.world) Value
+strict_means x strict span args env s = bind (all_mean x args env s) (λ vs t. finishes x strict span vs t)
+
+-- ---- forms on cells
+
+-- what a form on a cell does with the cell and its arguments, while this transaction runs or none
+abbrev pub acts : (o : Option PlainView) → Setting → Act → Mark → Value → List Value → Part o → Completion (Part o) Value
+acts o x (a_look form) m c vs s = (forms_on o (around_it x) x.depth).look form (is_on o) m c s
+acts o x (a_put form) m c [] s = Invalid
+acts o x (a_put form) m c (v ∷ vs) s = (forms_on o (around_it x) x.depth).put form (is_on o) m c v s
+acts o x (an_update form callee) m c vs s = (forms_on o (around_it x) x.depth).update form (is_on o) m c callee vs (apply (calls_on o x (is_on o)) m.span) s
+acts o x (a_send callee) m c vs s = (forms_on o (around_it x) x.depth).send (is_on o) m c callee vs s
+
+-- it may stand in this zone with so many arguments
+abbrev pub ReadyIn : List Known → Zone → Act → ℕ → Type 0
+ReadyIn ks zone (a_look form) n = MayStand zone (rule (form_of.Look form)).stands
+ReadyIn ks zone (a_put form) n = MayStand zone (rule (form_of.Put form)).stands × (n ≡ 1)
+ReadyIn ks zone (an_update form callee) n = MayStand zone (rule (form_of.Update form)).stands × SoundCallee ks callee (suc n)
+ReadyIn ks zone (a_send callee) n = Unit {0}
+
+-- the same here
+abbrev pub Ready : Setting → Act → ℕ → Type 0
+Ready x act n = ReadyIn (callable x) (zone_in x) act n
+
+-- what it does here
+abbrev pub act_means : (x : Setting) → Act → Mark → Value → List Value → State → Completion (Part x.world) Value
+act_means x act m c vs s = acts x.world x act m c vs (part x.world s)
+
+-- the cell, the arguments, and then what the form does
+abbrev pub form_means : (x : Setting) → Act → Mark → Tree → Trees → List Value → State → Completion (Part x.world) Value
+form_means x act m cell args env s =
+    bind (means x cell env s) (λ c t. bind (eval_all (forms_in x) (calls_in x) x.turns (is_on x.world) args env t) (λ vs t1. acts x.world x act m c vs t1))
+
+-- what is done with the first of the values; there is one
+abbrev pub of_one : {S : Type 0} → (Value → Completion S Value) → List Value → Completion S Value
+of_one go [] = Invalid
+of_one go (v ∷ vs) = go v
+
+-- what it does in a transaction on this world
+abbrev pub inside_means : Setting → PlainView → Act → Mark → Value → List Value → TxState → Completion TxState Value
+inside_means x r act m c vs t = acts (Some r) x act m c vs t
+
+-- what it does outside
+abbrev pub outside_means : Setting → Act → Mark → Value → List Value → ThreadState → Completion ThreadState Value
+outside_means x act m c vs t = acts None x act m c vs t
+
+-- a ref
+abbrev pub RefCell : CellId → Type 0
+RefCell c = c.kind ≡ Ref
+
+-- `alter` in a transaction
+abbrev pub alter_means : Setting → PlainView → Callee → CellId → List Value → Span → TxState → Completion TxState Value
+alter_means x r callee c vs span t = tx_update (world_of r) Alter (mark_of span true) c callee vs (apply (calls_on (Some r) x true) span) t
+
+-- `commute` in a transaction
+abbrev pub commute_means : Setting → PlainView → Callee → CellId → List Value → Mark → TxState → Completion TxState Value
+commute_means x r callee c vs m t = tx_update (world_of r) CommuteForm m c callee vs (apply (calls_on (Some r) x true) m.span) t
+
+-- `swap!` outside
+abbrev pub swap_means : Setting → Callee → CellId → List Value → Span → ThreadState → Completion ThreadState Value
+swap_means x callee c vs span t =
+    eats (home x.cells c) (λ e t1. swaps c (λ v t2. apply (calls_on None x false) span callee (v ∷ vs) t2) e.kind e.R e.C t1) t.todo t
+
+-- ---- what events are
+
+-- the cell that was read, if the event is a read
+abbrev pub read_of : EventKind → Option CellId
+read_of (Read c) = Some c
+read_of _ = None
+
+-- the value that an atom got, if the event is a swap
+abbrev pub swap_of : EventKind → Option Value
+swap_of (Swapped v) = Some v
+swap_of _ = None
+
+-- whether the event is a broken swap
+abbrev pub is_broke : EventKind → Bool
+is_broke (Broke at) = true
+is_broke _ = false
+
+-- the action that was sent, if the event is a send
+abbrev pub send_of : EventKind → Option Action
+send_of (Sent a) = Some a
+send_of _ = None
+
+-- the agent that refused, if the event is a refused send
+abbrev pub refused_by : EventKind → Option CellId
+refused_by (SendRefused g) = Some g
+refused_by _ = None
+
+-- ---- pure callees
+
+-- what applies pure callees, with no state
+abbrev pub quiet : Setting → Span → Applies (Unit {0})
+quiet x span = apply (pure_calls x.turns (functions_of x.functions) x.depth false) span
+
+-- a pure callee on these values
+abbrev pub applied : Setting → Callee → List Value → Span → Completion (Unit {0}) Value
+applied x callee vs span = quiet x span callee vs tt
+
+-- each of these commutes has a pure callee of as many values
+abbrev pub SoundCommutes : List Known → List Commute → Type 0
+SoundCommutes ks [] = Unit {0}
+SoundCommutes ks (c ∷ cs) = SoundCallee ks c.callee (suc (length c.args)) × SoundCommutes ks cs
+
+-- commutes again, on these values
+abbrev pub redone_means : Setting → Span → List Commute → Writes → Completion (Unit {0}) Writes
+redone_means x span cs ws = redone (quiet x span) cs ws tt
+
+-- the final writes on a world
+abbrev pub final_means : Setting → Work → PlainView → Span → Completion (Unit {0}) Writes
+final_means x w r span = final_writes (quiet x span) w (world_of r) tt
+
+-- ---- transactions
+
+-- a dosync as its thread meets it
+abbrev pub transacting : Setting → Mark → Tree → List Value → Transacting
+transacting x m body env = record { mark = m; body = body; locals = env; on = tx_meaning x.turns (functions_of x.functions) x.depth body env }
+
+-- what applies its commutes at its end
+abbrev pub at_end : Setting → Span → Applies ThreadState
+at_end x span = apply (calls_on None x true) span
+
+-- a dosync here
+abbrev pub dosync_means : (x : Setting) → Mark → Tree → List Value → State → Completion (Part x.world) Value
+dosync_means x m body env s =
+    (forms_in x).dosync (is_on x.world) m body env (λ t. closed (eval (forms_in x) (calls_in x) x.turns true body env t)) (apply (calls_in x true) m.span) (part x.world s)
+
+-- one outside, at most k events
+abbrev pub eat_means : Setting → ℕ → Mark → Tree → List Value → ThreadState → Completion ThreadState Value
+eat_means x k m body env t = eats_tx k (transacting x m body env) (at_end x m.span) t.todo t
+
+-- one at the event of its end
+abbrev pub end_means : Setting → Mark → Tree → List Value → SeenEvent → ThreadState → Completion ThreadState Value
+end_means x m body env e t = ends_tx (transacting x m body env) (at_end x m.span) e.kind e.R e.Q e.C t
+
+-- its body on a world
+abbrev pub body_means : Setting → Tree → List Value → PlainView → Completion TxState Value
+body_means x body env r = tx_meaning x.turns (functions_of x.functions) x.depth body env (world_of r)
+
+-- whether the final writes and the sends of what was done are these, or a commute stops so
+abbrev pub ComesTo : Result Bool ThreadStop → Completion (Unit {0}) Writes → Work → Writes → List Action → Type 0
+ComesTo (Ok b) c w writes sent = (last : Writes) × (c ≡ Completes last tt) × (b ≡ (same_writes last writes && same_actions w.sends sent))
+ComesTo (Err y) c w writes sent = Told {A = Writes} (Err y) c
+
+-- a commit with these writes and sends of a transaction that ran so
+abbrev pub settle_means : Setting → Span → TxRun → SeenEvent → Writes → List Action → ThreadState → Completion ThreadState Value
+settle_means x span run e writes sent t =
+    faultless (final_writes (at_end x span) run.state.done e.C t) (λ ws t1. meant (same_writes ws writes && same_actions run.state.done.sends sent) run.result (with_tx run t1))
+
+-- a commit with these writes and sends
+abbrev pub commit_means : Setting → Mark → Tree → List Value → SeenEvent → Writes → List Action → ThreadState → Completion ThreadState Value
+commit_means x m body env e writes sent t =
+    let d = transacting x m body env in
+    over t (d.on e.R) (λ v y. settle_means x m.span (run_of d v y) e writes sent t) (λ g. Invalid)
+
+-- a failure
+abbrev pub fail_means : Setting → Mark → Tree → List Value → SeenEvent → ThreadState → Completion ThreadState Value
+fail_means x m body env e t =
+    let d = transacting x m body env in
+    over t (d.on e.R) (λ v y. faulted (final_writes (at_end x m.span) y.done e.Q t) (λ g t1. Faults g t1)) (λ g. Faults g t)
+
+-- a refusal
+abbrev pub refuse_means : Setting → Mark → Tree → List Value → SeenEvent → ThreadState → Completion ThreadState Value
+refuse_means x m body env e t =
+    let d = transacting x m body env in
+    over t (d.on e.R) (λ v y. faultless (final_writes (at_end x m.span) y.done e.Q t) (λ ws t1. Faults (fault_at AgentFailed m.span) (with_tx (run_of d v y) t1))) (λ g. Invalid)
+
+-- a body that gives no value on a world
+abbrev pub BodyStops : ThreadStop → Completion TxState Value → Type 0
+BodyStops (Fault f) c = (t : TxState) × (c ≡ Faults f t)
+BodyStops NoEvent c = ⊥
+BodyStops OtherEvent c = ⊥
+BodyStops NoTurns c = (t : TxState) × (c ≡ OutOfTurns t)
+BodyStops Memory c = ⊤
+
+-- the body on a world, as if it ran alone: its run, or it stops so
+abbrev pub Runs : Result Transacted ThreadStop → Mark → Tree → List Value → Completion TxState Value → Type 0
+Runs (Ok r) m body env c =
+    (c ≡ Completes r.result (tx_state r.work)) × (tx_run r ≡ record { body = body; locals = env; wanted = m.wanted; result = r.result; state = tx_state r.work })
+Runs (Err y) m body env c = BodyStops y c
+
+-- What is told of a transaction's body on a world: its value or fault, and what it did until then. Turns may not suffice, or
+-- there was no memory.
+abbrev pub TellsTx : Result TxMeaning EvalStop → Completion TxState Value → Type 0
+TellsTx (Ok m) (Completes v t) = m ≡ record { result = Ok v; done = t.done; reads = t.reads; used = t.used }
+TellsTx (Ok m) (Faults f t) = m ≡ record { result = Err f; done = t.done; reads = t.reads; used = t.used }
+TellsTx (Ok m) _ = ⊥
+TellsTx (Err FullMemory) c = ⊤
+TellsTx (Err FewTurns) (OutOfTurns t) = ⊤
+TellsTx (Err y) c = ⊥
+
+-- ---- a pure callee
+
+-- The value, the fault, and a want of turns are those of the meaning, or there was no memory for it. There is nothing
+-- that the meaning may wait for.
+abbrev pub PureGives : Result Value EvalStop → Completion (Unit {0}) Value → Type 0
+PureGives (Ok v) c = c ≡ Completes v tt
+PureGives (Err (AFault f)) c = c ≡ Faults f tt
+PureGives (Err FewTurns) c = c ≡ OutOfTurns tt
+PureGives (Err FullMemory) c = ⊤

@@ -1,0 +1,5 @@
+pub mod Evaluated
+pub mod Events
+pub mod Setting
+pub mod Shapes
+pub mod Views

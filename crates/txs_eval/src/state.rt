@@ -1,0 +1,99 @@
+//! What an evaluation has done so far.
+
+ghost use Rattle.std.specs.Prelude.{◌≡◌, MatchResult};
+ghost use Rattle.txs_eval.specs.Evaluated.{Ate, EatsNone, thread_state, tx_state, tx_run, idle};
+ghost use Rattle.txs_eval.specs.declared.stop.ThreadStop.TheVariants.{Memory};
+ghost use Rattle.txs_tree.specs.Thread.{with_tx};
+ghost use Rattle.txs_tree.specs.Transaction.{tx_start};
+ghost use Rattle.txs_eval.specs.Events.{seen_events};
+
+use crate::seen::Seen;
+use crate::stop::ThreadStop;
+use std::alloc::Global;
+use txs_frame::TxFrame;
+use txs_tree::Node;
+use txs_value::{CellId, Listed, Value, copy_value};
+
+/// What a transaction has done: its values, sets, ensures, commutes and sends, the refs that it read of the world, by
+/// ascending number, and whether the result of a commute was used.
+#[derive(Drop)]
+pub(crate) struct TxWork {
+    pub(crate) done: TxFrame,
+    pub(crate) reads: Vec<CellId>,
+    pub(crate) used: bool,
+}
+
+/// A transaction that came to its end: its body with its locals, whether its result is wanted, its result, and what it did.
+#[derive(Drop)]
+pub(crate) struct Transacted<'a> {
+    pub(crate) body: &'a Node,
+    pub(crate) locals: Listed<Value>,
+    pub(crate) wanted: bool,
+    pub(crate) result: Value,
+    pub(crate) work: TxWork,
+}
+
+/// How far a thread is: its events and how many of them it ate, the bytes that it printed, and its transactions that were committed
+/// or refused.
+#[derive(Drop)]
+pub(crate) struct Progress<'a> {
+    pub(crate) events: &'a [Seen<'a>],
+    pub(crate) eaten: usize,
+    pub(crate) printed: Vec<u8>,
+    pub(crate) txs: Vec<Transacted<'a>>,
+}
+
+/// What an evaluation has done: outside transactions the thread's part counts, in one the transaction's.
+#[derive(Drop)]
+pub(crate) struct State<'a> {
+    pub(crate) thread: Progress<'a>,
+    pub(crate) tx: TxWork,
+}
+
+impl<'a> State<'a> {
+    /// Before a thread with these events.
+    pub(crate) fn new(alloc: Global, events: &'a [Seen<'a>]) -> State<'a>
+        ensures thread { thread_state result.thread ≡ idle (seen_events events.now) }
+        ensures tx { tx_state result.tx ≡ tx_start }
+    {
+        State {
+            thread: Progress {
+                events,
+                eaten: 0,
+                printed: Vec::new(alloc),
+                txs: Vec::new(alloc),
+            },
+            tx: TxWork {
+                done: TxFrame::new(alloc),
+                reads: Vec::new(alloc),
+                used: false,
+            },
+        }
+    }
+}
+
+impl<'a> Progress<'a> {
+    /// Eats the next event, which has to be of this book.
+    pub(crate) fn eat(&mut self, book: usize) -> Result<&'a Seen<'a>, ThreadStop>
+        ensures { MatchResult result (λ e. Ate book e.now (thread_state self.old) (thread_state self.new)) (λ y. EatsNone book y (thread_state self.old) (thread_state self.new)) }
+    {
+        let events = self.events;
+        let Some(event) = events.get(self.eaten) else {
+            return Err(ThreadStop::Event);
+        };
+        if event.book != book {
+            return Err(ThreadStop::Wrong);
+        }
+        self.eaten += 1;
+        Ok(event)
+    }
+
+    /// A transaction came to its end, and gives its result.
+    pub(crate) fn note(&mut self, run: Transacted<'a>) -> Result<Value, ThreadStop>
+        ensures { MatchResult result (λ v. (v ≡ run.entry.result) × (thread_state self.new ≡ with_tx (tx_run run.entry) (thread_state self.old))) (λ y. y ≡ Memory) }
+    {
+        let value = copy_value(&run.result)?;
+        self.txs.push(run)?;
+        Ok(value)
+    }
+}

@@ -1,0 +1,69 @@
+//! What a transaction means on one world of refs.
+
+ghost use Rattle.std.specs.Prelude.{◌≡◌, length, IfOk, None};
+ghost use Rattle.txs_eval.specs.Evaluated.{TellsTx};
+ghost use Rattle.txs_tree.specs.Known.{known};
+ghost use Rattle.txs_tree.specs.Sound.{SoundTree, in_dosync};
+ghost use Rattle.txs_tree.specs.Transaction.{tx_meaning};
+ghost use Rattle.txs_tree.specs.View.{functions_of, tree_of};
+ghost use Rattle.txs_eval.specs.Views.{plain_view, world_of};
+
+use crate::context::Context;
+use crate::evaluate::{copy_locals, evaluate};
+use crate::pure_call::EvalStop;
+use crate::state::{State, TxWork};
+use crate::stop::ThreadStop;
+use crate::view::RefView;
+use std::alloc::Global;
+use txs_frame::TxFrame;
+use txs_tree::{Node, Program};
+use txs_value::{CellId, Fault, Listed, Value};
+
+/// What a transaction means: its value or fault, and until then its values, sets, ensures, commutes and sends, the refs that
+/// it read of the world, by ascending number, and whether the result of a commute was used.
+#[derive(Drop)]
+pub struct TxMeaning {
+    pub result: Result<Value, Fault>,
+    pub done: TxFrame,
+    pub reads: Listed<CellId>,
+    pub used: bool,
+}
+
+/// What is told of a transaction that gave this and did this work.
+pub(crate) fn meaning_of(gave: Result<Value, Fault>, work: TxWork) -> TxMeaning
+    ensures { result ≡ record { result = gave; done = work.done; reads = work.reads.items; used = work.used } }
+{
+    TxMeaning {
+        result: gave,
+        done: work.done,
+        reads: Listed::from_vec(work.reads),
+        used: work.used,
+    }
+}
+
+/// What the body of a dosync means on a world of refs, with these values as its locals, as if it ran alone, where each loop
+/// makes at most `turns` turns. The node is the body of a dosync of the program, and the values fill its locals. A fault of
+/// the body is in the meaning.
+pub fn eval_tx<'a>(
+    alloc: Global,
+    program: &'a Program,
+    node: &'a Node,
+    values: &[Value],
+    world: RefView<'a>,
+    turns: u32,
+) -> Result<TxMeaning, EvalStop>
+    requires { SoundTree (known (functions_of program.now.functions)) in_dosync (length values.now) None (tree_of node.now) }
+    ensures { TellsTx result (tx_meaning turns (functions_of program.now.functions) (length program.now.functions) (tree_of node.now) values.now (world_of (plain_view world.entry))) }
+{
+    program.is_sound();
+    let context = Context::new(program.cells(), program.functions(), turns, Some(world));
+    let mut locals = copy_locals(alloc, values)?;
+    let mut state = State::new(alloc, &[]);
+    match evaluate(alloc, &context, node, &mut locals, &mut state) {
+        Ok(value) => Ok(meaning_of(Ok(value), state.tx)),
+        Err(ThreadStop::Fault(fault)) => Ok(meaning_of(Err(fault), state.tx)),
+        Err(ThreadStop::Turns) => Err(EvalStop::Turns),
+        Err(ThreadStop::Memory) => Err(EvalStop::Memory),
+        Err(ThreadStop::Event | ThreadStop::Wrong) => unreachable!(),
+    }
+}
