@@ -91,6 +91,8 @@ pub record Cases (P : Pending → Bool → Reply → Type 0) : Type 0 where
   pub begins : (left : ℕ) (from : Origin) (i : Bool) (p : ℕ) → P (pending.Begin left from) i (At p)
   pub reads : (c : CellId) (i : Bool) (v : Value) → P (pending.Read c) i (Is v)
   pub reads_again : (c d : CellId) → P (pending.Read c) true (Retry d)
+  pub ensures : (c : CellId) (es : List CellId) (i : Bool) (v : Value) → P (pending.Ensure c es) i (Is v)
+  pub ensures_again : (c : CellId) (es : List CellId) (i : Bool) (d : CellId) → P (pending.Ensure c es) i (Retry d)
   pub opens : (c : CellId) (n : ℕ) (i : Bool) (v : Value) → P (pending.Open c n) i (Is v)
   pub opens_again : (c : CellId) (n : ℕ) (i : Bool) (d : CellId) → P (pending.Open c n) i (Retry d)
   pub commits : (i : Bool) → P pending.Commit i Done
@@ -105,6 +107,7 @@ pub by_reply : (P : Pending → Bool → Reply → Type 0) → Cases P → (p : 
 by_reply P k (pending.Begin left from) i at w r m = begin_replies (P (pending.Begin left from) i) (k.begins left from i) r m
 by_reply P k (pending.Read c) true at w r m = look_replies (P (pending.Read c) true) c at (k.reads c true) (k.reads_again c) (k.full (pending.Read c) true) (k.memory (pending.Read c) true) r m
 by_reply P k (pending.Read c) false at w r m = peek_replies (P (pending.Read c) false) c (k.reads c false) (k.full (pending.Read c) false) (k.memory (pending.Read c) false) r m
+by_reply P k (pending.Ensure c es) i at w r m = look_replies (P (pending.Ensure c es) i) c at (k.ensures c es i) (k.ensures_again c es i) (k.full (pending.Ensure c es) i) (k.memory (pending.Ensure c es) i) r m
 by_reply P k (pending.Open c n) i at w r m = look_replies (P (pending.Open c n) i) c at (k.opens c n i) (k.opens_again c n i) (k.full (pending.Open c n) i) (k.memory (pending.Open c n) i) r m
 by_reply P k pending.Commit i at w r m = commit_replies (P pending.Commit i) at (set_writes w) w.ensures at [] w.sends (k.commits i) (k.commits_again i) (k.changed i) (k.denied i) (k.full pending.Commit i) (k.memory pending.Commit i) r m
 by_reply P k (pending.Fail f) i at w r m = fail_replies (P (pending.Fail f) i) at at (k.fails f i) (k.full (pending.Fail f) i) (k.memory (pending.Fail f) i) r m

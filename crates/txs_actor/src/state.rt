@@ -1,7 +1,7 @@
 //! What an actor keeps of its transaction and of its unanswered ask.
 
 use txs_stack::Stack;
-use txs_value::{CellId, Fault, Span};
+use txs_value::{CellId, Fault, Listed, Span};
 
 /// Where a transaction began: its span, and the stack there, whose body goes on at its first instruction.
 #[derive(Drop)]
@@ -28,6 +28,8 @@ pub enum Pending {
     Begin { left: u16, from: Origin },
     /// A cell's value takes the cell's place at the top of the stack.
     Read(CellId),
+    /// A ref's value takes the ref's place at the top of the stack, and these refs are ensured then.
+    Ensure(CellId, Listed<CellId>),
     /// A ref's value goes between the ref and so many arguments.
     Open(CellId, u16),
     /// A transaction ends.

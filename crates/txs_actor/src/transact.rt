@@ -8,7 +8,7 @@ ghost use Rattle.txs_value.specs.declared.value.CellId.{CellId as ACell};
 ghost use Rattle.txs_value.specs.declared.value.Value.{Value as AValue};
 ghost use Rattle.txs_value.specs.declared.form.CellForm.TheVariants as form;
 ghost use Rattle.txs_value.specs.declared.form.UpdateForm.TheVariants as update;
-ghost use Rattle.txs_actor.specs.Effect.{Comes, CanMove, effect, reads, opens, sets, begins, ends, IsForRefs};
+ghost use Rattle.txs_actor.specs.Effect.{Comes, CanMove, effect, reads, ensures, opens, sets, begins, ends, IsForRefs};
 ghost use Rattle.txs_actor.specs.PlainActor.{is_running, depth_in};
 ghost use Rattle.txs_stack.specs.Values.{under};
 
@@ -57,6 +57,33 @@ fn deref(stack: &mut Stack, tx: &Transaction, frame: &TxFrame) -> Moved
             Err(_) => Moved::Memory,
             Ok(None) => Moved::Asks(Pending::Read(cell)),
             Ok(Some(value)) => {
+                stack.replace_last(value);
+                Moved::On
+            }
+        },
+    }
+}
+
+/// The value of the ref at the top, which is ensured.
+#[inline(never)]
+fn ensure(stack: &mut Stack, tx: &Transaction, frame: &mut TxFrame) -> Moved
+    requires room { (0 < length stack.old.values) × (length stack.old.values ≤ stack.old.room) }
+    ensures comes { Comes result stack.new.values tx.now frame.new frame.old (ensures stack.old.values tx.now frame.old) }
+    ensures rest { stack.new ≡ record stack.old { values = stack.new.values } }
+{
+    let cell = match CellForm::Look(LookForm::Ensure).cell_of(true, stack.last()) {
+        Err(kind) => return Moved::Faults(kind),
+        Ok(cell) => cell,
+    };
+    match own_value(frame, cell.number) {
+        Err(_) => Moved::Memory,
+        Ok(None) => match frame.with_ensured(cell) {
+            Err(_) => Moved::Memory,
+            Ok(cells) => Moved::Asks(Pending::Ensure(cell, cells)),
+        },
+        Ok(Some(value)) => match frame.ensure(cell) {
+            Err(_) => Moved::Memory,
+            Ok(()) => {
                 stack.replace_last(value);
                 Moved::On
             }
@@ -166,6 +193,7 @@ pub(crate) fn transact(
 {
     match instr {
         Instr::Look(LookForm::Deref) => deref(stack, tx, frame),
+        Instr::Look(LookForm::Ensure) => ensure(stack, tx, frame),
         Instr::Put(PutForm::RefSet) => set(CellForm::Put(PutForm::RefSet), stack, tx, frame),
         Instr::TxBegin => begin(alloc, span, stack, tx),
         Instr::TxEnd => end(tx),

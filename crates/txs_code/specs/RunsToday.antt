@@ -11,7 +11,7 @@ use Rattle.txs_code.specs.declared.instr.Instr.{Instr}
 use Rattle.txs_code.specs.declared.instr.Instr.TheVariants.{Const, Local, Store, Pop, Jump, JumpFalse, Core, Call, Return, Vector, Print, Look, Put, TxBegin, TxEnd, Open, Close, Send, Halt}
 use Rattle.txs_code.specs.declared.instr.OpenForm.TheVariants as open_form
 
--- today's actors run this instruction: of the forms on cells `deref`, `ref-set` and `alter` alone
+-- today's actors run this instruction: of the forms on cells `deref`, `ensure`, `ref-set` and `alter` alone
 abbrev pub IsRunToday : Instr → Type 0
 IsRunToday (Const k) = Unit {0}
 IsRunToday (Local i) = Unit {0}
@@ -25,7 +25,7 @@ IsRunToday Return = Unit {0}
 IsRunToday (Vector n) = Unit {0}
 IsRunToday (Print n) = Unit {0}
 IsRunToday (Look Deref) = Unit {0}
-IsRunToday (Look Ensure) = ⊥
+IsRunToday (Look Ensure) = Unit {0}
 IsRunToday (Put RefSet) = Unit {0}
 IsRunToday (Put Reset) = ⊥
 IsRunToday TxBegin = Unit {0}

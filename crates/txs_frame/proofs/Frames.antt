@@ -17,9 +17,9 @@ use Rattle.txs_frame.specs.declared.frame.SetError.TheVariants.{SetAfterCommute,
 use Rattle.txs_frame.specs.declared.own.How.{How}
 use Rattle.txs_frame.specs.declared.own.How.TheVariants as how
 use Rattle.txs_frame.specs.declared.own.Own.{Own}
-use Rattle.txs_frame.specs.Kept.{Ascends, item_of, with_item, number_of, ref_cell, was_set, was_commuted, was_commuted_if, with_commute, how_of, only_commuted, cells_by, writes_by, writes_of, work_of, IsKept, IsPlaceOf, how_at, put_at}
+use Rattle.txs_frame.specs.Kept.{Ascends, item_of, with_item, number_of, cell_number, ref_cell, was_set, was_commuted, was_commuted_if, with_commute, how_of, only_commuted, cells_by, writes_by, writes_of, work_of, IsKept, IsPlaceOf, how_at, put_at}
 use Rattle.txs_frame.proofs.Owns.{flag, has_by, writes_with, cells_more, cells_steady, commuted_by, set_by}
-use Rattle.txs_frame.proofs.Places.{ascends_with, cell_number, cell_joins, cell_stays, get_there}
+use Rattle.txs_frame.proofs.Places.{ascends_with, cell_joins, cell_stays, cells_ascend, get_there}
 
 -- ---- what is looked up
 
@@ -64,6 +64,16 @@ ensure_stays os es cs ss c i h p = ap (λ ds. work_of os ds cs ss) (cell_stays 0
 
 pub ensure_kept : (os : List Own) (es : List CellId) (cs : List Commute) (c : CellId) (i : ℕ) → IsKept os es cs → IsPlaceOf cell_number es c.number (Err i) → IsKept os (insert es i c) cs
 ensure_kept os es cs c i h p = record { own = h.own; ensured = subst (Ascends cell_number 0) (p.puts c refl) (ascends_with cell_number 0 es c h.ensured (omega arith)); commuted = h.commuted }
+
+-- the list with one more ref, by the place that a search found
+pub joined : (es : List CellId) (c : CellId) (i : ℕ) → IsPlaceOf cell_number es c.number (Err i) → insert es i c ≡ with_cell es c
+joined es c i p = sym (cell_joins es c p.is ∙ p.puts c refl)
+
+pub stayed : (es : List CellId) (c : CellId) (i : ℕ) → Ascends cell_number 0 es → IsPlaceOf cell_number es c.number (Ok i) → es ≡ with_cell es c
+stayed es c i up p = sym (cell_stays 0 es c (get_or es i c) up (p.is ∙ get_there es i c p.within))
+
+pub ensured_kept : (os : List Own) (es : List CellId) (cs : List Commute) (c : CellId) → IsKept os es cs → IsKept os (with_cell es c) cs
+ensured_kept os es cs c h = record { own = h.own; ensured = cells_ascend 0 es c h.ensured (omega arith); commuted = h.commuted }
 
 -- ---- a ref is set
 

@@ -9,7 +9,7 @@ use Rattle.std.proofs.lemmas.Bool.Decides.{nat_tests}
 use Rattle.std.proofs.lemmas.Cmp.{ranked}
 use Rattle.txs_value.specs.declared.value.CellId.{CellId}
 use Rattle.txs_frame.specs.Frame.{with_cell}
-use Rattle.txs_frame.specs.Kept.{Ascends, item_of, with_item, IsPlaceOf}
+use Rattle.txs_frame.specs.Kept.{Ascends, item_of, with_item, IsPlaceOf, cell_number}
 
 pub less_differs : (m n : ℕ) → m < n → m ≢ n
 less_differs m n lt e = absurd (omega (arith, lt, e))
@@ -145,9 +145,6 @@ module _ {X : Type 0} (n : X → ℕ) where
 
 -- ---- sets of cells
 
-abbrev pub cell_number : CellId → ℕ
-cell_number c = c.number
-
 -- a cell that isn't in the set is put there
 pub cell_joins : (ds : List CellId) (c : CellId) → item_of cell_number ds c.number ≡ None → with_cell ds c ≡ with_item cell_number ds c
 cell_joins [] c e = refl
@@ -169,6 +166,19 @@ cell_stays l (d ∷ ds) c x up e = test (d.number == c.number) (nat_lt c.number 
         let none = none_below cell_number (suc d.number) ds c.number up.1 (omega (arith, less)) in
         absurd (false≢true (ap is_some (sym none ∙ g)))
     test false false f g rest = ap (λ zs. d ∷ zs) (rest g)
+
+-- a set with one more cell ascends
+pub cells_ascend : (l : ℕ) (ds : List CellId) (c : CellId) → Ascends cell_number l ds → l ≤ c.number → Ascends cell_number l (with_cell ds c)
+cells_ascend l [] c up le = (le, tt)
+cells_ascend l (d ∷ ds) c up le = test (d.number == c.number) (nat_lt c.number d.number) refl refl (cells_ascend (suc d.number) ds c up.1)
+  where
+    test : (a b : Bool) → (d.number == c.number) ≡ a → nat_lt c.number d.number ≡ b → (suc d.number ≤ c.number → Ascends cell_number (suc d.number) (with_cell ds c)) → Ascends cell_number l (if a then d ∷ ds else if b then c ∷ d ∷ ds else d ∷ with_cell ds c)
+    test true b e f more = up
+    test false true e f more = (le, (ltb-true c.number d.number f, up.1))
+    test false false e f more =
+        let least = ltb-false c.number d.number f in
+        let other = eqb-false d.number c.number e in
+        (up.0, more (grind (arith, least, other)))
 
 -- ---- what stands at a place
 

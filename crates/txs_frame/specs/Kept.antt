@@ -49,6 +49,10 @@ pub record IsPlaceOf {X : Type 0} (n : X → ℕ) (xs : List X) (k : ℕ) (place
   pub is : item_of n xs k ≡ item_at xs place
   pub puts : (y : X) → n y ≡ k → with_item n xs y ≡ put_at xs place y
 
+-- the number of a cell
+abbrev pub cell_number : CellId → ℕ
+cell_number c = c.number
+
 -- ---- own values
 
 -- the number of an own value's ref
@@ -121,5 +125,5 @@ work_of os es cs ss = record { values = writes_of os; sets = cells_by was_set os
 -- the parts of a frame agree
 pub record IsKept (os : List Own) (es : List CellId) (cs : List Commute) : Type 0 where
   pub own : Ascends number_of 0 os
-  pub ensured : Ascends (λ c. c.number) 0 es
+  pub ensured : Ascends cell_number 0 es
   pub commuted : refs_of cs ≡ cells_by was_commuted os

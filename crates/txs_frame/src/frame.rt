@@ -2,8 +2,8 @@
 
 ghost use Rattle.std.specs.Prelude.{◌≡◌, ◌||◌, ◌++◌, ◌∷◌, [], option_copied, is_some, IfOk, OnOk, OnErr};
 ghost use Rattle.txs_asks.specs.Ask.{buffered};
-ghost use Rattle.txs_frame.specs.Frame.{Work, no_work, is_set, is_commuted, set_ref, ensure_ref, commute_ref, hold_send, commuted, set_writes, SetAnswers};
-ghost use Rattle.txs_frame.specs.Kept.{cells_by, writes_by, was_set, only_commuted};
+ghost use Rattle.txs_frame.specs.Frame.{Work, no_work, is_set, is_commuted, set_ref, ensure_ref, commute_ref, hold_send, commuted, set_writes, with_cell, SetAnswers};
+ghost use Rattle.txs_frame.specs.Kept.{Ascends, IsPlaceOf, cell_number, cells_by, writes_by, was_set, only_commuted};
 ghost use Rattle.txs_value.specs.declared.value.CellKind.TheVariants.{Ref as a_ref};
 ghost use Rattle.txs_frame.specs.declared.frame.SetError.TheVariants.{Memory as no_memory};
 
@@ -153,6 +153,21 @@ impl TxFrame {
         }
     }
 
+    /// The refs that are ensured once this one is, too, in a list of their own.
+    pub fn with_ensured(&self, cell: CellId) -> Result<Listed<CellId>, AllocError>
+        ensures { IfOk result (λ cells. cells ≡ with_cell self.now.ensures cell) }
+    {
+        Ok(Listed::from_vec(with_ref(self.alloc, &self.ensured, cell)?))
+    }
+
+    /// Ensures a ref, once, by the list of the refs that are ensured then: this wants no memory.
+    pub fn ensure_by(&mut self, cell: CellId, cells: Listed<CellId>)
+        requires { cells ≡ with_cell self.old.ensures cell }
+        ensures { self.new ≡ ensure_ref cell self.old }
+    {
+        self.ensured = cells.into_vec();
+    }
+
     /// Holds a send until the transaction commits. After an error the frame is as before, and the action is
     /// gone.
     pub fn hold_send(&mut self, action: Action) -> Result<(), AllocError>
@@ -214,6 +229,29 @@ impl TxFrame {
         ensures { result.now ≡ self.now.sends }
     {
         self.sends.as_slice()
+    }
+}
+
+/// The place of the ref with this number, or where it would stand.
+fn find_ref(refs: &[CellId], number: u16) -> Result<usize, usize>
+    requires { Ascends cell_number 0 refs.now }
+    ensures { IsPlaceOf cell_number refs.now number result }
+{
+    refs.binary_search_by_key(&number, |c| c.number)
+}
+
+/// These refs with one more, once, by ascending number.
+fn with_ref(alloc: Global, refs: &[CellId], cell: CellId) -> Result<Vec<CellId>, AllocError>
+    requires { Ascends cell_number 0 refs.now }
+    ensures { IfOk result (λ cells. cells.items ≡ with_cell refs.now cell) }
+{
+    match find_ref(refs, cell.number) {
+        Ok(_) => Ok(Vec::from_slice(alloc, refs)?),
+        Err(i) => {
+            let mut cells = Vec::from_slice(alloc, refs)?;
+            cells.insert(i, cell)?;
+            Ok(cells)
+        }
     }
 }
 

@@ -2,8 +2,8 @@ use Rattle.std.proofs.Common.{ap, subst, sym, ◌∙◌, List, rules}
 use Rattle.std.proofs.lemmas.List.Sorted.{answers_always}
 use Rattle.txs_value.specs.declared.value.CellId.{CellId}
 use Rattle.txs_frame.specs.Frame.{ensure_ref}
-use Rattle.txs_frame.specs.Kept.{IsPlaceOf, IsKept, work_of}
-use Rattle.txs_frame.proofs.Places.{placed, cell_number}
+use Rattle.txs_frame.specs.Kept.{IsPlaceOf, IsKept, work_of, cell_number}
+use Rattle.txs_frame.proofs.Places.{placed}
 use Rattle.txs_frame.proofs.Frames.{ensure_done, ensure_kept, ensure_stays}
 use Rattle.txs_frame.proofs.frame.TxFrame.ensure.Goals as goal
 
