@@ -22,13 +22,14 @@ use Rattle.txs_tree.specs.Tree.{PlainFunction}
 use Rattle.txs_code.specs.ActorState.{ActorState, Reception, Replied, Unreplied, receives, asks, heard, step_of, just_done, handed_out, take_action, finish}
 use Rattle.txs_code.specs.Machine.{PlainBody, ThreadCode, agent_code, Outside, Configuration, first_place, Turned, Ended, Failed, Asking, Unfinished, Stuck, Outcome, and_then, told, raise, on, gives, to_stack, called, started, runs_callee, exec}
 use Rattle.txs_code.specs.Opening.{fresh}
+use Rattle.txs_follows.proofs.Grows.{GrowsTo, Later, later}
 use Rattle.txs_follows.proofs.Longer.{longer}
 use Rattle.txs_follows.proofs.Meant.{IsProper, SoundForms, known_callees}
 use Rattle.txs_follows.proofs.Callees.{sound_pure}
 use Rattle.txs_follows.proofs.Quiet.{carried, quietly, callee_carried}
 use Rattle.txs_follows.specs.ActionsBehave.{acting, ComesTo, CallComes, ActionsBehave, SoundFollowsAgents}
 use Rattle.txs_follows.specs.Behaves.{IsOver}
-use Rattle.txs_follows.specs.FollowsAgent.{new_of, action_meaning, SoundAction, HandsOut, AgentFits, taking, AsksNext, FollowsAgent}
+use Rattle.txs_follows.specs.FollowsAgent.{new_of, action_meaning, SoundAction, HandsOut, AgentFits, AgentTold, taking, AsksNext, GoesOn, FollowsAgent}
 
 -- ---- pure callees have an answer
 
@@ -276,8 +277,70 @@ module _ (code : List PlainBody) (functions : List PlainFunction) (sound : Sound
       let later = ends_from done fits.5 number m n a v new sa (record s { todo = done }) (record t { todo = done ++ taking g number a v ∷ [] }) refl refl r.3 means in
       comes_to_pass (Finish g new) x y (done ++ taking g number a v ∷ []) out.0 m out.1 out.2 r.0 t out.4 f fits.0 out.3 fits.4 r.1 r.2 later.0 later.1
 
+  -- ---- it goes on
+
+  nothing_before : (xs ys : List ℕ) → [] ≡ xs ++ ys → xs ≡ []
+  nothing_before [] ys e = refl
+  nothing_before (x ∷ xs) ys e = absurd (subst IsNothing e tt)
+    where
+      IsNothing : List ℕ → Type 0
+      IsNothing [] = Unit {0}
+      IsNothing (y ∷ zs) = ⊥
+
+  -- what goes on later goes on before
+  goes_before : (m j : ℕ) → m ≤ j → (c : Configuration) → GoesOn (exec acts j c) → GoesOn (exec acts m c)
+  goes_before m j le c h = go (exec acts m c) (exec acts j c) (later acts m j le c) (λ o over e. longer acts m j le c o over e) h
+    where
+      unfinished : (s : ActorState) (p : Outcome) → GrowsTo s p → GoesOn p → s.printed ≡ []
+      unfinished s (Ended t) l h = absurd h
+      unfinished s (Failed f t) l h = absurd h
+      unfinished s (Asking t) l h = nothing_before s.printed l.more (sym h ∙ l.prints)
+      unfinished s (Unfinished t) l h = nothing_before s.printed l.more (sym h ∙ l.prints)
+      unfinished s Stuck l h = absurd h
+
+      go : (o p : Outcome) → Later o p → ((q : Outcome) → IsOver q → o ≡ q → p ≡ q) → GoesOn p → GoesOn o
+      go (Ended s) p l e h = subst GoesOn (e (Ended s) tt refl) h
+      go (Failed f s) p l e h = subst GoesOn (e (Failed f s) tt refl) h
+      go (Asking s) p l e h = subst GoesOn (e (Asking s) tt refl) h
+      go (Unfinished s) p l e h = unfinished s p l h
+      go Stuck p l e h = subst GoesOn (e Stuck tt refl) h
+
+  -- with no exchange left, the agent asks for an action
+  asks_take : (s : ActorState) (m : ℕ) → s.todo ≡ [] → exec acts (suc m) (first_place [] s) ≡ Asking (record s { wants = Some (Take g) })
+  unfolding take_action
+  asks_take s m e = ap (λ y. and_then (on Outside (heard handed_out y) (λ o s1. started g o (first_place [] s) s1)) (exec acts m)) (unanswered (Take g) s e)
+
+  -- an action that was taken is run, and what it comes to is handed in
+  acted : (x : Exchange) (xs : List Exchange) (m : ℕ) (s : ActorState) → s.todo ≡ x ∷ xs → s.printed ≡ [] → x.ask ≡ Take g → HandsOut functions x.reply
+      → ((new : Result Value Fault) → GoesOn (and_then (finishes new (record s { todo = xs })) (exec acts m))) → GoesOn (exec acts (suc m) (first_place [] s))
+  acted x xs m s e p a h next =
+      let out = handed x.reply h in
+      subst GoesOn (sym (takes s x xs out.0 out.1 out.2 e a out.3 m)) (go out.1 out.2 (action_meaning m functions out.1 out.2) (runs m out.1 out.2 (record s { todo = xs }) out.4))
+    where
+      go : (y : Action) (v : Value) (o : Option (Result Value Fault)) → Runs m y v (record s { todo = xs }) o → GoesOn (exec acts m (acting g y 1 (v ∷ []) (record s { todo = xs })))
+      go y v (Some new) r = let b = r m in goes_before m b.0 b.1 (acting g y 1 (v ∷ []) (record s { todo = xs })) (subst GoesOn (sym b.2) (next new))
+      go y v None r = goes_before m r.0 r.1 (acting g y 1 (v ∷ []) (record s { todo = xs })) (subst GoesOn (sym r.2) p)
+
+  -- the result is handed in, where an exchange is left
+  handed_in : (new : Result Value Fault) (m : ℕ) (s : ActorState) (y : Exchange) (xs : List Exchange) → s.printed ≡ [] → y.reply ≡ reply.Done → GoesOn (exec acts m (first_place [] (record s { todo = xs })))
+      → GoesOn (and_then (finishes new (record s { todo = y ∷ xs })) (exec acts m))
+  handed_in new m s y xs p r h = subst GoesOn (sym (asks_next new (record s { todo = y ∷ xs }) y xs (exec acts m) refl r)) (go (same_ask (Finish g new) y.ask))
+    where
+      go : (z : Bool) → GoesOn (finished new (record s { todo = y ∷ xs }) y xs z (exec acts m))
+      go true = h
+      go false = p
+
+  goes_from : (told : List Exchange) → AgentTold functions g told → (m : ℕ) (s : ActorState) → s.todo ≡ told → s.printed ≡ [] → GoesOn (exec acts m (first_place [] s))
+  goes_from told h zero s e p = p
+  goes_from [] h (suc m) s e p = subst GoesOn (sym (asks_take s m e)) p
+  goes_from (x ∷ []) h (suc m) s e p = acted x [] m s e p h.0 h.1 (λ new. subst GoesOn (sym (asks_last new (record s { todo = [] }) (exec acts m) refl)) p)
+  goes_from (x ∷ y ∷ told) h (suc m) s e p =
+      let rest = goes_from told h.5 m (record s { todo = told }) refl p in
+      acted x (y ∷ told) m s e p h.0 h.1 (λ new. handed_in new m s y told p h.4 rest)
+
   agent_follows : FollowsAgent code functions g
   agent_follows = record {
+    goes_on = λ told m h. goes_from told h m (fresh told) refl refl;
     only = λ done number m a v new fits sa h. only_from done fits number m a v new sa (fresh (done ++ taking g number a v ∷ [])) refl h;
     ends_so = λ done number m n a v new fits sa h means. ends_from done fits number m n a v new sa (fresh done) (fresh (done ++ taking g number a v ∷ [])) refl refl h means;
   }

@@ -48,6 +48,13 @@ AgentFits functions g (x ∷ []) = ⊥
 AgentFits functions g (x ∷ y ∷ xs) =
     (x.ask ≡ Take g) × HandsOut functions x.reply × (new : Result Value Fault) × (y.ask ≡ Finish g new) × (y.reply ≡ reply.Done) × AgentFits functions g xs
 
+-- what an agent was told: that it took actions and finished them, one after another, and maybe that it took one more, which it has in hand
+abbrev pub AgentTold : List PlainFunction → CellId → List Exchange → Type 0
+AgentTold functions g [] = Unit {0}
+AgentTold functions g (x ∷ []) = (x.ask ≡ Take g) × HandsOut functions x.reply
+AgentTold functions g (x ∷ y ∷ xs) =
+    (x.ask ≡ Take g) × HandsOut functions x.reply × (new : Result Value Fault) × (y.ask ≡ Finish g new) × (y.reply ≡ reply.Done) × AgentTold functions g xs
+
 -- an action that the agent took
 abbrev pub taking : CellId → ℕ → Action → Value → Exchange
 taking g number a v = record { ask = Take g; reply = reply.Action number a v }
@@ -60,11 +67,20 @@ AsksNext a (Asking s) = (s.todo ≡ []) × (s.wants ≡ Some a)
 AsksNext a (Unfinished s) = ⊥
 AsksNext a Stuck = ⊥
 
+-- the machine goes on, or asks, and has printed nothing
+abbrev pub GoesOn : Outcome → Type 0
+GoesOn (Ended s) = ⊥
+GoesOn (Failed f s) = ⊥
+GoesOn (Asking s) = s.printed ≡ []
+GoesOn (Unfinished s) = s.printed ≡ []
+GoesOn Stuck = ⊥
+
 -- The agent's code follows the program: of an action that it took it hands in the action's meaning and nothing else, and it does so
--- where that meaning is there for some bound on loops.
+-- where that meaning is there for some bound on loops; and it never ends and prints nothing, since actions are pure.
 pub record FollowsAgent (code : List PlainBody) (functions : List PlainFunction) (g : CellId) : Type 0 where
   pub only : (done : List Exchange) (number m : ℕ) (a : Action) (v : Value) (new : Result Value Fault) → AgentFits functions g done → SoundAction functions a → AsksNext (Finish g new) (agent_target code g m (done ++ taking g number a v ∷ [])) → (n : ℕ) × (action_meaning n functions a v ≡ Some new)
   pub ends_so : (done : List Exchange) (number m n : ℕ) (a : Action) (v : Value) (new : Result Value Fault) → AgentFits functions g done → SoundAction functions a → AsksNext (Take g) (agent_target code g m done) → action_meaning n functions a v ≡ Some new → (j : ℕ) × AsksNext (Finish g new) (agent_target code g j (done ++ taking g number a v ∷ []))
+  pub goes_on : (told : List Exchange) (m : ℕ) → AgentTold functions g told → GoesOn (agent_target code g m told)
 
 -- the code of these functions follows the actions of each agent
 abbrev pub FollowsAgents : List PlainBody → List PlainFunction → Type 0

@@ -7,3 +7,4 @@ pub mod FollowsAll
 pub mod OnReplies
 pub mod RepliesFit
 pub mod RepliesFitTo
+pub mod Sends

@@ -19,7 +19,7 @@ functions_are ps cs [] (f ∷ fs) h = absurd h
 functions_are ps cs (b ∷ bs) [] h = absurd h
 functions_are ps cs (b ∷ bs) (f ∷ fs) h = ap (λ x. x ∷ plain_bodies ps cs bs) h.0.code ∙ ap (λ l. function_code f ∷ l) (functions_are ps cs bs fs h.1)
 
-thread_is : (code : PlainCode) (p : PlainProgram) (b : CodeBody) (t : PlainThread) → AreFunctionsOf (parameters_of code.functions) code.constants code.functions p.functions → IsBodyOf (parameters_of code.functions) code.constants b t → thread_code code b ≡ generated (source_of p t)
+pub thread_is : (code : PlainCode) (p : PlainProgram) (b : CodeBody) (t : PlainThread) → AreFunctionsOf (parameters_of code.functions) code.constants code.functions p.functions → IsBodyOf (parameters_of code.functions) code.constants b t → thread_code code b ≡ generated (source_of p t)
 thread_is code p b t e h =
     ap (λ x. with_main (plain_bodies (parameters_of code.functions) code.constants code.functions) x) h.code ∙ ap (λ fs. with_main fs (body_code t.body)) (functions_are (parameters_of code.functions) code.constants code.functions p.functions e)
 

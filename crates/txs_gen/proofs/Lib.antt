@@ -9,6 +9,7 @@ pub mod Kept
 pub mod Lists
 pub mod OwnCells
 pub mod Segments
+pub mod Sends
 pub mod Simulates
 pub mod Steps
 pub mod Today

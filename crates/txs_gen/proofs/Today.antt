@@ -123,7 +123,7 @@ opens_back (open_form.Swap callee) n h = h
 
 looks_back : (form : LookForm) → LooksToday form → IsRunToday (instr.Look form)
 looks_back Deref h = tt
-looks_back Ensure h = h
+looks_back Ensure h = tt
 
 puts_back : (form : PutForm) → PutsToday form → IsRunToday (instr.Put form)
 puts_back RefSet h = tt

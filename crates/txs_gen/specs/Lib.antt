@@ -6,4 +6,5 @@ pub mod Emission
 pub mod Gen
 pub mod Generated
 pub mod OwnCells
+pub mod Sends
 pub mod Today

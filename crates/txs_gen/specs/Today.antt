@@ -9,10 +9,10 @@ use Rattle.txs_value.specs.declared.form.UpdateForm.TheVariants.{Alter, Commute,
 use Rattle.txs_code.specs.RunsToday.{CellsRunToday}
 use Rattle.txs_tree.specs.Tree.{Tree, Const, Local, If, Do, Let, Loop, Recur, Core, Call, VectorOf, Println, Dosync, Look, Put, Update, Send, Trees, none, more, PlainFunction, PlainThread, PlainProgram}
 
--- of the forms that read a cell, `deref` runs today
+-- the forms that read a cell, `deref` and `ensure`, run today
 abbrev pub LooksToday : LookForm → Type 0
 LooksToday Deref = Unit {0}
-LooksToday Ensure = ⊥
+LooksToday Ensure = Unit {0}
 
 -- of the forms that give a cell a value, `ref-set` does
 abbrev pub PutsToday : PutForm → Type 0

@@ -1,7 +1,8 @@
-//! The laws of a program's code: it follows the program, and the actions of its agents.
+//! The laws of a program's code: it follows the program, and the actions of its agents, and sends only what a program may send.
 
 ghost use Rattle.txs_gen.specs.Agents.{AgentsFollow};
 ghost use Rattle.txs_gen.specs.CodeFollows.{CodeFollows};
+ghost use Rattle.txs_gen.specs.Sends.{CodeOfProgramSendsSound};
 
 use txs_follows::{generated_follows, sound_follows_agents};
 
@@ -21,3 +22,9 @@ pub fn code_of_agents_follows()
 {
     sound_follows_agents();
 }
+
+/// Each send in the code of a sound program names a callee that is pure and takes the agent's state and
+/// the arguments: so what the code sends, a program may send.
+pub fn code_of_program_sends_sound()
+    ensures { CodeOfProgramSendsSound }
+{}

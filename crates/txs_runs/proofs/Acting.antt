@@ -17,7 +17,7 @@ use Rattle.txs_value.specs.declared.value.CellKind.{CellKind}
 use Rattle.txs_value.specs.declared.value.CellKind.TheVariants.{Ref, Atom, Agent}
 use Rattle.txs_value.specs.declared.value.Value.{Value}
 use Rattle.txs_tree.specs.Tree.{PlainFunction}
-use Rattle.txs_follows.specs.FollowsAgent.{SoundAction, AgentFits, taking}
+use Rattle.txs_follows.specs.FollowsAgent.{SoundAction, AgentFits, AgentTold, taking}
 use Rattle.txs_world.proofs.Merging.{both}
 use Rattle.txs_world.specs.Book.{has_agent, has_cell, is_of_kind, is_there, is_failed, agents_below, newest, Mail, no_mail, sent_to, acted, mail_changed, mail_from, mail_after, goes_on, makes, Each, Legal}
 use Rattle.txs_world.specs.Book as world
@@ -46,7 +46,7 @@ action_or x (Some y) = y
 -- ---- the mail
 
 module _ (functions : List PlainFunction) where
-  sound_append : (xs ys : List Action) → AreSound functions xs → AreSound functions ys → AreSound functions (xs ++ ys)
+  pub sound_append : (xs ys : List Action) → AreSound functions xs → AreSound functions ys → AreSound functions (xs ++ ys)
   sound_append [] ys h k = k
   sound_append (x ∷ xs) ys h k = (h.0, sound_append xs ys h.1 k)
 
@@ -83,9 +83,9 @@ module _ (functions : List PlainFunction) where
   sound_changed goes k (event.Swap new) m s h = h
   sound_changed goes k (event.Broke at) m s h = h
 
-  sound_mail : (goes : Bool) (k : ℕ) (m : Mail) (es : List Event) → AreSound functions m.actions → AllSound functions es → AreSound functions (mail_from goes k m es).actions
-  sound_mail goes k m [] h s = h
-  sound_mail goes k m (e ∷ es) h s = sound_mail goes k (mail_changed goes k e.kind m) es (sound_changed goes k e.kind m s.0 h) s.1
+  sound_mail : (goes : Bool) (k : ℕ) (m : Mail) (done es : List Event) → AreSound functions m.actions → Each (λ l e. SendsSound functions e.kind) done es → AreSound functions (mail_from goes k m es).actions
+  sound_mail goes k m done [] h s = h
+  sound_mail goes k m done (e ∷ es) h s = sound_mail goes k (mail_changed goes k e.kind m) (done ++ e ∷ []) es (sound_changed goes k e.kind m s.0 h) s.1
 
   first_sound : (b : Bool) (xs : List Action) (x : Action) → AreSound functions xs → first_action b xs ≡ Some x → SoundAction functions x
   first_sound true xs x h e = absurd (false≢true (ap is_there e))
@@ -95,11 +95,7 @@ module _ (functions : List PlainFunction) where
   -- what an agent runs next is sound, where all that was sent is
   pub next_sound : (cells : List StoreCell) (book : List Event) (g : CellId) (x : Action) → AllSound functions book → next_action cells book g ≡ Some x → SoundAction functions x
   next_sound cells book g x s e =
-      first_sound (is_failed cells book g) (mail_after cells book g.number).actions x (sound_mail (goes_on (nth cells g.number)) g.number no_mail book tt s) e
-
-  pub sound_front : (es more : List Event) → AllSound functions (es ++ more) → AllSound functions es
-  sound_front [] more h = tt
-  sound_front (e ∷ es) more h = (h.0, sound_front es more h.1)
+      first_sound (is_failed cells book g) (mail_after cells book g.number).actions x (sound_mail (goes_on (nth cells g.number)) g.number no_mail [] book tt s) e
 
   -- one more action that was taken and finished
   pub fits_more : (g : CellId) (xs : List Exchange) (number : ℕ) (a : Action) (v : Value) (new : Result Value Fault) → AgentFits functions g xs → SoundAction functions a
@@ -107,6 +103,18 @@ module _ (functions : List PlainFunction) where
   fits_more g [] number a v new h s = (refl, s, new, refl, refl, tt)
   fits_more g (x ∷ []) number a v new h s = absurd h
   fits_more g (x ∷ y ∷ xs) number a v new h s = (h.0, h.1, h.2, h.3, h.4, fits_more g xs number a v new h.5 s)
+
+  -- what an agent has finished, it was told so
+  pub told_fits : (g : CellId) (xs : List Exchange) → AgentFits functions g xs → AgentTold functions g xs
+  told_fits g [] h = tt
+  told_fits g (x ∷ []) h = absurd h
+  told_fits g (x ∷ y ∷ xs) h = (h.0, h.1, h.2, h.3, h.4, told_fits g xs h.5)
+
+  -- and with the action that it has in hand
+  pub told_more : (g : CellId) (xs : List Exchange) (number : ℕ) (a : Action) (v : Value) → AgentFits functions g xs → SoundAction functions a → AgentTold functions g (xs ++ taking g number a v ∷ [])
+  told_more g [] number a v h s = (refl, s)
+  told_more g (x ∷ []) number a v h s = absurd h
+  told_more g (x ∷ y ∷ xs) number a v h s = (h.0, h.1, h.2, h.3, h.4, told_more g xs number a v h.5 s)
 
 -- ---- agents' numbers
 

@@ -1,8 +1,7 @@
 -- Agents are explained: each action that they hand in is what its callee means on the state that they found.
-use Rattle.std.proofs.Common.{◌≡◌, ◌+◌, ℕ, zero, suc, Bool, true, false, ◌==◌, nat_lt, List, [], ◌∷◌, ◌++◌, length, set, get_or, Option, Some, None, refl, sym, ap, ◌∙◌, subst, if◌then◌else◌, ◌⊎◌, inl, inr}
+use Rattle.std.proofs.Common.{◌≡◌, ◌+◌, ℕ, zero, suc, Bool, true, false, ◌==◌, List, [], ◌∷◌, length, map, set, get_or, Option, Some, None, refl, sym, ap, ◌∙◌, subst, if◌then◌else◌, ◌⊎◌, inl, inr}
 use Rattle.std.proofs.lemmas.Bool.{false≢true}
 use Rattle.std.proofs.lemmas.List.{get_or-set_other, length-set}
-use Rattle.txs_asks.specs.Ask.{Writes}
 use Rattle.txs_asks.specs.declared.ask.Ask.{Ask}
 use Rattle.txs_asks.specs.declared.ask.Ask.TheVariants as ask
 use Rattle.txs_asks.specs.declared.ask.Reply.{Reply}
@@ -11,29 +10,30 @@ use Rattle.txs_asks.specs.declared.event.Event.{Event}
 use Rattle.txs_asks.specs.declared.event.EventKind.{EventKind}
 use Rattle.txs_asks.specs.declared.event.EventKind.TheVariants as event
 use Rattle.txs_value.proofs.SameLemmas.{numbers, number-itself}
-use Rattle.txs_value.specs.Limits.{most_events}
 use Rattle.txs_value.specs.declared.action.Action.{Action}
 use Rattle.txs_value.specs.declared.cell.CellDefinition.{CellDefinition}
 use Rattle.txs_value.specs.declared.value.CellId.{CellId}
-use Rattle.txs_value.specs.declared.value.Value.{Value}
 use Rattle.txs_tree.specs.Tree.{PlainFunction}
 use Rattle.txs_code.specs.ActorState.{ActorState}
-use Rattle.txs_code.specs.Machine.{PlainBody, ThreadCode, Configuration, Turned, Ended, Failed, Asking, Unfinished, Stuck, turn}
+use Rattle.txs_code.specs.Machine.{PlainBody, ThreadCode, agent_code, Configuration, Turned, Ended, Failed, Asking, Unfinished, Stuck, and_then, turn}
 use Rattle.txs_code.specs.Opening as machine
-use Rattle.txs_follows.specs.FollowsAgent.{FollowsAgents}
-use Rattle.txs_world.proofs.Growth.{each_more}
+use Rattle.txs_code.proofs.Acts.{stated, exec_run}
+use Rattle.txs_follows.specs.FollowsAgent.{AgentTold, GoesOn, FollowsAgents}
 use Rattle.txs_world.proofs.Merging.{both}
-use Rattle.txs_world.specs.Atom.{closes_at, swapped_since}
-use Rattle.txs_world.specs.Book.{has_agent, cells_in, agents_below, opening, written, least_written, is_failed, first_failed, mail_after, Each}
+use Rattle.txs_world.specs.Book.{has_agent, agents_below, opening}
 use Rattle.txs_world.specs.Book as world
 use Rattle.txs_world.specs.Laws.{ActionStays, ServeKeeps}
-use Rattle.txs_world.specs.Store.{served, adds, event_of, cells_of, none_taken, is_taken, hands_out, is_done, looks, commits, sends_to, merged, taken_after}
+use Rattle.txs_world.specs.Store.{cells_of, none_taken, is_taken, hands_out, is_done, taken_after}
 use Rattle.txs_world.specs.declared.cell.StoreCell.{StoreCell}
-use Rattle.txs_runs.specs.Agents.{ActMeans, ActsMean, AllSound, HasFinished, HasTaken, RunsAgents, AgentExplained, AgentsExplain, RunActsMean}
+use Rattle.txs_runs.specs.Agents.{ActMeans, ActsMean, AllSound, HasFinished, HasTaken, RunsAgents, AgentExplained, AgentsExplain, ThreadsSendSound, RunActsMean}
+use Rattle.txs_runs.specs.Explains.{outcome_at}
 use Rattle.txs_runs.specs.Invariant.{SharedStands}
-use Rattle.txs_runs.specs.Run.{Stop, Actor, Moved, moved, comes_to, asked, asks_for, turned, turns_from, stops_from, Play, TakesTurn, IsStopped, State, moves, actor_of, play, plays_from, opens}
-use Rattle.txs_runs.specs.Shared.{Shared, is_atom, book_for, serve_on, may_ask}
-use Rattle.txs_runs.proofs.Acting.{sound_front}
+use Rattle.txs_runs.specs.Run.{Stop, Actor, Moved, moved, entry, comes_to, asked, asks_for, turned, turns_from, stops_from, Play, TakesTurn, IsStopped, State, moves, actor_of, play, plays_from, opens}
+use Rattle.txs_runs.specs.Shared.{Shared, book_for, serve_on, may_ask}
+use Rattle.txs_runs.specs.Told.{exchange_of}
+use Rattle.txs_runs.proofs.Acting.{map_append, told_fits, told_more}
+use Rattle.txs_runs.proofs.Adding.{IsQuiet, Brings, served_such}
+use Rattle.txs_runs.proofs.Sending.{Sends, play_sends, opening_sends}
 use Rattle.txs_runs.proofs.Steps.{MovedWell, moves_stand}
 use Rattle.txs_runs.proofs.Whole.{FreshStands, opening_holds}
 use Rattle.txs_runs.proofs.Working.{Phase, Works, finish_means, turns_well, stops_well, others_leave}
@@ -110,63 +110,25 @@ module _ (cells : List CellDefinition) (threads : ℕ) (code : List PlainBody) (
   abbrev Means : (ℕ → List Event) → Type 0
   Means books = (n : ℕ) → ActsMean functions cells (books n)
 
-  module _ (b : ℕ) (book : List Event) (h : ActsMean functions cells book) where
-    adds_means : (kind : EventKind) (r : Reply) → ActMeans functions cells book kind → ActsMean functions cells (adds b kind r book).book
-    adds_means kind r m = go (nat_lt (length book) most_events)
-      where
-        go : (t : Bool) → ActsMean functions cells (if t then served r (book ++ event_of b kind ∷ []) else served reply.Full book).book
-        go true = each_more (λ done e. ActMeans functions cells done e.kind) [] book (event_of b kind) h m
-        go false = h
+  quiet_means : (done : List Event) (kind : EventKind) → IsQuiet kind → ActMeans functions cells done kind
+  quiet_means done (event.Read c) h = tt
+  quiet_means done (event.Commit at view ws sends) h = absurd h
+  quiet_means done (event.Retry since c commute) h = tt
+  quiet_means done (event.Fail at view) h = tt
+  quiet_means done (event.Refused at view g) h = tt
+  quiet_means done (event.Send x) h = absurd h
+  quiet_means done (event.SendRefused g) h = tt
+  quiet_means done (event.Act g n new) h = absurd h
+  quiet_means done (event.Swap new) h = tt
+  quiet_means done (event.Broke at) h = tt
 
-    looks_mean : (t : Bool) (c : CellId) (p : ℕ) → ActsMean functions cells (looks t (opening (cells_of cells)) b c p book).book
-    looks_mean true c p = adds_means (event.Retry p c false) (reply.Retry c) tt
-    looks_mean false c p = h
-
-    commits_mean : (o c g : Option CellId) (p q : ℕ) (ws : Writes) (sends : List Action) → ActsMean functions cells (commits o c g b p q ws sends book).book
-    commits_mean (Some d) c g p q ws sends = adds_means (event.Retry p d false) (reply.Retry d) tt
-    commits_mean None (Some d) g p q ws sends = adds_means (event.Retry q d true) (reply.Changed d) tt
-    commits_mean None None (Some g) p q ws sends = adds_means (event.Refused p q g) (reply.AgentIsFailed g) tt
-    commits_mean None None None p q ws sends = adds_means (event.Commit p q ws sends) reply.Done tt
-
-    sends_mean : (t : Bool) (x : Action) → ActsMean functions cells (sends_to t b x book).book
-    sends_mean true x = adds_means (event.SendRefused x.agent) (reply.AgentIsFailed x.agent) tt
-    sends_mean false x = adds_means (event.Send x) reply.Done tt
-
-    closes_mean : (t : Bool) (c : CellId) (v : Value) → ActsMean functions cells (closes_at t b c v book).book
-    closes_mean true c v = h
-    closes_mean false c v = adds_means (event.Swap v) reply.Done tt
-
-    peek_means : (t : Bool) (c : CellId) (v u : Value) → ActsMean functions cells (if t then adds b (event.Read c) (reply.Is v) book else adds b (event.Read c) (reply.Is u) book).book
-    peek_means true c v u = adds_means (event.Read c) (reply.Is v) tt
-    peek_means false c v u = adds_means (event.Read c) (reply.Is u) tt
-
-    abbrev Finishes : Ask → Type 0
-    Finishes (ask.Finish g new) = (i : ℕ) → ActMeans functions cells book (event.Act g i new)
-    Finishes _ = Unit {0}
-
-    served_means : (q : Ask) → Finishes q → ActsMean functions cells (serve_on cells b q book).book
-    served_means ask.Begin f = h
-    served_means (ask.Look c p) f = looks_mean (written c.number p book) c p
-    served_means (ask.View cs) f = h
-    served_means (ask.Commit p sets ensured q commuted sends) f =
-        commits_mean (least_written book p (cells_in sets ++ ensured)) (least_written book q (cells_in commuted)) (first_failed (cells_of cells) book sends) p q (merged sets commuted) sends
-    served_means (ask.Fail p q) f = adds_means (event.Fail p q) reply.Done tt
-    served_means (ask.Peek c) f = peek_means (is_atom c) c _ _
-    served_means (ask.Send x) f = sends_mean (is_failed (cells_of cells) book x.agent) x
-    served_means (ask.Take g) f = h
-    served_means (ask.Finish g new) f = adds_means (event.Act g (suc (mail_after (cells_of cells) book g.number).acts) new) reply.Done (f (suc (mail_after (cells_of cells) book g.number).acts))
-    served_means (ask.OpenAt c) f = h
-    served_means (ask.CloseAt c None v) f = closes_mean false c v
-    served_means (ask.CloseAt c (Some p) v) f = closes_mean (swapped_since p book) c v
-    served_means (ask.Broke c p) f = adds_means (event.Broke p) reply.Done tt
-
-  module _ (follows : FollowsAgents code functions) (codes : ℕ → ThreadCode) (run_agents : RunsAgents cells threads codes code) where
+  module _ (follows : FollowsAgents code functions) (codes : ℕ → ThreadCode) (run_agents : RunsAgents cells threads codes code) (by : ThreadsSendSound threads codes functions) where
     abbrev WorksAll : State → Type 0
     WorksAll st = (g : CellId) → has_agent (cells_of cells) g ≡ true → Works cells threads code functions st.shared g (st.actors (agent_actor cells threads g))
 
     module _ (st : State) (sound : AllSound functions (st.shared.books 0)) (long : length st.shared.taken ≡ length (cells_of cells)) (all : WorksAll st) (means : Means st.shared.books) (b : ℕ) where
       finishes : (c : Configuration) (s : ActorState) (q : Ask) → (st.actors b).at ≡ Unfinished c → turn (codes b) c ≡ Asking s → s.wants ≡ Some q → may_ask cells threads st.shared.taken b q (st.shared.books (book_for cells q)) ≡ true
-          → Finishes b (st.shared.books (book_for cells q)) (means (book_for cells q)) q
+          → Brings (ActMeans functions cells) (st.shared.books (book_for cells q)) q
       finishes c s (ask.Finish g new) at e w may =
           let m = both (b == agent_actor cells threads g) _ may in
           let n = both (has_agent (cells_of cells) g) (is_taken st.shared.taken g) m.1 in
@@ -176,7 +138,7 @@ module _ (cells : List CellDefinition) (threads : ℕ) (code : List PlainBody) (
       finishes c s ask.Begin at e w may = tt
       finishes c s (ask.Look d p) at e w may = tt
       finishes c s (ask.View cs) at e w may = tt
-      finishes c s (ask.Commit p sets ensured q commuted sends) at e w may = tt
+      finishes c s (ask.Commit p sets ensured q commuted sends) at e w may = λ ws. tt
       finishes c s (ask.Fail p q) at e w may = tt
       finishes c s (ask.Peek d) at e w may = tt
       finishes c s (ask.Send x) at e w may = tt
@@ -191,7 +153,7 @@ module _ (cells : List CellDefinition) (threads : ℕ) (code : List PlainBody) (
       asked_means true c s q may at e w = λ n. go n (n == book_for cells q)
         where
           go : (n : ℕ) (t : Bool) → ActsMean functions cells (if t then (serve_on cells b q (st.shared.books (book_for cells q))).book else st.shared.books n)
-          go n true = served_means b (st.shared.books (book_for cells q)) (means (book_for cells q)) q (finishes c s q at e w may)
+          go n true = served_such (ActMeans functions cells) quiet_means cells b (st.shared.books (book_for cells q)) (means (book_for cells q)) q (finishes c s q at e w may)
           go n false = means n
 
       wanted_means : (c : Configuration) (s : ActorState) (o : Option Ask) → (st.actors b).at ≡ Unfinished c → turn (codes b) c ≡ Asking s → s.wants ≡ o → Means (asks_for cells threads (codes b) b c s o (st.actors b) st.shared).shared.books
@@ -234,32 +196,38 @@ module _ (cells : List CellDefinition) (threads : ℕ) (code : List PlainBody) (
       own_well (IsStopped b why) e =
           subst (λ i. OwnWell (IsStopped i why)) (sym e) (stops_well cells threads code functions follows g has st.shared sound long (st.actors own) (all g has) why (st.actors own).at (st.actors own).stopped)
 
-    -- what holds between plays, where all that the book sends is sound
+    -- what holds between plays
     record Standing (st : State) : Type 0 where
       shared : SharedStands cells threads st.shared
       long : length st.shared.taken ≡ length (cells_of cells)
-      means : AllSound functions (st.shared.books 0) → Means st.shared.books
-      all : AllSound functions (st.shared.books 0) → WorksAll st
+      sends : Sends functions cells threads codes by st
+      means : Means st.shared.books
+      all : WorksAll st
 
     play_stands : ServeKeeps → ActionStays → (y : Play) (st : State) → Standing st → Standing (play cells threads codes y st)
-    play_stands keeps stays y st h =
-        record { shared = w.shared; long = took.long ∙ h.long; means = λ s. moves_mean y st (before s) h.long (h.all (before s)) (h.means (before s)); all = λ s g has. go g has (before s) (actor_of y == agent_actor cells threads g) refl }
+    play_stands keeps stays y st h = record {
+      shared = w.shared;
+      long = took.long ∙ h.long;
+      sends = play_sends functions cells threads codes by y st h.sends;
+      means = moves_mean y st sound h.long h.all h.means;
+      all = λ g has. go g has (actor_of y == agent_actor cells threads g) refl;
+    }
       where
+        sound : AllSound functions (st.shared.books 0)
+        sound = h.sends.books 0
+
         w : MovedWell keeps cells threads (actor_of y) st.shared (moves cells threads codes y st)
         w = moves_stand keeps cells threads codes y st h.shared
 
         took : Took (actor_of y) st.shared (moves cells threads codes y st)
         took = moves_took codes y st
 
-        before : AllSound functions ((moves cells threads codes y st).shared.books 0) → AllSound functions (st.shared.books 0)
-        before s = sound_front functions (st.shared.books 0) (w.grown.more 0) (subst (AllSound functions) (w.grown.grown 0) s)
-
-        go : (g : CellId) → has_agent (cells_of cells) g ≡ true → AllSound functions (st.shared.books 0) → (t : Bool) → (actor_of y == agent_actor cells threads g) ≡ t
+        go : (g : CellId) → has_agent (cells_of cells) g ≡ true → (t : Bool) → (actor_of y == agent_actor cells threads g) ≡ t
             → Works cells threads code functions (moves cells threads codes y st).shared g (if t then (moves cells threads codes y st).actor else st.actors (agent_actor cells threads g))
-        go g has s true e = own_well g has st s h.long (h.all s) y (numbers (actor_of y) (agent_actor cells threads g) e)
-        go g has s false e =
+        go g has true e = own_well g has st sound h.long h.all y (numbers (actor_of y) (agent_actor cells threads g) e)
+        go g has false e =
             let n : actor_of y ≡ agent_actor cells threads g → ⊥ = λ i. false≢true (sym e ∙ ap (λ j. actor_of y == j) (sym i) ∙ number-itself (actor_of y)) in
-            others_leave cells threads code functions stays g has (actor_of y) n st.shared (moves cells threads codes y st).shared w.grown w.shared.store.legal (took.same g n) (st.actors (agent_actor cells threads g)) (h.all s g has)
+            others_leave cells threads code functions stays g has (actor_of y) n st.shared (moves cells threads codes y st).shared w.grown w.shared.store.legal (took.same g n) (st.actors (agent_actor cells threads g)) (h.all g has)
 
     plays_stand : ServeKeeps → ActionStays → (ys : List Play) (st : State) → Standing st → Standing (plays_from cells threads codes ys st)
     plays_stand keeps stays [] st h = h
@@ -278,23 +246,46 @@ module _ (cells : List CellDefinition) (threads : ℕ) (code : List PlainBody) (
     opening_stands fresh = record {
       shared = (opening_holds fresh cells threads codes).shared;
       long = none_long (cells_of cells);
-      means = λ s n. tt;
-      all = λ s g has.
+      sends = opening_sends functions cells threads codes by;
+      means = λ n. tt;
+      all = λ g has.
           record { ran = ap (λ kd. Unfinished (first kd)) (sym (run_agents g has)); consumed = refl; phase = inl (none_there (cells_of cells) g.number, tt) };
     }
       where
         first : ThreadCode → Configuration
         first kd = machine.opening kd []
 
-    explained : ServeKeeps → ActionStays → FreshStands → (ys : List Play) → AllSound functions ((plays_from cells threads codes ys (opens cells codes)).shared.books 0)
-        → AgentsExplain cells threads code functions (plays_from cells threads codes ys (opens cells codes))
-    explained keeps stays fresh ys s =
+    -- an agent goes on, and has printed nothing
+    works_on : (g : CellId) (sh : Shared) (x : Actor) → Works cells threads code functions sh g x → GoesOn (outcome_at x.at)
+    works_on g sh x w =
+        subst GoesOn (exec_run tc x.turns (machine.opening tc (map exchange_of x.entries)) ∙ ap (λ o. and_then o stated) w.ran ∙ outcome x.at)
+        ((follows g).goes_on (map exchange_of x.entries) x.turns (told w.phase))
+      where
+        tc : ThreadCode
+        tc = agent_code code g
+
+        outcome : (o : Turned Configuration) → and_then o stated ≡ outcome_at o
+        outcome (Ended s) = refl
+        outcome (Failed f s) = refl
+        outcome (Asking s) = refl
+        outcome (Unfinished c) = refl
+        outcome Stuck = refl
+
+        told : Phase cells threads code functions sh.taken (sh.books 0) g x.entries → AgentTold functions g (map exchange_of x.entries)
+        told (inl p) = told_fits functions g (map exchange_of x.entries) p.1
+        told (inr p) =
+            let h = p.1 in
+            subst (AgentTold functions g) (sym (ap (map exchange_of) h.entries ∙ map_append h.done (entry (ask.Take g) (reply.Action h.number h.action h.state) h.at)))
+            (told_more functions g (map exchange_of h.done) h.number h.action h.state h.finished h.sound)
+
+    explained : ServeKeeps → ActionStays → FreshStands → (ys : List Play) → AgentsExplain cells threads code functions (plays_from cells threads codes ys (opens cells codes))
+    explained keeps stays fresh ys =
         let h = plays_stand keeps stays ys (opens cells codes) (opening_stands fresh) in
-        record { acts = h.means s 0; agents = λ g has. of g (h.all s g has) }
+        record { sends = h.sends.books 0; acts = h.means 0; agents = λ g has. of g (h.all g has) }
       where
         of : (g : CellId) → Works cells threads code functions (plays_from cells threads codes ys (opens cells codes)).shared g ((plays_from cells threads codes ys (opens cells codes)).actors (agent_actor cells threads g))
             → AgentExplained cells code functions ((plays_from cells threads codes ys (opens cells codes)).shared.books 0) g ((plays_from cells threads codes ys (opens cells codes)).actors (agent_actor cells threads g))
-        of g w = record { ran = w.ran; consumed = w.consumed; actions = go w.phase }
+        of g w = record { ran = w.ran; consumed = w.consumed; goes_on = works_on g _ _ w; actions = go w.phase }
           where
             go : Phase cells threads code functions (plays_from cells threads codes ys (opens cells codes)).shared.taken ((plays_from cells threads codes ys (opens cells codes)).shared.books 0) g ((plays_from cells threads codes ys (opens cells codes)).actors (agent_actor cells threads g)).entries
                 → HasFinished functions g ((plays_from cells threads codes ys (opens cells codes)).actors (agent_actor cells threads g)).entries
@@ -303,4 +294,4 @@ module _ (cells : List CellDefinition) (threads : ℕ) (code : List PlainBody) (
             go (inr p) = inr p.1
 
 pub run_acts_mean : ServeKeeps → ActionStays → FreshStands → RunActsMean
-run_acts_mean keeps stays fresh cells threads codes code functions ys follows run_agents s = explained cells threads code functions follows codes run_agents keeps stays fresh ys s
+run_acts_mean keeps stays fresh cells threads codes code functions ys follows run_agents by = explained cells threads code functions follows codes run_agents by keeps stays fresh ys

@@ -12,7 +12,7 @@ use Rattle.txs_value.specs.declared.cell.CellDefinition.{CellDefinition}
 use Rattle.txs_world.specs.Store.{Served}
 use Rattle.txs_runs.specs.Shared.{book_for, serve_on, may_ask}
 use Rattle.txs_runs.specs.Stages.{Stage, Idle, AsksIn, stage_after}
-use Rattle.txs_runs.specs.Told.{Entry, Place, IsExchanged, before_entry, served_at, EntryHolds, AllHold, AreStaged, adding, trace_of, places_in, places_by, ToldBy}
+use Rattle.txs_runs.specs.Told.{Entry, Place, IsExchanged, before_entry, served_at, EntryHolds, AllHold, AreStaged, adding, trace_of, TraceHolds, places_in, places_by, ToldBy}
 use Rattle.txs_runs.specs.Run.{entry}
 
 -- these events are this actor's
@@ -136,15 +136,19 @@ module _ (cells : List CellDefinition) (threads a b : ℕ) (books later : ℕ �
       ap (λ ps. adding cells later b e ps) (trace_stays es h.1)
       ∙ ap (λ (v : Served). if nat_lt e.at (length v.book) then record { book = book_for cells e.ask; at = e.at } ∷ trace_of cells books b es else trace_of cells books b es) (served_stays e h.0)
 
-  -- what another actor adds leaves what an actor was told
+  -- what another actor adds leaves the trace of one
+  pub traced_stays : (a ≡ b → ⊥) → (es : List Entry) → AllHold cells threads books b es → TraceHolds books b (trace_of cells books b es) → TraceHolds later b (trace_of cells later b es)
+  traced_stays n es h t i =
+      ap (places_in i) (trace_stays es h) ∙ t i ∙ sym (append_nil (places_by b 0 (books i)))
+      ∙ ap (λ l. places_by b 0 (books i) ++ l) (sym (not_by a b (0 + length (books i)) (g.more i) n (g.own i)))
+      ∙ sym (places_append b 0 (books i) (g.more i)) ∙ ap (places_by b 0) (sym (g.grown i))
+
+  -- and what an actor was told
   pub told_stays : (a ≡ b → ⊥) → (es : List Entry) (st : Stage) → ToldBy cells threads books b es st → ToldBy cells threads later b es st
   told_stays n es st t = record {
     hold = all_stay es t.hold;
     staged = t.staged;
-    traced = λ i.
-        ap (places_in i) (trace_stays es t.hold) ∙ t.traced i ∙ sym (append_nil (places_by b 0 (books i)))
-        ∙ ap (λ l. places_by b 0 (books i) ++ l) (sym (not_by a b (0 + length (books i)) (g.more i) n (g.own i)))
-        ∙ sym (places_append b 0 (books i) (g.more i)) ∙ ap (places_by b 0) (sym (g.grown i));
+    traced = traced_stays n es t.hold t.traced;
   }
 
 -- ---- an actor's own ask
@@ -185,6 +189,14 @@ module _ (cells : List CellDefinition) (threads a : ℕ) (books : ℕ → List E
 
     abbrev pub own_grown : Grown a books (books_after v)
     own_grown = record { more = λ n. if n == book_for cells q then s.more else []; grown = λ n. grows n (n == book_for cells q) refl; own = λ n. owns (n == book_for cells q) }
+
+    -- where it left the books, it is as if another actor had added nothing
+    pub nothing_served : s.more ≡ [] → Grown (suc a) books (books_after v)
+    nothing_served none = record { more = λ n. []; grown = λ n. same n (n == home_book) refl; own = λ n. tt }
+      where
+        same : (n : ℕ) (t : Bool) → (n == home_book) ≡ t → (if t then v.book else books n) ≡ books n ++ []
+        same n true h = s.grown ∙ ap (λ l. books home_book ++ l) none ∙ ap (λ i. books i ++ []) (sym (numbers n home_book h))
+        same n false h = sym (append_nil (books n))
 
     -- its entry
     abbrev own : Entry
@@ -254,15 +266,23 @@ module _ (cells : List CellDefinition) (threads a : ℕ) (books : ℕ → List E
     all_append [] h o = (o, tt)
     all_append (x ∷ xs) h o = (h.0, all_append xs h.1 o)
 
-    -- with its own entry behind the others, an actor was told what the books say after it
+    -- with its own entry behind the others, each entry holds
+    pub own_hold : IsExchanged v.reply → (xs : List Entry) → AllHold cells threads books a xs → AllHold cells threads (books_after v) a (xs ++ own ∷ [])
+    own_hold ex xs h = all_append xs (all_stay cells threads a a books (books_after v) own_grown xs h) (own_holds ex)
+
+    -- and the trace names the actor's events
+    pub own_traced : (xs : List Entry) → AllHold cells threads books a xs → TraceHolds books a (trace_of cells books a xs) → TraceHolds (books_after v) a (trace_of cells (books_after v) a (xs ++ own ∷ []))
+    own_traced xs h t n =
+        ap (places_in n) (traces_append xs) ∙ places_in_append n (trace_of cells (books_after v) a xs) (adding cells (books_after v) a own [])
+        ∙ ap (λ ps. places_in n ps ++ places_in n (adding cells (books_after v) a own [])) (trace_stays cells threads a a books (books_after v) own_grown xs h)
+        ∙ ap (λ l. l ++ places_in n (adding cells (books_after v) a own [])) (t n)
+        ∙ ap (λ l. places_by a 0 (books n) ++ l) (own_places n)
+        ∙ sym (places_append a 0 (books n) (own_grown.more n)) ∙ ap (places_by a 0) (sym (own_grown.grown n))
+
+    -- so an actor was told what the books say after it
     pub own_told : IsExchanged v.reply → (xs : List Entry) (st : Stage) → AsksIn st q → ToldBy cells threads books a xs st → ToldBy cells threads (books_after v) a (xs ++ own ∷ []) (stage_after st q v.reply)
     own_told ex xs st ok t = record {
-      hold = all_append xs (all_stay cells threads a a books (books_after v) own_grown xs t.hold) (own_holds ex);
+      hold = own_hold ex xs t.hold;
       staged = staged_append Idle st (stage_after st q v.reply) xs (own ∷ []) t.staged (ok, refl);
-      traced = λ n.
-          ap (places_in n) (traces_append xs) ∙ places_in_append n (trace_of cells (books_after v) a xs) (adding cells (books_after v) a own [])
-          ∙ ap (λ ps. places_in n ps ++ places_in n (adding cells (books_after v) a own [])) (trace_stays cells threads a a books (books_after v) own_grown xs t.hold)
-          ∙ ap (λ l. l ++ places_in n (adding cells (books_after v) a own [])) (t.traced n)
-          ∙ ap (λ l. places_by a 0 (books n) ++ l) (own_places n)
-          ∙ sym (places_append a 0 (books n) (own_grown.more n)) ∙ ap (places_by a 0) (sym (own_grown.grown n));
+      traced = own_traced xs t.hold t.traced;
     }

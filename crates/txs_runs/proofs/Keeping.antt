@@ -1,10 +1,10 @@
 -- What each exchange keeps of an actor's state is kept by an instruction.
-use Rattle.std.proofs.Common.{◌≡◌, ℕ, zero, suc, Bool, true, false, List, [], ◌∷◌, ◌++◌, Option, Some, None, Result, Ok, Err, refl, if◌then◌else◌}
-use Rattle.txs_asks.specs.Ask.{Writes, buffered, Exchange, same_ask}
+use Rattle.std.proofs.Common.{◌≡◌, ℕ, zero, suc, ◌+◌, Bool, true, false, List, [], ◌∷◌, ◌++◌, length, Option, Some, None, Result, Ok, Err, refl, arith, if◌then◌else◌}
+use Rattle.txs_asks.specs.Ask.{Writes, buffered, with_write, Exchange, same_ask}
 use Rattle.txs_asks.specs.declared.ask.Ask.{Ask}
 use Rattle.txs_asks.specs.declared.ask.Ask.TheVariants as ask
 use Rattle.txs_asks.specs.declared.ask.Reply.{Reply}
-use Rattle.txs_frame.specs.Frame.{Work, commuted, set_ref}
+use Rattle.txs_frame.specs.Frame.{Work, no_work, is_commuted, commuted, with_cell, set_writes, ensure_ref, commute_ref, hold_send}
 use Rattle.txs_frame.specs.declared.frame.Commute.{Commute}
 use Rattle.txs_operations.specs.Core.{core, vector_of}
 use Rattle.txs_value.specs.Forms.{rule, cell_of}
@@ -13,6 +13,7 @@ use Rattle.txs_value.specs.Printed.{printed_line}
 use Rattle.txs_value.specs.declared.action.Action.{Action}
 use Rattle.txs_value.specs.declared.fault.Fault.{Fault}
 use Rattle.txs_value.specs.declared.fault.FaultKind.{FaultKind}
+use Rattle.txs_value.specs.declared.fault.FaultKind.TheVariants as fault_kind
 use Rattle.txs_value.specs.declared.fault.Span.{Span}
 use Rattle.txs_value.specs.declared.form.CellForm.{CellForm}
 use Rattle.txs_value.specs.declared.form.CellForm.TheVariants as form
@@ -31,11 +32,27 @@ use Rattle.txs_code.specs.Machine.{PlainInstr, Push, Load, Store, Pop, Jump, Jum
 use Rattle.txs_code.specs.declared.instr.OpenForm.{OpenForm}
 use Rattle.txs_code.specs.declared.instr.OpenForm.TheVariants as open_form
 
--- A property of an actor's state that replies, transactions and waiting keep.
-pub record IsKept (A : ActorState → Type 0) : Type 0 where
+-- what an ask sends: one such action, or those that the transaction holds
+abbrev pub SendsOwn : (Action → Type 0) → ActorState → Ask → Type 0
+SendsOwn P s (ask.Send x) = P x
+SendsOwn P s (ask.Commit p sets ensured q commuted sends) = sends ≡ s.done.sends
+SendsOwn P s _ = Unit {0}
+
+-- the instruction, if it is a send, sends such actions alone
+abbrev pub SendsSuch : (Action → Type 0) → Option PlainInstr → Type 0
+SendsSuch P i = (f : Callee) (n : ℕ) (span : Span) → i ≡ Some (SendOf f n span) → (g : CellId) (vs : List Value) → length vs ≡ n → P (record { agent = g; callee = f; args = vs; span = span })
+
+-- A property of an actor's state that replies, transactions and waiting keep, where such actions alone are sent.
+pub record IsKept (P : Action → Type 0) (A : ActorState → Type 0) : Type 0 where
   pub on_reply : (s : ActorState) (x : Exchange) (xs : List Exchange) → s.todo ≡ x ∷ xs → A s → A (record s { todo = xs })
-  pub on_work : (s : ActorState) (at view : ℕ) (w : Work) (o : Option Commute) → A s → A (record s { at = at; view = view; done = w; commuting = o })
-  pub on_wait : (s : ActorState) (q : Ask) → A s → A (record s { wants = Some q })
+  pub on_begin : (s : ActorState) (p : ℕ) → A s → A (record s { at = p; view = p; done = no_work; commuting = None })
+  pub on_work : (s : ActorState) (view : ℕ) (w : Work) (o : Option Commute) → w.sends ≡ s.done.sends → A s → A (record s { view = view; done = w; commuting = o })
+  pub on_hold : (s : ActorState) (x : Action) → P x → A s → A (record s { done = hold_send x s.done })
+  pub on_wait : (s : ActorState) (q : Ask) → SendsOwn P s q → A s → A (record s { wants = Some q })
+
+-- any action
+abbrev pub Any : Action → Type 0
+Any x = Unit {0}
 
 -- the property where a turn came to, and another one where it goes on
 abbrev pub Holds : (ActorState → Type 0) → (ActorState → Type 0) → Turned Configuration → Type 0
@@ -45,7 +62,7 @@ Holds A Z (Asking s) = A s
 Holds A Z (Unfinished c) = Z c.state
 Holds A Z Stuck = Unit {0}
 
-module _ (A Z : ActorState → Type 0) (kept : IsKept A) (on_end : (s : ActorState) → A s → Z s) (on_print : (s : ActorState) (out : List ℕ) → A s → Z (record s { printed = s.printed ++ out })) where
+module _ (P : Action → Type 0) (A Z : ActorState → Type 0) (kept : IsKept P A) (on_end : (s : ActorState) → A s → Z s) (on_print : (s : ActorState) (out : List ℕ) → A s → Z (record s { printed = s.printed ++ out })) where
   abbrev InStep : {B : Type 0} → StepResult B → Type 0
   InStep (Continue b s) = A s
   InStep (Break f s) = A s
@@ -60,17 +77,17 @@ module _ (A Z : ActorState → Type 0) (kept : IsKept A) (on_end : (s : ActorSta
   read_keeps SaysRetry s h = h
   read_keeps SaysNothing s h = tt
 
-  received_keeps : {B : Type 0} (reads : Reply → Reading B) (q : Ask) (s : ActorState) (todo : List Exchange) → s.todo ≡ todo → A s → InStep (heard reads (receives q s todo))
-  received_keeps reads q s [] e h = kept.on_wait s q h
-  received_keeps reads q s (x ∷ xs) e h = go (same_ask q x.ask)
+  received_keeps : {B : Type 0} (reads : Reply → Reading B) (q : Ask) (s : ActorState) (todo : List Exchange) → s.todo ≡ todo → SendsOwn P s q → A s → InStep (heard reads (receives q s todo))
+  received_keeps reads q s [] e own h = kept.on_wait s q own h
+  received_keeps reads q s (x ∷ xs) e own h = go (same_ask q x.ask)
     where
       go : (b : Bool) → InStep (heard reads (if b then Replied x.reply (record s { todo = xs }) else Unreplied (record s { wants = Some q })))
       go true = read_keeps (reads x.reply) (record s { todo = xs }) (kept.on_reply s x xs e h)
-      go false = kept.on_wait s q h
+      go false = kept.on_wait s q own h
 
-  heard_keeps : {B : Type 0} (reads : Reply → Reading B) (q : Ask) (s : ActorState) → A s → InStep (heard reads (asks q s))
+  heard_keeps : {B : Type 0} (reads : Reply → Reading B) (q : Ask) (s : ActorState) → SendsOwn P s q → A s → InStep (heard reads (asks q s))
   unfolding asks
-  heard_keeps reads q s h = received_keeps reads q s s.todo refl h
+  heard_keeps reads q s own h = received_keeps reads q s s.todo refl own h
 
   then_keeps : {B C : Type 0} (x : StepResult B) (go : B → ActorState → StepResult C) → InStep x → ((b : B) (s : ActorState) → A s → InStep (go b s)) → InStep (on_step x go)
   then_keeps (Continue b s) go h k = k b s h
@@ -85,11 +102,11 @@ module _ (A Z : ActorState → Type 0) (kept : IsKept A) (on_end : (s : ActorSta
 
   begin_keeps : (s : ActorState) → A s → InStep (begin s)
   unfolding begin
-  begin_keeps s h = then_keeps (heard read_point (asks ask.Begin s)) begun (heard_keeps read_point ask.Begin s h) (λ p s1 h1. kept.on_work s1 p p _ None h1)
+  begin_keeps s h = then_keeps (heard read_point (asks ask.Begin s)) begun (heard_keeps read_point ask.Begin s tt h) (λ p s1 h1. kept.on_begin s1 p h1)
 
   fail_keeps : (s : ActorState) → A s → InStep (fail s)
   unfolding fail
-  fail_keeps s h = heard_keeps just_done (ask.Fail s.at s.view) s h
+  fail_keeps s h = heard_keeps just_done (ask.Fail s.at s.view) s tt h
 
   look_keeps : (d : CellId) (s : ActorState) → A s → InStep (look d s)
   unfolding look
@@ -97,41 +114,41 @@ module _ (A Z : ActorState → Type 0) (kept : IsKept A) (on_end : (s : ActorSta
     where
       own : (o : Option Value) → InStep (buffered_or o s (heard value_there (asks (ask.Look d s.at) s)))
       own (Some v) = h
-      own None = heard_keeps value_there (ask.Look d s.at) s h
+      own None = heard_keeps value_there (ask.Look d s.at) s tt h
 
   viewed_keeps : (q : ℕ) (o : Option Writes) (s : ActorState) → A s → InStep (viewed q o s)
   viewed_keeps q None s h = tt
-  viewed_keeps q (Some ws) s h = kept.on_work s s.at q s.done s.commuting h
+  viewed_keeps q (Some ws) s h = kept.on_work s q s.done s.commuting refl h
 
   view_keeps : (s : ActorState) → A s → InStep (view s)
   unfolding view
   view_keeps s h =
-      then_keeps (heard views (asks (ask.View (commuted s.done)) s)) (λ x s1. viewed x.0 (paired (commuted s.done) x.1) s1) (heard_keeps views (ask.View (commuted s.done)) s h)
+      then_keeps (heard views (asks (ask.View (commuted s.done)) s)) (λ x s1. viewed x.0 (paired (commuted s.done) x.1) s1) (heard_keeps views (ask.View (commuted s.done)) s tt h)
       (λ x s1 h1. viewed_keeps x.0 (paired (commuted s.done) x.1) s1 h1)
 
   commit_keeps : (ws : Writes) (s : ActorState) → A s → InStep (commit ws s)
   unfolding commit
-  commit_keeps ws s h = heard_keeps commit_verdict _ s h
+  commit_keeps ws s h = heard_keeps commit_verdict (ask.Commit s.at (set_writes s.done) s.done.ensures s.view ws s.done.sends) s refl h
 
   peek_keeps : (d : CellId) (s : ActorState) → A s → InStep (peek d s)
   unfolding peek
-  peek_keeps d s h = heard_keeps newest_value (ask.Peek d) s h
+  peek_keeps d s h = heard_keeps newest_value (ask.Peek d) s tt h
 
   open_atom_keeps : (d : CellId) (s : ActorState) → A s → InStep (open_atom d s)
   unfolding open_atom
-  open_atom_keeps d s h = then_keeps (heard opened (asks (ask.OpenAt d) s)) _ (heard_keeps opened (ask.OpenAt d) s h) (λ x s1 h1. h1)
+  open_atom_keeps d s h = then_keeps (heard opened (asks (ask.OpenAt d) s)) _ (heard_keeps opened (ask.OpenAt d) s tt h) (λ x s1 h1. h1)
 
   close_swap_keeps : (w : SwapInHand) (v : Value) (s : ActorState) → A s → InStep (close_swap w v s)
   unfolding close_swap
-  close_swap_keeps w v s h = heard_keeps swap_verdict _ s h
+  close_swap_keeps w v s h = heard_keeps swap_verdict (ask.CloseAt w.cell (Some w.at) v) s tt h
 
   break_swap_keeps : (w : SwapInHand) (s : ActorState) → A s → InStep (break_swap w s)
   unfolding break_swap
-  break_swap_keeps w s h = heard_keeps just_done _ s h
+  break_swap_keeps w s h = heard_keeps just_done (ask.Broke w.cell w.at) s tt h
 
   reset_keeps : (d : CellId) (v : Value) (s : ActorState) → A s → InStep (reset_atom d v s)
   unfolding reset_atom
-  reset_keeps d v s h = then_keeps (heard just_done (asks (ask.CloseAt d None v) s)) _ (heard_keeps just_done (ask.CloseAt d None v) s h) (λ u s1 h1. h1)
+  reset_keeps d v s h = then_keeps (heard just_done (asks (ask.CloseAt d None v) s)) _ (heard_keeps just_done (ask.CloseAt d None v) s tt h) (λ u s1 h1. h1)
 
   sent_keeps : (x : Action) (v : Verdict) (s : ActorState) → A s → InStep (sent x v s)
   sent_keeps x Landed s h = h
@@ -139,17 +156,17 @@ module _ (A Z : ActorState → Type 0) (kept : IsKept A) (on_end : (s : ActorSta
   sent_keeps x Undone s h = tt
   sent_keeps x Denied s h = h
 
-  send_now_keeps : (x : Action) (s : ActorState) → A s → InStep (send_now x s)
+  send_now_keeps : (x : Action) (s : ActorState) → P x → A s → InStep (send_now x s)
   unfolding send_now
-  send_now_keeps x s h = then_keeps (heard send_verdict (asks (ask.Send x) s)) (sent x) (heard_keeps send_verdict (ask.Send x) s h) (λ v s1 h1. sent_keeps x v s1 h1)
+  send_now_keeps x s such h = then_keeps (heard send_verdict (asks (ask.Send x) s)) (sent x) (heard_keeps send_verdict (ask.Send x) s such h) (λ v s1 h1. sent_keeps x v s1 h1)
 
   take_keeps : (g : CellId) (s : ActorState) → A s → InStep (take_action g s)
   unfolding take_action
-  take_keeps g s h = heard_keeps handed_out _ s h
+  take_keeps g s h = heard_keeps handed_out (ask.Take g) s tt h
 
   finish_keeps : (g : CellId) (new : Result Value Fault) (s : ActorState) → A s → InStep (finish g new s)
   unfolding finish
-  finish_keeps g new s h = heard_keeps just_done _ s h
+  finish_keeps g new s h = heard_keeps just_done (ask.Finish g new) s tt h
 
   -- ---- forms
 
@@ -159,7 +176,7 @@ module _ (A Z : ActorState → Type 0) (kept : IsKept A) (on_end : (s : ActorSta
   read_cell_keeps : (f : LookForm) (inside : Bool) (d : CellId) (s : ActorState) → A s → InStep (read_cell f inside d s)
   read_cell_keeps Deref true d s h = look_keeps d s h
   read_cell_keeps Deref false d s h = peek_keeps d s h
-  read_cell_keeps Ensure true d s h = then_keeps (look d s) _ (look_keeps d s h) (λ v s1 h1. kept.on_work s1 s1.at s1.view _ s1.commuting h1)
+  read_cell_keeps Ensure true d s h = then_keeps (look d s) _ (look_keeps d s h) (λ v s1 h1. kept.on_work s1 s1.view (ensure_ref d s1.done) s1.commuting refl h1)
   read_cell_keeps Ensure false d s h = tt
 
   read_form_keeps : (f : LookForm) (inside : Bool) (span : Span) (v : Value) (s : ActorState) → A s → InStep (read f inside span v s)
@@ -167,7 +184,11 @@ module _ (A Z : ActorState → Type 0) (kept : IsKept A) (on_end : (s : ActorSta
       then_keeps (cell_result (form.Look f) inside span v s) (read_cell f inside) (result_keeps (cell_of (rule (form.Look f)) inside v) span s h) (λ d s1 h1. read_cell_keeps f inside d s1 h1)
 
   set_keeps : (span : Span) (v : Value) (d : CellId) (s : ActorState) → A s → InStep (set_own span v d s)
-  set_keeps span v d s h = then_keeps (step_of (set_ref d v s.done) span s) _ (result_keeps (set_ref d v s.done) span s h) (λ w s1 h1. kept.on_work s1 s1.at s1.view w s1.commuting h1)
+  set_keeps span v d s h = go (is_commuted s.done d.number)
+    where
+      go : (b : Bool) → InStep (on_step (step_of (if b then Err fault_kind.SetAfterCommute else Ok (record s.done { values = with_write s.done.values d v; sets = with_cell s.done.sets d })) span s) (λ w s1. Continue v (record s1 { done = w })))
+      go true = h
+      go false = kept.on_work s s.view (record s.done { values = with_write s.done.values d v; sets = with_cell s.done.sets d }) s.commuting refl h
 
   assign_cell_keeps : (f : PutForm) (inside : Bool) (span : Span) (v : Value) (d : CellId) (s : ActorState) → A s → InStep (assign_cell f inside span v d s)
   assign_cell_keeps RefSet true span v d s h = set_keeps span v d s h
@@ -183,11 +204,11 @@ module _ (A Z : ActorState → Type 0) (kept : IsKept A) (on_end : (s : ActorSta
   open_keeps u false span cell vs s h = tt
   open_keeps u true span cell vs s h =
       then_keeps (cell_result (form.Update (update_form u)) true span cell s) _ (result_keeps (cell_of (rule (form.Update (update_form u))) true cell) span s h)
-      (λ d s1 h1. then_keeps (look d s1) _ (look_keeps d s1 h1) (λ x s2 h2. kept.on_work s2 s2.at s2.view s2.done (kept_open u d vs) h2))
+      (λ d s1 h1. then_keeps (look d s1) _ (look_keeps d s1 h1) (λ x s2 h2. kept.on_work s2 s2.view s2.done (kept_open u d vs) refl h2))
 
   close_own_keeps : (o : Option Commute) (span : Span) (w : Value) (d : CellId) (s : ActorState) → A s → InStep (close_own o span w d s)
   close_own_keeps None span w d s h = set_keeps span w d s h
-  close_own_keeps (Some k) span w d s h = kept.on_work s s.at s.view _ None h
+  close_own_keeps (Some k) span w d s h = kept.on_work s s.view (commute_ref d k.callee k.args w s.done) None refl h
 
   close_keeps : (span : Span) (cell w : Value) (s : ActorState) → A s → InStep (close_update span cell w s)
   close_keeps span cell w s h =
@@ -199,13 +220,14 @@ module _ (A Z : ActorState → Type 0) (kept : IsKept A) (on_end : (s : ActorSta
   open_swap_keeps false span cell s h =
       then_keeps (cell_result (form.Update update.Swap) false span cell s) open_atom (result_keeps (cell_of (rule (form.Update update.Swap)) false cell) span s h) (λ d s1 h1. open_atom_keeps d s1 h1)
 
-  send_action_keeps : (inside : Bool) (x : Action) (s : ActorState) → A s → InStep (send_action inside x s)
-  send_action_keeps true x s h = kept.on_work s s.at s.view _ s.commuting h
-  send_action_keeps false x s h = send_now_keeps x s h
+  send_action_keeps : (inside : Bool) (x : Action) (s : ActorState) → P x → A s → InStep (send_action inside x s)
+  send_action_keeps true x s such h = kept.on_hold s x such h
+  send_action_keeps false x s such h = send_now_keeps x s such h
 
-  send_keeps : (inside : Bool) (span : Span) (cell : Value) (f : Callee) (vs : List Value) (s : ActorState) → A s → InStep (send_to inside span cell f vs s)
-  send_keeps inside span cell f vs s h =
-      then_keeps (cell_result form.Send inside span cell s) _ (result_keeps (cell_of (rule form.Send) inside cell) span s h) (λ g s1 h1. send_action_keeps inside _ s1 h1)
+  send_keeps : (inside : Bool) (span : Span) (cell : Value) (f : Callee) (vs : List Value) (s : ActorState) → ((g : CellId) → P (record { agent = g; callee = f; args = vs; span = span })) → A s → InStep (send_to inside span cell f vs s)
+  send_keeps inside span cell f vs s such h =
+      then_keeps (cell_result form.Send inside span cell s) _ (result_keeps (cell_of (rule form.Send) inside cell) span s h)
+      (λ g s1 h1. send_action_keeps inside (record { agent = g; callee = f; args = vs; span = span }) s1 (such g) h1)
 
   found_keeps : (o : Option Value) (s : ActorState) → A s → InStep (found o s)
   found_keeps None s h = tt
@@ -256,11 +278,20 @@ module _ (A Z : ActorState → Type 0) (kept : IsKept A) (on_end : (s : ActorSta
   args_keep (suc n) [] vs go h = tt
   args_keep (suc n) (v ∷ stack) vs go h = args_keep n stack (v ∷ vs) go h
 
+  -- the values taken are as many as were wanted
+  as_many_keep : (n m : ℕ) (stack vs : List Value) (go : List Value → List Value → Turned Configuration) → n + length vs ≡ m → ((ws rest : List Value) → length ws ≡ m → Holds A Z (go ws rest)) → Holds A Z (on_args n stack vs go)
+  as_many_keep zero m stack vs go e h = h vs stack (omega (arith, e))
+  as_many_keep (suc n) m [] vs go e h = tt
+  as_many_keep (suc n) m (v ∷ stack) vs go e h = as_many_keep n m stack (v ∷ vs) go (omega (arith, e)) h
+
   two_keep : (stack : List Value) (go : Value → Value → List Value → Turned Configuration) → ((w v : Value) (rest : List Value) → Holds A Z (go w v rest)) → Holds A Z (on_two stack go)
   two_keep stack go h = top_keeps stack (λ w under. on_top under (go w)) (λ w under. top_keeps under (go w) (h w))
 
   args_of_keep : (n : ℕ) (stack : List Value) (go : List Value → Value → List Value → Turned Configuration) → ((vs : List Value) (v : Value) (rest : List Value) → Holds A Z (go vs v rest)) → Holds A Z (on_args_of n stack go)
   args_of_keep n stack go h = args_keep n stack [] (λ vs under. on_top under (go vs)) (λ vs under. top_keeps under (go vs) (h vs))
+
+  sends_keep : (n : ℕ) (stack : List Value) (go : List Value → Value → List Value → Turned Configuration) → ((vs : List Value) (v : Value) (rest : List Value) → length vs ≡ n → Holds A Z (go vs v rest)) → Holds A Z (on_args_of n stack go)
+  sends_keep n stack go h = as_many_keep n n stack [] (λ vs under. on_top under (go vs)) (omega arith) (λ vs under e. top_keeps under (go vs) (λ v rest. h vs v rest e))
 
   module _ (code : ThreadCode) (c : Configuration) (h : A c.state) where
     gives_keeps : (rest : List Value) (r : StepResult Value) → InStep r → Holds A Z (gives c rest r)
@@ -365,32 +396,32 @@ module _ (A Z : ActorState → Type 0) (kept : IsKept A) (on_end : (s : ActorSta
     runs_keeps (Applying left from work values) v rest = tt
     runs_keeps (Swapping swap from) v rest = tt
 
-    act_keeps : (i : Option PlainInstr) → Holds A Z (act code i c)
-    act_keeps None = tt
-    act_keeps (Some (Push v)) = on_end c.state h
-    act_keeps (Some (Load i)) = gives_keeps c.stack (found (nth c.locals i) c.state) (found_keeps (nth c.locals i) c.state h)
-    act_keeps (Some (Store i)) = top_keeps c.stack _ (λ v rest. on_end c.state h)
-    act_keeps (Some Pop) = top_keeps c.stack _ (λ v rest. on_end c.state h)
-    act_keeps (Some (Jump to)) = on_end c.state h
-    act_keeps (Some (JumpFalse to)) = top_keeps c.stack _ (λ v rest. on_end c.state h)
-    act_keeps (Some (CoreOf op n span)) = args_keep n c.stack [] _ (λ vs rest. gives_keeps rest (step_of (core op vs) span c.state) (result_keeps (core op vs) span c.state h))
-    act_keeps (Some (CallOf f n)) = args_keep n c.stack [] _ (λ vs rest. on_end c.state h)
-    act_keeps (Some Return) = top_keeps c.stack _ (λ v rest. returns_keep c.frames v)
-    act_keeps (Some (MakeVector n span)) = args_keep n c.stack [] _ (λ vs rest. gives_keeps rest (step_of (vector_of vs) span c.state) (result_keeps (vector_of vs) span c.state h))
-    act_keeps (Some (PrintOf n)) = args_keep n c.stack [] _ (λ vs rest. prints (is_inside c.doing) vs rest)
-    act_keeps (Some (TxBegin span)) = begins_keeps span c.doing
-    act_keeps (Some TxEnd) = ends_keeps c.doing
-    act_keeps (Some (LookOf f span)) = top_keeps c.stack _ (λ cell rest. gives_keeps rest (read f (is_inside c.doing) span cell c.state) (read_form_keeps f (is_inside c.doing) span cell c.state h))
-    act_keeps (Some (PutOf f span)) = two_keep c.stack _ (λ w cell rest. gives_keeps rest (assign f (is_inside c.doing) span cell w c.state) (assign_keeps f (is_inside c.doing) span cell w c.state h))
-    act_keeps (Some (OpenOf f n span)) = args_of_keep n c.stack _ (λ vs cell rest. opens_keep f span vs cell rest)
-    act_keeps (Some (CloseOf f span)) = two_keep c.stack _ (λ w cell rest. closes_keep f span w cell rest)
-    act_keeps (Some (SendOf f n span)) =
-        args_of_keep n c.stack _ (λ vs cell rest. gives_keeps rest (send_to (is_inside c.doing) span cell f vs c.state) (send_keeps (is_inside c.doing) span cell f vs c.state h))
-    act_keeps (Some Halt) = h
-    act_keeps (Some (TakeOf g)) = on_keeps c.doing (take_action g c.state) (λ o s. started g o c s) (take_keeps g c.state h) (λ o s q. started_keeps g o s q)
-    act_keeps (Some RunOf) = top_keeps c.stack _ (λ v rest. runs_keeps c.doing v rest)
-    act_keeps (Some (FinishOf g)) = top_keeps c.stack _ (λ v rest. told_keeps (finish g (Ok v) c.state) _ (finish_keeps g (Ok v) c.state h) (λ s q. on_end s q))
+    act_keeps : (i : Option PlainInstr) → SendsSuch P i → Holds A Z (act code i c)
+    act_keeps None such = tt
+    act_keeps (Some (Push v)) such = on_end c.state h
+    act_keeps (Some (Load i)) such = gives_keeps c.stack (found (nth c.locals i) c.state) (found_keeps (nth c.locals i) c.state h)
+    act_keeps (Some (Store i)) such = top_keeps c.stack _ (λ v rest. on_end c.state h)
+    act_keeps (Some Pop) such = top_keeps c.stack _ (λ v rest. on_end c.state h)
+    act_keeps (Some (Jump to)) such = on_end c.state h
+    act_keeps (Some (JumpFalse to)) such = top_keeps c.stack _ (λ v rest. on_end c.state h)
+    act_keeps (Some (CoreOf op n span)) such = args_keep n c.stack [] _ (λ vs rest. gives_keeps rest (step_of (core op vs) span c.state) (result_keeps (core op vs) span c.state h))
+    act_keeps (Some (CallOf f n)) such = args_keep n c.stack [] _ (λ vs rest. on_end c.state h)
+    act_keeps (Some Return) such = top_keeps c.stack _ (λ v rest. returns_keep c.frames v)
+    act_keeps (Some (MakeVector n span)) such = args_keep n c.stack [] _ (λ vs rest. gives_keeps rest (step_of (vector_of vs) span c.state) (result_keeps (vector_of vs) span c.state h))
+    act_keeps (Some (PrintOf n)) such = args_keep n c.stack [] _ (λ vs rest. prints (is_inside c.doing) vs rest)
+    act_keeps (Some (TxBegin span)) such = begins_keeps span c.doing
+    act_keeps (Some TxEnd) such = ends_keeps c.doing
+    act_keeps (Some (LookOf f span)) such = top_keeps c.stack _ (λ cell rest. gives_keeps rest (read f (is_inside c.doing) span cell c.state) (read_form_keeps f (is_inside c.doing) span cell c.state h))
+    act_keeps (Some (PutOf f span)) such = two_keep c.stack _ (λ w cell rest. gives_keeps rest (assign f (is_inside c.doing) span cell w c.state) (assign_keeps f (is_inside c.doing) span cell w c.state h))
+    act_keeps (Some (OpenOf f n span)) such = args_of_keep n c.stack _ (λ vs cell rest. opens_keep f span vs cell rest)
+    act_keeps (Some (CloseOf f span)) such = two_keep c.stack _ (λ w cell rest. closes_keep f span w cell rest)
+    act_keeps (Some (SendOf f n span)) such =
+        sends_keep n c.stack _ (λ vs cell rest many. gives_keeps rest (send_to (is_inside c.doing) span cell f vs c.state) (send_keeps (is_inside c.doing) span cell f vs c.state (λ g. such f n span refl g vs many) h))
+    act_keeps (Some Halt) such = h
+    act_keeps (Some (TakeOf g)) such = on_keeps c.doing (take_action g c.state) (λ o s. started g o c s) (take_keeps g c.state h) (λ o s q. started_keeps g o s q)
+    act_keeps (Some RunOf) such = top_keeps c.stack _ (λ v rest. runs_keeps c.doing v rest)
+    act_keeps (Some (FinishOf g)) such = top_keeps c.stack _ (λ v rest. told_keeps (finish g (Ok v) c.state) _ (finish_keeps g (Ok v) c.state h) (λ s q. on_end s q))
 
     -- an instruction keeps it
-    pub turn_keeps : Holds A Z (turn code c)
-    turn_keeps = act_keeps (fetch code c.body c.place)
+    pub turn_keeps : SendsSuch P (fetch code c.body c.place) → Holds A Z (turn code c)
+    turn_keeps such = act_keeps (fetch code c.body c.place) such

@@ -27,17 +27,19 @@ use Rattle.txs_runs.specs.Run as run_of
 use Rattle.txs_runs.specs.Run.{Stop, Actor, Moved, moved, exchange, entry, stop, comes_to, hears, replied, asked, asks_for, turned, turns_from, stops_from, Play, TakesTurn, IsStopped, State, moves, actor_of, play, plays_from, opens}
 use Rattle.txs_runs.proofs.Fits.{entries_fit}
 use Rattle.txs_runs.proofs.Growing.{taken_within}
-use Rattle.txs_runs.proofs.Keeping.{IsKept, Holds, turn_keeps}
+use Rattle.txs_runs.proofs.Keeping.{IsKept, Any, Holds, turn_keeps}
 use Rattle.txs_runs.proofs.Steps.{play_holds}
 use Rattle.txs_runs.proofs.Whole.{Lower, FreshStands, opening_holds}
 
 -- ---- what was printed stays so
 
-prints_kept : (out : List ℕ) → IsKept (Prints out)
+prints_kept : (out : List ℕ) → IsKept Any (Prints out)
 prints_kept out = record {
   on_reply = λ s x xs e h. h;
-  on_work = λ s at view w o h. h;
-  on_wait = λ s q h. h;
+  on_begin = λ s p h. h;
+  on_work = λ s view w o e h. h;
+  on_hold = λ s x such h. h;
+  on_wait = λ s q own h. h;
 }
 
 abbrev is_nil : {A : Type 0} → List A → Type 0
@@ -48,11 +50,13 @@ is_nil (x ∷ xs) = ⊥
 abbrev Waits : List ℕ → ActorState → Type 0
 Waits out s = (s.todo ≡ []) × (s.printed ≡ out)
 
-waits_kept : (out : List ℕ) → IsKept (Waits out)
+waits_kept : (out : List ℕ) → IsKept Any (Waits out)
 waits_kept out = record {
   on_reply = λ s x xs e h. absurd (subst is_nil (sym h.0 ∙ e) tt);
-  on_work = λ s at view w o h. h;
-  on_wait = λ s q h. h;
+  on_begin = λ s p h. h;
+  on_work = λ s view w o e h. h;
+  on_hold = λ s x such h. h;
+  on_wait = λ s q own h. h;
 }
 
 has_printed : (out : List ℕ) (o : Turned Configuration) → Holds (Prints out) (Prints out) o → HasPrinted out o
@@ -65,12 +69,12 @@ has_printed out Stuck h = tt
 pub turn_prints : (out : List ℕ) (code : ThreadCode) (c : Configuration) → Prints out c.state → HasPrinted out (turn code c)
 turn_prints out code c h =
     has_printed out (turn code c)
-    (turn_keeps (Prints out) (Prints out) (prints_kept out) (λ s k. k) (λ s more k. (k.0 ++ more, ap (λ l. l ++ more) k.1 ∙ append_assoc out k.0 more)) code c h)
+    (turn_keeps Any (Prints out) (Prints out) (prints_kept out) (λ s k. k) (λ s more k. (k.0 ++ more, ap (λ l. l ++ more) k.1 ∙ append_assoc out k.0 more)) code c h (λ f n span e g vs many. tt))
 
 turn_waits : (code : ThreadCode) (c : Configuration) (s : ActorState) → c.state.todo ≡ [] → turn code c ≡ Asking s → Waits c.state.printed s
 turn_waits code c s h e =
     subst (λ o. Holds (Waits c.state.printed) (λ t. Unit {0}) o) e
-    (turn_keeps (Waits c.state.printed) (λ t. Unit {0}) (waits_kept c.state.printed) (λ t k. tt) (λ t more k. tt) code c (h, refl))
+    (turn_keeps Any (Waits c.state.printed) (λ t. Unit {0}) (waits_kept c.state.printed) (λ t k. tt) (λ t more k. tt) code c (h, refl) (λ f n span e g vs many. tt))
 
 -- an ask that has no reply has none after more turns
 pub still : (code : ThreadCode) (m : ℕ) (c : Configuration) (s : ActorState) → run code m c ≡ Asking s → run code (suc m) c ≡ Asking s

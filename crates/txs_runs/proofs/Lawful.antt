@@ -113,13 +113,13 @@ module _ (cells : List CellDefinition) where
       subst (λ i. AsksView (act code i c)) (sym (is_end (fetch code c.body c.place) (redo_ends c.doing (fetch code c.body c.place) c.state.done h))) (ends_ask code c c.doing (fetch code c.body c.place) e h)
 
   module _ (threads : ℕ) (opened : OpeningIsKnown cells) where
-    abbrev BooksKnown : (ℕ → List Event) → Type 0
+    abbrev pub BooksKnown : (ℕ → List Event) → Type 0
     BooksKnown books = (n : ℕ) → BookKnown cells opened (books n)
 
     -- ---- the values of one actor
 
     module _ (code : ThreadCode) (known : CodeIsKnown cells code) where
-      abbrev Known : Configuration → Type 0
+      abbrev pub Known : Configuration → Type 0
       Known c = ConfigurationKnown cells (StandingCode code) (Unit {0}) (Unit {0}) code (Unit {0}) c
 
       -- where an actor may go on, its values are known
@@ -130,13 +130,13 @@ module _ (cells : List CellDefinition) where
       PlaceKnown (Unfinished c) = Known c
       PlaceKnown Stuck = Unit {0}
 
-      abbrev FreshNow : Configuration → Type 0
+      abbrev pub FreshNow : Configuration → Type 0
       FreshNow c = StandingCode code × IsTry cells c.doing × (c.state.view ≡ c.state.at)
 
-      abbrev CleanNow : Configuration → Type 0
+      abbrev pub CleanNow : Configuration → Type 0
       CleanNow c = IsFree cells c.doing
 
-      abbrev TurnIsKnown : Configuration → Turned Configuration → Type 0
+      abbrev pub TurnIsKnown : Configuration → Turned Configuration → Type 0
       TurnIsKnown c o = TurnKnown cells (StandingCode code) (FreshNow c) (CleanNow c) code o
 
       pub turn_of : (c : Configuration) → Known c → (StandingCode code → MayStandHere c.doing (fetch code c.body c.place)) → TurnIsKnown c (turn code c)
@@ -150,7 +150,7 @@ module _ (cells : List CellDefinition) where
       forgotten X (Swapping swap from) s h = tt
       forgotten X (Acting g x) s h = tt
 
-      placed_of : (c : Configuration) (o : Turned Configuration) → TurnIsKnown c o → PlaceKnown o
+      pub placed_of : (c : Configuration) (o : Turned Configuration) → TurnIsKnown c o → PlaceKnown o
       placed_of c (Ended s) h = tt
       placed_of c (Failed f s) h = tt
       placed_of c (Asking s) h = tt
@@ -161,7 +161,7 @@ module _ (cells : List CellDefinition) where
           go (inr x) = inr x
       placed_of c Stuck h = tt
 
-      todo_more : (xs : List Exchange) (x : Exchange) → TodoKnown cells xs → ReplyKnown cells x.reply → TodoKnown cells (xs ++ x ∷ [])
+      pub todo_more : (xs : List Exchange) (x : Exchange) → TodoKnown cells xs → ReplyKnown cells x.reply → TodoKnown cells (xs ++ x ∷ [])
       todo_more [] x h g = (g, tt)
       todo_more (y ∷ xs) x h g = (h.0, todo_more xs x h.1 g)
 
@@ -247,7 +247,7 @@ module _ (cells : List CellDefinition) where
       -- ---- the places that it may name
 
       -- a try's read point may be named as a view, or its commute phase has to begin again
-      abbrev TryNamed : (ℕ → List Event) → ℕ → Configuration → Activity → Type 0
+      abbrev pub TryNamed : (ℕ → List Event) → ℕ → Configuration → Activity → Type 0
       TryNamed books a c Outside = Unit {0}
       TryNamed books a c (Restarting left) = Unit {0}
       TryNamed books a c (Running left inner from) = (may_name true (books 0) a c.state.at ≡ true) ⊎ RedoIn cells (Running left inner from) (fetch code c.body c.place) c.state.done
@@ -270,7 +270,7 @@ module _ (cells : List CellDefinition) where
       view_or books a c (Swapping swap from) h = inl tt
       view_or books a c (Acting g x) h = inl tt
 
-      try_of : (books : ℕ → List Event) (a : ℕ) (c : Configuration) (doing : Activity) → NamesView books a (stage_in doing c.state) → TryNamed books a c doing
+      pub try_of : (books : ℕ → List Event) (a : ℕ) (c : Configuration) (doing : Activity) → NamesView books a (stage_in doing c.state) → TryNamed books a c doing
       try_of books a c Outside h = tt
       try_of books a c (Restarting left) h = tt
       try_of books a c (Running left inner from) h = inl h

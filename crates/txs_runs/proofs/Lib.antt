@@ -1,4 +1,5 @@
 pub mod Acting
+pub mod Adding
 pub mod Agents
 pub mod Alone
 pub mod CoreKnown
@@ -12,12 +13,15 @@ pub mod Lawful
 pub mod Naming
 pub mod Refused
 pub mod Replayed
+pub mod Report
+pub mod Sending
 pub mod ServedKnown
 pub mod Serving
 pub mod Staging
 pub mod Steps
 pub mod Today
 pub mod Told
+pub mod Tracing
 pub mod Typed
 pub mod Values
 pub mod Whole

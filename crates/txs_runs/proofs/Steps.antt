@@ -19,14 +19,10 @@ use Rattle.txs_runs.specs.Stages.{AsksIn, stage_after}
 use Rattle.txs_runs.specs.Told.{Entry, exchange_of, IsExchanged, ToldBy}
 use Rattle.txs_runs.specs.Staged.{StagedCode, IsStaged, StagedFrom, stage_of}
 use Rattle.txs_runs.specs.Invariant.{ActorInvariant, SharedStands, RunInvariant}
-use Rattle.txs_runs.specs.Run.{Stop, Actor, Moved, moved, exchange, entry, stop, comes_to, hears, replied, answered, asked, asks_for, turned, turns_from, stops_from, Play, TakesTurn, IsStopped, State, placed, moves, actor_of, play}
+use Rattle.txs_runs.specs.Run.{Stop, Actor, Moved, moved, exchange, entry, stop, comes_to, hears, replied, asked, asks_for, turned, turns_from, stops_from, Play, TakesTurn, IsStopped, State, placed, moves, actor_of, play}
 use Rattle.txs_runs.specs.Run as run_of
-use Rattle.txs_runs.proofs.Growing.{Grown, Serves, nothing_grown, told_stays, own_grown, own_told}
+use Rattle.txs_runs.proofs.Growing.{Grown, Serves, nothing_grown, told_stays, nothing_served, own_grown, own_told}
 use Rattle.txs_runs.proofs.Serving.{serves, serving_stands}
-
-append_nil : {A : Type 0} (xs : List A) → xs ++ [] ≡ xs
-append_nil [] = refl
-append_nil (x ∷ xs) = ap (λ l. x ∷ l) (append_nil xs)
 
 map_append : (xs : List Entry) (e : Entry) → map exchange_of (xs ++ e ∷ []) ≡ map exchange_of xs ++ exchange_of e ∷ []
 map_append [] e = refl
@@ -113,19 +109,12 @@ module _ (keeps : ServeKeeps) (cells : List CellDefinition) (threads : ℕ) wher
       abbrev size : ℕ
       size = length (sh.books (book_for cells q))
 
-      as_before : (s : Serves a (sh.books (book_for cells q)) v) → s.more ≡ [] → Grown (suc a) sh.books later
-      as_before s none = record { more = λ n. []; grown = λ n. same n (n == book_for cells q) refl; own = λ n. tt }
-        where
-          same : (n : ℕ) (t : Bool) → (n == book_for cells q) ≡ t → (if t then v.book else sh.books n) ≡ sh.books n ++ []
-          same n true h = s.grown ∙ ap (λ l. sh.books (book_for cells q) ++ l) none ∙ ap (λ i. sh.books i ++ []) (sym (numbers n (book_for cells q) h))
-          same n false h = sym (append_nil (sh.books n))
-
       -- a reply that isn't taken leaves the actor's part
       left : (s : Serves a (sh.books (book_for cells q)) v) → s.more ≡ [] → Holds later x
       left s none = record {
         stage = k.stage;
         ran = k.ran;
-        told = told_stays cells threads (suc a) a sh.books later (as_before s none) (λ e. absurd (omega (arith, e))) x.entries k.stage k.told;
+        told = told_stays cells threads (suc a) a sh.books later (nothing_served cells threads a sh.books q sh.taken may v refl s none) (λ e. absurd (omega (arith, e))) x.entries k.stage k.told;
         staged = k.staged;
       }
 

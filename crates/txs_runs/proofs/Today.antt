@@ -4,7 +4,7 @@ use Rattle.txs_asks.specs.Ask.{Writes, Exchange, buffered, same_ask, with_write}
 use Rattle.txs_asks.specs.declared.ask.Ask.{Ask}
 use Rattle.txs_asks.specs.declared.ask.Ask.TheVariants as ask
 use Rattle.txs_asks.specs.declared.ask.Reply.{Reply}
-use Rattle.txs_frame.specs.Frame.{with_cell, commuted, is_commuted, refs_of, outside_of}
+use Rattle.txs_frame.specs.Frame.{with_cell, ensure_ref, commuted, is_commuted, refs_of, outside_of}
 use Rattle.txs_operations.specs.Core.{core, vector_of}
 use Rattle.txs_value.specs.Forms.{rule, cell_of}
 use Rattle.txs_value.specs.Places.{nth}
@@ -13,6 +13,7 @@ use Rattle.txs_value.specs.declared.fault.FaultKind.{FaultKind}
 use Rattle.txs_value.specs.declared.fault.FaultKind.TheVariants.{SetAfterCommute}
 use Rattle.txs_value.specs.declared.fault.Span.{Span}
 use Rattle.txs_value.specs.declared.form.CellForm.TheVariants as form
+use Rattle.txs_value.specs.declared.form.LookForm.{LookForm}
 use Rattle.txs_value.specs.declared.form.LookForm.TheVariants.{Deref, Ensure}
 use Rattle.txs_value.specs.declared.form.PutForm.TheVariants.{RefSet, Reset}
 use Rattle.txs_value.specs.declared.form.UpdateForm.TheVariants as update
@@ -44,8 +45,7 @@ IsToday (MakeVector n span) = Unit {0}
 IsToday (PrintOf n) = Unit {0}
 IsToday (TxBegin span) = Unit {0}
 IsToday TxEnd = Unit {0}
-IsToday (LookOf Deref span) = Unit {0}
-IsToday (LookOf Ensure span) = ⊥
+IsToday (LookOf form span) = Unit {0}
 IsToday (PutOf RefSet span) = Unit {0}
 IsToday (PutOf Reset span) = ⊥
 IsToday (OpenOf open_form.Alter n span) = Unit {0}
@@ -77,7 +77,7 @@ plain_today ps ks instr.Return span h = tt
 plain_today ps ks (instr.Vector n) span h = tt
 plain_today ps ks (instr.Print n) span h = tt
 plain_today ps ks (instr.Look Deref) span h = tt
-plain_today ps ks (instr.Look Ensure) span h = absurd h
+plain_today ps ks (instr.Look Ensure) span h = tt
 plain_today ps ks (instr.Put RefSet) span h = tt
 plain_today ps ks (instr.Put Reset) span h = absurd h
 plain_today ps ks instr.TxBegin span h = tt
@@ -206,10 +206,12 @@ look_plain d s h = own (buffered s.done.values d.number)
     own (Some v) = h
     own None = heard_plain value_there (ask.Look d s.at) s h
 
-read_cell_plain : (inside : Bool) (d : CellId) (s : ActorState) → Plain s → StepPlain (read_cell Deref inside d s)
+read_cell_plain : (form : LookForm) (inside : Bool) (d : CellId) (s : ActorState) → Plain s → StepPlain (read_cell form inside d s)
 unfolding peek
-read_cell_plain true d s h = look_plain d s h
-read_cell_plain false d s h = heard_plain newest_value (ask.Peek d) s h
+read_cell_plain Deref true d s h = look_plain d s h
+read_cell_plain Deref false d s h = heard_plain newest_value (ask.Peek d) s h
+read_cell_plain Ensure true d s h = then_plain (look d s) (λ v s1. Continue v (record s1 { done = ensure_ref d s1.done })) (look_plain d s h) (λ v s1 h1. h1)
+read_cell_plain Ensure false d s h = tt
 
 set_plain : (d : CellId) (v : Value) (span : Span) (s : ActorState) → Plain s → StepPlain (set_own span v d s)
 set_plain d v span s h = go (is_commuted s.done d.number)
@@ -324,10 +326,9 @@ module _ (code : ThreadCode) (c : Configuration) (h : Holds c) where
   act_lands (Some (PrintOf n)) t = args_lands n c.stack [] _ (λ vs rest. gives_lands rest (print (is_inside c.doing) vs c.state) (print_plain (is_inside c.doing) vs c.state h.1))
   act_lands (Some (TxBegin span)) t = begins_lands span c.doing
   act_lands (Some TxEnd) t = ends_land c.doing h.0
-  act_lands (Some (LookOf Deref span)) t =
-      top_lands c.stack _ (λ cell rest. gives_lands rest (read Deref (is_inside c.doing) span cell c.state)
-      (then_plain (step_of (cell_of (rule (form.Look Deref)) (is_inside c.doing) cell) span c.state) (read_cell Deref (is_inside c.doing)) (result_plain (cell_of (rule (form.Look Deref)) (is_inside c.doing) cell) span c.state h.1) (λ d s q. read_cell_plain (is_inside c.doing) d s q)))
-  act_lands (Some (LookOf Ensure span)) t = absurd t
+  act_lands (Some (LookOf look_form span)) t =
+      top_lands c.stack _ (λ cell rest. gives_lands rest (read look_form (is_inside c.doing) span cell c.state)
+      (then_plain (step_of (cell_of (rule (form.Look look_form)) (is_inside c.doing) cell) span c.state) (read_cell look_form (is_inside c.doing)) (result_plain (cell_of (rule (form.Look look_form)) (is_inside c.doing) cell) span c.state h.1) (λ d s q. read_cell_plain look_form (is_inside c.doing) d s q)))
   act_lands (Some (PutOf RefSet span)) t =
       top_lands c.stack _ (λ w under. top_lands under _ (λ cell rest. gives_lands rest (assign RefSet (is_inside c.doing) span cell w c.state)
       (then_plain (step_of (cell_of (rule (form.Put RefSet)) (is_inside c.doing) cell) span c.state) (assign_cell RefSet (is_inside c.doing) span w) (result_plain (cell_of (rule (form.Put RefSet)) (is_inside c.doing) cell) span c.state h.1) (λ d s q. assign_plain (is_inside c.doing) span w d s q))))

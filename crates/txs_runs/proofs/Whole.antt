@@ -139,7 +139,7 @@ is_none None = Unit {0}
 is_none (Some x) = ⊥
 
 -- as many codes as threads: each thread has one
-has_code : (codes : List ThreadCode) (ts : List PlainThread) (i : ℕ) (t : PlainThread) → length codes ≡ length ts → nth ts i ≡ Some t → (c : ThreadCode) × (nth codes i ≡ Some c)
+pub has_code : (codes : List ThreadCode) (ts : List PlainThread) (i : ℕ) (t : PlainThread) → length codes ≡ length ts → nth ts i ≡ Some t → (c : ThreadCode) × (nth codes i ≡ Some c)
 has_code [] [] i t e h = absurd (subst is_none h tt)
 has_code [] (u ∷ ts) i t e h = absurd (omega (arith, e))
 has_code (c ∷ cs) [] i t e h = absurd (omega (arith, e))

@@ -24,19 +24,19 @@ use Rattle.txs_code.proofs.Acts.{run_more, exec_run, stated}
 use Rattle.txs_code.proofs.Later.{more_to_come}
 use Rattle.txs_follows.specs.FollowsAgent.{action_meaning, AgentFits, AsksNext, FollowsAgents}
 use Rattle.txs_world.proofs.Merging.{both}
-use Rattle.txs_world.specs.Book.{has_agent, newest, mail_after, Legal}
+use Rattle.txs_world.specs.Book.{has_agent, newest, Legal}
 use Rattle.txs_world.specs.Book as world
 use Rattle.txs_world.specs.Laws.{ActionStays}
 use Rattle.txs_world.specs.Store.{served, cells_of, is_taken, takes, next_action}
 use Rattle.txs_runs.specs.Agents.{HasConsumed, ActMeans, AllSound, HasFinished, HasTaken}
-use Rattle.txs_runs.specs.Run.{Stop, Actor, Moved, moved, exchange, entry, stop, comes_to, hears, replied, answered, asked, asks_for, turned, turns_from, stops_from}
+use Rattle.txs_runs.specs.Run.{Stop, Actor, exchange, entry, stop, comes_to, hears, replied, asked, asks_for, turned, turns_from, stops_from}
 use Rattle.txs_runs.specs.Run as run_of
 use Rattle.txs_runs.specs.Shared.{Shared, book_for, may_ask, shared_after}
 use Rattle.txs_runs.specs.Told.{Entry, exchange_of}
 use Rattle.txs_runs.proofs.Acting.{map_append, next_sound, fits_more, one_agent, no_thread, agent_within, others_act_not}
 use Rattle.txs_runs.proofs.Growing.{Grown}
 use Rattle.txs_runs.proofs.Hearing.{consumes_actions}
-use Rattle.txs_runs.proofs.Keeping.{IsKept, Holds, turn_keeps}
+use Rattle.txs_runs.proofs.Keeping.{IsKept, Any, Holds, turn_keeps}
 
 -- ---- what is consumed stays so
 
@@ -47,11 +47,13 @@ abbrev IsNone : List Exchange → Type 0
 IsNone [] = Unit {0}
 IsNone (x ∷ xs) = ⊥
 
-empty_kept : IsKept Empty
+empty_kept : IsKept Any Empty
 empty_kept = record {
   on_reply = λ s x xs e h. absurd (subst IsNone (sym h ∙ e) tt);
-  on_work = λ s at view w o h. h;
-  on_wait = λ s q h. h;
+  on_begin = λ s p h. h;
+  on_work = λ s view w o e h. h;
+  on_hold = λ s x such h. h;
+  on_wait = λ s q own h. h;
 }
 
 consumed : (o : Turned Configuration) → Holds Empty Empty o → HasConsumed o
@@ -62,7 +64,7 @@ consumed (Unfinished c) h = h
 consumed Stuck h = tt
 
 turn_consumed : (code : ThreadCode) (c : Configuration) → c.state.todo ≡ [] → HasConsumed (turn code c)
-turn_consumed code c h = consumed (turn code c) (turn_keeps Empty Empty empty_kept (λ s k. k) (λ s out k. k) code c h)
+turn_consumed code c h = consumed (turn code c) (turn_keeps Any Empty Empty empty_kept (λ s k. k) (λ s out k. k) code c h (λ f n span e g vs many. tt))
 
 module _ (cells : List CellDefinition) (threads : ℕ) (code : List PlainBody) (functions : List PlainFunction) where
   abbrev pub actor : CellId → ℕ

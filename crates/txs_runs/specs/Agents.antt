@@ -1,6 +1,6 @@
 -- What it is that agents' actions explain a run: each is what its callee means on the state that the agent found.
 use Rattle.std.proofs.Common.{◌⊎◌}
-use Rattle.std.specs.Prelude.{◌≡◌, ℕ, true, List, [], ◌∷◌, ◌++◌, map, Some, Result}
+use Rattle.std.specs.Prelude.{◌≡◌, ℕ, true, nat_lt, List, [], ◌∷◌, ◌++◌, map, Some, Result}
 use Rattle.txs_asks.specs.declared.ask.Ask.{Ask}
 use Rattle.txs_asks.specs.declared.ask.Ask.TheVariants as ask
 use Rattle.txs_asks.specs.declared.ask.Reply.{Reply}
@@ -17,10 +17,12 @@ use Rattle.txs_tree.specs.Tree.{PlainFunction}
 use Rattle.txs_code.specs.ActorState.{ActorState}
 use Rattle.txs_code.specs.Machine.{PlainBody, ThreadCode, agent_code, Configuration, Turned, Ended, Failed, Asking, Unfinished, Stuck, turn, run}
 use Rattle.txs_code.specs.Opening.{given, opening, agent_target}
-use Rattle.txs_follows.specs.FollowsAgent.{action_meaning, SoundAction, AgentFits, AsksNext, FollowsAgents}
+use Rattle.txs_follows.specs.FollowsAgent.{action_meaning, SoundAction, AgentFits, AsksNext, GoesOn, FollowsAgents}
+use Rattle.txs_follows.specs.Sends.{CodeSendsSound}
 use Rattle.txs_world.specs.Book.{has_agent, actor_of, newest, Each}
 use Rattle.txs_world.specs.Book as world
 use Rattle.txs_world.specs.Store.{cells_of, next_action}
+use Rattle.txs_runs.specs.Explains.{outcome_at}
 use Rattle.txs_runs.specs.Told.{Entry, exchange_of}
 use Rattle.txs_runs.specs.Run.{Actor, State, Play, plays, exchange, entry}
 
@@ -69,10 +71,9 @@ SendsSound functions (event.Commit at view ws sends) = AreSound functions sends
 SendsSound functions (event.Send x) = SoundAction functions x
 SendsSound functions _ = Unit {0}
 
--- every action that these events send is one that a program may send
+-- every action that a book sends is one that a program may send
 abbrev pub AllSound : List PlainFunction → List Event → Type 0
-AllSound functions [] = Unit {0}
-AllSound functions (e ∷ es) = SendsSound functions e.kind × AllSound functions es
+AllSound functions book = Each (λ done e. SendsSound functions e.kind) [] book
 
 -- ---- an agent
 
@@ -95,15 +96,17 @@ pub record HasTaken (cells : List CellDefinition) (code : List PlainBody) (funct
   -- where the action has a meaning, the agent's code comes to hand it in
   pub comes : (n : ℕ) (new : Result Value Fault) → action_meaning n functions action state ≡ Some new → (j : ℕ) × AsksNext (ask.Finish g new) (agent_target code g j (map exchange_of es))
 
--- An agent is explained: it is where its code comes to on what it was told, and has consumed it; what it took it has finished, but for one action at
--- most, which it has in hand.
+-- An agent is explained: it is where its code comes to on what it was told, and has consumed it; it hasn't ended, and has printed nothing; what it took
+-- it has finished, but for one action at most, which it has in hand.
 pub record AgentExplained (cells : List CellDefinition) (code : List PlainBody) (functions : List PlainFunction) (book : List Event) (g : CellId) (x : Actor) : Type 0 where
   pub ran : run (agent_code code g) x.turns (opening (agent_code code g) (map exchange_of x.entries)) ≡ x.at
   pub consumed : HasConsumed x.at
+  pub goes_on : GoesOn (outcome_at x.at)
   pub actions : HasFinished functions g x.entries ⊎ HasTaken cells code functions book g x.entries
 
--- Agents are explained: each action that is handed in means what it came to, and each agent is explained.
+-- Agents are explained: what the book sends a program may send, each action that is handed in means what it came to, and each agent is explained.
 pub record AgentsExplain (cells : List CellDefinition) (threads : ℕ) (code : List PlainBody) (functions : List PlainFunction) (st : State) : Type 0 where
+  pub sends : AllSound functions (st.shared.books 0)
   pub acts : ActsMean functions cells (st.shared.books 0)
   pub agents : (g : CellId) → has_agent (cells_of cells) g ≡ true → AgentExplained cells code functions (st.shared.books 0) g (st.actors (actor_of threads (cells_of cells) g))
 
@@ -111,9 +114,13 @@ pub record AgentsExplain (cells : List CellDefinition) (threads : ℕ) (code : L
 abbrev pub RunsAgents : List CellDefinition → ℕ → (ℕ → ThreadCode) → List PlainBody → Type 0
 RunsAgents cells threads codes code = (g : CellId) → has_agent (cells_of cells) g ≡ true → codes (actor_of threads (cells_of cells) g) ≡ agent_code code g
 
--- So it is of every list of plays of any actors, where the agents' code follows the functions, and what the book sends a program may send.
+-- the code of each thread sends only what a program may send
+abbrev pub ThreadsSendSound : ℕ → (ℕ → ThreadCode) → List PlainFunction → Type 0
+ThreadsSendSound threads codes functions = (a : ℕ) → nat_lt a threads ≡ true → CodeSendsSound functions (codes a)
+
+-- So it is of every list of plays of any actors, where the agents' code follows the functions, and the threads' code sends only what a program may send.
 abbrev pub RunActsMean : Type 0
 RunActsMean =
     (cells : List CellDefinition) (threads : ℕ) (codes : ℕ → ThreadCode) (code : List PlainBody) (functions : List PlainFunction) (ys : List Play)
-    → FollowsAgents code functions → RunsAgents cells threads codes code → AllSound functions ((plays cells threads codes ys).shared.books 0)
+    → FollowsAgents code functions → RunsAgents cells threads codes code → ThreadsSendSound threads codes functions
     → AgentsExplain cells threads code functions (plays cells threads codes ys)

@@ -8,6 +8,7 @@ ghost use Rattle.txs_runs.specs.Lawful.{RunAsksLawful, TodayStands, TypedStands,
 ghost use Rattle.txs_runs.specs.Laws.{ToldFits, ServedIsTold, OthersLeaveTold, TodayIsStaged, AloneHistory};
 ghost use Rattle.txs_runs.specs.Printed.{RunPrints};
 ghost use Rattle.txs_runs.specs.Refused.{RunRefusals};
+ghost use Rattle.txs_runs.specs.Report.{RunTraced, RunReported, TypedAreStaged};
 ghost use Rattle.txs_runs.specs.Standing.{StandingIsStaged};
 
 use txs_follows::replies_fit;
@@ -71,6 +72,11 @@ pub fn typed_actors_stand()
     ensures { TypedActorsStand }
 {}
 
+/// So the code of each thread of well-typed code asks at most once a turn, and each ask comes in its stage.
+pub fn typed_threads_are_staged()
+    ensures { TypedAreStaged }
+{}
+
 /// The instructions of the code that today's actors run stand where they may.
 pub fn today_stands()
     ensures { TodayStands }
@@ -132,7 +138,8 @@ pub fn actions_are_consumed()
 {}
 
 /// Each action that an agent hands in is what its callee means on the state that the agent found, of the action that was the first in
-/// its mail; where the action has a meaning, the agent's code comes to hand it in.
+/// its mail; where the action has a meaning, the agent's code comes to hand it in. What the threads send a program may send. An agent
+/// never ends, and prints nothing.
 pub fn every_action_means()
     ensures { RunActsMean }
 {
@@ -147,4 +154,23 @@ pub fn every_refusal_is_undisturbed()
 {
     refused_is_undisturbed();
     serve_keeps();
+}
+
+/// What each actor was told, the books say, and its trace names its own events and no others, whatever its code asks.
+pub fn every_trace_holds()
+    ensures { RunTraced }
+{
+    serve_keeps();
+}
+
+/// A program explains all that its threads and its agents did in one run.
+pub fn every_report_is_explained()
+    ensures { RunReported }
+{
+    unwritten_stays();
+    serve_keeps();
+    done_is_undisturbed();
+    refused_is_undisturbed();
+    action_stays();
+    replies_fit();
 }

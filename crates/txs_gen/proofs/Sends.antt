@@ -1,0 +1,158 @@
+-- Each send in generated code is that of a tree, and so names a callee that a program may send.
+use Rattle.std.proofs.Common.{◌≡◌, ℕ, zero, suc, ◌+◌, List, [], ◌∷◌, ◌++◌, map, Option, Some, None, sym, subst}
+use Rattle.txs_value.specs.Places.{nth}
+use Rattle.txs_value.specs.declared.fault.Span.{Span}
+use Rattle.txs_value.specs.declared.op.Callee.{Callee}
+use Rattle.txs_value.specs.declared.op.Callee.TheVariants as callee
+use Rattle.txs_tree.specs.Known.{Known, known_of, known_from, known}
+use Rattle.txs_tree.specs.Sound.{Zone, in_function, in_thread, in_dosync, SoundCallee, SoundTree, SoundAll, SoundLet, SoundDo, SoundFunctions, SoundThread, SoundThreads}
+use Rattle.txs_tree.specs.Tree.{Tree, Const, Local, If, Do, Let, Loop, Recur, Core, Call, VectorOf, Println, Dosync, Look, Put, Update, Send, Trees, none, more, count, PlainFunction, PlainThread, PlainProgram}
+use Rattle.txs_code.specs.Machine.{PlainInstr, Push, Load, Store, Pop, Jump, JumpFalse, CoreOf, CallOf, Return, MakeVector, PrintOf, TxBegin, TxEnd, LookOf, PutOf, OpenOf, CloseOf, SendOf, Halt, TakeOf, RunOf, FinishOf, ThreadCode, fetch, instr_at}
+use Rattle.txs_code.specs.PlainCode.{CodeBody, PlainCode, parameters_of, thread_code}
+use Rattle.txs_follows.specs.FollowsAll.{source_of}
+use Rattle.txs_follows.specs.Sends.{CodeSendsSound}
+use Rattle.txs_follows.proofs.Functions.{known_front}
+use Rattle.txs_gen.specs.Gen.{stores, callee_code, gen, gen_all, gen_let, gen_do, functions_code, generated}
+use Rattle.txs_gen.specs.Generated.{AreFunctionsOf, AreBodiesOf}
+use Rattle.txs_gen.specs.Sends.{CodeOfProgramSendsSound}
+use Rattle.txs_gen.proofs.CodesFollow.{thread_is}
+
+-- where more functions are defined, a callee goes on to be sound
+wider : (ks ls : List Known) → ((f : ℕ) (k : Known) → nth ks f ≡ Some k → nth ls f ≡ Some k) → (f : Callee) (n : ℕ) → SoundCallee ks f n → SoundCallee ls f n
+wider ks ls grows (callee.Core op) n h = h
+wider ks ls grows (callee.Function f) n h = record { function = h.function; found = grows f h.function h.found; arity = h.arity; pure = h.pure }
+
+module _ (ls : List Known) where
+  -- a send's callee is sound
+  abbrev SendFits : PlainInstr → Type 0
+  SendFits (SendOf f n span) = SoundCallee ls f (suc n)
+  SendFits (Push v) = Unit {0}
+  SendFits (Load i) = Unit {0}
+  SendFits (Store i) = Unit {0}
+  SendFits Pop = Unit {0}
+  SendFits (Jump to) = Unit {0}
+  SendFits (JumpFalse to) = Unit {0}
+  SendFits (CoreOf op n span) = Unit {0}
+  SendFits (CallOf f n) = Unit {0}
+  SendFits Return = Unit {0}
+  SendFits (MakeVector n span) = Unit {0}
+  SendFits (PrintOf n) = Unit {0}
+  SendFits (TxBegin span) = Unit {0}
+  SendFits TxEnd = Unit {0}
+  SendFits (LookOf f span) = Unit {0}
+  SendFits (PutOf f span) = Unit {0}
+  SendFits (OpenOf f n span) = Unit {0}
+  SendFits (CloseOf f span) = Unit {0}
+  SendFits Halt = Unit {0}
+  SendFits (TakeOf g) = Unit {0}
+  SendFits RunOf = Unit {0}
+  SendFits (FinishOf g) = Unit {0}
+
+  abbrev SendsFit : List PlainInstr → Type 0
+  SendsFit [] = Unit {0}
+  SendsFit (i ∷ is) = SendFits i × SendsFit is
+
+  abbrev FitsThere : Option PlainInstr → Type 0
+  FitsThere None = Unit {0}
+  FitsThere (Some i) = SendFits i
+
+  fits_at : (is : List PlainInstr) (k : ℕ) → SendsFit is → FitsThere (nth is k)
+  fits_at [] k h = tt
+  fits_at (i ∷ is) zero h = h.0
+  fits_at (i ∷ is) (suc k) h = fits_at is k h.1
+
+  -- ---- the code of trees
+
+  both_fit : (is js : List PlainInstr) → SendsFit is → SendsFit js → SendsFit (is ++ js)
+  both_fit [] js h k = k
+  both_fit (i ∷ is) js h k = (h.0, both_fit is js h.1 k)
+
+  stores_fit : (i n : ℕ) → SendsFit (stores i n)
+  stores_fit i zero = tt
+  stores_fit i (suc n) = both_fit (stores (i + 1) n) (Store i ∷ []) (stores_fit (i + 1) n) (tt, tt)
+
+  callee_fits : (f : Callee) (n : ℕ) (span : Span) → SendFits (callee_code f n span)
+  callee_fits (callee.Core op) n span = tt
+  callee_fits (callee.Function f) n span = tt
+
+  module _ (ks : List Known) (wide : (f : Callee) (n : ℕ) → SoundCallee ks f n → SoundCallee ls f n) where
+    mutual
+      gen_fits : (e : Tree) (zone : Zone) (d : ℕ) (tail : Option ℕ) → SoundTree ks zone d tail e → (depth base start pc : ℕ) → SendsFit (gen e depth base start pc)
+      gen_fits (Const v m) zone d tail h depth base start pc = (tt, tt)
+      gen_fits (Local i m) zone d tail h depth base start pc = (tt, tt)
+      gen_fits (If c a b m) zone d tail h depth base start pc =
+          both_fit (gen c depth base start pc) _ (gen_fits c zone d None h.0 depth base start pc)
+          (tt, both_fit (gen a depth base start _) _ (gen_fits a zone d tail h.1 depth base start _) (tt, gen_fits b zone d tail h.2 depth base start _))
+      gen_fits (Do items m) zone d tail h depth base start pc = gen_do_fits items zone d tail h depth base start pc
+      gen_fits (Let values body m) zone d tail h depth base start pc =
+          both_fit (gen_let values depth base start pc) _ (gen_let_fits values zone d h.0 depth base start pc) (gen_fits body zone (d + count values) tail h.1 (depth + count values) base start _)
+      gen_fits (Loop values body m) zone d tail h depth base start pc =
+          both_fit (gen_let values depth base start pc) _ (gen_let_fits values zone d h.0 depth base start pc) (gen_fits body zone (d + count values) (Some (count values)) h.1 (depth + count values) depth _ _)
+      gen_fits (Recur values m) zone d tail h depth base start pc =
+          both_fit (gen_all values depth base start pc) _ (gen_all_fits values zone d h.1 depth base start pc) (both_fit (stores base (count values)) (Jump start ∷ []) (stores_fit base (count values)) (tt, tt))
+      gen_fits (Core op args m) zone d tail h depth base start pc = both_fit (gen_all args depth base start pc) _ (gen_all_fits args zone d h.1 depth base start pc) (tt, tt)
+      gen_fits (Call f args m) zone d tail h depth base start pc = both_fit (gen_all args depth base start pc) _ (gen_all_fits args zone d h.1 depth base start pc) (tt, tt)
+      gen_fits (VectorOf items m) zone d tail h depth base start pc = both_fit (gen_all items depth base start pc) _ (gen_all_fits items zone d h.1 depth base start pc) (tt, tt)
+      gen_fits (Println args m) zone d tail h depth base start pc = both_fit (gen_all args depth base start pc) _ (gen_all_fits args zone d h.2 depth base start pc) (tt, tt)
+      gen_fits (Dosync body m) zone d tail h depth base start pc = (tt, both_fit (gen body depth base start (pc + 1)) _ (gen_fits body in_dosync d None h depth base start (pc + 1)) (tt, tt))
+      gen_fits (Look form cell m) zone d tail h depth base start pc = both_fit (gen cell depth base start pc) _ (gen_fits cell zone d None h.1 depth base start pc) (tt, tt)
+      gen_fits (Put form cell value m) zone d tail h depth base start pc =
+          both_fit (gen cell depth base start pc) _ (gen_fits cell zone d None h.1 depth base start pc) (both_fit (gen value depth base start _) _ (gen_fits value zone d None h.2 depth base start _) (tt, tt))
+      gen_fits (Update form cell callee args m) zone d tail h depth base start pc =
+          both_fit (gen cell depth base start pc) _ (gen_fits cell zone d None h.1 depth base start pc)
+          (both_fit (gen_all args depth base start _) _ (gen_all_fits args zone d h.3 depth base start _) (tt, (callee_fits callee (suc (count args)) m.span, (tt, tt))))
+      gen_fits (Send cell callee args m) zone d tail h depth base start pc =
+          both_fit (gen cell depth base start pc) _ (gen_fits cell zone d None h.0 depth base start pc)
+          (both_fit (gen_all args depth base start _) _ (gen_all_fits args zone d h.2 depth base start _) (wide callee (suc (count args)) h.1, tt))
+
+      gen_all_fits : (es : Trees) (zone : Zone) (d : ℕ) → SoundAll ks zone d es → (depth base start pc : ℕ) → SendsFit (gen_all es depth base start pc)
+      gen_all_fits none zone d h depth base start pc = tt
+      gen_all_fits (more e rest) zone d h depth base start pc = both_fit (gen e depth base start pc) _ (gen_fits e zone d None h.0 depth base start pc) (gen_all_fits rest zone d h.1 depth base start _)
+
+      gen_let_fits : (es : Trees) (zone : Zone) (d : ℕ) → SoundLet ks zone d es → (depth base start pc : ℕ) → SendsFit (gen_let es depth base start pc)
+      gen_let_fits none zone d h depth base start pc = tt
+      gen_let_fits (more e rest) zone d h depth base start pc =
+          both_fit (gen e depth base start pc) _ (gen_fits e zone d None h.0 depth base start pc) (tt, gen_let_fits rest zone (d + 1) h.1 (depth + 1) base start _)
+
+      gen_do_fits : (es : Trees) (zone : Zone) (d : ℕ) (tail : Option ℕ) → SoundDo ks zone d tail es → (depth base start pc : ℕ) → SendsFit (gen_do es depth base start pc)
+      gen_do_fits none zone d tail h depth base start pc = tt
+      gen_do_fits (more e none) zone d tail h depth base start pc = gen_fits e zone d tail h depth base start pc
+      gen_do_fits (more e (more f rest)) zone d tail h depth base start pc =
+          both_fit (gen e depth base start pc) _ (gen_fits e zone d None h.0 depth base start pc) (tt, gen_do_fits (more f rest) zone d tail h.1 depth base start _)
+
+-- ---- the code of functions and threads
+
+functions_fit : (ks : List Known) (fs : List PlainFunction) → SoundFunctions ks fs → (k at : ℕ) → FitsThere (known_from ks fs) (instr_at (nth (functions_code fs) k) at)
+functions_fit ks [] h k at = tt
+functions_fit ks (f ∷ fs) h zero at =
+    let ls = known_from ks (f ∷ fs) in
+    fits_at ls (gen f.body f.parameters 0 0 0 ++ Return ∷ []) at
+    (both_fit ls (gen f.body f.parameters 0 0 0) (Return ∷ [])
+    (gen_fits ls ks (wider ks ls (known_front ks (f ∷ fs))) f.body in_function f.parameters (Some f.parameters) h.0.1 f.parameters 0 0 0) (tt, tt))
+functions_fit ks (f ∷ fs) h (suc k) at = functions_fit (ks ++ known_of ks f ∷ []) fs h.1 k at
+
+module _ (p : PlainProgram) (sound : SoundFunctions [] p.functions) where
+  abbrev all : List Known
+  all = known p.functions
+
+  fetched_fits : (t : PlainThread) → SoundThread all t → (b at : ℕ) → FitsThere all (fetch (generated (source_of p t)) b at)
+  fetched_fits t h zero at =
+      fits_at all (gen t.body 0 0 0 0 ++ Halt ∷ []) at (both_fit all (gen t.body 0 0 0 0) (Halt ∷ []) (gen_fits all all (λ f n k. k) t.body in_thread 0 None h.0 0 0 0 0) (tt, tt))
+  fetched_fits t h (suc f) at = functions_fit [] p.functions sound f at
+
+  source_sends_sound : (t : PlainThread) → SoundThread all t → CodeSendsSound p.functions (generated (source_of p t))
+  source_sends_sound t h b at n f span e = subst (FitsThere all) e (fetched_fits t h b at)
+
+  module _ (code : PlainCode) (made : AreFunctionsOf (parameters_of code.functions) code.constants code.functions p.functions) where
+    abbrev Sends : Option ThreadCode → Type 0
+    Sends None = Unit {0}
+    Sends (Some c) = CodeSendsSound p.functions c
+
+    threads_send : (bs : List CodeBody) (ts : List PlainThread) → AreBodiesOf (parameters_of code.functions) code.constants bs ts → SoundThreads all ts → (i : ℕ) → Sends (nth (map (thread_code code) bs) i)
+    threads_send [] ts h s i = tt
+    threads_send (b ∷ bs) [] h s i = absurd h
+    threads_send (b ∷ bs) (t ∷ ts) h s zero = subst (CodeSendsSound p.functions) (sym (thread_is code p b t made h.0)) (source_sends_sound t s.0)
+    threads_send (b ∷ bs) (t ∷ ts) h s (suc i) = threads_send bs ts h.1 s.1 i
+
+pub code_sends_sound : CodeOfProgramSendsSound
+code_sends_sound code p sound made i c e = subst (Sends p sound.functions code made.functions) e (threads_send p sound.functions code made.functions code.threads p.threads made.threads sound.threads i)
