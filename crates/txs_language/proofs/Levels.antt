@@ -40,6 +40,20 @@ goes (Err e) f y h = absurd (no_answer e y h)
 go : {A B : Type 0} (a : Answer A) (f : A → Answer B) (x : A) (y : B) → a ≡ Ok x → f x ≡ Ok y → (a >>= f) ≡ Ok y
 go a f x y is h = ap (λ z. z >>= f) is ∙ h
 
+-- which special form it is, the levels have no part in
+pub special_same : (room : ℕ) (at : Span) (wanted : Bool) (f : FormName) (args : Forms) → special f (spot_at room at wanted) args ≡ special f (spot_at (suc room) at wanted) args
+special_same room at wanted kind.If (first c (first x no_forms)) = refl
+special_same room at wanted kind.If (first c (first x (first y no_forms))) = refl
+special_same room at wanted kind.IfNot (first c (first x no_forms)) = refl
+special_same room at wanted kind.IfNot (first c (first x (first y no_forms))) = refl
+special_same room at wanted kind.Do (first e rest) = refl
+special_same room at wanted kind.Let (first (group Square pairs there) forms) = refl
+special_same room at wanted kind.Loop (first (group Square pairs there) forms) = refl
+special_same room at wanted kind.Recur args = refl
+special_same room at wanted kind.Println args = refl
+special_same room at wanted kind.Dosync forms = refl
+special_same room at wanted name args = refl
+
 -- whatever one of two has a tree of, the other has the same tree of
 abbrev Grows : Resolver → Resolver → Type 0
 Grows a b = (scope : Scope) (wanted : Bool) (form : Form) (t : Tree) → a scope wanted form ≡ Ok t → b scope wanted form ≡ Ok t
@@ -105,25 +119,12 @@ module _ (a b : Resolver) (grows : Grows a b) where
     callee_grows scope (leaf (symbol name) there) c h = callee_at_grows (meaning name scope) there c h
     callee_grows scope (group x fs there) c h = h
 
-    special_same : (f : FormName) (args : Forms) → special f (spot_at room at wanted) args ≡ special f (spot_at (suc room) at wanted) args
-    special_same kind.If (first c (first x no_forms)) = refl
-    special_same kind.If (first c (first x (first y no_forms))) = refl
-    special_same kind.IfNot (first c (first x no_forms)) = refl
-    special_same kind.IfNot (first c (first x (first y no_forms))) = refl
-    special_same kind.Do (first e rest) = refl
-    special_same kind.Let (first (group Square pairs there) forms) = refl
-    special_same kind.Loop (first (group Square pairs there) forms) = refl
-    special_same kind.Recur args = refl
-    special_same kind.Println args = refl
-    special_same kind.Dosync forms = refl
-    special_same name args = refl
-
     room_grows : {A : Type 0} (n : ℕ) (x y : Answer A) (v : A) → (x ≡ Ok v → y ≡ Ok v) → some_room n (refuse TooMany at) x ≡ Ok v → some_room (suc n) (refuse TooMany at) y ≡ Ok v
     room_grows zero x y v f h = absurd (no_answer (record { kind = TooMany; at = at }) v h)
     room_grows (suc n) x y v f h = f h
 
     list_grows : (o : Option FormName) (scope : Scope) (head : Form) (args : Forms) (c : ACore) → list_core o scope (spot_at room at wanted) head args ≡ Ok c → list_core o scope (spot_at (suc room) at wanted) head args ≡ Ok c
-    list_grows (Some f) scope head args c h = sym (special_same f args) ∙ h
+    list_grows (Some f) scope head args c h = sym (special_same room at wanted f args) ∙ h
     list_grows None scope head args c h =
         room_grows room (callee_of scope (spot_at room at wanted) head >>= λ callee. Ok (applied callee head args at)) (callee_of scope (spot_at (suc room) at wanted) head >>= λ callee. Ok (applied callee head args at)) c
         (λ k. let p = goes (callee_of scope (spot_at room at wanted) head) (λ callee. Ok (applied callee head args at)) c k in

@@ -3,10 +3,15 @@ pub mod Bodies
 pub mod Earliest
 pub mod First
 pub mod FirstForm
+pub mod Fitting
 pub mod Levels
+pub mod Limits
 pub mod Logic
 pub mod Names
+pub mod Parameters
 pub mod Reading
+pub mod Renamed
+pub mod Renaming
 pub mod Shapes
 pub mod Spreads
 pub mod Told

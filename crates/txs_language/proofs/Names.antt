@@ -10,15 +10,15 @@ use Rattle.txs_names.specs.Nearest.{NoneNamed}
 use Rattle.txs_names.specs.Scope.{Scope, Meaning, a_local, defined_as, dotted, operation, unknown, the_current, definition_of, form_name, form_names, is_current, is_dot, is_none, local_number, number_in, may_bind, meaning, operations, or_defined, or_form, or_local, or_unknown, with_local, with_name}
 use Rattle.txs_names.proofs.Nearest.{nowhere}
 
-abbrev IsTrue : Bool → Type 0
+abbrev pub IsTrue : Bool → Type 0
 IsTrue true = Unit {0}
 IsTrue false = ⊥
 
-and_first : (a b : Bool) → (a && b) ≡ true → a ≡ true
+pub and_first : (a b : Bool) → (a && b) ≡ true → a ≡ true
 and_first true b h = refl
 and_first false b h = absurd (subst IsTrue (sym h) tt)
 
-and_second : (a b : Bool) → (a && b) ≡ true → b ≡ true
+pub and_second : (a b : Bool) → (a && b) ≡ true → b ≡ true
 and_second true b h = h
 and_second false b h = absurd (subst IsTrue (sym h) tt)
 
@@ -30,17 +30,17 @@ not_dotted : (b : Bool) (m : Meaning) → not b ≡ true → (if b then dotted e
 not_dotted false m h = refl
 not_dotted true m h = absurd (subst IsTrue (sym h) tt)
 
-equal : (name : List ℕ) → bytes_eq name name ≡ true
+pub equal : (name : List ℕ) → bytes_eq name name ≡ true
 equal name = (bytes_eq-Decides name name).1 refl
 
-differs : (xs ys : List ℕ) → xs ≢ ys → bytes_eq xs ys ≡ false
+pub differs : (xs ys : List ℕ) → xs ≢ ys → bytes_eq xs ys ≡ false
 differs xs ys h = by (bytes_eq xs ys) refl where
   by : (b : Bool) → bytes_eq xs ys ≡ b → bytes_eq xs ys ≡ false
   by true e = absurd (h ((bytes_eq-Decides xs ys).0 e))
   by false e = e
 
 -- what a name stands for, by the nearest local of it
-abbrev with_number : List ℕ → Scope → Option ℕ → Meaning
+abbrev pub with_number : List ℕ → Scope → Option ℕ → Meaning
 with_number name scope i =
     or_form (with_name form_name name form_names)
     (if list_any is_dot name then dotted else
@@ -48,7 +48,7 @@ with_number name scope i =
     (if is_current name scope.current then the_current else
     or_defined (definition_of name scope.defined) (or_unknown (with_name op_name name operations))))
 
-by_number : (name : List ℕ) (scope : Scope) → meaning name scope ≡ with_number name scope (local_number name scope)
+pub by_number : (name : List ℕ) (scope : Scope) → meaning name scope ≡ with_number name scope (local_number name scope)
 unfolding meaning
 by_number name scope = refl
 

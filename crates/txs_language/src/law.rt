@@ -1,20 +1,21 @@
 //! Laws of scripts, told of the text, the program and its meaning together.
 
-ghost use Rattle.std.specs.Prelude.{◌≡◌, ◌≢◌, ◌≤◌, ◌<◌, ◌∷◌, [], ◌++◌, suc, ℕ, Bool, true, false, List, Some, None, Ok, Err, length};
+ghost use Rattle.std.specs.Prelude.{◌≡◌, ◌≢◌, ◌≤◌, ◌<◌, ◌∷◌, [], ◌++◌, ◌+◌, suc, ℕ, Bool, true, false, List, Some, None, Ok, Err, Option, length, if◌then◌else◌};
 ghost use Rattle.txs_check.specs.Faulty.{FaultIn, IsBody};
 ghost use Rattle.txs_check.specs.Order.{Ascend};
 ghost use Rattle.txs_check.specs.Refused.{Body, CheckStops, in_order};
 ghost use Rattle.txs_check.specs.declared.error.CheckError.{CheckError};
 ghost use Rattle.txs_names.specs.Nearest.{NoneNamed};
 ghost use Rattle.txs_names.specs.Scope.{Scope, a_local, defined_as, operation, unknown, definition_of, is_current, may_bind, meaning, operations, with_local, with_name};
-ghost use Rattle.txs_names.specs.declared.names.FormName.TheVariants.{And, Or};
+ghost use Rattle.txs_names.specs.declared.names.FormName.TheVariants.{And, Let, Loop, Or};
 ghost use Rattle.txs_names.specs.declared.scope.Definition.{Definition};
 ghost use Rattle.txs_reader.specs.Script.{Reads};
-ghost use Rattle.txs_reader.specs.Tree.{Tree as Form, Trees as Forms, first, place, trees_of};
+ghost use Rattle.txs_reader.specs.Tree.{Tree as Form, Trees as Forms, first, leaf, place, symbol, trees_of};
 ghost use Rattle.txs_reader.specs.Tree.{none as no_forms};
+ghost use Rattle.txs_resolve.specs.Depths.{depths};
 ghost use Rattle.txs_resolve.specs.Expansions.{body, list};
-ghost use Rattle.txs_resolve.specs.Expressions.{named};
-ghost use Rattle.txs_resolve.specs.Names.{Resolves, ResolveStops};
+ghost use Rattle.txs_resolve.specs.Expressions.{are_pairs, named};
+ghost use Rattle.txs_resolve.specs.Names.{State, step, Resolves, ResolveStops};
 ghost use Rattle.txs_resolve.specs.declared.error.ResolveError.{ResolveError};
 ghost use Rattle.txs_tree.specs.Known.{known};
 ghost use Rattle.txs_tree.specs.Meaning.{Completion, Effects, eval};
@@ -27,7 +28,9 @@ ghost use Rattle.txs_value.specs.declared.op.Op.{Op};
 ghost use Rattle.txs_value.specs.declared.value.Value.{Value};
 ghost use Rattle.txs_value.specs.declared.value.Value.TheVariants.{Nil, Truth};
 ghost use Rattle.txs_language.specs.FirstForm.{StopsAt};
+ghost use Rattle.txs_language.specs.Levels.{IfGives, LevelsStand, Limited};
 ghost use Rattle.txs_language.specs.Logic.{AndDoes, OrDoes, and_tree, or_tree};
+ghost use Rattle.txs_language.specs.Renaming.{About, AllLack, MayRename, all_renamed, binding_form, binds, function_form, has_parameter, joined, pairs_renamed};
 ghost use Rattle.txs_language.specs.Standing.{HasTree, StandsIn};
 ghost use Rattle.txs_language.specs.TextOrder.{NestIn, Nests};
 
@@ -67,6 +70,23 @@ pub fn a_binding_hides_its_name()
     ensures others { (name other : List ℕ) (scope : Scope) → other ≢ name → meaning other (with_local name scope) ≡ meaning other scope }
 {}
 
+/// Which name a local has is of no account: with a name in its place that stands nowhere where it is seen, a `let`, a `loop` or a function
+/// has the same tree, with the same spans, or is refused for the same reason at the same form.
+pub fn a_local_may_be_renamed()
+    ensures in_let { (old new : List ℕ) → MayRename old new → (room : ℕ) (scope : Scope) (wanted : Bool) (before : Forms) (here : Span) (e : Form) (behind : Forms) (there : Span) (forms : Forms) (at : Span)
+        → are_pairs before ≡ true → AllLack new behind → AllLack new forms
+        → named room scope wanted (binding_form Let (joined before (first (leaf (symbol new) here) (first e (pairs_renamed old new behind)))) there (if binds old behind then forms else all_renamed old new forms) at)
+        ≡ named room scope wanted (binding_form Let (joined before (first (leaf (symbol old) here) (first e behind))) there forms at) }
+    ensures in_loop { (old new : List ℕ) → MayRename old new → (room : ℕ) (scope : Scope) (wanted : Bool) (before : Forms) (here : Span) (e : Form) (behind : Forms) (there : Span) (forms : Forms) (at : Span)
+        → are_pairs before ≡ true → AllLack new behind → AllLack new forms
+        → named room scope wanted (binding_form Loop (joined before (first (leaf (symbol new) here) (first e (pairs_renamed old new behind)))) there (if binds old behind then forms else all_renamed old new forms) at)
+        ≡ named room scope wanted (binding_form Loop (joined before (first (leaf (symbol old) here) (first e behind))) there forms at) }
+    ensures parameter { (old new : List ℕ) → MayRename old new → (s : State) (name : List ℕ) (named_at : Span) (about : Option About) (before : Forms) (here : Span) (behind : Forms) (there : Span) (forms : Forms) (at : Span)
+        → AllLack new behind → AllLack new forms
+        → step s (function_form name named_at about (joined before (first (leaf (symbol new) here) behind)) there (if has_parameter old behind then forms else all_renamed old new forms) at)
+        ≡ step s (function_form name named_at about (joined before (first (leaf (symbol old) here) behind)) there forms at) }
+{}
+
 /// A name that no local has, and not the function that is being defined, means its definition, else a core operation, else nothing.
 pub fn names_without_locals()
     ensures definition { (name : List ℕ) (scope : Scope) → may_bind name ≡ true → NoneNamed name scope.locals → is_current name scope.current ≡ false
@@ -80,6 +100,16 @@ pub fn names_without_locals()
 /// A form that has a tree where it may have so many levels has the same tree where it may have one more: the limit refuses, and changes nothing.
 pub fn one_level_more_changes_no_tree()
     ensures { (room : ℕ) (scope : Scope) (wanted : Bool) (form : Form) (t : Tree) → named room scope wanted form ≡ Ok t → named (suc room) scope wanted form ≡ Ok t }
+{}
+
+/// The limit of levels refuses what is too deep, and changes nothing else. Where a form may have so many levels its answer is the one that
+/// it has with any more of them, be that a tree or a refusal; or it is too much, and the tree that it has with more, if it has one, is
+/// deeper. A tree is never deeper than so many levels. A called function counts with its levels.
+pub fn the_limit_of_levels_refuses_what_is_deeper()
+    ensures refuses { (levels : List ℕ) (room further : ℕ) (scope : Scope) (wanted : Bool) (form : Form) → LevelsStand levels scope.defined
+        → Limited Tree (λ t. room < depths levels t) (named (room + further) scope wanted form) (named room scope wanted form) }
+    ensures fits { (levels : List ℕ) (room : ℕ) (scope : Scope) (wanted : Bool) (form : Form) → LevelsStand levels scope.defined
+        → IfGives (λ t. depths levels t ≤ room) (named room scope wanted form) }
 {}
 
 /// `(and)` is true, `(or)` is nil, and `(and e)` and `(or e)` are e.
