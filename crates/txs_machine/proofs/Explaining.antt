@@ -63,14 +63,14 @@ as_many book (a ∷ xs) (s ∷ rs) h = ap suc (as_many book xs rs h.1)
 done_so : DoneIsUndisturbed → (code : PlainCode) (k limit : ℕ) (book : List Event) (a : PlainActor) (r : ThreadReport) → IsBetween code k limit book a → IsReported book a r → HasDone code k limit book r
 done_so done code k limit book a r h p = record {
   actor = a;
-  over = h.over;
+  over = h.over.over;
   waits = h.free;
   limited = h.limited;
   ended = p.ended;
   printed = p.printed;
   counted = p.counted;
-  traced = p.traced ∙ ap (λ n. in_store (places_by n 0 book)) h.over.number;
-  undisturbed = all_undisturbed done code.cells (length code.threads) (alone book) k h.over.entries h.over.told.hold;
+  traced = p.traced ∙ ap (λ n. in_store (places_by n 0 book)) h.over.over.number;
+  undisturbed = all_undisturbed done code.cells (length code.threads) (alone book) k h.over.over.entries h.over.over.told.hold;
 }
 
 -- what all actors did is what the report says
@@ -205,10 +205,10 @@ thread_explained : Known → (code : PlainCode) (k limit : ℕ) (book : List Eve
     → (p : PlainProgram) (t : PlainThread) → p.cells ≡ code.cells → FollowsAll (map (thread_code code) code.threads) p → nth p.threads k ≡ Some t → ExplainsThread p k t book r
 thread_explained by code k limit book a r legal h rep p t same follows e =
     let f : Follows (code_of code k) (source_of p t) = follows.each k (code_of code k) t (code_at code code.threads p.threads k t follows.as_many e) e in
-    let means : MeansSo p k t book a.outcome a.printed code.cells = part_explained by code k book legal a h.free h.over (source_of p t) same f in
-    let least : LeastSo p k t book a.printed code.cells = part_printed by code k book legal a h.free h.over (source_of p t) same f in
+    let means : MeansSo p k t book a.outcome a.printed code.cells = part_explained by code k book legal a h.free h.over.over (source_of p t) same f in
+    let least : LeastSo p k t book a.printed code.cells = part_printed by code k book legal a h.free h.over.over (source_of p t) same f in
     record {
-      traced = rep.traced ∙ ap (λ n. in_store (places_by n 0 book)) h.over.number;
+      traced = rep.traced ∙ ap (λ n. in_store (places_by n 0 book)) h.over.over.number;
       means = subst (λ o. MeansSo p k t book o r.printed.items p.cells) rep.ended (subst (λ out. MeansSo p k t book a.outcome out p.cells) rep.printed (subst (MeansSo p k t book a.outcome a.printed) (sym same) means));
       least = subst (λ out. LeastSo p k t book out p.cells) rep.printed (subst (LeastSo p k t book a.printed) (sym same) least);
     }

@@ -11,7 +11,7 @@ use Rattle.txs_actor.specs.Turns.{Answers, Moves, TurnsFrom, Turns, GoesOnAfter,
 use Rattle.txs_actor.specs.declared.outcome.Turn.{Turn}
 use Rattle.txs_actor.specs.declared.outcome.Turn.TheVariants as turned
 use Rattle.txs_actor.specs.declared.state.Pending.{Pending}
-use Rattle.txs_actor.specs.declared.state.Pending.TheVariants.{Begin, Read, Open, Commit, Fail}
+use Rattle.txs_actor.specs.declared.state.Pending.TheVariants.{Begin, Read, Ensure, Open, Commit, Fail}
 use Rattle.txs_actor.specs.declared.state.Transaction.{Transaction}
 use Rattle.txs_actor.specs.declared.state.Transaction.TheVariants.{Outside, Restarting, Running}
 use Rattle.txs_machine.specs.RunOver.{IsLimited}
@@ -118,6 +118,18 @@ answer_stays a (Some (Read c)) reply.Idle = (refl, as_was a, refl)
 answer_stays a (Some (Read c)) (reply.Opened p v) = (refl, as_was a, refl)
 answer_stays a (Some (Read c)) reply.Full = (refl, λ e. tt, refl)
 answer_stays a (Some (Read c)) reply.Memory = (refl, λ e. tt, refl)
+answer_stays a (Some (Ensure c es)) (reply.At p) = (refl, as_was a, refl)
+answer_stays a (Some (Ensure c es)) (reply.Is v) = (refl, as_was a, refl)
+answer_stays a (Some (Ensure c es)) (reply.Views p vs) = (refl, as_was a, refl)
+answer_stays a (Some (Ensure c es)) reply.Done = (refl, as_was a, refl)
+answer_stays a (Some (Ensure c es)) (reply.Retry d) = again_stays a a.tx
+answer_stays a (Some (Ensure c es)) (reply.Changed d) = (refl, as_was a, refl)
+answer_stays a (Some (Ensure c es)) (reply.AgentIsFailed g) = (refl, as_was a, refl)
+answer_stays a (Some (Ensure c es)) (reply.Action i x v) = (refl, as_was a, refl)
+answer_stays a (Some (Ensure c es)) reply.Idle = (refl, as_was a, refl)
+answer_stays a (Some (Ensure c es)) (reply.Opened p v) = (refl, as_was a, refl)
+answer_stays a (Some (Ensure c es)) reply.Full = (refl, λ e. tt, refl)
+answer_stays a (Some (Ensure c es)) reply.Memory = (refl, λ e. tt, refl)
 answer_stays a (Some (Open c n)) (reply.At p) = (refl, as_was a, refl)
 answer_stays a (Some (Open c n)) (reply.Is v) = (refl, as_was a, refl)
 answer_stays a (Some (Open c n)) (reply.Views p vs) = (refl, as_was a, refl)

@@ -14,7 +14,11 @@ use Rattle.txs_actor.specs.PlainActor.{PlainActor}
 use Rattle.txs_runs.specs.Laws.{alone}
 use Rattle.txs_runs.specs.Told.{places_by}
 use Rattle.txs_runs.proofs.Growing.{Grown, AreOwn, differ, told_stays}
-use Rattle.txs_machine.specs.RunOver.{IsOwn, IsGrownBy, RunOver, IsLimited}
+use Rattle.txs_runs.proofs.ServedKnown.{BookKnown}
+use Rattle.txs_runs.specs.Lawful.{OpeningIsKnown}
+use Rattle.txs_machine.specs.Lawfully.{RunLawfully}
+use Rattle.txs_machine.proofs.Lawfully.{others_lawfully}
+use Rattle.txs_machine.specs.RunOver.{IsOwn, IsGrownBy, IsLimited}
 use Rattle.txs_machine.specs.Playing.{IsBetween, AreBetween, IsPlayed, ArePlayedAt, AreLater, HaveSteps, AllEnded, IsUnended, noted, IsReported, AreReported}
 use Rattle.txs_machine.specs.Schedule.{player, plays_of, all_named, in_store}
 use Rattle.txs_machine.specs.declared.schedule.Place.{Place}
@@ -54,34 +58,45 @@ grown k book later g = record { more = alone g.more; grown = grows; own = owns }
 longer : (k : ℕ) (book later : List Event) → IsGrownBy k book later → length book ≤ length later
 longer k book later g = let e = ap length g.grown ∙ length_append book g.more in omega (arith, e)
 
-over_others : (code : PlainCode) (k j : ℕ) (book later : List Event) (a : PlainActor) → (k ≡ j → ⊥) → IsGrownBy k book later → RunOver code j book a → RunOver code j later a
-over_others code k j book later a n g h = record {
-  number = h.number;
-  entries = h.entries;
-  stage = h.stage;
-  ran = h.ran;
-  told = told_stays code.cells (length code.threads) k j (alone book) (alone later) (grown k book later g) n h.entries h.stage h.told;
-  here = h.here;
-  asked = h.asked;
-  full = λ x. (let m = h.full x in let l = longer k book later g in omega (arith, m, l));
-}
+-- the values of the store's book name defined cells alone
+abbrev ValuesKnown : PlainCode → List Event → Type 0
+ValuesKnown code book = (opened : OpeningIsKnown code.cells) → BookKnown code.cells opened book
 
-others : (code : PlainCode) (k j limit : ℕ) (book later : List Event) (a : PlainActor) → (k ≡ j → ⊥) → IsGrownBy k book later → IsBetween code j limit book a → IsBetween code j limit later a
-others code k j limit book later a n g h = record { runs = h.runs; free = h.free; limited = h.limited; over = over_others code k j book later a n g h.over }
+over_others : (code : PlainCode) (k j : ℕ) (book later : List Event) (a : PlainActor) → (k ≡ j → ⊥) → IsGrownBy k book later → ValuesKnown code later → RunLawfully code j book a → RunLawfully code j later a
+over_others code k j book later a n g v w =
+    let h = w.over in
+    record {
+      over = record {
+        number = h.number;
+        entries = h.entries;
+        stage = h.stage;
+        ran = h.ran;
+        told = told_stays code.cells (length code.threads) k j (alone book) (alone later) (grown k book later g) n h.entries h.stage h.told;
+        here = h.here;
+        asked = h.asked;
+        full = λ x. (let m = h.full x in let l = longer k book later g in omega (arith, m, l));
+      };
+      thread = w.thread;
+      stood = w.stood;
+      lawful = others_lawfully code.cells k j book later h.entries h.stage n (grown k book later g) v w.lawful;
+    }
 
-all_others : (code : PlainCode) (k limit : ℕ) (book later : List Event) (j : ℕ) (xs : List PlainActor) → k < j → IsGrownBy k book later → AreBetween code limit book j xs → AreBetween code limit later j xs
-all_others code k limit book later j [] n g h = tt
-all_others code k limit book later j (a ∷ xs) n g h =
-    (others code k j limit book later a (λ e. absurd (omega (arith, e, n))) g h.0, all_others code k limit book later (suc j) xs (omega (arith, n)) g h.1)
+others : (code : PlainCode) (k j limit : ℕ) (book later : List Event) (a : PlainActor) → (k ≡ j → ⊥) → IsGrownBy k book later → ValuesKnown code later → IsBetween code j limit book a → IsBetween code j limit later a
+others code k j limit book later a n g v h = record { runs = h.runs; free = h.free; limited = h.limited; over = over_others code k j book later a n g v h.over }
+
+all_others : (code : PlainCode) (k limit : ℕ) (book later : List Event) (j : ℕ) (xs : List PlainActor) → k < j → IsGrownBy k book later → ValuesKnown code later → AreBetween code limit book j xs → AreBetween code limit later j xs
+all_others code k limit book later j [] n g v h = tt
+all_others code k limit book later j (a ∷ xs) n g v h =
+    (others code k j limit book later a (λ e. absurd (omega (arith, e, n))) g v h.0, all_others code k limit book later (suc j) xs (omega (arith, n)) g v h.1)
 
 -- the actor at a place, after a play of it
 pub placed_between : (code : PlainCode) (k limit : ℕ) (book later : List Event) (j i : ℕ) (xs : List PlainActor) (b : PlainActor) → k ≡ j + i → IsGrownBy k book later → IsBetween code k limit later b → AreBetween code limit book j xs
     → AreBetween code limit later j (set xs i b)
 placed_between code k limit book later j i [] b e g p h = tt
 placed_between code k limit book later j zero (a ∷ xs) b e g p h =
-    (subst (λ n. IsBetween code n limit later b) (omega (arith, e)) p, all_others code k limit book later (suc j) xs (omega (arith, e)) g h.1)
+    (subst (λ n. IsBetween code n limit later b) (omega (arith, e)) p, all_others code k limit book later (suc j) xs (omega (arith, e)) g p.over.lawful.values h.1)
 placed_between code k limit book later j (suc i) (a ∷ xs) b e g p h =
-    (others code k j limit book later a (λ d. absurd (omega (arith, e, d))) g h.0, placed_between code k limit book later (suc j) i xs b (omega (arith, e)) g p h.1)
+    (others code k j limit book later a (λ d. absurd (omega (arith, e, d))) g p.over.lawful.values h.0, placed_between code k limit book later (suc j) i xs b (omega (arith, e)) g p h.1)
 
 -- the actor at a place
 pub between_at : (code : PlainCode) (limit : ℕ) (book : List Event) (j i : ℕ) (xs : List PlainActor) (a : PlainActor) → nth xs i ≡ Some a → AreBetween code limit book j xs → IsBetween code (j + i) limit book a

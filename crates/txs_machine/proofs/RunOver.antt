@@ -1,5 +1,5 @@
 -- An actor's run over a store, step by step.
-use Rattle.std.proofs.Common.{◌≡◌, ◌==◌, ℕ, zero, suc, List, [], ◌∷◌, ◌++◌, length, map, true, false, Bool, not, ◌&&◌, nat_lt, ◌≤◌, Option, Some, None, refl, sym, ap, subst, ◌∙◌, ◌+◌, ◌⊎◌, inl, inr, if◌then◌else◌, arith}
+use Rattle.std.proofs.Common.{◌≡◌, ◌==◌, ℕ, zero, suc, List, [], ◌∷◌, ◌++◌, length, map, true, false, Bool, not, ◌&&◌, nat_lt, ◌≤◌, ◌<◌, Option, Some, None, refl, sym, ap, subst, ◌∙◌, ◌+◌, ◌⊎◌, inl, inr, if◌then◌else◌, arith}
 use Rattle.std.proofs.lemmas.Bool.{false≢true, ltb-false}
 use Rattle.txs_asks.specs.Ask.{Writes, Exchange}
 use Rattle.txs_asks.specs.SeenEvent.{home, atoms_below}
@@ -36,7 +36,7 @@ use Rattle.txs_actor.specs.Turns.{IsNew, OneStep, Answers, Moves, TurnsFrom, Tur
 use Rattle.txs_actor.specs.declared.outcome.Turn.{Turn}
 use Rattle.txs_actor.specs.declared.outcome.Turn.TheVariants as turned
 use Rattle.txs_actor.specs.declared.state.Pending.{Pending}
-use Rattle.txs_actor.specs.declared.state.Pending.TheVariants.{Begin, Read, Open, Commit, Fail}
+use Rattle.txs_actor.specs.declared.state.Pending.TheVariants.{Begin, Read, Ensure, Open, Commit, Fail}
 use Rattle.txs_actor.specs.declared.state.Transaction.{Transaction}
 use Rattle.txs_actor.specs.declared.state.Transaction.TheVariants.{Outside, Restarting, Running}
 use Rattle.txs_actor.proofs.Following.{Unstopped, unstopped_if}
@@ -59,7 +59,13 @@ use Rattle.txs_runs.proofs.Growing.{AreOwn, IsFull, Serves, told_stays}
 use Rattle.txs_runs.specs.Printed.{Prints, HasPrinted}
 use Rattle.txs_runs.proofs.Lasts.{apart, still, turn_prints}
 use Rattle.txs_runs.proofs.Serving.{serves}
+use Rattle.txs_code.specs.OwnCells.{NamesOwnCells}
+use Rattle.txs_runs.specs.Standing.{StandingCode}
+use Rattle.txs_runs.specs.Lawful.{TodayStands}
 use Rattle.txs_machine.specs.Followed.{ActorsExplained, told}
+use Rattle.txs_machine.specs.Lawfully.{HasStood, RunLawfully}
+use Rattle.txs_machine.proofs.Lawfully.{asked_today, ask_lawful, heard_lawfully, is_below}
+use Rattle.txs_machine.proofs.OwnCells.{openings_known, code_known}
 use Rattle.txs_machine.specs.RunOver.{IsStoreOf, IsIn, IsOwn, IsGrownBy, AskedOn, RunOver, ExplainsEnd, IsExplained}
 
 append_nil : {A : Type 0} (xs : List A) → xs ++ [] ≡ xs
@@ -155,12 +161,53 @@ turn_filled : (code : PlainCode) (a b : PlainActor) (r : Turn) (o : Option Outco
 turn_filled code a b r None e t x = absurd (subst Unfilled x (move_unfilled code a b r (nat_lt a.steps a.limit) t))
 turn_filled code a b r (Some o) e t x = ap (λ (x : PlainActor). x.outcome) (sym t.1) ∙ x
 
+-- ---- where an actor stood when it asked
+
+stood_as : (code : ThreadCode) (xs : List Exchange) (b : PlainActor) (st : Stage) (o : Option Outcome) (q : Option Ask) → b.outcome ≡ o → unanswered b ≡ q → HasStood code xs b st o q → HasStood code xs b st b.outcome (unanswered b)
+stood_as code xs b st o q e f h = subst (λ x. HasStood code xs b st x (unanswered b)) (sym e) (subst (λ y. HasStood code xs b st o y) (sym f) h)
+
+stood_known : (code : ThreadCode) (xs : List Exchange) (b : PlainActor) (st : Stage) (o : Option Outcome) (q : Option Ask) → b.outcome ≡ o → unanswered b ≡ q → HasStood code xs b st b.outcome (unanswered b) → HasStood code xs b st o q
+stood_known code xs b st o q e f h = subst (λ y. HasStood code xs b st o y) f (subst (λ x. HasStood code xs b st x (unanswered b)) e h)
+
+-- one that asks nothing stood nowhere
+stood_free : (code : ThreadCode) (xs : List Exchange) (b : PlainActor) (st : Stage) → unanswered b ≡ None → HasStood code xs b st b.outcome (unanswered b)
+stood_free code xs b st f = subst (λ y. HasStood code xs b st b.outcome y) (sym f) (nowhere b.outcome)
+  where
+    nowhere : (o : Option Outcome) → HasStood code xs b st o None
+    nowhere None = tt
+    nowhere (Some o) = tt
+
+step_stood : (code : PlainCode) (a b : PlainActor) (r : Turn) (xs : List Exchange) (st : Stage) → run (code_of code a.number) a.steps (opening (code_of code a.number) xs) ≡ Unfinished (configuration_of a) → stage_of (configuration_of a) ≡ st → Answers code a r b
+    → HasStood (code_of code a.number) xs b st b.outcome (unanswered b)
+step_stood code a b turned.Went xs st ran here t = stood_as (code_of code a.number) xs b st None None t.1.outcome t.1.unanswered tt
+step_stood code a b (turned.Asks q) xs st ran here t =
+    stood_as (code_of code a.number) xs b st None (Some q) t.1.outcome t.1.unanswered (record { turns = a.steps; before = configuration_of a; ran = ran; consumed = refl; here = here; asks = t.0.asks })
+step_stood code a b (turned.Ended outcome.Done) xs st ran here t = stood_as (code_of code a.number) xs b st (Some outcome.Done) None t.1.outcome t.1.unanswered tt
+step_stood code a b (turned.Ended (outcome.Failed f)) xs st ran here t = stood_as (code_of code a.number) xs b st (Some (outcome.Failed f)) None t.1.outcome t.1.unanswered tt
+step_stood code a b (turned.Ended outcome.StepsSpent) xs st ran here t = absurd t
+step_stood code a b (turned.Ended outcome.JournalFull) xs st ran here t = absurd t
+step_stood code a b (turned.Ended outcome.Memory) xs st ran here t = stood_as (code_of code a.number) xs b st (Some outcome.Memory) None t.1.outcome t.1.unanswered tt
+
+move_stood : (code : PlainCode) (a b : PlainActor) (r : Turn) (may : Bool) (xs : List Exchange) (st : Stage) → run (code_of code a.number) a.steps (opening (code_of code a.number) xs) ≡ Unfinished (configuration_of a) → stage_of (configuration_of a) ≡ st → Moves code a may r b
+    → HasStood (code_of code a.number) xs b st b.outcome (unanswered b)
+move_stood code a b r true xs st ran here t = step_stood code a b r xs st ran here t
+move_stood code a b r false xs st ran here t = subst (λ (x : PlainActor). HasStood (code_of code a.number) xs x st x.outcome (unanswered x)) (sym t.1) tt
+
+turn_stood : (code : PlainCode) (a b : PlainActor) (r : Turn) (o : Option Outcome) (xs : List Exchange) (st : Stage) → a.outcome ≡ o → unanswered a ≡ None → HasCome (code_of code a.number) xs a o None → IsIn a st o None → TurnsFrom code a o r b
+    → HasStood (code_of code a.number) xs b st b.outcome (unanswered b)
+turn_stood code a b r None xs st e f ran here t = move_stood code a b r (nat_lt a.steps a.limit) xs st ran here t
+turn_stood code a b r (Some o) xs st e f ran here t =
+    subst (λ (x : PlainActor). HasStood (code_of code a.number) xs x st x.outcome (unanswered x)) (sym t.1) (stood_as (code_of code a.number) xs a st (Some o) None e f tt)
+
 -- ---- what is known of the code
 
 threads_today : (bs : List CodeBody) (n : ℕ) → BodiesRunToday bs → AreRunToday (body_or_none (nth bs n)).instrs
 threads_today [] n h = tt
 threads_today (b ∷ bs) zero h = h.0
 threads_today (b ∷ bs) (suc n) h = threads_today bs n h.1
+
+pub standing_of : TodayStands → (code : PlainCode) (n : ℕ) → RunsToday code → StandingCode (code_of code n)
+standing_of law code n h = law code (body_or_none (nth code.threads n)) h.functions (threads_today code.threads n h.threads)
 
 pub staged_of : TodayIsStaged → (code : PlainCode) (n : ℕ) → RunsToday code → StagedCode (code_of code n)
 staged_of law code n h = law code (body_or_none (nth code.threads n)) h.functions (threads_today code.threads n h.threads)
@@ -210,31 +257,38 @@ turn_asked code before a b r None t w = move_asked code before a b r (nat_lt a.s
 turn_asked code before a b r (Some o) t w = subst (λ (x : PlainActor). AskedOn (code_of code a.number) before x) (sym t.1) w
 
 -- a turn keeps what an actor has done over a store
-turn_over : ActorsRun → (code : PlainCode) (k : ℕ) (book : List Event) (a b : PlainActor) (r : Turn) → StagedCode (code_of code k) → unanswered a ≡ None → Turns code a r b → RunOver code k book a → RunOver code k book b
-turn_over laws code k book a b r known f t h =
+turn_over : ActorsRun → (code : PlainCode) (k : ℕ) (book : List Event) (a b : PlainActor) (r : Turn) → StagedCode (code_of code k) → unanswered a ≡ None → Turns code a r b → RunLawfully code k book a → RunLawfully code k book b
+turn_over laws code k book a b r known f t w =
+    let h = w.over in
     let kept = turn_keeps code a b r h.stage a.outcome (stands_staged code (map exchange_of h.entries) a (subst (λ n. StagedCode (code_of code n)) (sym h.number) known) f h.ran) refl f t (as_known a h.stage a.outcome None refl f h.here) in
     record {
-      number = kept.0 ∙ h.number;
-      entries = h.entries;
-      stage = h.stage;
-      ran = laws.turns code (map exchange_of h.entries) a b r f h.ran t;
-      told = h.told;
-      here = kept.1;
-      asked = λ before e rest s. subst (λ n. AskedOn (code_of code n) before b) h.number
-          (turn_asked code before a b r a.outcome t (subst (λ n. AskedOn (code_of code n) before a) (sym h.number) (h.asked before e rest s)));
-      full = λ x. h.full (turn_filled code a b r a.outcome refl t x);
+      over = record {
+        number = kept.0 ∙ h.number;
+        entries = h.entries;
+        stage = h.stage;
+        ran = laws.turns code (map exchange_of h.entries) a b r f h.ran t;
+        told = h.told;
+        here = kept.1;
+        asked = λ before e rest s. subst (λ n. AskedOn (code_of code n) before b) h.number
+            (turn_asked code before a b r a.outcome t (subst (λ n. AskedOn (code_of code n) before a) (sym h.number) (h.asked before e rest s)));
+        full = λ x. h.full (turn_filled code a b r a.outcome refl t x);
+      };
+      thread = w.thread;
+      stood = subst (λ n. HasStood (code_of code n) (map exchange_of h.entries) b h.stage b.outcome (unanswered b)) h.number
+          (turn_stood code a b r a.outcome (map exchange_of h.entries) h.stage refl f (subst (λ q. HasCome (code_of code a.number) (map exchange_of h.entries) a a.outcome q) f h.ran) (as_known a h.stage a.outcome None refl f h.here) t);
+      lawful = w.lawful;
     }
 
 -- so do many turns
-pub turns_over : ActorsRun → (code : PlainCode) (k : ℕ) (book : List Event) (n : ℕ) (a b : PlainActor) (r : Turn) → StagedCode (code_of code k) → unanswered a ≡ None → TurnsOf code n a r b → RunOver code k book a → RunOver code k book b
-turns_over laws code k book zero a b r known f t h = subst (λ x. RunOver code k book x) (sym t.1) h
+pub turns_over : ActorsRun → (code : PlainCode) (k : ℕ) (book : List Event) (n : ℕ) (a b : PlainActor) (r : Turn) → StagedCode (code_of code k) → unanswered a ≡ None → TurnsOf code n a r b → RunLawfully code k book a → RunLawfully code k book b
+turns_over laws code k book zero a b r known f t h = subst (λ x. RunLawfully code k book x) (sym t.1) h
 turns_over laws code k book (suc n) a b r known f t h = after_turn (λ i g x. turns_over laws code k book n t.1 b r known i g x) t.0 t.2 t.3
   where
-    after_turn : (unanswered t.1 ≡ None → TurnsOf code n t.1 r b → RunOver code k book t.1 → RunOver code k book b)
-        → (s : Turn) → Turns code a s t.1 → GoesOnAfter s (TurnsOf code n t.1 r b) ((r ≡ s) × (b ≡ t.1)) → RunOver code k book b
+    after_turn : (unanswered t.1 ≡ None → TurnsOf code n t.1 r b → RunLawfully code k book t.1 → RunLawfully code k book b)
+        → (s : Turn) → Turns code a s t.1 → GoesOnAfter s (TurnsOf code n t.1 r b) ((r ≡ s) × (b ≡ t.1)) → RunLawfully code k book b
     after_turn go turned.Went u g = go (turn_says code a t.1 turned.Went a.outcome refl u) g (turn_over laws code k book a t.1 turned.Went known f u h)
-    after_turn go (turned.Asks q) u g = subst (λ x. RunOver code k book x) (sym g.1) (turn_over laws code k book a t.1 (turned.Asks q) known f u h)
-    after_turn go (turned.Ended o) u g = subst (λ x. RunOver code k book x) (sym g.1) (turn_over laws code k book a t.1 (turned.Ended o) known f u h)
+    after_turn go (turned.Asks q) u g = subst (λ x. RunLawfully code k book x) (sym g.1) (turn_over laws code k book a t.1 (turned.Asks q) known f u h)
+    after_turn go (turned.Ended o) u g = subst (λ x. RunLawfully code k book x) (sym g.1) (turn_over laws code k book a t.1 (turned.Ended o) known f u h)
 
 -- ---- the beginning
 
@@ -246,16 +300,21 @@ no_entry : (before : List Entry) (e : Entry) (rest : List Entry) → [] ≡ befo
 no_entry [] e rest h = subst is_nil h tt
 no_entry (b ∷ bs) e rest h = subst is_nil h tt
 
-pub new_over : ActorsRun → (code : PlainCode) (k limit : ℕ) (book : List Event) (a : PlainActor) → book ≡ [] → IsNew code k limit a → RunOver code k book a
-new_over laws code k limit book a e n = subst (λ es. RunOver code k es a) (sym e) (record {
-  number = n.number;
-  entries = [];
-  stage = Idle;
-  ran = laws.begins code k limit a n;
-  told = record { hold = tt; staged = refl; traced = nothing };
-  here = as_is a Idle None None n.unended n.unasking (ap stage_of n.opens);
-  asked = λ before e rest s. absurd (no_entry before e rest s);
-  full = λ x. absurd (subst Unfilled x (subst Unfilled (sym n.unended) tt));
+pub new_over : ActorsRun → (code : PlainCode) (k limit : ℕ) (book : List Event) (a : PlainActor) → book ≡ [] → k < length code.threads → IsNew code k limit a → RunLawfully code k book a
+new_over laws code k limit book a e there n = subst (λ es. RunLawfully code k es a) (sym e) (record {
+  over = record {
+    number = n.number;
+    entries = [];
+    stage = Idle;
+    ran = laws.begins code k limit a n;
+    told = record { hold = tt; staged = refl; traced = nothing };
+    here = as_is a Idle None None n.unended n.unasking (ap stage_of n.opens);
+    asked = λ before e rest s. absurd (no_entry before e rest s);
+    full = λ x. absurd (subst Unfilled x (subst Unfilled (sym n.unended) tt));
+  };
+  thread = there;
+  stood = stood_free (code_of code k) [] a Idle n.unasking;
+  lawful = record { replies = tt; values = λ opened. tt; places = tt; views = tt; quiet = λ v. v };
 })
   where
     nothing : (i : ℕ) → [] ≡ told_by.places_by k 0 (alone [] i)
@@ -311,6 +370,18 @@ answered_same a (Some (Read c)) reply.Idle = (refl, refl, refl)
 answered_same a (Some (Read c)) (reply.Opened p v) = (refl, refl, refl)
 answered_same a (Some (Read c)) reply.Full = (refl, refl, refl)
 answered_same a (Some (Read c)) reply.Memory = (refl, refl, refl)
+answered_same a (Some (Ensure c es)) (reply.At p) = (refl, refl, refl)
+answered_same a (Some (Ensure c es)) (reply.Is v) = (refl, refl, refl)
+answered_same a (Some (Ensure c es)) (reply.Views p vs) = (refl, refl, refl)
+answered_same a (Some (Ensure c es)) reply.Done = (refl, refl, refl)
+answered_same a (Some (Ensure c es)) (reply.Retry d) = again_same a a.tx
+answered_same a (Some (Ensure c es)) (reply.Changed d) = (refl, refl, refl)
+answered_same a (Some (Ensure c es)) (reply.AgentIsFailed g) = (refl, refl, refl)
+answered_same a (Some (Ensure c es)) (reply.Action i x v) = (refl, refl, refl)
+answered_same a (Some (Ensure c es)) reply.Idle = (refl, refl, refl)
+answered_same a (Some (Ensure c es)) (reply.Opened p v) = (refl, refl, refl)
+answered_same a (Some (Ensure c es)) reply.Full = (refl, refl, refl)
+answered_same a (Some (Ensure c es)) reply.Memory = (refl, refl, refl)
 answered_same a (Some (Open c n)) (reply.At p) = (refl, refl, refl)
 answered_same a (Some (Open c n)) (reply.Is v) = (refl, refl, refl)
 answered_same a (Some (Open c n)) (reply.Views p vs) = (refl, refl, refl)
@@ -375,6 +446,18 @@ stop_ends a (Some (Read c)) reply.Idle inside at done q e h = absurd h
 stop_ends a (Some (Read c)) (reply.Opened p v) inside at done q e h = absurd h
 stop_ends a (Some (Read c)) reply.Full inside at done q e h = (outcome.JournalFull, refl)
 stop_ends a (Some (Read c)) reply.Memory inside at done q e h = (outcome.Memory, refl)
+stop_ends a (Some (Ensure c es)) (reply.At p) inside at done q e h = absurd h
+stop_ends a (Some (Ensure c es)) (reply.Is v) inside at done q e h = absurd h
+stop_ends a (Some (Ensure c es)) (reply.Views p vs) inside at done q e h = absurd h
+stop_ends a (Some (Ensure c es)) reply.Done inside at done q e h = absurd h
+stop_ends a (Some (Ensure c es)) (reply.Retry d) inside at done q e h = absurd h
+stop_ends a (Some (Ensure c es)) (reply.Changed d) inside at done q e h = absurd h
+stop_ends a (Some (Ensure c es)) (reply.AgentIsFailed g) inside at done q e h = absurd h
+stop_ends a (Some (Ensure c es)) (reply.Action i x v) inside at done q e h = absurd h
+stop_ends a (Some (Ensure c es)) reply.Idle inside at done q e h = absurd h
+stop_ends a (Some (Ensure c es)) (reply.Opened p v) inside at done q e h = absurd h
+stop_ends a (Some (Ensure c es)) reply.Full inside at done q e h = (outcome.JournalFull, refl)
+stop_ends a (Some (Ensure c es)) reply.Memory inside at done q e h = (outcome.Memory, refl)
 stop_ends a (Some (Open c n)) (reply.At p) inside at done q e h = absurd h
 stop_ends a (Some (Open c n)) (reply.Is v) inside at done q e h = absurd h
 stop_ends a (Some (Open c n)) (reply.Views p vs) inside at done q e h = absurd h
@@ -430,6 +513,7 @@ memory_unfilled : (a : PlainActor) (p : Option Pending) → a.outcome ≡ None �
 memory_unfilled a None e = subst Unfilled (sym e) tt
 memory_unfilled a (Some (Begin left from)) e = tt
 memory_unfilled a (Some (Read c)) e = tt
+memory_unfilled a (Some (Ensure c es)) e = tt
 memory_unfilled a (Some (Open c n)) e = tt
 memory_unfilled a (Some Commit) e = tt
 memory_unfilled a (Some (Fail f)) e = tt
@@ -589,39 +673,54 @@ more_asked code es y a q r h asked before e rest s = go (apart es y before e res
 
 -- an answer that the actor goes on after
 heard_over : ActorsRun → ServedIsTold → (code : PlainCode) (k : ℕ) (book : List Event) (taken : List Bool) (a : PlainActor) (q : Ask) (r : Reply)
-    → is_lawful (store_with (cells_of code.cells) (length code.threads) book taken) k q ≡ true
+    → NamesOwnCells code → StandingCode (code_of code k) → is_lawful (store_with (cells_of code.cells) (length code.threads) book taken) k q ≡ true
     → a.outcome ≡ None → unanswered a ≡ Some q → unanswered (answered a r) ≡ None → MayAnswer q r → (Stops r → ⊥) → IsExchanged r → r ≡ (serve (cells_of code.cells) k q book).reply
-    → RunOver code k book a → RunOver code k (serve (cells_of code.cells) k q book).book (answered a r)
-heard_over laws law code k book taken a q r lawful e f free may on x same h =
+    → RunLawfully code k book a → RunLawfully code k (serve (cells_of code.cells) k q book).book (answered a r)
+heard_over laws law code k book taken a q r mine stands lawful e f free may on x same w =
+    let h = w.over in
     let known = as_known a h.stage None (Some q) e f h.here in
     record {
-      number = (answered_same a a.pending r).0 ∙ h.number;
-      entries = h.entries ++ entry q r (length book) ∷ [];
-      stage = stage_after h.stage q r;
-      ran = subst (λ xs. HasRun code xs (answered a r)) (sym (map_append h.entries (entry q r (length book)))) (laws.answers code (map exchange_of h.entries) a q r e f may on h.ran);
-      told = subst (λ y. ToldBy code.cells (length code.threads) (alone (serve (cells_of code.cells) k q book).book) k (h.entries ++ entry q y (length book) ∷ []) (stage_after h.stage q y)) (sym same)
-          (told_served code k book taken q lawful law h.entries h.stage known.0 h.told (subst IsExchanged same x));
-      here = as_is (answered a r) (stage_after h.stage q r) (answered a r).outcome None refl free (in_after (answered a r) (stage_after h.stage q r) (answered a r).outcome (known.1 r may on));
-      asked = more_asked (code_of code k) h.entries (entry q r (length book)) a q r
-          (subst (λ n. HasAsked (code_of code n) (map exchange_of h.entries) a q) h.number
-          (subst (λ o. HasCome (code_of code a.number) (map exchange_of h.entries) a o (Some q)) e (subst (λ y. HasCome (code_of code a.number) (map exchange_of h.entries) a a.outcome y) f h.ran))) h.asked;
-      full = λ x. absurd (subst Unfilled x (unfilled_of (answered a r).outcome (unstopped_if a e a.pending r on)));
+      over = record {
+        number = (answered_same a a.pending r).0 ∙ h.number;
+        entries = h.entries ++ entry q r (length book) ∷ [];
+        stage = stage_after h.stage q r;
+        ran = subst (λ xs. HasRun code xs (answered a r)) (sym (map_append h.entries (entry q r (length book)))) (laws.answers code (map exchange_of h.entries) a q r e f may on h.ran);
+        told = subst (λ y. ToldBy code.cells (length code.threads) (alone (serve (cells_of code.cells) k q book).book) k (h.entries ++ entry q y (length book) ∷ []) (stage_after h.stage q y)) (sym same)
+            (told_served code k book taken q lawful law h.entries h.stage known.0 h.told (subst IsExchanged same x));
+        here = as_is (answered a r) (stage_after h.stage q r) (answered a r).outcome None refl free (in_after (answered a r) (stage_after h.stage q r) (answered a r).outcome (known.1 r may on));
+        asked = more_asked (code_of code k) h.entries (entry q r (length book)) a q r
+            (subst (λ n. HasAsked (code_of code n) (map exchange_of h.entries) a q) h.number
+            (subst (λ o. HasCome (code_of code a.number) (map exchange_of h.entries) a o (Some q)) e (subst (λ y. HasCome (code_of code a.number) (map exchange_of h.entries) a a.outcome y) f h.ran))) h.asked;
+        full = λ x. absurd (subst Unfilled x (unfilled_of (answered a r).outcome (unstopped_if a e a.pending r on)));
+      };
+      thread = w.thread;
+      stood = stood_free (code_of code k) (map exchange_of (h.entries ++ entry q r (length book) ∷ [])) (answered a r) (stage_after h.stage q r) free;
+      lawful =
+          heard_lawfully code.cells (length code.threads) (code_of code k) k book h.entries h.stage a q (serve (cells_of code.cells) k q book) r (length book) (openings_known code mine) (code_known code k mine) stands
+          (asked_today a.pending (is_running a.tx) a.at a.done q f) known.0 (of_store code.cells (length code.threads) taken k q book lawful).1 (of_store code.cells (length code.threads) taken k q book lawful).0 same
+          (stood_known (code_of code k) (map exchange_of h.entries) a h.stage None (Some q) e f w.stood) w.lawful;
     }
 
 -- an answer that stops the actor, and leaves the book as it was
 stopped_over : ActorsRun → (code : PlainCode) (k : ℕ) (book : List Event) (a : PlainActor) (q : Ask) (r : Reply)
-    → a.outcome ≡ None → unanswered a ≡ Some q → MayAnswer q r → Stops r → ((answered a r).outcome ≡ Some outcome.JournalFull → most_events ≤ length book) → RunOver code k book a → RunOver code k book (answered a r)
-stopped_over laws code k book a q r e f may stop filled h =
+    → a.outcome ≡ None → unanswered a ≡ Some q → MayAnswer q r → Stops r → ((answered a r).outcome ≡ Some outcome.JournalFull → most_events ≤ length book) → RunLawfully code k book a → RunLawfully code k book (answered a r)
+stopped_over laws code k book a q r e f may stop filled w =
+    let h = w.over in
     let ends = stop_ends a a.pending r _ a.at a.done q f stop in
     record {
-      number = (answered_same a a.pending r).0 ∙ h.number;
-      entries = h.entries;
-      stage = h.stage;
-      ran = laws.stops code (map exchange_of h.entries) a q r e f may stop h.ran;
-      told = h.told;
-      here = as_is (answered a r) h.stage (Some ends.0) (unanswered (answered a r)) ends.1 refl tt;
-      asked = λ before e rest s. answer_asked (code_of code k) before a r (h.asked before e rest s);
-      full = filled;
+      over = record {
+        number = (answered_same a a.pending r).0 ∙ h.number;
+        entries = h.entries;
+        stage = h.stage;
+        ran = laws.stops code (map exchange_of h.entries) a q r e f may stop h.ran;
+        told = h.told;
+        here = as_is (answered a r) h.stage (Some ends.0) (unanswered (answered a r)) ends.1 refl tt;
+        asked = λ before e rest s. answer_asked (code_of code k) before a r (h.asked before e rest s);
+        full = filled;
+      };
+      thread = w.thread;
+      stood = stood_as (code_of code k) (map exchange_of h.entries) (answered a r) h.stage (Some ends.0) (unanswered (answered a r)) ends.1 refl tt;
+      lawful = w.lawful;
     }
 
 -- a thread's ask isn't answered as an agent's that has nothing to do
@@ -644,37 +743,37 @@ idle_never st (ask.Broke c p) ok may = may
 
 -- what the store answers the actor, and the actor after the answer
 served_from : ActorsRun → ServedIsTold → (code : PlainCode) (book : List Event) (taken : List Bool) (t : PlainStore) (k : ℕ) (a : PlainActor) (q : Ask) (r : Reply)
-    → is_lawful (store_with (cells_of code.cells) (length code.threads) book taken) k q ≡ true
+    → NamesOwnCells code → StandingCode (code_of code k) → is_lawful (store_with (cells_of code.cells) (length code.threads) book taken) k q ≡ true
     → a.outcome ≡ None → unanswered a ≡ Some q → unanswered (answered a r) ≡ None → MayAnswer q r
     → world.Answers (store_with (cells_of code.cells) (length code.threads) book taken) (serve (cells_of code.cells) k q book) (store_after (store_with (cells_of code.cells) (length code.threads) book taken) q (serve (cells_of code.cells) k q book)) r t
-    → RunOver code k book a → IsStoreOf code t × RunOver code k t.book (answered a r)
-served_from laws law code book taken t k a q (reply.At p) lawful e f free may g h =
-    (subst (IsStoreOf code) (sym g.1) (record { cells = refl; threads = refl }), subst (λ (x : PlainStore). RunOver code k x.book (answered a (reply.At p))) (sym g.1) (heard_over laws law code k book taken a q (reply.At p) lawful e f free may (λ x. x) tt g.0 h))
-served_from laws law code book taken t k a q (reply.Is v) lawful e f free may g h =
-    (subst (IsStoreOf code) (sym g.1) (record { cells = refl; threads = refl }), subst (λ (x : PlainStore). RunOver code k x.book (answered a (reply.Is v))) (sym g.1) (heard_over laws law code k book taken a q (reply.Is v) lawful e f free may (λ x. x) tt g.0 h))
-served_from laws law code book taken t k a q (reply.Views p vs) lawful e f free may g h =
-    (subst (IsStoreOf code) (sym g.1) (record { cells = refl; threads = refl }), subst (λ (x : PlainStore). RunOver code k x.book (answered a (reply.Views p vs))) (sym g.1) (heard_over laws law code k book taken a q (reply.Views p vs) lawful e f free may (λ x. x) tt g.0 h))
-served_from laws law code book taken t k a q reply.Done lawful e f free may g h =
-    (subst (IsStoreOf code) (sym g.1) (record { cells = refl; threads = refl }), subst (λ (x : PlainStore). RunOver code k x.book (answered a reply.Done)) (sym g.1) (heard_over laws law code k book taken a q reply.Done lawful e f free may (λ x. x) tt g.0 h))
-served_from laws law code book taken t k a q (reply.Retry d) lawful e f free may g h =
-    (subst (IsStoreOf code) (sym g.1) (record { cells = refl; threads = refl }), subst (λ (x : PlainStore). RunOver code k x.book (answered a (reply.Retry d))) (sym g.1) (heard_over laws law code k book taken a q (reply.Retry d) lawful e f free may (λ x. x) tt g.0 h))
-served_from laws law code book taken t k a q (reply.Changed d) lawful e f free may g h =
-    (subst (IsStoreOf code) (sym g.1) (record { cells = refl; threads = refl }), subst (λ (x : PlainStore). RunOver code k x.book (answered a (reply.Changed d))) (sym g.1) (heard_over laws law code k book taken a q (reply.Changed d) lawful e f free may (λ x. x) tt g.0 h))
-served_from laws law code book taken t k a q (reply.AgentIsFailed d) lawful e f free may g h =
-    (subst (IsStoreOf code) (sym g.1) (record { cells = refl; threads = refl }), subst (λ (x : PlainStore). RunOver code k x.book (answered a (reply.AgentIsFailed d))) (sym g.1) (heard_over laws law code k book taken a q (reply.AgentIsFailed d) lawful e f free may (λ x. x) tt g.0 h))
-served_from laws law code book taken t k a q (reply.Action i y v) lawful e f free may g h =
-    (subst (IsStoreOf code) (sym g.1) (record { cells = refl; threads = refl }), subst (λ (x : PlainStore). RunOver code k x.book (answered a (reply.Action i y v))) (sym g.1) (heard_over laws law code k book taken a q (reply.Action i y v) lawful e f free may (λ x. x) tt g.0 h))
-served_from laws law code book taken t k a q reply.Idle lawful e f free may g h = absurd (idle_never h.stage q (as_known a h.stage None (Some q) e f h.here).0 may)
-served_from laws law code book taken t k a q (reply.Opened p v) lawful e f free may g h =
-    (subst (IsStoreOf code) (sym g.1) (record { cells = refl; threads = refl }), subst (λ (x : PlainStore). RunOver code k x.book (answered a (reply.Opened p v))) (sym g.1) (heard_over laws law code k book taken a q (reply.Opened p v) lawful e f free may (λ x. x) tt g.0 h))
-served_from laws law code book taken t k a q reply.Full lawful e f free may g h = (
+    → RunLawfully code k book a → IsStoreOf code t × RunLawfully code k t.book (answered a r)
+served_from laws law code book taken t k a q (reply.At p) mine stands lawful e f free may g h =
+    (subst (IsStoreOf code) (sym g.1) (record { cells = refl; threads = refl }), subst (λ (x : PlainStore). RunLawfully code k x.book (answered a (reply.At p))) (sym g.1) (heard_over laws law code k book taken a q (reply.At p) mine stands lawful e f free may (λ x. x) tt g.0 h))
+served_from laws law code book taken t k a q (reply.Is v) mine stands lawful e f free may g h =
+    (subst (IsStoreOf code) (sym g.1) (record { cells = refl; threads = refl }), subst (λ (x : PlainStore). RunLawfully code k x.book (answered a (reply.Is v))) (sym g.1) (heard_over laws law code k book taken a q (reply.Is v) mine stands lawful e f free may (λ x. x) tt g.0 h))
+served_from laws law code book taken t k a q (reply.Views p vs) mine stands lawful e f free may g h =
+    (subst (IsStoreOf code) (sym g.1) (record { cells = refl; threads = refl }), subst (λ (x : PlainStore). RunLawfully code k x.book (answered a (reply.Views p vs))) (sym g.1) (heard_over laws law code k book taken a q (reply.Views p vs) mine stands lawful e f free may (λ x. x) tt g.0 h))
+served_from laws law code book taken t k a q reply.Done mine stands lawful e f free may g h =
+    (subst (IsStoreOf code) (sym g.1) (record { cells = refl; threads = refl }), subst (λ (x : PlainStore). RunLawfully code k x.book (answered a reply.Done)) (sym g.1) (heard_over laws law code k book taken a q reply.Done mine stands lawful e f free may (λ x. x) tt g.0 h))
+served_from laws law code book taken t k a q (reply.Retry d) mine stands lawful e f free may g h =
+    (subst (IsStoreOf code) (sym g.1) (record { cells = refl; threads = refl }), subst (λ (x : PlainStore). RunLawfully code k x.book (answered a (reply.Retry d))) (sym g.1) (heard_over laws law code k book taken a q (reply.Retry d) mine stands lawful e f free may (λ x. x) tt g.0 h))
+served_from laws law code book taken t k a q (reply.Changed d) mine stands lawful e f free may g h =
+    (subst (IsStoreOf code) (sym g.1) (record { cells = refl; threads = refl }), subst (λ (x : PlainStore). RunLawfully code k x.book (answered a (reply.Changed d))) (sym g.1) (heard_over laws law code k book taken a q (reply.Changed d) mine stands lawful e f free may (λ x. x) tt g.0 h))
+served_from laws law code book taken t k a q (reply.AgentIsFailed d) mine stands lawful e f free may g h =
+    (subst (IsStoreOf code) (sym g.1) (record { cells = refl; threads = refl }), subst (λ (x : PlainStore). RunLawfully code k x.book (answered a (reply.AgentIsFailed d))) (sym g.1) (heard_over laws law code k book taken a q (reply.AgentIsFailed d) mine stands lawful e f free may (λ x. x) tt g.0 h))
+served_from laws law code book taken t k a q (reply.Action i y v) mine stands lawful e f free may g h =
+    (subst (IsStoreOf code) (sym g.1) (record { cells = refl; threads = refl }), subst (λ (x : PlainStore). RunLawfully code k x.book (answered a (reply.Action i y v))) (sym g.1) (heard_over laws law code k book taken a q (reply.Action i y v) mine stands lawful e f free may (λ x. x) tt g.0 h))
+served_from laws law code book taken t k a q reply.Idle mine stands lawful e f free may g h = absurd (idle_never h.over.stage q (as_known a h.over.stage None (Some q) e f h.over.here).0 may)
+served_from laws law code book taken t k a q (reply.Opened p v) mine stands lawful e f free may g h =
+    (subst (IsStoreOf code) (sym g.1) (record { cells = refl; threads = refl }), subst (λ (x : PlainStore). RunLawfully code k x.book (answered a (reply.Opened p v))) (sym g.1) (heard_over laws law code k book taken a q (reply.Opened p v) mine stands lawful e f free may (λ x. x) tt g.0 h))
+served_from laws law code book taken t k a q reply.Full mine stands lawful e f free may g h = (
   subst (IsStoreOf code) (sym g.1) (record { cells = refl; threads = refl }),
-  subst (λ (x : PlainStore). RunOver code k x.book (answered a reply.Full)) (sym g.1)
-      (subst (λ (es : List Event). RunOver code k es (answered a reply.Full)) (sym (full_keeps code k book taken q lawful (subst IsFull g.0 tt)))
+  subst (λ (x : PlainStore). RunLawfully code k x.book (answered a reply.Full)) (sym g.1)
+      (subst (λ (es : List Event). RunLawfully code k es (answered a reply.Full)) (sym (full_keeps code k book taken q lawful (subst IsFull g.0 tt)))
       (stopped_over laws code k book a q reply.Full e f may tt (λ x. full_past code k book taken q lawful (subst IsFull g.0 tt)) h)),
 )
-served_from laws law code book taken t k a q reply.Memory lawful e f free may g h =
-    (subst (IsStoreOf code) (sym g.1) (record { cells = refl; threads = refl }), subst (λ (x : PlainStore). RunOver code k x.book (answered a reply.Memory)) (sym g.1) (stopped_over laws code k book a q reply.Memory e f may tt (λ x. absurd (subst Unfilled x (memory_unfilled a a.pending e))) h))
+served_from laws law code book taken t k a q reply.Memory mine stands lawful e f free may g h =
+    (subst (IsStoreOf code) (sym g.1) (record { cells = refl; threads = refl }), subst (λ (x : PlainStore). RunLawfully code k x.book (answered a reply.Memory)) (sym g.1) (stopped_over laws code k book a q reply.Memory e f may tt (λ x. absurd (subst Unfilled x (memory_unfilled a a.pending e))) h))
 
 -- a store of the code's
 as_store : (code : PlainCode) (s : PlainStore) → IsStoreOf code s → s ≡ store_with (cells_of code.cells) (length code.threads) s.book s.taken
@@ -684,15 +783,24 @@ as_store code s h = rw (h.cells, h.threads) refl
 pub store_legal : (code : PlainCode) (s : PlainStore) → IsStoreOf code s → Legal s.cells s.threads s.book → Legal (cells_of code.cells) (length code.threads) s.book
 store_legal code s h l = subst (λ (x : PlainStore). Legal x.cells x.threads s.book) (as_store code s h) l
 
-pub served_over : ActorsRun → ServedIsTold → (code : PlainCode) (s t : PlainStore) (k : ℕ) (a : PlainActor) (q : Ask) (r : Reply) → IsStoreOf code s → is_lawful s a.number q ≡ true
+pub served_over : ActorsRun → ServedIsTold → (code : PlainCode) (s t : PlainStore) (k : ℕ) (a : PlainActor) (q : Ask) (r : Reply) → IsStoreOf code s → NamesOwnCells code → StandingCode (code_of code k) → is_lawful s a.number q ≡ true
     → a.outcome ≡ None → unanswered a ≡ Some q → unanswered (answered a r) ≡ None → MayAnswer q r
     → world.Answers s (serve s.cells a.number q s.book) (store_after s q (serve s.cells a.number q s.book)) r t
-    → RunOver code k s.book a → IsStoreOf code t × RunOver code k t.book (answered a r)
-served_over laws law code s t k a q r of lawful e f free may g h =
-    served_from laws law code s.book s.taken t k a q r
-    (subst (λ n. is_lawful (store_with (cells_of code.cells) (length code.threads) s.book s.taken) n q ≡ true) h.number (subst (λ (x : PlainStore). is_lawful x a.number q ≡ true) (as_store code s of) lawful)) e f free may
-    (subst (λ n. world.Answers (store_with (cells_of code.cells) (length code.threads) s.book s.taken) (serve (cells_of code.cells) n q s.book) (store_after (store_with (cells_of code.cells) (length code.threads) s.book s.taken) q (serve (cells_of code.cells) n q s.book)) r t) h.number
+    → RunLawfully code k s.book a → IsStoreOf code t × RunLawfully code k t.book (answered a r)
+served_over laws law code s t k a q r of mine stands lawful e f free may g h =
+    served_from laws law code s.book s.taken t k a q r mine stands
+    (subst (λ n. is_lawful (store_with (cells_of code.cells) (length code.threads) s.book s.taken) n q ≡ true) h.over.number (subst (λ (x : PlainStore). is_lawful x a.number q ≡ true) (as_store code s of) lawful)) e f free may
+    (subst (λ n. world.Answers (store_with (cells_of code.cells) (length code.threads) s.book s.taken) (serve (cells_of code.cells) n q s.book) (store_after (store_with (cells_of code.cells) (length code.threads) s.book s.taken) q (serve (cells_of code.cells) n q s.book)) r t) h.over.number
     (subst (λ (x : PlainStore). world.Answers x (serve x.cells a.number q x.book) (store_after x q (serve x.cells a.number q x.book)) r t) (as_store code s of) g)) h
+
+-- an actor of a thread asks nothing that it may not ask of the store
+pub asks_lawfully : TodayStands → (code : PlainCode) (s : PlainStore) (k : ℕ) (a : PlainActor) (q : Ask) → NamesOwnCells code → RunsToday code → IsStoreOf code s → a.outcome ≡ None → unanswered a ≡ Some q → RunLawfully code k s.book a
+    → is_lawful s a.number q ≡ true
+asks_lawfully law code s k a q mine today of e f h =
+    subst (λ n. is_lawful s n q ≡ true) (sym h.over.number)
+    (subst (λ (x : PlainStore). is_lawful x k q ≡ true) (sym (as_store code s of))
+    (ask_lawful code.cells (length code.threads) s.taken (code_of code k) k s.book h.over.entries h.over.stage a q (openings_known code mine) (code_known code k mine) (standing_of law code k today) today.cells (is_below k (length code.threads) h.thread)
+    (asked_today a.pending (is_running a.tx) a.at a.done q f) h.over.told (stood_known (code_of code k) (map exchange_of h.over.entries) a h.over.stage None (Some q) e f h.stood) h.lawful))
 
 grown_from : (k : ℕ) (q : Ask) (s next t : PlainStore) (v : Served) (r : Reply) → IsGrownBy k s.book next.book → world.Answers s v next r t → IsGrownBy k s.book t.book
 grown_from k q s next t v (reply.At p) h g = subst (λ (x : PlainStore). IsGrownBy k s.book x.book) (sym g.1) h

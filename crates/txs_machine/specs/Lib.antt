@@ -1,4 +1,5 @@
 pub mod Followed
+pub mod Lawfully
 pub mod Playing
 pub mod RunOver
 pub mod Schedule

@@ -4,18 +4,19 @@ use Rattle.txs_asks.specs.declared.event.Event.{Event}
 use Rattle.txs_code.specs.PlainCode.{PlainCode}
 use Rattle.txs_actor.specs.PlainActor.{PlainActor, Runs, unanswered}
 use Rattle.txs_runs.specs.Told.{places_by}
-use Rattle.txs_machine.specs.RunOver.{RunOver, IsLimited}
+use Rattle.txs_machine.specs.Lawfully.{RunLawfully}
+use Rattle.txs_machine.specs.RunOver.{IsLimited}
 use Rattle.txs_machine.specs.Schedule.{plays_of, in_store}
 use Rattle.txs_machine.specs.declared.schedule.Place.{Place}
 use Rattle.txs_machine.specs.declared.schedule.Play.{Play}
 use Rattle.txs_machine.specs.declared.schedule.ThreadReport.{ThreadReport}
 
--- the actor of the k-th thread between two plays: it asks nothing, and has done over the book what its code says
+-- the actor of the k-th thread between two plays: it asks nothing, has done over the book what its code says, and asks next what it may ask
 pub record IsBetween (code : PlainCode) (k limit : ℕ) (book : List Event) (a : PlainActor) : Type 0 where
   pub runs : Runs code a
   pub free : unanswered a ≡ None
   pub limited : IsLimited limit a
-  pub over : RunOver code k book a
+  pub over : RunLawfully code k book a
 
 -- so are these actors, of which the first is that of the k-th thread
 abbrev pub AreBetween : PlainCode → ℕ → List Event → ℕ → List PlainActor → Type 0

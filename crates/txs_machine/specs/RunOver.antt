@@ -1,5 +1,5 @@
 -- What an actor has done over a store, and what the source of its thread says of it.
-use Rattle.std.specs.Prelude.{◌≡◌, ◌≤◌, ℕ, List, [], ◌∷◌, ◌++◌, length, map, false, Option, Some, None}
+use Rattle.std.specs.Prelude.{◌≡◌, ◌≤◌, ℕ, List, [], ◌∷◌, ◌++◌, length, map, Option, Some, None}
 use Rattle.txs_asks.specs.declared.ask.Ask.{Ask}
 use Rattle.txs_asks.specs.declared.ask.Reply.{Reply}
 use Rattle.txs_asks.specs.declared.event.Event.{Event}
@@ -19,15 +19,13 @@ use Rattle.txs_follows.specs.RepliesFit.{Explained}
 use Rattle.txs_actor.specs.PlainActor.{PlainActor, HasRun, MayAnswer, Stops, answered, unanswered, configuration_of, state_of, code_of, stating, standing, stands_at}
 use Rattle.txs_world.specs.Book.{opening}
 use Rattle.txs_value.specs.Limits.{most_events}
-use Rattle.txs_world.specs.Store.{PlainStore, cells_of, is_lawful}
+use Rattle.txs_world.specs.Store.{PlainStore, cells_of}
 use Rattle.txs_world.specs.History.{history_of}
 use Rattle.txs_runs.specs.Laws.{alone}
 use Rattle.txs_runs.specs.Printed.{Prints}
 use Rattle.txs_runs.specs.Stages.{Stage, AsksIn, stage_after}
 use Rattle.txs_runs.specs.Staged.{IsStaged, stage_of}
 use Rattle.txs_runs.specs.Told.{Entry, exchange_of, ToldBy}
-use Rattle.txs_machine.specs.declared.run.RunError.{RunError}
-use Rattle.txs_machine.specs.declared.run.RunError.TheVariants.{Mismatch, Memory}
 
 -- a store of the code's cells, for its threads
 pub record IsStoreOf (code : PlainCode) (s : PlainStore) : Type 0 where
@@ -102,16 +100,3 @@ pub record HasEnded (code : PlainCode) (k limit : ℕ) (book : List Event) (o : 
   pub ended : actor.outcome ≡ Some o
   pub printed : actor.printed ≡ out
   pub counted : actor.steps ≡ steps
-
--- The actor asks what it may not ask of this store: why a run over it has no account.
-pub record AsksUnlawfully (code : PlainCode) (k : ℕ) (s : PlainStore) : Type 0 where
-  pub actor : PlainActor
-  pub ask : Ask
-  pub over : RunOver code k s.book actor
-  pub asks : unanswered actor ≡ Some ask
-  pub unlawful : is_lawful s k ask ≡ false
-
--- why there is no account of a run: the actor asks what it may not ask, or there was no memory
-abbrev pub HasNoAccount : PlainCode → ℕ → PlainStore → RunError → Type 0
-HasNoAccount code k s Mismatch = AsksUnlawfully code k s
-HasNoAccount code k s Memory = Unit {0}

@@ -20,13 +20,13 @@ use Rattle.txs_world.specs.Store.{PlainStore, cells_of}
 use Rattle.txs_runs.specs.Explains.{CommitsUndisturbed}
 use Rattle.txs_runs.specs.Laws.{alone}
 use Rattle.txs_runs.specs.Told.{places_by}
-use Rattle.txs_machine.specs.RunOver.{RunOver, IsLimited, AsksUnlawfully}
+use Rattle.txs_machine.specs.RunOver.{RunOver, IsLimited}
 use Rattle.txs_machine.specs.declared.schedule.Place.{Place}
 use Rattle.txs_machine.specs.declared.schedule.Play.{Play}
 use Rattle.txs_machine.specs.declared.schedule.Play.TheVariants as play
 use Rattle.txs_machine.specs.declared.schedule.ThreadReport.{ThreadReport}
 use Rattle.txs_machine.specs.declared.schedule.ScheduleError.{ScheduleError}
-use Rattle.txs_machine.specs.declared.schedule.ScheduleError.TheVariants.{NoActor, Mismatch, Memory}
+use Rattle.txs_machine.specs.declared.schedule.ScheduleError.TheVariants.{NoActor, Memory}
 
 -- ---- plays
 
@@ -111,8 +111,7 @@ pub record Explains (p : PlainProgram) (book : List Event) (rans : List ThreadRe
 abbrev pub IsExplainedBy : PlainCode → List Event → List ThreadReport → Type 0
 IsExplainedBy code book rans = (p : PlainProgram) → p.cells ≡ code.cells → FollowsAll (map (thread_code code) code.threads) p → Explains p book rans
 
--- Why there is no report: a play names no thread, and nothing was run; or a thread asks what it may not ask; or there was no memory.
+-- Why there is no report: a play names no thread, and nothing was run; or there was no memory.
 abbrev pub HasNoReport : PlainCode → List Play → PlainStore → PlainStore → ScheduleError → Type 0
 HasNoReport code ys before after NoActor = (all_named (length code.threads) ys ≡ false) × (after ≡ before)
-HasNoReport code ys before after Mismatch = (all_named (length code.threads) ys ≡ true) × ((k : ℕ) × AsksUnlawfully code k after)
 HasNoReport code ys before after Memory = all_named (length code.threads) ys ≡ true

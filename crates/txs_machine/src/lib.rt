@@ -8,6 +8,6 @@ pub mod run;
 pub mod schedule;
 
 pub use law::{actors_explained, actors_follow};
-pub use run::{Ran, RunError, run_thread};
+pub use run::{Ran, run_thread};
 pub use schedule::{Place, Play, Report, ScheduleError, ThreadReport, run_schedule};
 pub use txs_actor::{Actor, Turn, actors_run, may_answer};

@@ -1,18 +1,17 @@
 //! A thread's run over a store.
 
-ghost use Rattle.std.specs.Prelude.{◌≡◌, ◌<◌, ℕ, length, IfOk, IfErr, OnOk, OnErr, Some, None, []};
+ghost use Rattle.std.specs.Prelude.{◌≡◌, ◌<◌, ℕ, length, IfOk, Some, None, []};
 ghost use Rattle.txs_actor.specs.PlainActor.{Runs, unanswered};
-ghost use Rattle.txs_machine.specs.declared.run.RunError.TheVariants.{Mismatch, Memory};
-ghost use Rattle.txs_machine.specs.RunOver.{IsStoreOf, IsOwn, IsGrownBy, RunOver, IsAfter, IsExplained, IsLimited, HasEnded, AsksUnlawfully, HasNoAccount};
+ghost use Rattle.txs_machine.specs.Lawfully.{RunLawfully};
+ghost use Rattle.txs_machine.specs.RunOver.{IsStoreOf, IsOwn, IsGrownBy, IsAfter, IsExplained, IsLimited, HasEnded};
 
 use crate::law::actors_explained;
 use std::alloc::{AllocError, Global};
-use thiserror::Error;
 use txs_actor::{Actor, Turn, actors_run};
 use txs_asks::{Ask, Outcome};
 use txs_code::Verified;
 use txs_follows::replies_fit;
-use txs_runs::law::{alone_history, served_is_told, today_is_staged, told_fits};
+use txs_runs::law::{alone_history, served_is_told, today_is_staged, today_stands, told_fits};
 use txs_world::Store;
 
 /// What a thread has printed, how it ended, and how many steps it made.
@@ -23,69 +22,29 @@ pub struct Ran {
     pub steps: u64,
 }
 
-/// Why there is no account of a run.
-#[derive(Clone, Copy, Debug, PartialEq, Eq, Error)]
-pub enum RunError {
-    /// The actor asked what it may not ask.
-    #[error("JournalMismatch")]
-    Mismatch,
-    /// There was no memory for the actor.
-    #[error("Memory")]
-    Memory,
-}
-
-/// The actor asked what it may not ask.
-#[derive(Clone, Copy)]
-pub(crate) struct Unlawful;
-
-impl From<Unlawful> for RunError {
-    ghost from_gives = { λ _ e. e ≡ Mismatch };
-
-    fn from(_: Unlawful) -> RunError {
-        RunError::Mismatch
-    }
-}
-
-impl From<AllocError> for RunError {
-    ghost from_gives = { λ _ e. e ≡ Memory };
-
-    fn from(_: AllocError) -> RunError {
-        RunError::Memory
-    }
-}
-
-/// Serves the actor's ask, and hands it the answer.
-fn serve_ask(
-    actor: &mut Actor,
-    code: &Verified,
-    store: &mut Store,
-    ask: Ask,
-    k: u16,
-) -> Result<(), Unlawful>
+/// Serves the actor's ask, which is one that the store may be asked, and hands the actor the answer.
+fn serve_ask(actor: &mut Actor, code: &Verified, store: &mut Store, ask: Ask, k: u16)
     requires runs { Runs code.now actor.old }
     requires going { actor.old.outcome ≡ None }
     requires asks { unanswered actor.old ≡ Some ask }
     requires limited { IsLimited actor.old.limit actor.old }
     requires of { IsStoreOf code.now store.old }
-    requires over { RunOver code.now k store.old.book actor.old }
-    ensures runs { OnOk result (Runs code.now actor.new) }
-    ensures answered { OnOk result (unanswered actor.new ≡ None) }
-    ensures steps { OnOk result (actor.new.steps ≡ actor.old.steps) }
-    ensures limited { OnOk result (IsLimited actor.old.limit actor.new) }
+    requires over { RunLawfully code.now k store.old.book actor.old }
+    ensures runs { Runs code.now actor.new }
+    ensures answered { unanswered actor.new ≡ None }
+    ensures steps { actor.new.steps ≡ actor.old.steps }
+    ensures limited { IsLimited actor.old.limit actor.new }
     ensures of { IsStoreOf code.now store.new }
-    ensures over { OnOk result (RunOver code.now k store.new.book actor.new) }
-    ensures grown { OnOk result (IsGrownBy k store.old.book store.new.book) }
-    ensures refused { OnErr result (AsksUnlawfully code.now k store.new) }
+    ensures over { RunLawfully code.now k store.new.book actor.new }
+    ensures grown { IsGrownBy k store.old.book store.new.book }
 {
+    today_stands();
+    let _own_cells = code.code();
     let number = actor.number();
-    if !store.lawful(number, &ask) {
-        return Err(Unlawful);
-    }
     let reply = store.serve(number, ask);
     actor.answer(code, reply);
     actors_run();
     served_is_told();
-    Ok(())
 }
 
 /// So many turns of the actor, or those up to its end, which is the answer, or up to an ask, which is
@@ -96,85 +55,90 @@ pub(crate) fn round(
     store: &mut Store,
     k: u16,
     budget: u64,
-) -> Result<Option<Outcome>, Unlawful>
+) -> Option<Outcome>
     requires runs { Runs code.now actor.old }
     requires some { 0 < budget }
     requires answered { unanswered actor.old ≡ None }
     requires limited { IsLimited actor.old.limit actor.old }
     requires of { IsStoreOf code.now store.old }
-    requires over { RunOver code.now k store.old.book actor.old }
-    ensures runs { OnOk result (Runs code.now actor.new) }
-    ensures after { IfOk result (λ o. IsAfter actor.new o) }
-    ensures free { OnOk result (unanswered actor.new ≡ None) }
-    ensures progress { IfOk result (λ o. o ≡ None → actor.old.steps < actor.new.steps) }
-    ensures limited { OnOk result (IsLimited actor.old.limit actor.new) }
+    requires over { RunLawfully code.now k store.old.book actor.old }
+    ensures runs { Runs code.now actor.new }
+    ensures after { IsAfter actor.new result }
+    ensures free { unanswered actor.new ≡ None }
+    ensures progress { result ≡ None → actor.old.steps < actor.new.steps }
+    ensures limited { IsLimited actor.old.limit actor.new }
     ensures of { IsStoreOf code.now store.new }
-    ensures over { OnOk result (RunOver code.now k store.new.book actor.new) }
-    ensures grown { OnOk result (IsGrownBy k store.old.book store.new.book) }
-    ensures refused { OnErr result (AsksUnlawfully code.now k store.new) }
+    ensures over { RunLawfully code.now k store.new.book actor.new }
+    ensures grown { IsGrownBy k store.old.book store.new.book }
 {
     actors_run();
     today_is_staged();
     match actor.run(code, budget) {
-        Turn::Ended(outcome) => Ok(Some(outcome)),
-        Turn::Went => Ok(None),
+        Turn::Ended(outcome) => Some(outcome),
+        Turn::Went => None,
         Turn::Asks(ask) => {
-            serve_ask(actor, code, store, ask, k)?;
-            Ok(None)
+            serve_ask(actor, code, store, ask, k);
+            None
         }
     }
 }
 
 /// Turns the actor to its end, with each of its asks served by the store. Each round makes a step at
 /// least, and the actor may make no more than its limit.
-fn run_to_end(
-    actor: &mut Actor,
-    code: &Verified,
-    store: &mut Store,
-    k: u16,
-) -> Result<Outcome, Unlawful>
+fn run_to_end(actor: &mut Actor, code: &Verified, store: &mut Store, k: u16) -> Outcome
     requires runs { Runs code.now actor.old }
     requires answered { unanswered actor.old ≡ None }
     requires limited { IsLimited actor.old.limit actor.old }
     requires of { IsStoreOf code.now store.old }
-    requires over { RunOver code.now k store.old.book actor.old }
+    requires over { RunLawfully code.now k store.old.book actor.old }
     requires own { IsOwn k store.old.book }
-    ensures ended { IfOk result (λ o. actor.new.outcome ≡ Some o) }
-    ensures limited { OnOk result (IsLimited actor.old.limit actor.new) }
+    ensures ended { actor.new.outcome ≡ Some result }
+    ensures limited { IsLimited actor.old.limit actor.new }
     ensures of { IsStoreOf code.now store.new }
-    ensures over { OnOk result (RunOver code.now k store.new.book actor.new) }
-    ensures own { OnOk result (IsOwn k store.new.book) }
-    ensures refused { OnErr result (AsksUnlawfully code.now k store.new) }
+    ensures over { RunLawfully code.now k store.new.book actor.new }
+    ensures own { IsOwn k store.new.book }
 {
     let mut ended = None;
     while ended.is_none() {
-        ended = round(actor, code, store, k, u64::MAX)?;
+        ended = round(actor, code, store, k, u64::MAX);
     }
     match ended {
-        Some(outcome) => Ok(outcome),
+        Some(outcome) => outcome,
         None => unreachable!(),
     }
+}
+
+/// What an actor did that has ended so.
+fn ran_of(alloc: Global, actor: &Actor, outcome: Outcome) -> Result<Ran, AllocError>
+    ensures ended { IfOk result (λ ran. ran.outcome ≡ outcome) }
+    ensures printed { IfOk result (λ ran. ran.printed.items ≡ actor.now.printed) }
+    ensures counted { IfOk result (λ ran. ran.steps ≡ actor.now.steps) }
+{
+    let printed = Vec::from_slice(alloc, actor.printed())?;
+    Ok(Ran {
+        printed,
+        outcome,
+        steps: actor.steps(),
+    })
 }
 
 /// Runs a thread of the code to its end, or for so many steps, over a store that no one has used yet.
 ///
 /// # Errors
-/// `Mismatch` where the thread asks what it may not ask of the store; `Memory` where there was no memory for its actor
-/// or for a copy of what it printed.
+/// `AllocError` where there was no memory for the thread's actor or for a copy of what it printed.
 pub fn run_thread(
     alloc: Global,
     code: &Verified,
     k: u16,
     max_steps: u64,
     store: &mut Store,
-) -> Result<Ran, RunError>
+) -> Result<Ran, AllocError>
     requires thread { k < length code.now.threads }
     requires of { IsStoreOf code.now store.old }
     requires unused { store.old.book ≡ [] }
     ensures of { IsStoreOf code.now store.new }
     ensures ended { IfOk result (λ ran. HasEnded code.now k max_steps store.new.book ran.outcome ran.printed.items ran.steps) }
     ensures explained { IfOk result (λ ran. IsExplained code.now k store.new.book ran.outcome ran.printed.items) }
-    ensures refused { IfErr result (λ e. HasNoAccount code.now k store.new e) }
 {
     actors_run();
     actors_explained();
@@ -182,12 +146,8 @@ pub fn run_thread(
     told_fits();
     alone_history();
     let mut actor = Actor::thread(alloc, code, k, max_steps)?;
-    let outcome = run_to_end(&mut actor, code, store, k)?;
-    let printed = Vec::from_slice(alloc, actor.printed())?;
+    let outcome = run_to_end(&mut actor, code, store, k);
     let _events = store.events();
-    Ok(Ran {
-        printed,
-        outcome,
-        steps: actor.steps(),
-    })
+    let ran = ran_of(alloc, &actor, outcome)?;
+    Ok(ran)
 }

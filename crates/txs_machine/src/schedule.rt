@@ -1,9 +1,9 @@
 //! Runs of all threads over one store, by turns that a schedule names.
 
-ghost use Rattle.std.specs.Prelude.{◌≡◌, ◌<◌, ◌≤◌, ℕ, [], length, set, take, true, false, IsTrue, IfOk, IfErr, IfSome, OnOk, OnErr, Some, None};
+ghost use Rattle.std.specs.Prelude.{◌≡◌, ◌<◌, ◌≤◌, ℕ, [], length, set, take, true, false, IsTrue, IfOk, IfErr, IfSome, OnOk, Some, None};
 ghost use Rattle.txs_actor.specs.PlainActor.{Runs, unanswered};
-ghost use Rattle.txs_machine.specs.declared.schedule.ScheduleError.TheVariants.{Mismatch, Memory};
-ghost use Rattle.txs_machine.specs.RunOver.{IsStoreOf, IsGrownBy, AsksUnlawfully};
+ghost use Rattle.txs_machine.specs.declared.schedule.ScheduleError.TheVariants.{Memory};
+ghost use Rattle.txs_machine.specs.RunOver.{IsStoreOf, IsGrownBy};
 ghost use Rattle.txs_machine.specs.Playing.{IsBetween, AreBetween, IsPlayed, ArePlayedAt, AreLater, HaveSteps, AllEnded, IsUnended, IsReported, AreReported, noted};
 ghost use Rattle.txs_machine.specs.Schedule.{player, plays_of, all_named, in_store, AreDone, ArePlayed, HaveEnded, IsExplainedBy, HasNoReport};
 ghost use Rattle.txs_runs.specs.Told.{places_by};
@@ -11,7 +11,7 @@ ghost use Rattle.txs_value.specs.Limits.{most_events};
 ghost use Rattle.txs_value.specs.Places.{nth};
 
 use crate::law::actors_explained;
-use crate::run::{Unlawful, round};
+use crate::run::round;
 use std::alloc::{AllocError, Global};
 use thiserror::Error;
 use txs_actor::{Actor, actors_run};
@@ -60,20 +60,9 @@ pub enum ScheduleError {
     /// A play names no thread.
     #[error("NoActor")]
     NoActor,
-    /// A thread asked what it may not ask.
-    #[error("JournalMismatch")]
-    Mismatch,
     /// There was no memory for the actors or for the report.
     #[error("Memory")]
     Memory,
-}
-
-impl From<Unlawful> for ScheduleError {
-    ghost from_gives = { λ _ e. e ≡ Mismatch };
-
-    fn from(_: Unlawful) -> ScheduleError {
-        ScheduleError::Mismatch
-    }
 }
 
 impl From<AllocError> for ScheduleError {
@@ -144,39 +133,30 @@ fn play_actor(
     k: u16,
     budget: u64,
     max_steps: u64,
-) -> Result<(), Unlawful>
+)
     requires some { 0 < budget }
     requires of { IsStoreOf code.now store.old }
     requires between { IsBetween code.now k max_steps store.old.book actor.old }
     ensures of { IsStoreOf code.now store.new }
-    ensures between { OnOk result (IsBetween code.now k max_steps store.new.book actor.new) }
-    ensures grown { OnOk result (IsGrownBy k store.old.book store.new.book) }
-    ensures played { OnOk result (IsPlayed actor.old actor.new) }
-    ensures refused { OnErr result (AsksUnlawfully code.now k store.new) }
+    ensures between { IsBetween code.now k max_steps store.new.book actor.new }
+    ensures grown { IsGrownBy k store.old.book store.new.book }
+    ensures played { IsPlayed actor.old actor.new }
 {
     if actor.outcome().is_some() {
-        return Ok(());
+        return;
     }
-    round(actor, code, store, k, budget)?;
-    Ok(())
+    round(actor, code, store, k, budget);
 }
 
 /// A play of one of the actors.
-fn play_one(
-    actors: &mut Vec<Actor>,
-    code: &Verified,
-    store: &mut Store,
-    play: Play,
-    max_steps: u64,
-) -> Result<(), Unlawful>
+fn play_one(actors: &mut Vec<Actor>, code: &Verified, store: &mut Store, play: Play, max_steps: u64)
     requires there { player play < length actors.old.items }
     requires of { IsStoreOf code.now store.old }
     requires between { AreBetween code.now max_steps store.old.book 0 actors.old.items }
     ensures of { IsStoreOf code.now store.new }
-    ensures between { OnOk result (AreBetween code.now max_steps store.new.book 0 actors.new.items) }
+    ensures between { AreBetween code.now max_steps store.new.book 0 actors.new.items }
     ensures many { length actors.new.items ≡ length actors.old.items }
-    ensures played { OnOk result (ArePlayedAt (player play) actors.old.items actors.new.items) }
-    ensures refused { OnErr result (AsksUnlawfully code.now (player play) store.new) }
+    ensures played { ArePlayedAt (player play) actors.old.items actors.new.items }
 {
     let k = play.player();
     let budget = play.most_turns();
@@ -187,8 +167,7 @@ fn play_one(
         k,
         budget,
         max_steps,
-    )?;
-    Ok(())
+    );
 }
 
 /// These plays, one after the other.
@@ -198,20 +177,18 @@ fn play_all(
     store: &mut Store,
     plays: &[Play],
     max_steps: u64,
-) -> Result<(), Unlawful>
+)
     requires named { all_named (length actors.old.items) plays.now ≡ true }
     requires of { IsStoreOf code.now store.old }
     requires between { AreBetween code.now max_steps store.old.book 0 actors.old.items }
     ensures of { IsStoreOf code.now store.new }
-    ensures between { OnOk result (AreBetween code.now max_steps store.new.book 0 actors.new.items) }
+    ensures between { AreBetween code.now max_steps store.new.book 0 actors.new.items }
     ensures many { length actors.new.items ≡ length actors.old.items }
-    ensures steps { OnOk result (HaveSteps plays.now 0 actors.new.items) }
-    ensures refused { OnErr result ((k : ℕ) × AsksUnlawfully code.now k store.new) }
+    ensures steps { HaveSteps plays.now 0 actors.new.items }
 {
     for play in plays {
-        play_one(actors, code, store, *play, max_steps)?;
+        play_one(actors, code, store, *play, max_steps);
     }
-    Ok(())
 }
 
 /// An ask of each of the actors from one on that hasn't ended.
@@ -222,20 +199,18 @@ fn play_rest(
     from: u16,
     threads: u16,
     max_steps: u64,
-) -> Result<(), Unlawful>
+)
     requires many { threads ≡ length actors.old.items }
     requires of { IsStoreOf code.now store.old }
     requires between { AreBetween code.now max_steps store.old.book 0 actors.old.items }
     ensures of { IsStoreOf code.now store.new }
-    ensures between { OnOk result (AreBetween code.now max_steps store.new.book 0 actors.new.items) }
+    ensures between { AreBetween code.now max_steps store.new.book 0 actors.new.items }
     ensures many { length actors.new.items ≡ length actors.old.items }
-    ensures later { OnOk result (AreLater actors.old.items actors.new.items) }
-    ensures refused { OnErr result ((k : ℕ) × AsksUnlawfully code.now k store.new) }
+    ensures later { AreLater actors.old.items actors.new.items }
 {
     for k in from..threads {
-        play_one(actors, code, store, Play::Ask(k), max_steps)?;
+        play_one(actors, code, store, Play::Ask(k), max_steps);
     }
-    Ok(())
 }
 
 /// The first actor that hasn't ended.
@@ -261,22 +236,20 @@ fn play_rounds(
     store: &mut Store,
     threads: u16,
     max_steps: u64,
-) -> Result<(), Unlawful>
+)
     requires many { threads ≡ length actors.old.items }
     requires of { IsStoreOf code.now store.old }
     requires between { AreBetween code.now max_steps store.old.book 0 actors.old.items }
     ensures of { IsStoreOf code.now store.new }
-    ensures between { OnOk result (AreBetween code.now max_steps store.new.book 0 actors.new.items) }
+    ensures between { AreBetween code.now max_steps store.new.book 0 actors.new.items }
     ensures many { length actors.new.items ≡ length actors.old.items }
-    ensures later { OnOk result (AreLater actors.old.items actors.new.items) }
-    ensures ended { OnOk result (AllEnded actors.new.items) }
-    ensures refused { OnErr result ((k : ℕ) × AsksUnlawfully code.now k store.new) }
+    ensures later { AreLater actors.old.items actors.new.items }
+    ensures ended { AllEnded actors.new.items }
 {
     while let Some(k) = first_unended(actors.as_slice(), threads) {
-        play_one(actors, code, store, Play::Ask(k), max_steps)?;
-        play_rest(actors, code, store, k + 1, threads, max_steps)?;
+        play_one(actors, code, store, Play::Ask(k), max_steps);
+        play_rest(actors, code, store, k + 1, threads, max_steps);
     }
-    Ok(())
 }
 
 /// Appends the place of an event of the store's book, where it is the actor's.
@@ -341,23 +314,21 @@ fn play_schedule(
     threads: u16,
     max_steps: u64,
     rounds: bool,
-) -> Result<(), Unlawful>
+)
     requires many { threads ≡ length actors.old.items }
     requires named { all_named (length actors.old.items) plays.now ≡ true }
     requires of { IsStoreOf code.now store.old }
     requires between { AreBetween code.now max_steps store.old.book 0 actors.old.items }
     ensures of { IsStoreOf code.now store.new }
-    ensures between { OnOk result (AreBetween code.now max_steps store.new.book 0 actors.new.items) }
+    ensures between { AreBetween code.now max_steps store.new.book 0 actors.new.items }
     ensures many { length actors.new.items ≡ length actors.old.items }
-    ensures steps { OnOk result (HaveSteps plays.now 0 actors.new.items) }
-    ensures ended { OnOk result (rounds ≡ true → AllEnded actors.new.items) }
-    ensures refused { OnErr result ((k : ℕ) × AsksUnlawfully code.now k store.new) }
+    ensures steps { HaveSteps plays.now 0 actors.new.items }
+    ensures ended { rounds ≡ true → AllEnded actors.new.items }
 {
-    play_all(actors, code, store, plays, max_steps)?;
+    play_all(actors, code, store, plays, max_steps);
     if rounds {
-        play_rounds(actors, code, store, threads, max_steps)?;
+        play_rounds(actors, code, store, threads, max_steps);
     }
-    Ok(())
 }
 
 /// Runs all threads of the code over a store that no one has used yet: the plays of a schedule in their order, and with `rounds` behind them one ask of
@@ -365,8 +336,7 @@ fn play_schedule(
 /// than `max_steps` steps.
 ///
 /// # Errors
-/// `NoActor` where a play names no thread, and nothing was run; `Mismatch` where a thread asks what it may not ask of the store; `Memory` where
-/// there was no memory for the actors or for the report.
+/// `NoActor` where a play names no thread, and nothing was run; `Memory` where there was no memory for the actors or for the report.
 pub fn run_schedule(
     alloc: Global,
     code: &Verified,
@@ -396,7 +366,7 @@ pub fn run_schedule(
         return Err(ScheduleError::NoActor);
     }
     let mut actors = open_actors(alloc, code, threads, max_steps)?;
-    play_schedule(&mut actors, code, store, plays, threads, max_steps, rounds)?;
+    play_schedule(&mut actors, code, store, plays, threads, max_steps, rounds);
     let reports = report_all(alloc, actors.as_slice(), store.events())?;
     Ok(Report { threads: reports })
 }

@@ -48,14 +48,14 @@ serve_ask-requires-clause-over c =
     turns_over c.actors_run.ensures c.args.code.now c.args.k c.args.store.now.book c.args.budget c.args.actor.now c.run.new.self (Asks c.in-Asks.ask)
     (staged_of c.today_is_staged.ensures c.args.code.now c.args.k c.requires.runs.today) c.requires.answered c.in-Asks.ensures.turns c.requires.over
 
-pub returns-in_ok-serve_ask-in-Asks-clause-limited : goal.returns-in_ok-serve_ask-in-Asks-clause-limited
-returns-in_ok-serve_ask-in-Asks-clause-limited c =
+pub returns-in-Asks-clause-limited : goal.returns-in-Asks-clause-limited
+returns-in-Asks-clause-limited c =
     let h = turns_limited c.args.code.now c.args.actor.now.limit c.args.budget c.args.actor.now c.run.new.self (Asks c.in-Asks.ask) c.in-Asks.ensures.turns c.requires.limited in
-    subst (λ (n : ℕ). IsLimited n c.serve_ask.new.actor) h.limited c.in_ok-serve_ask-in-Asks.ensures.limited
+    subst (λ (n : ℕ). IsLimited n c.serve_ask.new.actor) h.limited c.serve_ask.ensures.limited
 
-pub returns-in_ok-serve_ask-in-Asks-clause-progress : goal.returns-in_ok-serve_ask-in-Asks-clause-progress
-returns-in_ok-serve_ask-in-Asks-clause-progress c e =
-    subst (λ (n : ℕ). c.args.actor.now.steps < n) (sym c.in_ok-serve_ask-in-Asks.ensures.steps)
+pub returns-in-Asks-clause-progress : goal.returns-in-Asks-clause-progress
+returns-in-Asks-clause-progress c e =
+    subst (λ (n : ℕ). c.args.actor.now.steps < n) (sym c.serve_ask.ensures.steps)
     (turns_count c.args.code.now c.args.budget c.args.actor.now c.run.new.self (Asks c.in-Asks.ask) c.requires.some tt c.in-Asks.ensures.turns)
 
 pub returns-in-Ended-clause-grown : goal.returns-in-Ended-clause-grown

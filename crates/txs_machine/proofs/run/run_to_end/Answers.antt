@@ -5,13 +5,13 @@ use Rattle.txs_machine.proofs.run.run_to_end.Goals as goal
 
 pub loop-ended-preserved : goal.loop-ended-preserved
 loop-ended-preserved c =
-    let e = c.in_ok-ended.ensures in
+    let e = c.round-ended.ensures in
     let i = c.loop-ended.invariant in
     record {
       runs = e.runs;
       after = e.after;
-      limited = subst (λ (n : ℕ). IsLimited n c.round.new.actor) i.limited.limited e.limited;
+      limited = subst (λ (n : ℕ). IsLimited n c.round-ended.new.actor) i.limited.limited e.limited;
       of = e.of;
       over = e.over;
-      own = own_grown c.args.k c.loop-ended.store.book c.round.new.store.book i.own e.grown;
+      own = own_grown c.args.k c.loop-ended.store.book c.round-ended.new.store.book i.own e.grown;
     }

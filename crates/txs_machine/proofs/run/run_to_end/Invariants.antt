@@ -1,6 +1,7 @@
 use Rattle.std.proofs.Common.{◌≡◌, ℕ, None}
 use Rattle.txs_actor.specs.PlainActor.{Runs, unanswered}
-use Rattle.txs_machine.specs.RunOver.{IsStoreOf, IsOwn, RunOver, IsAfter, IsLimited}
+use Rattle.txs_machine.specs.Lawfully.{RunLawfully}
+use Rattle.txs_machine.specs.RunOver.{IsStoreOf, IsOwn, IsAfter, IsLimited}
 use Rattle.txs_machine.proofs.Limits.{rounds_left}
 use Rattle.txs_machine.proofs.run.run_to_end.Given as goal
 
@@ -12,7 +13,7 @@ invariant-loop-ended l =
       after : IsAfter l.actor l.ended;
       limited : IsLimited l.fn.actor.limit l.actor;
       of : IsStoreOf l.code l.store;
-      over : RunOver l.code l.k l.store.book l.actor;
+      over : RunLawfully l.code l.k l.store.book l.actor;
       own : IsOwn l.k l.store.book;
     }
 

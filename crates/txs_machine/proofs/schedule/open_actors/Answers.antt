@@ -1,4 +1,4 @@
-use Rattle.std.proofs.Common.{◌≡◌, ◌+◌, ◌++◌, ◌∷◌, ℕ, [], length, rules, refl, sym, subst, arith}
+use Rattle.std.proofs.Common.{◌≡◌, ◌<◌, ◌+◌, ◌++◌, ◌∷◌, ℕ, [], length, rules, refl, sym, subst, arith}
 use Rattle.txs_machine.specs.Playing.{IsBetween, AreBetween}
 use Rattle.txs_machine.proofs.Limits.{new_limited}
 use Rattle.txs_machine.proofs.Playing.{between_more}
@@ -15,12 +15,13 @@ loop-k-preserved c =
     let new = c.in_ok-thread.ensures.new in
     let pushed : c.push.new.self.items ≡ actors ++ a ∷ [] = search rules in
     let many = c.loop-k.invariant.many in
+    let there : k < length code.threads = search rules in
     let place : k ≡ 0 + length actors = omega (arith, many) in
     let between : IsBetween code k most [] a = record {
       runs = c.in_ok-thread.ensures.runs;
       free = new.unasking;
       limited = new_limited most a new.limited new.unended new.unused;
-      over = new_over c.actors_run.ensures code k most [] a refl new;
+      over = new_over c.actors_run.ensures code k most [] a refl there new;
     } in
     record {
       many = search rules;

@@ -18,7 +18,7 @@ play_one-requires-clause-there c =
 
 pub loop-play-preserved : goal.loop-play-preserved
 loop-play-preserved c =
-    let e = c.in_ok-play_one.ensures in
+    let e = c.play_one.ensures in
     let ys = c.args.plays.now in
     let i = c.loop-play.play-index in
     let within : i < length ys = search rules in

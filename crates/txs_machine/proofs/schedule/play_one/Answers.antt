@@ -19,7 +19,7 @@ returns-clause-between c =
     let same : c.from.result ≡ c.player-k.result = search rules in
     let place : c.player-k.result ≡ 0 + c.from.result = omega (arith, same) in
     placed_between c.args.code.now c.player-k.result c.args.max_steps c.args.store.now.book c.play_actor.new.store.book 0 c.from.result c.args.actors.now.items c.play_actor.new.actor place
-    c.in_ok-play_actor.ensures.grown c.in_ok-play_actor.ensures.between c.requires.between
+    c.play_actor.ensures.grown c.play_actor.ensures.between c.requires.between
 
 pub returns-clause-played : goal.returns-clause-played
 returns-clause-played c =
@@ -29,4 +29,4 @@ returns-clause-played c =
     let read : a ≡ get_or xs k a = search rules in
     let same : c.from.result ≡ c.player-k.result = search rules in
     subst (λ (n : ℕ). ArePlayedAt k xs (set xs n c.play_actor.new.actor)) (sym (same ∙ c.player-k.ensures))
-    (played_at k xs a c.play_actor.new.actor (nth_read xs k a c.requires.there read) c.in_ok-play_actor.ensures.played)
+    (played_at k xs a c.play_actor.new.actor (nth_read xs k a c.requires.there read) c.play_actor.ensures.played)

@@ -7,7 +7,7 @@ loop-k-init c = record { of = c.requires.of; between = c.requires.between; many 
 
 pub loop-k-preserved : goal.loop-k-preserved
 loop-k-preserved c =
-    let e = c.in_ok-play_one.ensures in
+    let e = c.play_one.ensures in
     let i = c.loop-k.invariant in
     record {
       of = e.of;

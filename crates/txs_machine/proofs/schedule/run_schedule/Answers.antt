@@ -14,7 +14,7 @@ returns-clause-done c =
     let rs = c.in_ok-reports.reports.items in
     let many : length xs ≡ length code.threads = search rules in
     let reported : AreReported book xs rs = search rules in
-    all_done c.done_is_undisturbed.ensures code c.args.max_steps book xs rs many c.in_ok-play_schedule.ensures.between reported
+    all_done c.done_is_undisturbed.ensures code c.args.max_steps book xs rs many c.play_schedule.ensures.between reported
 
 pub returns-clause-played : goal.returns-clause-played
 returns-clause-played c =
@@ -22,7 +22,7 @@ returns-clause-played c =
     let book = c.play_schedule.new.store.book in
     let rs = c.in_ok-reports.reports.items in
     let reported : AreReported book xs rs = search rules in
-    all_played c.args.plays.now book xs rs c.in_ok-play_schedule.ensures.steps reported
+    all_played c.args.plays.now book xs rs c.play_schedule.ensures.steps reported
 
 pub returns-clause-ended : goal.returns-clause-ended
 returns-clause-ended c wanted =
@@ -30,7 +30,7 @@ returns-clause-ended c wanted =
     let book = c.play_schedule.new.store.book in
     let rs = c.in_ok-reports.reports.items in
     let reported : AreReported book xs rs = search rules in
-    all_ended book xs rs (c.in_ok-play_schedule.ensures.ended wanted) reported
+    all_ended book xs rs (c.play_schedule.ensures.ended wanted) reported
 
 pub returns-clause-explained : goal.returns-clause-explained
 returns-clause-explained c =
@@ -40,7 +40,7 @@ returns-clause-explained c =
     let rs = c.in_ok-reports.reports.items in
     let many : length xs ≡ length code.threads = search rules in
     let reported : AreReported s.book xs rs = search rules in
-    let of = c.in_ok-play_schedule.ensures.of in
+    let of = c.play_schedule.ensures.of in
     let legal : Legal s.cells s.threads s.book = c.events.ensures.legal in
     let quiet : Undisturbed s.book = c.events.ensures.undisturbed in
     let by : Known = record {
@@ -51,4 +51,4 @@ returns-clause-explained c =
       fits = c.told_fits.ensures;
       history = c.alone_history.ensures;
     } in
-    all_explained by code c.args.max_steps s.book xs rs many (store_legal code s of legal) quiet c.in_ok-play_schedule.ensures.between reported
+    all_explained by code c.args.max_steps s.book xs rs many (store_legal code s of legal) quiet c.play_schedule.ensures.between reported
