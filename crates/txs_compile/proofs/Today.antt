@@ -6,7 +6,7 @@ use Rattle.txs_value.specs.declared.cell.ErrorMode.{ErrorMode}
 use Rattle.txs_value.specs.declared.fault.Span.{Span}
 use Rattle.txs_value.specs.declared.form.CellForm.{CellForm}
 use Rattle.txs_value.specs.declared.form.CellForm.TheVariants as on_cell
-use Rattle.txs_value.specs.declared.form.LookForm.TheVariants.{Deref}
+use Rattle.txs_value.specs.declared.form.LookForm.TheVariants.{Deref, Ensure}
 use Rattle.txs_value.specs.declared.form.PutForm.TheVariants.{RefSet}
 use Rattle.txs_value.specs.declared.form.UpdateForm.TheVariants.{Alter}
 use Rattle.txs_value.specs.declared.op.Op.{Op}
@@ -39,7 +39,7 @@ use Rattle.txs_resolve.specs.Literals.{is_literal, literal}
 use Rattle.txs_resolve.specs.Names.{State, nothing, program, new_name, Defining, only_literal, mode_behind, opened, cell_of, kind_at, defining_of, new_cell, with_definition, defined_as_one, NamedForm, named_form, defined_at, parameters, Written, written_behind, untold, written, are_symbols, with_function, function, with_thread, future, top_level, step, steps, is_namespace, behind_namespace, Resolves}
 use Rattle.txs_resolve.proofs.Scoping.{Every, then_every, one_every, two_every, three_every, if_every}
 use Rattle.txs_gen.specs.Today.{LooksToday, PutsToday, UpdatesToday, TreeRunsToday, TreesRunToday, FunctionsRunToday, ThreadsRunToday, ProgramRunsToday}
-use Rattle.txs_compile.specs.LeftOut.{or_else, head_form, runs_later, makes_later, defines, left_out_in, left_out_among, is_future, third, has_later_cell, is_later_definition, is_left_out, left_out_from, left_out}
+use Rattle.txs_compile.specs.LeftOut.{or_else, head_form, runs_later, makes_later, defines, left_out_in, left_out_among, third, has_later_cell, is_later_definition, left_out}
 
 -- ---- forms of which none is left out
 
@@ -245,7 +245,7 @@ special_kept kind.Deref s args e h = family_kept (Some (on_cell.Look Deref)) s.s
 special_kept kind.RefSet s args e h = family_kept (Some (on_cell.Put RefSet)) s.span args tt h
 special_kept kind.Alter s args e h = family_kept (Some (on_cell.Update Alter)) s.span args tt h
 special_kept kind.Commute s args e h = absurd (later e)
-special_kept kind.Ensure s args e h = absurd (later e)
+special_kept kind.Ensure s args e h = family_kept (Some (on_cell.Look Ensure)) s.span args tt h
 special_kept kind.Swap s args e h = absurd (later e)
 special_kept kind.Reset s args e h = absurd (later e)
 special_kept kind.Send s args e h = absurd (later e)
@@ -574,23 +574,19 @@ top_today (Some kind.Defn) s span head forms e k h = function_today s span (writ
 top_today (Some kind.Future) s span head forms e k h = future_today s span forms k h
 top_today _ s span head forms e k h = tt
 
-either_false : (a b : Bool) → (a || b) ≡ false → b ≡ false
-either_false true b e = absurd (later e)
-either_false false b e = e
-
 step_today : (s : State) (form : Form) → is_later_definition form ≡ false → Kept form → StateToday s → Every StateToday (step s form)
 step_today s (leaf x at) e k h = tt
 step_today s (group Square forms at) e k h = tt
 step_today s (group Round no_forms at) e k h = tt
 step_today s (group Round (first head forms) at) e k h = top_today (form_at head) s at head forms e k.1.1 h
 
-steps_today : (forms : List Form) (second : Bool) (s : State) → left_out_from second forms ≡ None → StateToday s → Every StateToday (steps s forms)
-steps_today [] second s e h = h
-steps_today (form ∷ forms) second s e h =
-    let test = unless (is_left_out second form) (place form) (or_else (left_out_in form) (left_out_from (second || is_future form) forms)) e in
-    let both = neither (left_out_in form) (left_out_from (second || is_future form) forms) test.1 in
-    then_every StateToday StateToday (step s form) (λ t. steps t forms) (step_today s form (either_false (second && is_future form) (is_later_definition form) test.0) (kept form both.0) h)
-    (λ t g. steps_today forms (second || is_future form) t both.1 g)
+steps_today : (forms : List Form) (s : State) → left_out forms ≡ None → StateToday s → Every StateToday (steps s forms)
+steps_today [] s e h = h
+steps_today (form ∷ forms) s e h =
+    let test = unless (is_later_definition form) (place form) (or_else (left_out_in form) (left_out forms)) e in
+    let both = neither (left_out_in form) (left_out forms) test.1 in
+    then_every StateToday StateToday (step s form) (λ t. steps t forms) (step_today s form test.0 (kept form both.0) h)
+    (λ t g. steps_today forms t both.1 g)
 
 nothing_today : StateToday nothing
 nothing_today = record { functions = tt; threads = tt; cells = tt }
@@ -598,12 +594,12 @@ nothing_today = record { functions = tt; threads = tt; cells = tt }
 script_today : (forms : List Form) → left_out forms ≡ None → Every StateToday (steps nothing (behind_namespace forms))
 script_today [] e = nothing_today
 script_today (form ∷ forms) e = here (is_namespace form) where
-  rest : left_out_from (is_future form) forms ≡ None
-  rest = (neither (left_out_in form) (left_out_from (is_future form) forms) (unless (is_left_out false form) (place form) (or_else (left_out_in form) (left_out_from (is_future form) forms)) e).1).1
+  rest : left_out forms ≡ None
+  rest = (neither (left_out_in form) (left_out forms) (unless (is_later_definition form) (place form) (or_else (left_out_in form) (left_out forms)) e).1).1
 
   here : (b : Bool) → Every StateToday (steps nothing (if b then forms else form ∷ forms))
-  here true = steps_today forms (is_future form) nothing rest nothing_today
-  here false = steps_today (form ∷ forms) false nothing e nothing_today
+  here true = steps_today forms nothing rest nothing_today
+  here false = steps_today (form ∷ forms) nothing e nothing_today
 
 -- a script of which no form is left out is a program that runs today
 pub runs_today : (forms : List Form) (p : PlainProgram) → left_out forms ≡ None → Resolves forms p → ProgramRunsToday p

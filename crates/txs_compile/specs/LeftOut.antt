@@ -1,5 +1,5 @@
 -- Which scripts hold a form of the language that programs can't have yet.
-use Rattle.std.specs.Prelude.{Bool, true, false, ◌&&◌, ◌||◌, List, [], ◌∷◌, Option, Some, None, if◌then◌else◌}
+use Rattle.std.specs.Prelude.{Bool, true, false, ◌&&◌, List, [], ◌∷◌, Option, Some, None, if◌then◌else◌}
 use Rattle.std.specs.Borrow.{Bor}
 use Rattle.txs_value.specs.declared.fault.Span.{Span}
 use Rattle.txs_reader.specs.declared.form.Bracket.TheVariants.{Round}
@@ -24,10 +24,9 @@ abbrev pub head_form : Form → Option FormName
 head_form (group Round (first head rest) span) = form_at head
 head_form _ = None
 
--- The table of the forms that don't run yet: of those on cells `deref`, `ref-set` and `alter` do.
+-- The table of the forms that don't run yet: of those on cells `deref`, `ensure`, `ref-set` and `alter` do.
 abbrev pub runs_later : Option FormName → Bool
 runs_later (Some kind.Commute) = true
-runs_later (Some kind.Ensure) = true
 runs_later (Some kind.Swap) = true
 runs_later (Some kind.Reset) = true
 runs_later (Some kind.Send) = true
@@ -44,11 +43,6 @@ abbrev pub defines : Option FormName → Bool
 defines (Some kind.Def) = true
 defines _ = false
 
--- the form that makes a thread
-abbrev pub makes_thread : Option FormName → Bool
-makes_thread (Some kind.Future) = true
-makes_thread _ = false
-
 -- the first form that doesn't run yet in a form, a form before its parts
 abbrev mutual
   pub left_out_in : Form → Option Span
@@ -59,10 +53,6 @@ abbrev mutual
   pub left_out_among : Forms → Option Span
   left_out_among none = None
   left_out_among (first e rest) = or_else (left_out_in e) (left_out_among rest)
-
--- whether a form is a future
-abbrev pub is_future : Form → Bool
-is_future form = makes_thread (head_form form)
 
 -- the third part of a list
 abbrev pub third : Form → Option Form
@@ -78,17 +68,7 @@ has_later_cell (Some form) = makes_later (head_form form)
 abbrev pub is_later_definition : Form → Bool
 is_later_definition form = defines (head_form form) && has_later_cell (third form)
 
--- whether a form of a script is left out as a whole: a future behind another, or the definition of an atom or agent
-abbrev pub is_left_out : Bool → Form → Bool
-is_left_out second form = (second && is_future form) || is_later_definition form
-
--- the first form of a script that is left out, in source order; the truth value says whether a future stands before
-abbrev pub left_out_from : Bool → List Form → Option Span
-left_out_from second [] = None
-left_out_from second (form ∷ forms) =
-    if is_left_out second form then Some (place form)
-    else or_else (left_out_in form) (left_out_from (second || is_future form) forms)
-
--- the first form of a script that is left out until it runs
+-- The first form of a script that is left out until it runs, in source order: the definition of an atom or agent, as a whole, or a form on cells.
 abbrev pub left_out : List Form → Option Span
-left_out forms = left_out_from false forms
+left_out [] = None
+left_out (form ∷ forms) = if is_later_definition form then Some (place form) else or_else (left_out_in form) (left_out forms)

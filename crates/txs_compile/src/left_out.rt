@@ -2,7 +2,7 @@
 
 ghost use Rattle.std.specs.Prelude.{◌≡◌, drop};
 ghost use Rattle.txs_reader.specs.Tree.{tree, trees, trees_of};
-ghost use Rattle.txs_compile.specs.LeftOut.{head_form, form_in, third, runs_later, makes_later, defines, left_out, left_out_in, left_out_among, left_out_from, is_future, is_later_definition, is_left_out};
+ghost use Rattle.txs_compile.specs.LeftOut.{head_form, form_in, third, runs_later, makes_later, defines, left_out, left_out_in, left_out_among, is_later_definition};
 
 use txs_names::{FormName, form_of};
 use txs_reader::{Bracket, Form};
@@ -21,15 +21,13 @@ fn head_form(form: &Form) -> Option<FormName>
     }
 }
 
-/// Whether the form is one on cells that doesn't run yet: `deref`, `ref-set` and `alter` do.
+/// Whether the form is one on cells that doesn't run yet: `deref`, `ensure`, `ref-set` and `alter` do.
 fn runs_later(form: &Form) -> bool
     ensures { result ≡ runs_later (head_form (tree form.now)) }
 {
     matches!(
         head_form(form),
-        Some(
-            FormName::Commute | FormName::Ensure | FormName::Swap | FormName::Reset | FormName::Send
-        )
+        Some(FormName::Commute | FormName::Swap | FormName::Reset | FormName::Send)
     )
 }
 
@@ -45,13 +43,6 @@ fn defines(form: &Form) -> bool
     ensures { result ≡ defines (head_form (tree form.now)) }
 {
     matches!(head_form(form), Some(FormName::Def))
-}
-
-/// Whether the form is a future.
-fn is_future(form: &Form) -> bool
-    ensures { result ≡ is_future (tree form.now) }
-{
-    matches!(head_form(form), Some(FormName::Future))
 }
 
 /// The third part of a list.
@@ -111,24 +102,18 @@ fn left_out_among(forms: &[Form]) -> Option<Span>
     None
 }
 
-/// The place of the first form of a script that programs can't have yet: a second future, the definition of
-/// an atom or agent, or a form on cells that doesn't run yet.
+/// The place of the first form of a script that programs can't have yet: the definition of an atom or agent, or a form on cells
+/// that doesn't run yet.
 pub fn left_out(forms: &[Form]) -> Option<Span>
     ensures { result ≡ left_out (trees forms.now) }
 {
-    let mut second = false;
     for form in forms {
-        let future = is_future(form);
-        if second && future {
-            return Some(form.span());
-        }
         if is_later_definition(form) {
             return Some(form.span());
         }
         if let Some(span) = left_out_in(form) {
             return Some(span);
         }
-        second = second || future;
     }
     None
 }

@@ -6,6 +6,7 @@ ghost use Rattle.txs_code.specs.OwnCells.{NamesOwnCells};
 ghost use Rattle.txs_code.specs.PlainCode.{function_codes};
 ghost use Rattle.txs_follows.specs.FollowsAgent.{FollowsAgents};
 ghost use Rattle.txs_follows.specs.FollowsAll.{FollowsAll};
+ghost use Rattle.txs_follows.specs.Sends.{CodesSendSound};
 ghost use Rattle.txs_gen.specs.OwnCells.{ProgramNamesOwnCells};
 ghost use Rattle.txs_gen.specs.Today.{ProgramRunsToday};
 ghost use Rattle.txs_reader.specs.Script.{Reads};
@@ -21,7 +22,9 @@ use crate::left_out::left_out;
 use std::alloc::Global;
 use txs_check::{CheckErrorKind, check};
 use txs_code::Verified;
-use txs_gen::follows::{code_of_agents_follows, code_of_program_follows};
+use txs_gen::follows::{
+    code_of_agents_follows, code_of_program_follows, code_of_program_sends_sound,
+};
 use txs_gen::generate;
 use txs_reader::{Form, ReadError, ReadErrorKind, read_script};
 use txs_resolve::{ResolveErrorKind, resolve};
@@ -94,6 +97,7 @@ pub fn compile(alloc: Global, bytes: &[u8]) -> Result<(Program, Verified), Compi
     ensures program { IfOk result (λ c. IsProgramOf bytes.now (program_of c.0)) }
     ensures code { IfOk result (λ c. FollowsAll (codes_of c.1) (program_of c.0)) }
     ensures agents { IfOk result (λ c. FollowsAgents (function_codes c.1) (program_of c.0).functions) }
+    ensures sends { IfOk result (λ c. CodesSendSound (program_of c.0).functions (codes_of c.1)) }
     ensures cells { IfOk result (λ c. c.1.cells ≡ c.0.cells) }
     ensures own_cells { IfOk result (λ c. NamesOwnCells c.1) }
     ensures refused { IfErr result (λ e. IsRefusal bytes.now e) }
@@ -103,5 +107,6 @@ pub fn compile(alloc: Global, bytes: &[u8]) -> Result<(Program, Verified), Compi
     let verified = generate(alloc, &program)?;
     code_of_program_follows();
     code_of_agents_follows();
+    code_of_program_sends_sound();
     Ok((program, verified))
 }

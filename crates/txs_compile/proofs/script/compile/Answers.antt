@@ -13,3 +13,7 @@ returns-clause-agents c =
 pub returns-clause-own_cells : goal.returns-clause-own_cells
 returns-clause-own_cells c =
     code_names_own_cells c.in_ok-verified.verified (program_of c.in_ok-program.program) c.in_ok-verified.ensures c.in_ok-program.ensures.own_cells
+
+pub returns-clause-sends : goal.returns-clause-sends
+returns-clause-sends c =
+    c.code_of_program_sends_sound.ensures c.in_ok-verified.verified (program_of c.in_ok-program.program) c.in_ok-program.ensures.ok.sound c.in_ok-verified.ensures
