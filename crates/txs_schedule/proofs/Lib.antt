@@ -1,0 +1,3 @@
+pub mod Cutting
+pub mod Numbers
+pub mod Reading
