@@ -1,0 +1,67 @@
+-- Lines of a listing, one more at a time, and what a writer got of them.
+use Rattle.std.proofs.Common.{◌≡◌, ℕ, zero, suc, ◌<◌, ◌+◌, List, [], ◌∷◌, ◌++◌, length, drop, get_or, refl, sym, ap, ◌∙◌, append_assoc, length-append, add-one, arith, subst}
+use Rattle.std.specs.Prelude.{Option, slice_index_or}
+use Rattle.std.proofs.Math.Seq.{drop-cons}
+use Rattle.txs_value.specs.declared.fault.Span.{Span}
+use Rattle.txs_code.specs.PlainCode.{CodeBody}
+use Rattle.txs_code.specs.declared.instr.Instr.{Instr}
+use Rattle.txs_disasm.specs.declared.lines.BodyKind.{BodyKind}
+use Rattle.txs_disasm.specs.declared.lines.BodyKind.TheVariants.{Function, Thread}
+use Rattle.txs_disasm.specs.Listing.{numbered, instr_line, instr_lines, body_line}
+use Rattle.txs_disasm.specs.Sent.{Sent, IsCut}
+use Rattle.txs_disasm.proofs.SentLemmas.{Sent-trans, Sent-longer, IsCut-after, IsCut-longer}
+
+-- ---- the next line of a list
+
+pub numbered-at : {A : Type 0} (lines : ℕ → A → List ℕ) (xs : List A) (i : ℕ) (x : A) → i < length xs → x ≡ get_or xs i x
+    → numbered lines i (drop i xs) ≡ lines i x ++ numbered lines (i + 1) (drop (i + 1) xs)
+numbered-at lines xs i x lt is =
+    rw add-one
+    (ap (numbered lines i) (drop-cons xs i x lt)
+    ∙ ap (λ y. lines i y ++ numbered lines (suc i) (drop (suc i) xs)) (sym is))
+
+instr_lines-suc : (is : List Instr) (ss : List Span) (p i : ℕ) (a : Instr) (s : Span) → i < length is → i < length ss
+    → instr_lines p (drop i is) (drop i ss) ≡ instr_line p (slice_index_or is i a) (slice_index_or ss i s) ++ instr_lines (suc p) (drop (suc i) is) (drop (suc i) ss)
+instr_lines-suc [] ss p i a s lt lt2 = absurd (omega (arith, lt))
+instr_lines-suc (b ∷ is) [] p i a s lt lt2 = absurd (omega (arith, lt2))
+instr_lines-suc (b ∷ is) (t ∷ ss) p zero a s lt lt2 = refl
+instr_lines-suc (b ∷ is) (t ∷ ss) p (suc i) a s lt lt2 = instr_lines-suc is ss p i a s (omega (arith, lt)) (omega (arith, lt2))
+
+pub instr_lines-at : (is : List Instr) (ss : List Span) (i : ℕ) (a : Instr) (s : Span) (x : Instr) (y : Span) → i < length is → length ss ≡ length is → x ≡ slice_index_or is i a → y ≡ slice_index_or ss i s
+    → instr_lines i (drop i is) (drop i ss) ≡ instr_line i x y ++ instr_lines (i + 1) (drop (i + 1) is) (drop (i + 1) ss)
+instr_lines-at is ss i a s x y lt n ex ey =
+    let rest = instr_lines (suc i) (drop (suc i) is) (drop (suc i) ss) in
+    rw add-one
+    (instr_lines-suc is ss i i a s lt (omega (arith, n, lt))
+    ∙ ap (λ z. instr_line i z (slice_index_or ss i s) ++ rest) (sym ex)
+    ∙ ap (λ z. instr_line i x z ++ rest) (sym ey))
+
+pub body_line-some : (kind : BodyKind) (k : ℕ) (b : CodeBody) → 0 < length (body_line kind k b)
+body_line-some Function k b = omega arith
+body_line-some Thread k b = omega arith
+
+-- ---- what a writer got
+
+module _ (a b : Option (List ℕ)) (all page left line rest : List ℕ) (split : left ≡ line ++ rest) (so_far : Sent a b all (page ++ left)) where
+  joined : Sent a b all ((page ++ line) ++ rest)
+  joined = subst (λ l. Sent a b all l) (ap (λ l. page ++ l) split ∙ sym (append_assoc page line rest)) so_far
+
+  -- the next lines were written or stand on the page
+  pub Sent-on : (c : Option (List ℕ)) (after : List ℕ) → Sent b c (page ++ line) after → Sent a c all (after ++ rest)
+  Sent-on c after t = Sent-trans a b c all ((page ++ line) ++ rest) (after ++ rest) joined (Sent-longer b c (page ++ line) after rest t)
+
+  -- of the page and the next lines not all could be written
+  pub IsCut-on : (c : Option (List ℕ)) → IsCut b c (page ++ line) → IsCut a c all
+  IsCut-on c k = IsCut-after a b c all ((page ++ line) ++ rest) joined (IsCut-longer b c (page ++ line) rest k)
+
+  -- the next line stands on the page, and some of the page may have been written
+  pub Sent-next : (c : Option (List ℕ)) (new after : List ℕ) → new ≡ page ++ line → Sent b c new after → Sent a c all (after ++ rest)
+  Sent-next c new after e t = Sent-on c after (subst (λ l. Sent b c l after) e t)
+
+  -- the page couldn't be written
+  pub IsCut-next : (c : Option (List ℕ)) (new : List ℕ) → new ≡ page ++ line → IsCut b c new → IsCut a c all
+  IsCut-next c new e k = IsCut-on c (subst (λ l. IsCut b c l) e k)
+
+  -- there was no memory for the next line
+  pub IsCut-here : 0 < length line → IsCut a b all
+  IsCut-here some = record { left = (page ++ line) ++ rest; some = rw (length-append (page ++ line) rest, length-append page line) (omega (arith, some)); sent = joined }

@@ -1,0 +1,188 @@
+//! The lines of a listing.
+
+ghost use Rattle.std.specs.Prelude.{◌≡◌, ◌++◌, OnOk};
+ghost use Rattle.txs_value.specs.Printed.{printed};
+ghost use Rattle.txs_value.specs.View.{plain_of};
+ghost use Rattle.txs_disasm.specs.Listing.{at_span, body_head, body_line, callee_words, cell_line, constant_line, instr_line, number, operands, word};
+
+use crate::names::{instr_name, kind_name, mode_words};
+use itoa::Buffer;
+use std::alloc::AllocError;
+use txs_code::{Body, Instr, OpenForm};
+use txs_value::{Callee, CellDefinition, Span, Value, write_text};
+
+/// What a body is of.
+#[derive(Clone, Copy)]
+pub(crate) enum BodyKind {
+    Function,
+    Thread,
+}
+
+/// Appends a word behind a space.
+fn put_word(text: &[u8], out: &mut Vec<u8>) -> Result<(), AllocError>
+    ensures { OnOk result (out.new.items ≡ out.old.items ++ word text.now) }
+{
+    out.push(b' ')?;
+    out.extend_from_slice(text)
+}
+
+/// Appends a number behind a space.
+fn put_number(n: u64, out: &mut Vec<u8>) -> Result<(), AllocError>
+    ensures { OnOk result (out.new.items ≡ out.old.items ++ number n) }
+{
+    out.push(b' ')?;
+    out.extend_from_slice(Buffer::new().format(n).as_bytes())
+}
+
+/// Appends a value behind a space, as `println` writes it.
+fn put_value(value: &Value, out: &mut Vec<u8>) -> Result<(), AllocError>
+    ensures { OnOk result (out.new.items ≡ out.old.items ++ word (printed (plain_of value.now))) }
+{
+    out.push(b' ')?;
+    write_text(value, out)
+}
+
+/// Appends a callee.
+fn put_callee(callee: Callee, out: &mut Vec<u8>) -> Result<(), AllocError>
+    ensures { OnOk result (out.new.items ≡ out.old.items ++ callee_words callee) }
+{
+    match callee {
+        Callee::Core(op) => {
+            out.extend_from_slice(b" core")?;
+            put_word(op.name(), out)
+        }
+        Callee::Function(function) => {
+            out.extend_from_slice(b" fn")?;
+            put_number(u64::from(function), out)
+        }
+    }
+}
+
+/// Appends the operands of an instruction.
+fn put_operands(instr: Instr, out: &mut Vec<u8>) -> Result<(), AllocError>
+    ensures { OnOk result (out.new.items ≡ out.old.items ++ operands instr) }
+{
+    match instr {
+        Instr::Const(number) | Instr::Jump(number) | Instr::JumpFalse(number) => {
+            put_number(u64::from(number), out)
+        }
+        Instr::Local(local) | Instr::Store(local) => put_number(u64::from(local), out),
+        Instr::Core(op, count) => {
+            put_word(op.name(), out)?;
+            put_number(u64::from(count), out)
+        }
+        Instr::Call(number)
+        | Instr::Vector(number)
+        | Instr::Print(number)
+        | Instr::Open(OpenForm::Alter, number) => put_number(u64::from(number), out),
+        Instr::Open(OpenForm::Commute(callee) | OpenForm::Swap(callee), count)
+        | Instr::Send(callee, count) => {
+            put_callee(callee, out)?;
+            put_number(u64::from(count), out)
+        }
+        Instr::Pop
+        | Instr::Return
+        | Instr::Look(_)
+        | Instr::Put(_)
+        | Instr::TxBegin
+        | Instr::TxEnd
+        | Instr::Close(_)
+        | Instr::Halt => Ok(()),
+    }
+}
+
+/// Appends a span.
+fn put_span(span: Span, out: &mut Vec<u8>) -> Result<(), AllocError>
+    ensures { OnOk result (out.new.items ≡ out.old.items ++ at_span span) }
+{
+    out.extend_from_slice(b" @")?;
+    out.extend_from_slice(Buffer::new().format(span.from).as_bytes())?;
+    out.extend_from_slice(b"..")?;
+    out.extend_from_slice(Buffer::new().format(span.to).as_bytes())
+}
+
+/// Appends the line of a cell.
+pub(crate) fn put_cell(
+    number: usize,
+    cell: &CellDefinition,
+    out: &mut Vec<u8>,
+) -> Result<(), AllocError>
+    ensures { OnOk result (out.new.items ≡ out.old.items ++ cell_line number cell.now) }
+{
+    put_counted(b"cell", number as u64, out)?;
+    put_word(kind_name(cell.kind), out)?;
+    put_word(cell.name.as_bytes(), out)?;
+    put_value(&cell.opening, out)?;
+    out.extend_from_slice(mode_words(cell.error_mode))?;
+    Ok(out.push(b'\n')?)
+}
+
+/// Appends the line of a constant.
+pub(crate) fn put_constant(
+    number: usize,
+    value: &Value,
+    out: &mut Vec<u8>,
+) -> Result<(), AllocError>
+    ensures { OnOk result (out.new.items ≡ out.old.items ++ constant_line number value.now) }
+{
+    put_counted(b"const", number as u64, out)?;
+    put_value(value, out)?;
+    Ok(out.push(b'\n')?)
+}
+
+/// Appends a word, and a number behind it.
+fn put_counted(text: &[u8], n: u64, out: &mut Vec<u8>) -> Result<(), AllocError>
+    ensures { OnOk result (out.new.items ≡ out.old.items ++ text.now ++ number n) }
+{
+    out.extend_from_slice(text)?;
+    put_number(n, out)
+}
+
+/// Appends the beginning of the line of a body: what it is, its number, and of a function how many parameters it has.
+fn put_head(
+    kind: BodyKind,
+    number: usize,
+    parameters: u8,
+    out: &mut Vec<u8>,
+) -> Result<(), AllocError>
+    ensures { OnOk result (out.new.items ≡ out.old.items ++ body_head kind number parameters) }
+{
+    match kind {
+        BodyKind::Function => {
+            put_counted(b"fn", number as u64, out)?;
+            put_counted(b" params", u64::from(parameters), out)
+        }
+        BodyKind::Thread => put_counted(b"thread", number as u64, out),
+    }
+}
+
+/// Appends the line of a body.
+pub(crate) fn put_body(
+    kind: BodyKind,
+    number: usize,
+    body: &Body,
+    out: &mut Vec<u8>,
+) -> Result<(), AllocError>
+    ensures { OnOk result (out.new.items ≡ out.old.items ++ body_line kind number body.now) }
+{
+    put_head(kind, number, body.parameters(), out)?;
+    put_counted(b" locals", u64::from(body.locals()), out)?;
+    Ok(out.push(b'\n')?)
+}
+
+/// Appends the line of an instruction at a place of its body.
+pub(crate) fn put_instr(
+    place: usize,
+    instr: Instr,
+    span: Span,
+    out: &mut Vec<u8>,
+) -> Result<(), AllocError>
+    ensures { OnOk result (out.new.items ≡ out.old.items ++ instr_line place instr span) }
+{
+    out.push(b' ')?;
+    put_number(place as u64, out)?;
+    put_word(instr_name(instr), out)?;
+    put_operands(instr, out)?;
+    put_span(span, out)?;
+    Ok(out.push(b'\n')?)
+}
