@@ -8,7 +8,7 @@ ghost use Rattle.txs_tell.specs.Told.{Told, Written, front};
 use std::alloc::Global;
 use std::io::{Read, Write};
 use txs_tell::told::{DONE, SPENT, UNUSABLE};
-use txs_tell::{Use, play_script, write_told};
+use txs_tell::{Use, play_schedule, play_script, write_told};
 use txs_words::{Words, parse_words};
 
 /// The name under which lines are explained, where they are: that of the file, or `-` for standard input.
@@ -26,7 +26,7 @@ fn explained_as(explain: bool, file: &Option<String>) -> Option<&str>
 
 /// Does what the words ask for, with the script that the reader has; no file is opened, and where lines are explained the
 /// words' file is but named. Answers the status: 0 where all ended and for help, 1 for a script that is refused, 2 for words
-/// that can't be used or a stream that couldn't be read or written, 3 for a thread that failed, 4 for want of steps or
+/// that can't be used, a list of plays that isn't one or names no thread, or a stream that couldn't be read or written, 3 for a thread that failed, 4 for want of steps or
 /// memory; the highest that applies.
 pub fn play_words<R: Read, W: Write, F: Write>(
     alloc: Global,
@@ -45,16 +45,24 @@ pub fn play_words<R: Read, W: Write, F: Write>(
         }
         Words::Run {
             file,
+            turns,
             steps,
             cells,
+            events,
             explain,
         } => {
-            let wanted = Use::Run {
-                steps: *steps,
-                cells: *cells,
-            };
             let name = explained_as(*explain, file);
-            play_script(alloc, wanted, name, reader, writer, faults)
+            play_schedule(
+                alloc,
+                turns.as_str(),
+                *steps,
+                *cells,
+                *events,
+                name,
+                reader,
+                writer,
+                faults,
+            )
         }
         Words::Shown(text) => write_told(text.as_bytes(), &[], DONE, writer, faults),
         Words::Faulty(text) => write_told(&[], text.as_bytes(), UNUSABLE, writer, faults),

@@ -20,3 +20,8 @@ some_maps (Some x) P Q f h = f x h
 pub ok_maps : {A E : Type 0} (r : Result A E) (P Q : A → Type 0) → ((x : A) → P x → Q x) → IfOk r P → IfOk r Q
 ok_maps (Ok x) P Q f h = f x h
 ok_maps (Err e) P Q f h = tt
+
+-- what holds whatever the value is
+pub some_always : {A : Type 0} (o : Option A) (P : A → Type 0) → ((x : A) → P x) → IfSome o P
+some_always None P f = tt
+some_always (Some x) P f = f x

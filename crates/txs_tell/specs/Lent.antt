@@ -1,9 +1,11 @@
 -- What is lent to the program's parts, as plain data.
 use Rattle.std.specs.Prelude.{ℕ, List, Option, Some, None}
 use Rattle.std.specs.Borrow.{Bor}
-use Rattle.txs_tell.specs.Told.{Script, Told}
+use Rattle.txs_tell.specs.Told.{Script, Told, Wanted, Check, Run}
 use Rattle.txs_tell.specs.declared.explain.Script as lent
 use Rattle.txs_tell.specs.declared.told.Told as owned
+use Rattle.txs_tell.specs.declared.told.Use.{Use}
+use Rattle.txs_tell.specs.declared.told.Use.TheVariants as lent_use
 
 -- a text that is lent, if one is
 abbrev pub text_in : Option (Bor (List ℕ)) → Option (List ℕ)
@@ -17,3 +19,8 @@ script_of s = record { text = s.text.now; file = text_in s.file }
 -- what is told, as plain data
 abbrev pub told_of : owned.Told → Told
 told_of t = record { output = t.output.items; errors = t.errors.items; status = t.status }
+
+-- what is wanted of a script, as plain data
+abbrev pub wanted_of : Use → Wanted
+wanted_of lent_use.Check = Check
+wanted_of (lent_use.Run plays steps cells events) = Run plays.now steps cells events

@@ -1,5 +1,5 @@
 -- What the program tells of a script: on its standard output, on its standard error, and by its status.
-use Rattle.std.specs.Prelude.{◌≡◌, ℕ, max, Bool, true, false, List, [], ◌++◌, ◌+◌, take, codes, decimal, Option, Some, None}
+use Rattle.std.specs.Prelude.{◌≡◌, ℕ, suc, max, Bool, true, false, List, [], ◌∷◌, ◌++◌, ◌+◌, ◌^◌, nat_lt, if◌then◌else◌, take, length, codes, decimal, Option, Some, None}
 use Rattle.std.specs.Io.KnownBytes.{Appends}
 use Rattle.txs_asks.specs.declared.event.Event.{Event}
 use Rattle.txs_asks.specs.declared.event.Outcome.{Outcome}
@@ -10,11 +10,16 @@ use Rattle.txs_compile.specs.Compiled.{IsProgramOf, IsRefusal, codes_of}
 use Rattle.txs_compile.specs.declared.compile_error.CompileError.{CompileError}
 use Rattle.txs_compile.specs.declared.compile_error.CompileError.TheVariants.{Read, Resolve, Check as Unsound, Memory as NoMemory}
 use Rattle.txs_follows.specs.FollowsAll.{FollowsAll}
-use Rattle.txs_machine.specs.RunOver.{HasEnded, AsksUnlawfully, IsStoreOf}
+use Rattle.txs_machine.specs.RunOver.{IsStoreOf}
+use Rattle.txs_machine.specs.Schedule.{AreDone, HaveEnded, IsExplainedBy, all_named}
+use Rattle.txs_machine.specs.declared.schedule.Play.{Play}
+use Rattle.txs_machine.specs.declared.schedule.ThreadReport.{ThreadReport}
 use Rattle.txs_tell.specs.CellLines.{cell_lines}
 use Rattle.txs_tell.specs.Explained.{explained}
-use Rattle.txs_tell.specs.declared.told.Use.{Use}
-use Rattle.txs_tell.specs.declared.told.Use.TheVariants.{Check, Run}
+use Rattle.txs_schedule.specs.EventLines.{event_lines}
+use Rattle.txs_schedule.specs.Plays.{plays_in}
+use Rattle.txs_schedule.specs.declared.plays.WrongPlay.{WrongPlay}
+use Rattle.std.specs.declared.result.Result.TheVariants.{Ok, Err}
 use Rattle.txs_reader.specs.Errors.{report_number as read_number, report_name as read_name}
 use Rattle.txs_resolve.specs.Reported.{report_number as resolve_number, report_name as resolve_name}
 use Rattle.txs_tree.specs.Tree.{PlainProgram}
@@ -31,6 +36,12 @@ pub record Told : Type 0 where
   pub output : List ℕ
   pub errors : List ℕ
   pub status : ℕ
+
+-- What is wanted of a script: that it is compiled, or that its threads run by these plays and then in rounds up to their ends, each for so many steps
+-- at most; and whether the cells and the events are told behind what they print.
+pub data Wanted : Type 0 where
+  Check : Wanted
+  Run : (plays : List Play) (steps : ℕ) (cells events : Bool) → Wanted
 
 -- a script as the program has it: its bytes, and the name of its file where lines are explained
 pub record Script : Type 0 where
@@ -93,6 +104,10 @@ pub record IsLesson (script : Script) (line : List ℕ) (at : Option Span) (erro
   pub advice : Option (List ℕ)
   pub is : errors ≡ line ++ lesson_of script.file script.text at advice
 
+-- where the item of a list stands that says no play, where its places are numbers of 32 bits
+abbrev pub list_place : WrongPlay → Option Span
+list_place w = if nat_lt (w.from + w.length) (2 ^ 32) then Some (record { from = w.from; to = w.from + w.length }) else None
+
 -- ---- the status
 
 -- of a thread that ended so: 0 where it is done, 3 where it failed, 4 where it was stopped
@@ -105,48 +120,102 @@ status_of Memory = 4
 
 -- ---- what is told of a script
 
--- What a run of the code's one thread over a store tells, which it leaves so: nothing where there is none; else what the
--- thread printed and how it ended; or that it asked what it may not ask.
-pub data RunTells (code : PlainCode) (script : Script) (steps : ℕ) (s : PlainStore) (t : Told) : Type 0 where
-  of_none : (none : code.threads ≡ []) (unused : s.book ≡ []) (output : t.output ≡ []) (errors : t.errors ≡ []) (status : t.status ≡ 0) → RunTells code script steps s t
-  of_thread :
-      (o : Outcome) (made : ℕ) (ended : HasEnded code 0 steps s.book o t.output made)
-      (errors : IsLesson script (end_line 0 o) (end_place o) t.errors) (status : t.status ≡ status_of o) → RunTells code script steps s t
-  of_mismatch :
-      (unlawful : AsksUnlawfully code 0 s) (output : t.output ≡ [])
-      (errors : t.errors ≡ codes "run failed: JournalMismatch" ++ codes "\n") (status : t.status ≡ 4) → RunTells code script steps s t
+-- how a thread ended; every thread of a run has
+abbrev pub how_ended : Option Outcome → Outcome
+how_ended None = Done
+how_ended (Some o) = o
+
+-- what all threads printed, one after the other in their order
+abbrev pub all_printed : List ThreadReport → List ℕ
+all_printed [] = []
+all_printed (r ∷ rs) = r.printed.items ++ all_printed rs
+
+-- the highest of a status and those of these threads
+abbrev pub status_from : ℕ → List ThreadReport → ℕ
+status_from m [] = m
+status_from m (r ∷ rs) = status_from (max m (status_of (how_ended r.outcome))) rs
+
+-- the standard error: for each of these threads the line that tells how it ended, in their order, where the first is the k-th
+abbrev pub AreLessons : Script → ℕ → List ThreadReport → List ℕ → Type 0
+AreLessons script k [] errors = errors ≡ []
+AreLessons script k (r ∷ rs) errors =
+    (line : List ℕ) × (rest : List ℕ) × IsLesson script (end_line k (how_ended r.outcome)) (end_place (how_ended r.outcome)) line × AreLessons script (suc k) rs rest × (errors ≡ line ++ rest)
+
+-- What a run of all threads of the code over a store tells, which it leaves so: what the threads printed and how each ended, with the
+-- highest status.
+pub record RunTells (code : PlainCode) (script : Script) (steps : ℕ) (s : PlainStore) (t : Told) : Type 0 where
+  pub rans : List ThreadReport
+  pub done : AreDone code steps s.book rans
+  pub ended : HaveEnded rans
+  pub explained : IsExplainedBy code s.book rans
+  pub output : t.output ≡ all_printed rans
+  pub errors : AreLessons script 0 rans t.errors
+  pub status : t.status ≡ status_from 0 rans
+
+-- what a run by these plays comes to: a play names no thread, or what the threads tell
+abbrev pub RunAnswers : PlainCode → Script → List Play → ℕ → PlainStore → Option Told → Type 0
+RunAnswers code script plays steps s None = all_named (length code.threads) plays ≡ false
+RunAnswers code script plays steps s (Some t) = (all_named (length code.threads) plays ≡ true) × RunTells code script steps s t
 
 -- the lines of the cells behind a run, where they are wanted: their values after all events of the book
 abbrev pub cells_told : Bool → List CellDefinition → List Event → List ℕ
 cells_told false cells book = []
 cells_told true cells book = cell_lines (newest (opening (cells_of cells)) book) 0 cells
 
--- What is told of a script: that it is refused; that it compiles; or what its run told, and behind it its cells.
-pub data ScriptTells (script : Script) (t : Told) : Use → Type 0 where
+-- the lines of the events behind a run, where they are wanted
+abbrev pub events_told : Bool → List Event → List ℕ
+events_told false book = []
+events_told true book = event_lines 0 book
+
+-- What is told of a script: that it is refused; that it compiles; what its run told, and behind it its cells and events; or that a play
+-- names no thread, and nothing ran.
+pub data ScriptTells (script : Script) (t : Told) : Wanted → Type 0 where
   of_refused :
-      (wanted : Use) (e : CompileError) (refused : IsRefusal script.text e) (output : t.output ≡ [])
+      (wanted : Wanted) (e : CompileError) (refused : IsRefusal script.text e) (output : t.output ≡ [])
       (errors : IsLesson script (refused_line e) (refused_place e) t.errors) (status : t.status ≡ 1) → ScriptTells script t wanted
   of_checked :
       (p : PlainProgram) (program : IsProgramOf script.text p)
       (output : t.output ≡ codes "ok\n") (errors : t.errors ≡ []) (status : t.status ≡ 0) → ScriptTells script t Check
   of_run :
-      (steps : ℕ) (with_cells : Bool) (ran : Told) (p : PlainProgram) (code : PlainCode) (s : PlainStore) (program : IsProgramOf script.text p)
-      (follows : FollowsAll (codes_of code) p) (same : code.cells ≡ p.cells) (of : IsStoreOf code s) (told : RunTells code script steps s ran)
-      (output : t.output ≡ ran.output ++ cells_told with_cells p.cells s.book) (errors : t.errors ≡ ran.errors) (status : t.status ≡ ran.status) → ScriptTells script t (Run steps with_cells)
+      (plays : List Play) (steps : ℕ) (with_cells with_events : Bool) (ran : Told) (p : PlainProgram) (code : PlainCode) (s : PlainStore) (program : IsProgramOf script.text p)
+      (follows : FollowsAll (codes_of code) p) (same : code.cells ≡ p.cells) (of : IsStoreOf code s) (named : all_named (length code.threads) plays ≡ true) (told : RunTells code script steps s ran)
+      (output : t.output ≡ (ran.output ++ cells_told with_cells p.cells s.book) ++ events_told with_events s.book) (errors : t.errors ≡ ran.errors) (status : t.status ≡ ran.status)
+      → ScriptTells script t (Run plays steps with_cells with_events)
+  of_no_thread :
+      (plays : List Play) (steps : ℕ) (with_cells with_events : Bool) (p : PlainProgram) (code : PlainCode) (program : IsProgramOf script.text p)
+      (follows : FollowsAll (codes_of code) p) (unnamed : all_named (length code.threads) plays ≡ false)
+      (output : t.output ≡ []) (errors : t.errors ≡ codes "run failed: NoActor" ++ codes "\n") (status : t.status ≡ 2) → ScriptTells script t (Run plays steps with_cells with_events)
 
 -- as much of an input as is read: its first bytes, one more than a script may have
 abbrev pub front : List ℕ → List ℕ
 front input = take (most_script + 1) input
 
 -- What is told of a stream whose front is the script: that it couldn't be read, or what is told of the script.
-pub data StreamTells (script : Script) (wanted : Use) (t : Told) : Type 0 where
+pub data StreamTells (script : Script) (wanted : Wanted) (t : Told) : Type 0 where
   of_unread : (output : t.output ≡ []) (errors : t.errors ≡ codes "read failed" ++ codes "\n") (status : t.status ≡ 2) → StreamTells script wanted t
   of_script : (told : ScriptTells script t wanted) → StreamTells script wanted t
 
 -- What is told where the input begins with the script: what is told of the stream, or that there was no memory.
-pub data Tells (script : Script) (wanted : Use) (t : Told) : Type 0 where
+pub data Tells (script : Script) (wanted : Wanted) (t : Told) : Type 0 where
   of_stream : (told : StreamTells script wanted t) → Tells script wanted t
   of_memory : (output : t.output ≡ []) (errors : t.errors ≡ codes "out of memory\n") (status : t.status ≡ 4) → Tells script wanted t
+
+-- the name under which a list is explained, where lines are
+abbrev pub list_name : Option (List ℕ) → Option (List ℕ)
+list_name None = None
+list_name (Some file) = Some (codes "--turns")
+
+-- What is told of a list of plays that says none: where it is wrong, or that there was no memory.
+pub data ListTells (turns : List ℕ) (name : Option (List ℕ)) (t : Told) : Type 0 where
+  of_wrong :
+      (wrong : WrongPlay) (read : plays_in turns ≡ Err wrong) (output : t.output ≡ [])
+      (errors : IsLesson (record { text = turns; file = name }) (codes "wrong list\n") (list_place wrong) t.errors) (status : t.status ≡ 2) → ListTells turns name t
+  of_memory : (output : t.output ≡ []) (errors : t.errors ≡ codes "out of memory\n") (status : t.status ≡ 4) → ListTells turns name t
+
+-- What is told of a script that is to run by a list of plays: what is told of its run by them, or of the list, and nothing is read.
+pub data ScheduleTells (script : Script) (turns : List ℕ) (steps : ℕ) (cells events : Bool) (t : Told) : Type 0 where
+  of_plays : (plays : List Play) (read : plays_in turns ≡ Ok plays) (told : Tells script (Run plays steps cells events) t) → ScheduleTells script turns steps cells events t
+  of_list : (told : ListTells turns (list_name script.file) t) → ScheduleTells script turns steps cells events t
 
 -- How what is told is written, where it is known what the writers hold: both streams whole, and its status; or a stream
 -- couldn't be written, and the status is 2 at least.

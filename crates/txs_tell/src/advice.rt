@@ -9,6 +9,10 @@ use txs_reader::ReadErrorKind;
 use txs_resolve::ResolveErrorKind;
 use txs_value::FaultKind;
 
+/// What to do about a list of plays that has an item which says none.
+pub const OF_LIST: &str =
+    "Write each play as the number of its thread, as 0, which goes on up to its next ask; with a `t` before it, as t0, for one step; and with `xN` behind it for N times, 1 to 100000.";
+
 /// What to do about a script that isn't read, or of which a form is left out.
 pub fn of_read(kind: ReadErrorKind, is_form: bool) -> Option<&'static str>
     ensures { IsNone result ↔ (kind ≡ ReadErrorKind.Memory) }
@@ -44,7 +48,7 @@ pub fn of_read(kind: ReadErrorKind, is_form: bool) -> Option<&'static str>
 /// What to do about Clojure that this profile leaves out, or about a form that is left out until it runs.
 fn of_left_out(is_form: bool) -> &'static str {
     if is_form {
-        "Do without it until it runs: for now a script has one `future`, and refs that `alter` and `ref-set` set."
+        "Do without it until it runs: for now cells are refs, which `alter` and `ref-set` set."
     } else {
         "Write it another way: this profile of Clojure leaves it out."
     }

@@ -6,9 +6,11 @@ mod advice;
 pub mod cells;
 pub mod explain;
 pub mod play;
+pub mod schedule;
 pub mod script;
 pub mod streams;
 pub mod told;
 
 pub use play::{play_script, write_told};
+pub use schedule::play_schedule;
 pub use told::Use;

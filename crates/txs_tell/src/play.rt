@@ -1,7 +1,7 @@
 //! Plays a script: reads it, does with it what is wanted, and writes what is told of it.
 
 ghost use Rattle.std.specs.Prelude.{IfOk, IfSome};
-ghost use Rattle.txs_tell.specs.Lent.{text_in, told_of};
+ghost use Rattle.txs_tell.specs.Lent.{text_in, told_of, wanted_of};
 ghost use Rattle.txs_tell.specs.Told.{Told as PlainTold, StreamTells, Tells, Written, front};
 
 use crate::explain::Script;
@@ -14,11 +14,11 @@ use std::io::{Read, Write};
 /// Reads the script and uses it.
 fn use_stream<R: Read>(
     alloc: Global,
-    wanted: Use,
+    wanted: Use<'_>,
     file: Option<&str>,
     reader: &mut R,
 ) -> Result<Told, AllocError>
-    ensures { IfOk result (λ t. IfSome (R.remaining reader.old) (λ input. StreamTells (record { text = front input; file = text_in file.entry }) wanted (told_of t))) }
+    ensures { IfOk result (λ t. IfSome (R.remaining reader.old) (λ input. StreamTells (record { text = front input; file = text_in file.entry }) (wanted_of wanted.entry) (told_of t))) }
 {
     match read_bytes(alloc, reader) {
         Ok(bytes) => {
@@ -55,17 +55,17 @@ pub fn write_told<W: Write, F: Write>(
 
 /// Does with the reader's script what is wanted, and writes what is told of it. Where a file is named, lines on the
 /// standard error are explained under its name. Answers the status: 0 where all ended, 1 for a script that is refused, 2
-/// for a stream that couldn't be read or written, 3 for a thread that failed, 4 for want of steps or memory; the highest
+/// for a play that names no thread or a stream that couldn't be read or written, 3 for a thread that failed, 4 for want of steps or memory; the highest
 /// that applies.
 pub fn play_script<R: Read, W: Write, F: Write>(
     alloc: Global,
-    wanted: Use,
+    wanted: Use<'_>,
     file: Option<&str>,
     reader: &mut R,
     writer: &mut W,
     faults: &mut F,
 ) -> u8
-    ensures { IfSome (R.remaining reader.old) (λ input. (t : PlainTold) × Tells (record { text = front input; file = text_in file.entry }) wanted t
+    ensures { IfSome (R.remaining reader.old) (λ input. (t : PlainTold) × Tells (record { text = front input; file = text_in file.entry }) (wanted_of wanted.entry) t
         × Written (W.contents writer.old) (W.contents writer.new) (F.contents faults.old) (F.contents faults.new) t result) }
 {
     match use_stream(alloc, wanted, file, reader) {

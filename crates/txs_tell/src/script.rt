@@ -1,48 +1,46 @@
 //! What is told of a script: that it is refused, that it compiles, or what its run told.
 
+ghost use Rattle.std.specs.Option.{option_map};
 ghost use Rattle.std.specs.Prelude.{◌≡◌, ◌++◌, ◌≤◌, length, [], codes, IfOk, OnOk};
 ghost use Rattle.txs_machine.specs.RunOver.{IsStoreOf};
-ghost use Rattle.txs_tell.specs.Lent.{script_of, told_of};
-ghost use Rattle.txs_tell.specs.Told.{RunTells, ScriptTells, cells_told};
-ghost use Rattle.txs_tell.specs.declared.told.Use.TheVariants.{Check, Run};
+ghost use Rattle.txs_tell.specs.Lent.{script_of, told_of, wanted_of};
+ghost use Rattle.txs_tell.specs.Told.{RunAnswers, ScriptTells, Check, Run, cells_told, events_told};
 ghost use Rattle.txs_world.specs.Store.{cells_of};
 
 use crate::cells::write_cells;
 use crate::explain::Script;
-use crate::told::{SPENT, Told, Use, answer, complaint, nothing, of_thread, refused};
+use crate::told::{Told, UNUSABLE, Use, answer, complaint, of_threads, refused};
 use std::alloc::{AllocError, Global};
 use txs_code::Verified;
 use txs_compile::compile;
-use txs_machine::{RunError, run_thread};
+use txs_machine::{Play, ScheduleError, run_schedule};
+use txs_schedule::write_events;
 use txs_tree::Program;
 use txs_world::Store;
 
-/// What is told of the one thread of the code, if it has one, that runs over the store.
+/// What is told of the threads of the code, which run over the store by these plays and then in rounds, up to their ends; or
+/// nothing, where a play names no thread.
 fn run_code(
     alloc: Global,
     script: Script<'_>,
     code: &Verified,
+    plays: &[Play],
     steps: u64,
     store: &mut Store,
-) -> Result<Told, AllocError>
+) -> Result<Option<Told>, AllocError>
+    requires few { length code.now.threads ≤ 64 }
     requires of { IsStoreOf code.now store.old }
     requires unused { store.old.book ≡ [] }
     ensures of { IsStoreOf code.now store.new }
-    ensures told { IfOk result (λ t. RunTells code.now (script_of script.entry) steps store.new (told_of t)) }
+    ensures told { IfOk result (λ t. RunAnswers code.now (script_of script.entry) plays.now steps store.new (option_map told_of t)) }
 {
-    if code.code().threads().is_empty() {
-        return Ok(nothing(alloc));
-    }
-    match run_thread(alloc, code, 0, steps, store) {
-        Ok(ran) => {
-            let told = of_thread(alloc, script, 0, ran)?;
-            Ok(told)
+    match run_schedule(alloc, code, plays, steps, true, store) {
+        Ok(report) => {
+            let told = of_threads(alloc, script, &report)?;
+            Ok(Some(told))
         }
-        Err(RunError::Mismatch) => {
-            let told = complaint(alloc, SPENT, "run failed: JournalMismatch")?;
-            Ok(told)
-        }
-        Err(RunError::Memory) => Err(AllocError),
+        Err(ScheduleError::NoActor) => Ok(None),
+        Err(ScheduleError::Memory) => Err(AllocError),
     }
 }
 
@@ -75,14 +73,46 @@ fn tell_cells(
     Ok(())
 }
 
-/// Runs the script, and tells of its cells where they are wanted.
+/// Appends the lines of the events of a run, where they are wanted.
+fn tell_events(told: &mut Told, wanted: bool, store: &Store) -> Result<(), AllocError>
+    ensures output { OnOk result (told.new.output.items ≡ told.old.output.items ++ events_told wanted store.now.book) }
+    ensures errors { told.new.errors.items ≡ told.old.errors.items }
+    ensures status { told.new.status ≡ told.old.status }
+{
+    if wanted {
+        write_events(&mut told.output, store.events())?;
+    }
+    Ok(())
+}
+
+/// Appends what is told behind a run: the lines of the program's cells, and of the events, where they are wanted.
+fn tell_book(
+    told: &mut Told,
+    cells: bool,
+    events: bool,
+    program: &Program,
+    store: &Store,
+) -> Result<(), AllocError>
+    requires made { store.now.cells ≡ cells_of program.now.cells }
+    ensures output { OnOk result (told.new.output.items ≡ (told.old.output.items ++ cells_told cells program.now.cells store.now.book) ++ events_told events store.now.book) }
+    ensures errors { told.new.errors.items ≡ told.old.errors.items }
+    ensures status { told.new.status ≡ told.old.status }
+{
+    tell_cells(told, cells, program, store)?;
+    tell_events(told, events, store)?;
+    Ok(())
+}
+
+/// Runs the script, and tells of its cells and events where they are wanted.
 fn run_script(
     alloc: Global,
     script: Script<'_>,
+    plays: &[Play],
     steps: u64,
     cells: bool,
+    events: bool,
 ) -> Result<Told, AllocError>
-    ensures { IfOk result (λ t. ScriptTells (script_of script.entry) (told_of t) (Run steps cells)) }
+    ensures { IfOk result (λ t. ScriptTells (script_of script.entry) (told_of t) (Run plays.now steps cells events)) }
 {
     let (program, code) = match compile(alloc, script.text) {
         Ok(compiled) => compiled,
@@ -92,8 +122,11 @@ fn run_script(
         }
     };
     let mut store = open_store(alloc, &code)?;
-    let mut told = run_code(alloc, script, &code, steps, &mut store)?;
-    tell_cells(&mut told, cells, &program, &store)?;
+    let Some(mut told) = run_code(alloc, script, &code, plays, steps, &mut store)? else {
+        let told = complaint(alloc, UNUSABLE, "run failed: NoActor")?;
+        return Ok(told);
+    };
+    tell_book(&mut told, cells, events, &program, &store)?;
     Ok(told)
 }
 
@@ -123,11 +156,16 @@ fn check_script(alloc: Global, script: Script<'_>) -> Result<Told, AllocError>
 }
 
 /// Does with the script what is wanted.
-pub fn use_script(alloc: Global, script: Script<'_>, wanted: Use) -> Result<Told, AllocError>
-    ensures { IfOk result (λ t. ScriptTells (script_of script.entry) (told_of t) wanted) }
+pub fn use_script(alloc: Global, script: Script<'_>, wanted: Use<'_>) -> Result<Told, AllocError>
+    ensures { IfOk result (λ t. ScriptTells (script_of script.entry) (told_of t) (wanted_of wanted.entry)) }
 {
     match wanted {
         Use::Check => check_script(alloc, script),
-        Use::Run { steps, cells } => run_script(alloc, script, steps, cells),
+        Use::Run {
+            plays,
+            steps,
+            cells,
+            events,
+        } => run_script(alloc, script, plays, steps, cells, events),
     }
 }

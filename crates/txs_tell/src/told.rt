@@ -1,18 +1,18 @@
 //! What the program tells of a script: its lines on both streams, and its status.
 
-ghost use Rattle.std.specs.Prelude.{◌≡◌, ◌++◌, [], codes, decimal, Some, None, IfOk, OnOk};
+ghost use Rattle.std.specs.Prelude.{◌≡◌, ◌≤◌, ◌++◌, ℕ, List, max, length, [], codes, decimal, Some, None, IfOk, OnOk};
 ghost use Rattle.txs_compile.specs.Compiled.{IsRefusal};
-ghost use Rattle.txs_tell.specs.Told.{ScriptTells, IsLesson, at_place, lesson_of, refusal_line, refused_line, refused_place, failed_line, stopped_line, end_line, end_place, status_of};
+ghost use Rattle.txs_tell.specs.Told.{ScriptTells, IsLesson, at_place, lesson_of, list_place, refusal_line, refused_line, refused_place, failed_line, stopped_line, end_line, end_place, status_of, how_ended, all_printed, status_from, AreLessons, Wanted};
 ghost use Rattle.txs_tell.specs.Lent.{text_in, script_of, told_of};
-ghost use Rattle.txs_tell.specs.declared.told.Use.{Use as AnyUse};
 
-use crate::advice::{of_check, of_outcome, of_read, of_resolve};
+use crate::advice::{OF_LIST, of_check, of_outcome, of_read, of_resolve};
 use crate::explain::{Script, write_explained};
 use itoa::Buffer;
 use std::alloc::{AllocError, Global};
 use txs_asks::Outcome;
 use txs_compile::CompileError;
-use txs_machine::Ran;
+use txs_machine::{Play, Report, ThreadReport};
+use txs_schedule::WrongPlay;
 use txs_value::{Fault, Span};
 
 /// What the program tells: its standard output and error, and its status.
@@ -25,11 +25,17 @@ pub struct Told {
 
 /// What is done with a script.
 #[derive(Clone, Copy)]
-pub enum Use {
+pub enum Use<'a> {
     /// It is compiled, and nothing runs.
     Check,
-    /// It runs for so many steps at most, with its cells told or not.
-    Run { steps: u64, cells: bool },
+    /// Its threads run by these plays and then in rounds, each for so many steps at most, with its cells and
+    /// the events of the run told or not.
+    Run {
+        plays: &'a [Play],
+        steps: u64,
+        cells: bool,
+        events: bool,
+    },
 }
 
 /// All threads ended.
@@ -38,7 +44,7 @@ pub const DONE: u8 = 0;
 /// The script was refused.
 const REFUSED: u8 = 1;
 
-/// The words can't be used, or a stream couldn't be read or written.
+/// The words can't be used, a play names no thread, or a stream couldn't be read or written.
 pub const UNUSABLE: u8 = 2;
 
 /// A thread failed.
@@ -220,10 +226,49 @@ fn of_error(alloc: Global, script: Script<'_>, error: &CompileError) -> Result<T
 /// What is told of a script that isn't compiled, whatever is wanted of it.
 pub fn refused(alloc: Global, script: Script<'_>, error: &CompileError) -> Result<Told, AllocError>
     requires { IsRefusal script.text.now error.now }
-    ensures { IfOk result (λ t. (wanted : AnyUse) → ScriptTells (script_of script.entry) (told_of t) wanted) }
+    ensures { IfOk result (λ t. (wanted : Wanted) → ScriptTells (script_of script.entry) (told_of t) wanted) }
 {
     let told = of_error(alloc, script, error)?;
     Ok(told)
+}
+
+/// Where the item stands that says no play, if its places are numbers of 32 bits.
+fn list_place(wrong: WrongPlay) -> Option<Span>
+    ensures { result ≡ list_place wrong }
+{
+    let to = wrong.from.checked_add(wrong.length)?;
+    if to > u32::MAX as usize {
+        return None;
+    }
+    Some(Span {
+        from: wrong.from as u32,
+        to: to as u32,
+    })
+}
+
+/// The line of a list of plays that is wrong there.
+fn list_refusal(
+    alloc: Global,
+    list: Script<'_>,
+    at: Option<Span>,
+    advice: Option<&str>,
+) -> Result<Told, AllocError>
+    ensures output { IfOk result (λ t. t.output.items ≡ []) }
+    ensures errors { IfOk result (λ t. IsLesson (script_of list.entry) (codes "wrong list\n") at t.errors.items) }
+    ensures status { IfOk result (λ t. t.status ≡ 2) }
+{
+    let line = Vec::from_slice(alloc, b"wrong list\n")?;
+    let told = lesson(alloc, list, UNUSABLE, line, at, advice)?;
+    Ok(told)
+}
+
+/// What is told of a list of plays that has an item which says none.
+pub fn wrong_list(alloc: Global, list: Script<'_>, wrong: WrongPlay) -> Result<Told, AllocError>
+    ensures output { IfOk result (λ t. t.output.items ≡ []) }
+    ensures errors { IfOk result (λ t. IsLesson (script_of list.entry) (codes "wrong list\n") (list_place wrong) t.errors.items) }
+    ensures status { IfOk result (λ t. t.status ≡ 2) }
+{
+    list_refusal(alloc, list, list_place(wrong), Some(OF_LIST))
 }
 
 /// What is told of a thread that failed.
@@ -285,13 +330,45 @@ fn of_end(alloc: Global, script: Script<'_>, k: u16, outcome: Outcome) -> Result
     }
 }
 
-/// What is told of a thread that has run.
-pub fn of_thread(alloc: Global, script: Script<'_>, k: u16, ran: Ran) -> Result<Told, AllocError>
-    ensures output { IfOk result (λ t. t.output.items ≡ ran.printed.items) }
-    ensures errors { IfOk result (λ t. IsLesson (script_of script.entry) (end_line k ran.outcome) (end_place ran.outcome) t.errors.items) }
-    ensures status { IfOk result (λ t. t.status ≡ status_of ran.outcome) }
+/// How a thread ended; every thread of a run has.
+fn how_ended(outcome: Option<Outcome>) -> Outcome
+    ensures { result ≡ how_ended outcome }
 {
-    let mut told = of_end(alloc, script, k, ran.outcome)?;
-    told.output = ran.printed;
+    match outcome {
+        Some(outcome) => outcome,
+        None => Outcome::Done,
+    }
+}
+
+/// Adds what is told of a thread that has run: what it printed, the line that tells how it ended, and the status, where it is higher.
+fn add_thread(
+    alloc: Global,
+    told: &mut Told,
+    script: Script<'_>,
+    k: u16,
+    thread: &ThreadReport,
+) -> Result<(), AllocError>
+    ensures output { OnOk result (told.new.output.items ≡ told.old.output.items ++ thread.now.printed.items) }
+    ensures errors { OnOk result ((line : List ℕ) × IsLesson (script_of script.entry) (end_line k (how_ended thread.now.outcome)) (end_place (how_ended thread.now.outcome)) line × (told.new.errors.items ≡ told.old.errors.items ++ line)) }
+    ensures status { OnOk result (told.new.status ≡ max told.old.status (status_of (how_ended thread.now.outcome))) }
+{
+    let end = of_end(alloc, script, k, how_ended(thread.outcome))?;
+    told.output.extend_from_slice(thread.printed.as_slice())?;
+    told.errors.extend_from_slice(end.errors.as_slice())?;
+    told.status = told.status.max(end.status);
+    Ok(())
+}
+
+/// What is told of all threads that have run, in their order.
+pub fn of_threads(alloc: Global, script: Script<'_>, report: &Report) -> Result<Told, AllocError>
+    requires few { length report.now.threads.items ≤ 64 }
+    ensures output { IfOk result (λ t. t.output.items ≡ all_printed report.now.threads.items) }
+    ensures errors { IfOk result (λ t. AreLessons (script_of script.entry) 0 report.now.threads.items t.errors.items) }
+    ensures status { IfOk result (λ t. t.status ≡ status_from 0 report.now.threads.items) }
+{
+    let mut told = nothing(alloc);
+    for (k, thread) in report.threads.iter().enumerate() {
+        add_thread(alloc, &mut told, script, k as u16, thread)?;
+    }
     Ok(told)
 }

@@ -15,12 +15,15 @@ pub enum Words {
         file: Option<String>,
         explain: bool,
     },
-    /// To run a script: its file, where it is named, how many steps an actor makes at most, whether the
-    /// cells are printed, and whether refusals, faults and stops are explained.
+    /// To run a script: its file, where it is named, the list of plays that come before the rounds (empty
+    /// for `run`), how many steps an actor makes at most, whether the cells and the events are printed, and
+    /// whether refusals, faults and stops are explained.
     Run {
         file: Option<String>,
+        turns: String,
         steps: u64,
         cells: bool,
+        events: bool,
         explain: bool,
     },
     /// A text for the standard output.
@@ -50,21 +53,49 @@ fn check_command<'a>(alloc: Global) -> Result<Command<'a>, AllocError> {
         .arg(file_arg(alloc))
 }
 
-/// The command that runs.
-fn run_command<'a>(alloc: Global) -> Result<Command<'a>, AllocError> {
-    let steps = Arg::new(alloc, "steps")
+/// The option of how many steps an actor makes.
+fn steps_arg<'a>(alloc: Global) -> Arg<'a> {
+    Arg::new(alloc, "steps")
         .long("steps")
         .help("How many steps an actor makes at most")
         .action(ArgAction::Set)
-        .value_parser(value_parser!(u64).range(1..=1_000_000_000_000));
+        .value_parser(value_parser!(u64).range(1..=1_000_000_000_000))
+}
+
+/// The options of what is printed behind what the threads print.
+fn with_lines<'a>(alloc: Global, command: Command<'a>) -> Result<Command<'a>, AllocError> {
     let cells = Arg::new(alloc, "cells")
         .long("cells")
         .help("Prints each cell with its newest value")
         .action(ArgAction::SetTrue);
-    Command::new(alloc, "run")
+    let events = Arg::new(alloc, "events")
+        .long("events")
+        .help("Prints each event of the journal")
+        .action(ArgAction::SetTrue);
+    command.arg(cells)?.arg(events)
+}
+
+/// The command that runs.
+fn run_command<'a>(alloc: Global) -> Result<Command<'a>, AllocError> {
+    let command = Command::new(alloc, "run")
         .about("Runs a script")
-        .arg(steps)?
-        .arg(cells)?
+        .arg(steps_arg(alloc))?;
+    with_lines(alloc, command)?
+        .arg(explain_arg(alloc))?
+        .arg(file_arg(alloc))
+}
+
+/// The command that runs by a schedule.
+fn schedule_command<'a>(alloc: Global) -> Result<Command<'a>, AllocError> {
+    let turns = Arg::new(alloc, "turns")
+        .long("turns")
+        .help("Which threads go on first, as 0,1,t0x3")
+        .action(ArgAction::Set);
+    let command = Command::new(alloc, "schedule")
+        .about("Runs a script by a schedule")
+        .arg(turns)?
+        .arg(steps_arg(alloc))?;
+    with_lines(alloc, command)?
         .arg(explain_arg(alloc))?
         .arg(file_arg(alloc))
 }
@@ -73,12 +104,14 @@ fn run_command<'a>(alloc: Global) -> Result<Command<'a>, AllocError> {
 fn command<'a>(alloc: Global) -> Result<Command<'a>, AllocError> {
     let check = check_command(alloc)?;
     let run = run_command(alloc)?;
+    let schedule = schedule_command(alloc)?;
     Command::new(alloc, "txs")
         .about("Compiles and runs transaction scripts")
         .subcommand_required(true)
         .disable_help_subcommand(true)
         .subcommand(check)?
-        .subcommand(run)
+        .subcommand(run)?
+        .subcommand(schedule)
 }
 
 /// The file that a command's words name, if they name one.
@@ -87,6 +120,14 @@ fn named_file(alloc: Global, matches: &ArgMatches<'_>) -> Result<Option<String>,
         Some(name) => Ok(Some(String::from_str(alloc, name)?)),
         None => Ok(None),
     }
+}
+
+/// The list of plays that a command's words give; `run` has none.
+fn given_turns(alloc: Global, name: &str, words: &ArgMatches<'_>) -> Result<String, AllocError> {
+    if name != "schedule" {
+        return Ok(String::new(alloc));
+    }
+    String::from_str(alloc, words.get_str("turns").unwrap_or(""))
 }
 
 /// What the matched words ask for.
@@ -101,10 +142,14 @@ fn asked(alloc: Global, matches: &ArgMatches<'_>) -> Result<Words, AllocError> {
     }
     let steps = words.get_one::<u64>("steps").unwrap_or(DEFAULT_STEPS);
     let cells = words.get_flag("cells");
+    let events = words.get_flag("events");
+    let turns = given_turns(alloc, name, words)?;
     Ok(Words::Run {
         file,
+        turns,
         steps,
         cells,
+        events,
         explain,
     })
 }

@@ -1,5 +1,5 @@
 use Rattle.std.proofs.Common.{ℕ, List, subst₂}
-use Rattle.txs_tell.specs.Lent.{text_in, told_of}
+use Rattle.txs_tell.specs.Lent.{text_in, told_of, wanted_of}
 use Rattle.txs_tell.specs.Told.{Script, Told, StreamTells, Tells, of_stream, Written, front}
 use Rattle.txs_tell.proofs.Fronts.{some_maps}
 use Rattle.txs_tell.proofs.play.play_script.Goals as goal
@@ -14,6 +14,6 @@ returns-in-Ok g c =
     let errors_new = g.F.Write.contents c.write_told.new.faults in
     let told = c.in-Ok.told in
     let written = subst₂ (λ o e. Written output_old output_new errors_old errors_new (record { output = o; errors = e; status = told.status }) c.write_told.result) c.as_slice.ensures.value c.as_slice-in-Ok.ensures.value c.write_told.ensures in
-    some_maps known (λ input. StreamTells (script input) c.args.wanted (told_of told))
-    (λ input. (x : Told) × Tells (script input) c.args.wanted x × Written output_old output_new errors_old errors_new x c.write_told.result)
+    some_maps known (λ input. StreamTells (script input) (wanted_of c.args.wanted) (told_of told))
+    (λ input. (x : Told) × Tells (script input) (wanted_of c.args.wanted) x × Written output_old output_new errors_old errors_new x c.write_told.result)
     (λ input is. (told_of told, of_stream is, written)) c.in-Ok.ensures

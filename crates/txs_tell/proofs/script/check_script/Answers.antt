@@ -1,5 +1,4 @@
-use Rattle.txs_tell.specs.Told.{of_checked}
-use Rattle.txs_tell.specs.declared.told.Use.TheVariants.{Check}
+use Rattle.txs_tell.specs.Told.{Check, of_checked}
 use Rattle.txs_tree.specs.View.{program_of}
 use Rattle.txs_tell.proofs.script.check_script.Goals as goal
 
