@@ -1,184 +1,268 @@
 // What no clause says: that the calls succeed with ample memory, and what a frame holds after some calls, by the
 // rules of Clojure's transactions.
-use std::alloc::Global;
-use std::test::Fail;
-use txs_frame::{SetError, TxFrame};
-use txs_value::{Action, Callee, CellId, CellKind, Listed, Op, Span, Value, write_text};
+ghost use Rattle.std.specs.Prelude.{◌≡◌};
+ghost use Rattle.txs_value.specs.declared.value.CellKind.TheVariants.{Ref as a_ref};
 
-// The action that calls `inc` on the state of an agent.
-fn action(alloc: Global, agent: u16) -> Action {
-    Action {
+use std::alloc::Global;
+use std::str::SplitWhitespace;
+use txs_frame::{SetError, TxFrame};
+use txs_value::{Action, Callee, CellId, CellKind, Listed, Op, Span, Value};
+
+// The next word as the number of a cell.
+fn next_number(words: &mut SplitWhitespace<'_>) -> Option<u16> {
+    words.next()?.parse::<u16>().ok()
+}
+
+// The ref of this number.
+fn ref_of(number: u16) -> CellId
+    ensures { result.kind ≡ a_ref }
+{
+    CellId {
+        kind: CellKind::Ref,
+        number,
+    }
+}
+
+// The next word as a value.
+fn next_value(words: &mut SplitWhitespace<'_>) -> Option<Value> {
+    Some(Value::Int(words.next()?.parse::<i64>().ok()?))
+}
+
+// Sets a ref. Whether it was set.
+fn set(frame: &mut TxFrame, words: &mut SplitWhitespace<'_>) -> Option<bool> {
+    let cell = ref_of(next_number(words)?);
+    match frame.set(cell, next_value(words)?) {
+        Ok(()) => Some(true),
+        Err(SetError::SetAfterCommute) => Some(false),
+        Err(SetError::Memory) => None,
+    }
+}
+
+// `(commute REF + N)`, after which the transaction has a value of the ref.
+fn commute(frame: &mut TxFrame, alloc: Global, words: &mut SplitWhitespace<'_>) -> Option<bool> {
+    let cell = ref_of(next_number(words)?);
+    let args = vec![in alloc; next_value(words)?].ok()?;
+    let value = next_value(words)?;
+    let done = frame.commute(cell, Callee::Core(Op::Add), Listed::from_vec(args), value);
+    Some(done.is_ok())
+}
+
+// Holds the action that calls `inc` on the state of an agent.
+fn send(frame: &mut TxFrame, alloc: Global, words: &mut SplitWhitespace<'_>) -> Option<bool> {
+    let number = next_number(words)?;
+    let action = Action {
         agent: CellId {
             kind: CellKind::Agent,
-            number: agent,
+            number,
         },
         callee: Callee::Core(Op::Inc),
         args: Listed::from_vec(Vec::new(alloc)),
         span: Span { from: 0, to: 1 },
-    }
-}
-
-// `(commute REF + N)`, after which the transaction has this value of the ref.
-fn commute(frame: &mut TxFrame, alloc: Global, number: u16, n: i64, v: i64) -> Result<(), Fail> {
-    let cell = CellId {
-        kind: CellKind::Ref,
-        number,
     };
-    let args = Listed::from_vec(vec![in alloc; Value::Int(n)]?);
-    Ok(frame.commute(cell, Callee::Core(Op::Add), args, Value::Int(v))?)
-}
-
-// Whether the ref was set.
-fn set(frame: &mut TxFrame, number: u16, v: i64) -> Result<bool, Fail> {
-    let cell = CellId {
-        kind: CellKind::Ref,
-        number,
-    };
-    match frame.set(cell, Value::Int(v)) {
-        Ok(()) => Ok(true),
-        Err(SetError::SetAfterCommute) => Ok(false),
-        Err(SetError::Memory) => Err(Fail::from("no memory")),
-    }
+    Some(frame.hold_send(action).is_ok())
 }
 
 // One call: `set REF V`, `refused REF V`, `commute REF N V`, `ensure REF`, `send AGENT`, `reset`. Whether it answered so.
-fn call<'a>(frame: &mut TxFrame, alloc: Global, words: &[&'a str]) -> Result<bool, Fail> {
-    match words {
-        ["set", number, v] => return set(frame, number.parse::<u16>()?, v.parse::<i64>()?),
-        ["refused", number, v] => {
-            return Ok(!set(frame, number.parse::<u16>()?, v.parse::<i64>()?)?);
+fn call(frame: &mut TxFrame, alloc: Global, text: &str) -> Option<bool> {
+    let mut words = text.split_whitespace();
+    match words.next()? {
+        "set" => set(frame, &mut words),
+        "refused" => set(frame, &mut words).map(|done| !done),
+        "commute" => commute(frame, alloc, &mut words),
+        "ensure" => Some(frame.ensure(ref_of(next_number(&mut words)?)).is_ok()),
+        "send" => send(frame, alloc, &mut words),
+        _ => {
+            frame.reset();
+            Some(true)
         }
-        ["commute", number, n, v] => {
-            let v = v.parse::<i64>()?;
-            commute(frame, alloc, number.parse::<u16>()?, n.parse::<i64>()?, v)?;
-        }
-        ["ensure", number] => frame.ensure(CellId {
-            kind: CellKind::Ref,
-            number: number.parse::<u16>()?,
-        })?,
-        ["send", agent] => frame.hold_send(action(alloc, agent.parse::<u16>()?))?,
-        ["reset"] => frame.reset(),
-        _ => return Ok(false),
     }
-    Ok(true)
 }
 
 // Calls between semicolons. Whether each answered as it says.
-fn call_all(frame: &mut TxFrame, alloc: Global, calls: &str) -> Result<bool, Fail> {
-    for line in calls.split(';') {
-        let mut words = Vec::new(alloc);
-        for word in line.split_whitespace() {
-            words.push(word)?;
-        }
-        if !call(frame, alloc, words.as_slice())? {
-            return Ok(false);
+fn call_all(frame: &mut TxFrame, alloc: Global, calls: &str) -> bool {
+    for one in calls.split(';') {
+        if call(frame, alloc, one) != Some(true) {
+            return false;
         }
     }
-    Ok(true)
+    true
 }
 
-fn write_cell(out: &mut Vec<u8>, alloc: Global, cell: CellId) -> Result<(), Fail> {
-    let text = format!(in alloc; " {}", cell.number)?;
-    Ok(out.extend_from_slice(text.as_bytes())?)
+// Whether a word such as `2=5` tells this number and this value.
+fn is_pair(word: Option<&str>, number: u16, value: &Value) -> bool {
+    let (Some(word), Value::Int(n)) = (word, value) else {
+        return false;
+    };
+    match word.split_once('=') {
+        Some((key, text)) => {
+            key.parse::<u16>().ok() == Some(number) && text.parse::<i64>().ok() == Some(*n)
+        }
+        None => false,
+    }
 }
 
-fn write_pair(out: &mut Vec<u8>, alloc: Global, number: u16, v: &Value) -> Result<(), Fail> {
-    let text = format!(in alloc; " {number}=")?;
-    out.extend_from_slice(text.as_bytes())?;
-    write_text(v, out)?;
-    Ok(())
+// Whether a word tells the number of a cell.
+fn is_cell(word: Option<&str>, cell: CellId) -> bool {
+    match word {
+        Some(word) => word.parse::<u16>().ok() == Some(cell.number),
+        None => false,
+    }
 }
 
-// The own values of the first refs, and what was set.
-fn write_values(out: &mut Vec<u8>, alloc: Global, frame: &TxFrame) -> Result<(), Fail> {
-    out.extend_from_slice(b"own")?;
+// Whether a word such as `2=5` tells the own value of a ref.
+fn is_own(frame: &TxFrame, word: &str) -> bool {
+    let Some((key, _)) = word.split_once('=') else {
+        return false;
+    };
+    let Ok(number) = key.parse::<u16>() else {
+        return false;
+    };
+    match frame.value(number) {
+        Some(value) => is_pair(Some(word), number, value),
+        None => false,
+    }
+}
+
+// How many of the first refs have an own value.
+fn count_of_own(frame: &TxFrame) -> usize {
+    let mut count = 0usize;
     for number in 0..6u16 {
-        if let Some(value) = frame.value(number) {
-            write_pair(out, alloc, number, value)?;
+        if frame.value(number).is_some() {
+            count = count.wrapping_add(1);
         }
     }
-    out.extend_from_slice(b" set")?;
-    let writes = frame.writes()?;
-    for write in &writes {
-        write_pair(out, alloc, write.0.number, &write.1)?;
-    }
-    Ok(())
+    count
 }
 
-// The refs that were commuted and not set, and those that were ensured.
-fn write_refs(out: &mut Vec<u8>, alloc: Global, frame: &TxFrame) -> Result<(), Fail> {
-    out.extend_from_slice(b" commuted")?;
-    let commuted = frame.commuted()?;
-    for cell in &commuted {
-        write_cell(out, alloc, *cell)?;
+// Whether the words tell the own values of the first refs.
+fn are_own(frame: &TxFrame, row: &str) -> bool {
+    for word in row.split_whitespace() {
+        if !is_own(frame, word) {
+            return false;
+        }
     }
-    out.extend_from_slice(b" ensured")?;
-    for cell in frame.ensured() {
-        write_cell(out, alloc, *cell)?;
-    }
-    Ok(())
+    row.split_whitespace().count() == count_of_own(frame)
 }
 
-// The commutes with their first arguments, and the agents of the sends.
-fn write_work(out: &mut Vec<u8>, alloc: Global, frame: &TxFrame) -> Result<(), Fail> {
-    out.extend_from_slice(b" commutes")?;
+// Whether the words tell what was set.
+fn are_set(frame: &TxFrame, row: &str) -> bool {
+    let Ok(writes) = frame.writes() else {
+        return false;
+    };
+    let mut words = row.split_whitespace();
+    for (cell, value) in &writes {
+        if !is_pair(words.next(), cell.number, value) {
+            return false;
+        }
+    }
+    words.next().is_none()
+}
+
+// Whether the words tell these cells.
+fn are_cells(cells: &[CellId], row: &str) -> bool {
+    let mut words = row.split_whitespace();
+    for cell in cells {
+        if !is_cell(words.next(), *cell) {
+            return false;
+        }
+    }
+    words.next().is_none()
+}
+
+// Whether the words tell the refs that were commuted and not set.
+fn are_commuted(frame: &TxFrame, row: &str) -> bool {
+    match frame.commuted() {
+        Ok(cells) => are_cells(cells.as_slice(), row),
+        Err(_) => false,
+    }
+}
+
+// Whether the words tell the commutes, each by its ref and its first argument.
+fn are_commutes(frame: &TxFrame, row: &str) -> bool {
+    let mut words = row.split_whitespace();
     for commute in frame.commutes() {
-        if let Some(value) = commute.args.as_slice().first() {
-            write_pair(out, alloc, commute.cell.number, value)?;
+        let [value, ..] = commute.args.as_slice() else {
+            return false;
+        };
+        if !is_pair(words.next(), commute.cell.number, value) {
+            return false;
         }
     }
-    out.extend_from_slice(b" sends")?;
+    words.next().is_none()
+}
+
+// Whether the words tell the agents of the sends.
+fn are_sends(frame: &TxFrame, row: &str) -> bool {
+    let mut words = row.split_whitespace();
     for action in frame.sends() {
-        write_cell(out, alloc, action.agent)?;
+        if !is_cell(words.next(), action.agent) {
+            return false;
+        }
     }
-    Ok(())
+    words.next().is_none()
+}
+
+// Whether a frame holds what a part of a row tells.
+fn tells(frame: &TxFrame, part: &str) -> bool {
+    let (name, row) = part.split_once(':').unwrap_or((part, ""));
+    match name.trim() {
+        "own" => are_own(frame, row),
+        "set" => are_set(frame, row),
+        "commuted" => are_commuted(frame, row),
+        "ensured" => are_cells(frame.ensured(), row),
+        "commutes" => are_commutes(frame, row),
+        _ => are_sends(frame, row),
+    }
 }
 
 // Whether a frame holds this after these calls.
-fn holds(alloc: Global, calls: &str, held: &str) -> Result<bool, Fail> {
+fn holds(alloc: Global, calls: &str, held: &str) -> bool {
     let mut frame = TxFrame::new(alloc);
-    if !call_all(&mut frame, alloc, calls)? {
-        return Ok(false);
+    if !call_all(&mut frame, alloc, calls) {
+        return false;
     }
-    let mut out = Vec::new(alloc);
-    write_values(&mut out, alloc, &frame)?;
-    write_refs(&mut out, alloc, &frame)?;
-    write_work(&mut out, alloc, &frame)?;
-    Ok(out.as_slice() == held.as_bytes())
+    for part in held.split(';') {
+        if !tells(&frame, part) {
+            return false;
+        }
+    }
+    true
 }
 
 const ROWS: [(&str, &str); 7] = [
-    ("reset", "own set commuted ensured commutes sends"),
+    (
+        "reset",
+        "own:; set:; commuted:; ensured:; commutes:; sends:",
+    ),
     (
         "set 3 7;set 1 5;set 3 8",
-        "own 1=5 3=8 set 1=5 3=8 commuted ensured commutes sends",
+        "own: 1=5 3=8; set: 1=5 3=8; commuted:; ensured:; commutes:; sends:",
     ),
     (
         "commute 2 1 10;refused 2 4;set 0 1",
-        "own 0=1 2=10 set 0=1 commuted 2 ensured commutes 2=1 sends",
+        "own: 0=1 2=10; set: 0=1; commuted: 2; ensured:; commutes: 2=1; sends:",
     ),
     (
         "set 2 4;commute 2 1 5;commute 0 2 2;commute 2 3 8;refused 2 0",
-        "own 0=2 2=8 set 2=8 commuted 0 ensured commutes 2=1 0=2 2=3 sends",
+        "own: 0=2 2=8; set: 2=8; commuted: 0; ensured:; commutes: 2=1 0=2 2=3; sends:",
     ),
     (
         "commute 5 1 1;commute 3 2 2;commute 4 3 3;commute 3 4 6;set 1 0",
-        "own 1=0 3=6 4=3 5=1 set 1=0 commuted 3 4 5 ensured commutes 5=1 3=2 4=3 3=4 sends",
+        "own: 1=0 3=6 4=3 5=1; set: 1=0; commuted: 3 4 5; ensured:; commutes: 5=1 3=2 4=3 3=4; sends:",
     ),
     (
         "ensure 4;ensure 1;ensure 4;ensure 2;send 3;send 2;send 3",
-        "own set commuted ensured 1 2 4 commutes sends 3 2 3",
+        "own:; set:; commuted:; ensured: 1 2 4; commutes:; sends: 3 2 3",
     ),
     (
         "set 3 7;commute 1 1 1;ensure 0;send 0;reset;set 1 2;ensure 2",
-        "own 1=2 set 1=2 commuted ensured 2 commutes sends",
+        "own: 1=2; set: 1=2; commuted:; ensured: 2; commutes:; sends:",
     ),
 ];
 
 #[test]
-fn holds_what_was_done(rt: HostRuntime) -> Result<(), Fail> {
-    for (calls, held) in &ROWS {
-        assert!(rt; holds(rt.alloc(), calls, held)?, "{calls}");
+fn holds_what_was_done(rt: HostRuntime) {
+    for (calls, held) in ROWS {
+        assert!(rt; holds(rt.alloc(), calls, held), "{calls}");
     }
-    Ok(())
 }

@@ -1,12 +1,14 @@
 //! What no contract says of the crates below trees and code: that calls succeed with ample memory, the
-//! worked rows of values, of what the store and atoms serve, of what a transaction's frame holds, of what is
-//! read and of places, how mailboxes run, printed text, and limits.
+//! worked rows of what the store and atoms serve, of what a transaction's frame holds and of places, how
+//! mailboxes run, printed text, and limits.
 #![tactic(auto)]
 
 #[cfg(test)]
 mod atoms;
 #[cfg(test)]
 mod bytes;
+#[cfg(test)]
+mod copies;
 #[cfg(test)]
 mod frame;
 #[cfg(test)]
@@ -15,6 +17,8 @@ mod mail;
 mod positions;
 #[cfg(test)]
 mod reader;
+#[cfg(test)]
+mod replies;
 #[cfg(test)]
 mod store;
 #[cfg(test)]

@@ -23,33 +23,41 @@ fn tells_places(rt: HostRuntime) {
         (99, 4, 4),
     ];
     for (offset, line, column) in rows {
-        assert_eq!(rt;
-            position(SCRIPT.as_bytes(), offset),
-            Position { line, column },
+        assert!(rt;
+            position(SCRIPT.as_bytes(), offset) == Position { line, column },
             "at {offset}"
         );
     }
-    assert_eq!(rt; position(b"", 0), Position { line: 1, column: 1 });
 }
 
 #[test]
+fn tells_the_place_in_nothing(rt: HostRuntime) {
+    assert!(rt; position(b"", 0) == Position { line: 1, column: 1 });
+}
+
+const LINES: [(usize, &str); 4] = [
+    (7, "(future"),
+    (8, "\t(println \"é€\" (inc ß)))"),
+    (37, ""),
+    (41, "end"),
+];
+
+#[test]
 fn gives_lines(rt: HostRuntime) {
-    assert_eq!(rt; line_at(SCRIPT.as_bytes(), 7), b"(future".as_slice());
-    assert_eq!(rt;
-        line_at(SCRIPT.as_bytes(), 8),
-        "\t(println \"é€\" (inc ß)))".as_bytes()
-    );
-    assert_eq!(rt; line_at(SCRIPT.as_bytes(), 37), b"".as_slice());
-    assert_eq!(rt; line_at(SCRIPT.as_bytes(), 41), b"end".as_slice());
+    for (offset, line) in LINES {
+        assert!(rt;
+            line_at(SCRIPT.as_bytes(), offset) == line.as_bytes(),
+            "at {offset}"
+        );
+    }
 }
 
 #[test]
 fn points(rt: HostRuntime) -> Result<(), Fail> {
     let mut out = Vec::new(rt.alloc());
-    write_pointed(SCRIPT.as_bytes(), 18, 25, &mut out)?;
-    write_pointed(SCRIPT.as_bytes(), 26, 34, &mut out)?;
-    write_pointed(SCRIPT.as_bytes(), 0, 30, &mut out)?;
-    write_pointed(SCRIPT.as_bytes(), 41, 41, &mut out)?;
+    for (from, to) in [(18, 25), (26, 34), (0, 30), (41, 41)] {
+        write_pointed(SCRIPT.as_bytes(), from, to, &mut out)?;
+    }
     let wanted = "\
 \t(println \"é€\" (inc ß)))
 \t         ^^^^
@@ -60,6 +68,6 @@ fn points(rt: HostRuntime) -> Result<(), Fail> {
 end
    ^
 ";
-    assert_eq!(rt; out.as_slice(), wanted.as_bytes());
+    assert!(rt; out.as_slice() == wanted.as_bytes());
     Ok(())
 }

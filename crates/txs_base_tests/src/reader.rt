@@ -1,217 +1,222 @@
 // What no clause says: the worked rows, and that calls succeed with ample memory.
-use std::alloc::AllocError;
-use std::test::Fail;
+use std::alloc::{AllocError, Global};
 use txs_reader::{Bracket, Form, ReadError, ReadErrorKind, read_script};
 use txs_value::Span;
 
 /// The number of the refusal and its span; all 0 for a script that is read.
-fn stop(script: &[u8], rt: &HostRuntime) -> (u8, u32, u32) {
-    match read_script(rt.alloc(), script) {
+fn stop(alloc: Global, script: &[u8]) -> (u8, u32, u32) {
+    match read_script(alloc, script) {
         Ok(_) => (0, 0, 0),
         Err(ReadError { kind, at }) => (kind.number(), at.from, at.to),
     }
 }
 
-/// Whether each of the scripts stops as the row says.
-fn all_stop(rows: &[(&[u8], u8, u32, u32)], rt: &HostRuntime) -> bool {
-    rows.iter().all(|(script, kind, from, to)| stop(script, rt) == (*kind, *from, *to))
+/// Scripts that a file of rows can't hold; the others stand in `reading.rows` of txs_examples.
+const BYTES: [(&[u8], (u8, u32, u32)); 10] = [
+    (b"a\xff", (1, 1, 2)),
+    (b"\"\xc3\xa9\" \xe2\x82", (1, 5, 6)),
+    (b"(a) \x80", (1, 4, 5)),
+    (b"a \xc0\xaf", (1, 2, 3)),
+    (b"\xed\xa0\x80", (1, 0, 1)),
+    (b"(a\x00b)", (4, 1, 4)),
+    (b"\"\\", (6, 1, 2)),
+    (b"\"\\u12", (6, 1, 2)),
+    (b"-9223372036854775808", (0, 0, 0)),
+    (b"\"a\rb\" +1 -0 a.b x? @ ; c\n x", (0, 0, 0)),
+];
+
+/// Whether each of these scripts stops so.
+fn all_stop(alloc: Global, rows: &[(&[u8], (u8, u32, u32))]) -> bool {
+    for (script, answer) in rows {
+        if stop(alloc, script) != *answer {
+            return false;
+        }
+    }
+    true
 }
 
 #[test]
-fn refusals(rt: HostRuntime) -> Result<(), Fail> {
-    let brackets: [(&[u8], u8, u32, u32); 20] = [
-        (b"a\xff", 1, 1, 2),
-        (b"\xef\xbb\xbfa", 4, 0, 4),
-        (b"(a \xef\xbb\xbf)", 4, 3, 6),
-        (b"\"\xc3\xa9\" \xe2\x82", 1, 5, 6),
-        (b"(a) \x80", 1, 4, 5),
-        (b"a \xc0\xaf", 1, 2, 3),
-        (b"\xed\xa0\x80", 1, 0, 1),
-        (b"\"abc", 2, 0, 1),
-        (b"(a [b] ; c", 2, 0, 1),
-        (b"(a [", 2, 3, 4),
-        (b"(a @", 2, 3, 4),
-        (b"(future [1 2)", 3, 12, 13),
-        (b"@)", 3, 1, 2),
-        (b")", 3, 0, 1),
-        (b"(a ] b)", 3, 3, 4),
-        (b"\xc3\xa9", 4, 0, 2),
-        (b"(a\x00b)", 4, 1, 4),
-        (b"(future (println 9223372036854775808))", 5, 17, 36),
-        (b"-9223372036854775809", 5, 0, 20),
-        (b"a {", 9, 2, 3),
-    ];
-    assert!(rt; all_stop(&brackets, &rt));
-    let words: [(&[u8], u8, u32, u32); 15] = [
-        (b"\"ab\\q\"", 6, 3, 4),
-        (b"\"\\ud800\"", 6, 1, 2),
-        (b"\"\\u12", 6, 1, 2),
-        (b"\"\\", 6, 1, 2),
-        (b"01", 9, 0, 2),
-        (b"00", 9, 0, 2),
-        (b"[00 1]", 9, 1, 3),
-        (b"-00", 9, 0, 3),
-        (b"1a", 9, 0, 2),
-        (b":a:b", 9, 0, 4),
-        (b":", 9, 0, 1),
-        (b".5", 9, 0, 2),
-        (b"'x", 9, 0, 2),
-        (b"-9223372036854775808", 0, 0, 0),
-        (b"\"a\rb\" +1 -0 a.b x? @ ; c\n x", 0, 0, 0),
-    ];
-    assert!(rt; all_stop(&words, &rt));
-    Ok(())
+fn bytes_are_refused(rt: HostRuntime) {
+    assert!(rt; all_stop(rt.alloc(), &BYTES));
 }
 
-/// So many opening brackets.
-fn openings(count: usize, rt: &HostRuntime) -> Result<Vec<u8>, AllocError> {
-    let mut script = Vec::new(rt.alloc());
+/// A text, so many times another, and a third one.
+fn made(
+    alloc: Global,
+    front: &[u8],
+    part: &[u8],
+    count: u32,
+    back: &[u8],
+) -> Result<Vec<u8>, AllocError> {
+    let mut script = Vec::from_slice(alloc, front)?;
     for _ in 0..count {
-        script.push(b'(')?;
+        script.extend_from_slice(part)?;
     }
+    script.extend_from_slice(back)?;
     Ok(script)
 }
+
+/// What stands before, so many times what, and what stands behind; and the refusal.
+type Made = (
+    &'static [u8],
+    &'static [u8],
+    u32,
+    &'static [u8],
+    (u8, u32, u32),
+);
+
+/// The first of these scripts that stops in another way.
+fn first_other(alloc: Global, rows: &[Made]) -> Result<Option<u32>, AllocError> {
+    for (front, part, count, back, answer) in rows {
+        let script = made(alloc, front, part, *count, back)?;
+        if stop(alloc, script.as_slice()) != *answer {
+            return Ok(Some(*count));
+        }
+    }
+    Ok(None)
+}
+
+const NESTED: [Made; 8] = [
+    (b"", b"(", 1_048_577, b"", (8, 1_048_576, 1_048_577)),
+    (b"", b"(", 1_048_576, b"", (7, 100, 101)),
+    (b"", b"(", 101, b"", (7, 100, 101)),
+    (b"", b"(", 100, b"", (2, 99, 100)),
+    (b"", b"@", 101, b"a", (7, 100, 101)),
+    (b"", b"@", 100, b"a", (0, 0, 0)),
+    (b"", b"a", 255, b"", (0, 0, 0)),
+    (b"", b"a", 256, b"", (8, 0, 256)),
+];
 
 #[test]
-fn limits(rt: HostRuntime) -> Result<(), Fail> {
-    assert!(rt; stop(&openings(1_048_577, &rt)?, &rt) == (8, 1_048_576, 1_048_577));
-    assert!(rt; stop(&openings(1_048_576, &rt)?, &rt) == (7, 100, 101));
-    assert!(rt; stop(&openings(101, &rt)?, &rt) == (7, 100, 101));
-    assert!(rt; stop(&openings(100, &rt)?, &rt) == (2, 99, 100));
-    assert!(rt; stop(&signs(101, &rt)?, &rt) == (7, 100, 101));
-    assert!(rt; stop(&signs(100, &rt)?, &rt) == (0, 0, 0));
-    assert!(rt; stop(&[b'a'; 255], &rt) == (0, 0, 0));
-    assert!(rt; stop(&[b'a'; 256], &rt) == (8, 0, 256));
-    Ok(())
+fn nesting_and_length_are_limited(rt: HostRuntime) {
+    assert!(rt; first_other(rt.alloc(), &NESTED) == Ok(None));
 }
 
-/// So many signs `@`, and a name behind them.
-fn signs(count: usize, rt: &HostRuntime) -> Result<Vec<u8>, AllocError> {
-    let mut script = Vec::new(rt.alloc());
-    for _ in 0..count {
-        script.push(b'@')?;
-    }
-    script.push(b'a')?;
-    Ok(script)
-}
-
-/// A vector of so many parts, each with a space behind it, and not closed.
-fn parts(count: usize, rt: &HostRuntime) -> Result<Vec<u8>, AllocError> {
-    let mut script = Vec::new(rt.alloc());
-    script.push(b'[')?;
-    for _ in 0..count {
-        script.push(b'a')?;
-        script.push(b' ')?;
-    }
-    Ok(script)
-}
-
-/// A text of so many bytes.
-fn quoted(count: usize, rt: &HostRuntime) -> Result<Vec<u8>, AllocError> {
-    let mut script = Vec::new(rt.alloc());
-    script.push(b'"')?;
-    for _ in 0..count {
-        script.push(b'a')?;
-    }
-    script.push(b'"')?;
-    Ok(script)
-}
+const LONG: [Made; 6] = [
+    (b"[", b"a ", 65_535, b"", (2, 0, 1)),
+    (b"[", b"a ", 65_535, b"]", (0, 0, 0)),
+    (b"[", b"a ", 65_536, b"", (8, 131_071, 131_072)),
+    (b"[", b"a ", 65_535, b")", (3, 131_071, 131_072)),
+    (b"\"", b"a", 65_535, b"\"", (0, 0, 0)),
+    (b"\"", b"a", 65_536, b"\"", (8, 0, 65_538)),
+];
 
 #[test]
-fn many(rt: HostRuntime) -> Result<(), Fail> {
-    let mut full = parts(65_535, &rt)?;
-    assert!(rt; stop(&full, &rt) == (2, 0, 1));
-    full.push(b']')?;
-    assert!(rt; stop(&full, &rt) == (0, 0, 0));
-    assert!(rt; stop(&parts(65_536, &rt)?, &rt) == (8, 131_071, 131_072));
-    let mut wrong = parts(65_535, &rt)?;
-    wrong.push(b')')?;
-    assert!(rt; stop(&wrong, &rt) == (3, 131_071, 131_072));
-    assert!(rt; stop(&quoted(65_535, &rt)?, &rt) == (0, 0, 0));
-    assert!(rt; stop(&quoted(65_536, &rt)?, &rt) == (8, 0, 65_538));
-    Ok(())
+fn lists_and_texts_are_limited(rt: HostRuntime) {
+    assert!(rt; first_other(rt.alloc(), &LONG) == Ok(None));
 }
 
 /// Whether each front of the script gives an answer other than want of memory.
-fn all_fronts_answer(script: &[u8], rt: &HostRuntime) -> bool {
-    (0..script.len()).all(|n| match script.get(..n) {
-        Some(front) => stop(front, rt).0 != 10,
-        None => false,
-    })
+fn all_fronts_answer(alloc: Global, script: &[u8]) -> bool {
+    for n in 0..script.len() {
+        if stop(alloc, &script[..n]).0 == 10 {
+            return false;
+        }
+    }
+    true
 }
 
-#[test]
-fn fronts(rt: HostRuntime) -> Result<(), Fail> {
-    let scripts: [&[u8]; 20] = [
-        b"(future (println (+ 1 2)))",
-        b"(future (println -9223372036854775808))",
-        b"(future (println (inc 9223372036854775807)))",
-        b"(future (println (if false (quot 1 0) 5)))",
-        b"(future (loop [a 1] (+ 1 (recur a))))",
-        b"(def c (ref 0)) (future (dosync (commute c inc)))",
-        b"(def r (ref 1)) (future (dosync (alter r + 10) (commute r * 2)))",
-        b"(future (dosync (when (= 2 (+ @a @b)) (alter a dec))))",
-        b"(def r (ref 0)) (future (dosync @r) (println (dosync @r)))",
-        b"(def g (agent 10)) (future (send g quot 0) (send g inc))",
-        b"(def g (agent 10 :error-mode :continue))",
-        b"(future (loop [] (recur)))",
-        b"(def a (atom 0)) (defn f [x] @x) (future (dosync (f a)))",
-        b"(future [1 2)",
-        b"\"abc",
-        b"(future (println [1 \"a\" :b nil] \"x\"))",
-        b"(def a (atom 1)) (future (println (swap! a + 1 2)) (println @a))",
-        b"(def a (atom 5)) (future (println (reset! a 7) a))",
-        b"\"\\u0041\\n\xc3\xa9\\q\"",
-        b"@ @ ; two\n x, :k true",
-    ];
-    assert!(rt; scripts.iter().all(|script| all_fronts_answer(script, &rt)));
-    Ok(())
-}
+const FRONTS: [&[u8]; 20] = [
+    b"(future (println (+ 1 2)))",
+    b"(future (println -9223372036854775808))",
+    b"(future (println (inc 9223372036854775807)))",
+    b"(future (println (if false (quot 1 0) 5)))",
+    b"(future (loop [a 1] (+ 1 (recur a))))",
+    b"(def c (ref 0)) (future (dosync (commute c inc)))",
+    b"(def r (ref 1)) (future (dosync (alter r + 10) (commute r * 2)))",
+    b"(future (dosync (when (= 2 (+ @a @b)) (alter a dec))))",
+    b"(def r (ref 0)) (future (dosync @r) (println (dosync @r)))",
+    b"(def g (agent 10)) (future (send g quot 0) (send g inc))",
+    b"(def g (agent 10 :error-mode :continue))",
+    b"(future (loop [] (recur)))",
+    b"(def a (atom 0)) (defn f [x] @x) (future (dosync (f a)))",
+    b"(future [1 2)",
+    b"\"abc",
+    b"(future (println [1 \"a\" :b nil] \"x\"))",
+    b"(def a (atom 1)) (future (println (swap! a + 1 2)) (println @a))",
+    b"(def a (atom 5)) (future (println (reset! a 7) a))",
+    b"\"\\u0041\\n\xc3\xa9\\q\"",
+    b"@ @ ; two\n x, :k true",
+];
 
 #[test]
-fn reads(rt: HostRuntime) -> Result<(), Fail> {
-    let forms = read_script(
-        rt.alloc(),
-        b"(a? -7 ; x\n[+1]) :b nil, true @@c \"\\u0041\\t\"",
+fn fronts(rt: HostRuntime) {
+    for script in FRONTS {
+        assert!(rt; all_fronts_answer(rt.alloc(), script));
+    }
+}
+
+// Whether these are the parts of `(a? -7 ; x [+1])`.
+fn are_of_list(parts: &[Form]) -> bool {
+    matches!(
+        parts,
+        [
+            Form::Symbol(_, _),
+            Form::Number(-7, Span { from: 4, to: 6 }),
+            Form::Group(Bracket::Square, _, _)
+        ]
     )
-    .ok()
-    .ok_or("refused")?;
-    assert_eq!(rt; forms.len(), 6);
-    assert!(rt; forms[0].span() == Span { from: 0, to: 16 });
-    match &forms[0] {
-        Form::Group(Bracket::Round, parts, _) => {
-            assert_eq!(rt; parts.len(), 3);
-            assert!(rt; matches!(&parts[1], Form::Number(-7, Span { from: 4, to: 6 })));
-        }
-        _ => assert!(rt; false),
-    }
-    assert!(rt; matches!(&forms[1], Form::Keyword(_, Span { from: 17, to: 19 })));
-    assert!(rt; matches!(&forms[2], Form::Nil(_)));
-    assert!(rt; matches!(&forms[3], Form::Truth(true, _)));
-    match &forms[4] {
-        Form::Group(Bracket::Round, parts, Span { from: 30, to: 33 }) => {
-            assert_eq!(rt; parts.len(), 2);
-            assert!(rt; matches!(&parts[0], Form::Symbol(_, Span { from: 30, to: 31 })));
-            assert!(rt; parts[1].span() == Span { from: 31, to: 33 });
-        }
-        _ => assert!(rt; false),
-    }
-    assert!(rt; matches!(&forms[5], Form::Text(_, Span { from: 34, to: 44 })));
-    assert_eq!(rt; ReadErrorKind::Memory.name(), "Memory");
-    Ok(())
+}
+
+// Whether these are the parts of `@@c`.
+fn are_of_deref(parts: &[Form]) -> bool {
+    matches!(
+        parts,
+        [
+            Form::Symbol(_, Span { from: 30, to: 31 }),
+            Form::Group(Bracket::Round, _, Span { from: 31, to: 33 })
+        ]
+    )
+}
+
+// Whether these are the forms of `LISTS`.
+fn are_lists(forms: &[Form]) -> bool {
+    let [list, key, nil, truth, deref, text] = forms else {
+        return false;
+    };
+    matches!(list, Form::Group(Bracket::Round, parts, Span { from: 0, to: 16 }) if are_of_list(parts))
+        && matches!(key, Form::Keyword(_, Span { from: 17, to: 19 }))
+        && matches!(nil, Form::Nil(_))
+        && matches!(truth, Form::Truth(true, _))
+        && matches!(deref, Form::Group(Bracket::Round, parts, Span { from: 30, to: 33 }) if are_of_deref(parts))
+        && matches!(text, Form::Text(_, Span { from: 34, to: 44 }))
+}
+
+const LISTS: &[u8] = b"(a? -7 ; x\n[+1]) :b nil, true @@c \"\\u0041\\t\"";
+
+// Whether these are the forms of `WORDS`.
+fn are_words(forms: &[Form]) -> bool {
+    let [one, zero, text, key, symbol, truth, deref] = forms else {
+        return false;
+    };
+    matches!(one, Form::Number(1, Span { from: 0, to: 2 }))
+        && matches!(zero, Form::Number(0, _))
+        && matches!(text, Form::Text(text, _) if text.as_str() == "a\rbA\"\\")
+        && matches!(key, Form::Keyword(name, _) if name.as_bytes() == b"k".as_slice())
+        && matches!(symbol, Form::Symbol(name, _) if name.as_bytes() == b"a.b".as_slice())
+        && matches!(truth, Form::Truth(true, _))
+        && matches!(deref, Form::Group(Bracket::Round, parts, _) if parts.len() == 2)
+}
+
+const WORDS: &[u8] = b"+1 -0 \"a\rb\\u0041\\\"\\\\\" :k a.b true @ ; comment\n x";
+
+// Whether both are read so.
+fn are_read(alloc: Global) -> bool {
+    let Ok(lists) = read_script(alloc, LISTS) else {
+        return false;
+    };
+    let Ok(words) = read_script(alloc, WORDS) else {
+        return false;
+    };
+    are_lists(lists.as_slice()) && are_words(words.as_slice())
 }
 
 #[test]
-fn values(rt: HostRuntime) -> Result<(), Fail> {
-    let script = b"+1 -0 \"a\rb\\u0041\\\"\\\\\" :k a.b true @ ; comment\n x";
-    let forms = read_script(rt.alloc(), script).ok().ok_or("refused")?;
-    assert_eq!(rt; forms.len(), 7);
-    assert!(rt; matches!(&forms[0], Form::Number(1, Span { from: 0, to: 2 })));
-    assert!(rt; matches!(&forms[1], Form::Number(0, _)));
-    assert!(rt; matches!(&forms[2], Form::Text(text, _) if text.as_str() == "a\rbA\"\\"));
-    assert!(rt; matches!(&forms[3], Form::Keyword(name, _) if name.as_bytes() == b"k".as_slice()));
-    assert!(rt; matches!(&forms[4], Form::Symbol(name, _) if name.as_bytes() == b"a.b".as_slice()));
-    assert!(rt; matches!(&forms[5], Form::Truth(true, _)));
-    assert!(rt; matches!(&forms[6], Form::Group(Bracket::Round, parts, _) if parts.len() == 2));
-    Ok(())
+fn reads_forms(rt: HostRuntime) {
+    assert!(rt; are_read(rt.alloc()));
+}
+
+#[test]
+fn names_refusals(rt: HostRuntime) {
+    assert!(rt; ReadErrorKind::Memory.name() == "Memory");
 }

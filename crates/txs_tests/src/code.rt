@@ -1,7 +1,7 @@
 // The code of small scripts, instruction by instruction.
-use std::alloc::Global;
+use std::alloc::{AllocError, Global};
 use std::test::Fail;
-use txs_code::{Body, Code, Instr, OpenForm};
+use txs_code::{Body, Code, Instr, OpenForm, Verified};
 use txs_compile::compile;
 use txs_value::{LookForm, PutForm, UpdateForm, write_line, write_text};
 
@@ -59,80 +59,103 @@ fn number_of(instr: &Instr) -> Option<u32> {
 }
 
 // An instruction: its name, and its number behind it.
-fn write_instr(out: &mut Vec<u8>, alloc: Global, instr: &Instr) -> Result<(), Fail> {
+fn write_instr(out: &mut Vec<u8>, alloc: Global, instr: &Instr) -> Result<(), AllocError> {
     out.push(b' ')?;
     out.extend_from_slice(name_of(instr))?;
-    if let Some(n) = number_of(instr) {
-        let number = format!(in alloc; ":{n}")?;
-        out.extend_from_slice(number.as_bytes())?;
+    match number_of(instr) {
+        Some(n) => write_all(out, format!(in alloc; ":{n}")?),
+        None => Ok(()),
     }
+}
+
+// A text.
+fn write_all(out: &mut Vec<u8>, text: String) -> Result<(), AllocError> {
+    out.extend_from_slice(text.as_bytes())?;
     Ok(())
 }
 
 // A body: its parameters, its locals, the room that its stack needs, and its instructions.
-fn write_body(out: &mut Vec<u8>, alloc: Global, body: &Body, room: u32) -> Result<(), Fail> {
-    let numbers = format!(in alloc; "{} {} {room}", body.parameters(), body.locals())?;
-    out.extend_from_slice(numbers.as_bytes())?;
+fn write_body(out: &mut Vec<u8>, alloc: Global, body: &Body, room: u32) -> Result<(), AllocError> {
+    write_all(
+        out,
+        format!(in alloc; "{} {} {room}", body.parameters(), body.locals())?,
+    )?;
     for instr in body.instrs() {
         write_instr(out, alloc, instr)?;
     }
-    Ok(out.push(b'\n')?)
+    out.push(b'\n')?;
+    Ok(())
+}
+
+// Bodies, with the room that their stacks need.
+fn write_bodies(
+    out: &mut Vec<u8>,
+    alloc: Global,
+    bodies: &[Body],
+    rooms: &[u32],
+) -> Result<(), AllocError> {
+    for (body, room) in bodies.iter().zip(rooms) {
+        write_body(out, alloc, body, *room)?;
+    }
+    Ok(())
 }
 
 // The places of a body's instructions.
-fn write_spans(out: &mut Vec<u8>, alloc: Global, body: &Body) -> Result<(), Fail> {
+fn write_spans(out: &mut Vec<u8>, alloc: Global, body: &Body) -> Result<(), AllocError> {
     for span in body.spans() {
-        let place = format!(in alloc; "{}..{} ", span.from, span.to)?;
-        out.extend_from_slice(place.as_bytes())?;
+        write_all(out, format!(in alloc; "{}..{} ", span.from, span.to)?)?;
     }
-    Ok(out.push(b'\n')?)
+    out.push(b'\n')?;
+    Ok(())
+}
+
+// The places of the instructions of bodies.
+fn write_places(out: &mut Vec<u8>, alloc: Global, bodies: &[Body]) -> Result<(), AllocError> {
+    for body in bodies {
+        write_spans(out, alloc, body)?;
+    }
+    Ok(())
 }
 
 // The names and opening values of the cells, and the constants.
-fn write_values(out: &mut Vec<u8>, code: &Code) -> Result<(), Fail> {
+fn write_values(out: &mut Vec<u8>, code: &Code) -> Result<(), AllocError> {
     for cell in code.cells() {
         out.extend_from_slice(cell.name.as_bytes())?;
         out.push(b' ')?;
         write_text(&cell.opening, out)?;
         out.push(b'\n')?;
     }
-    Ok(write_line(code.constants(), out)?)
+    write_line(code.constants(), out)
 }
 
-// The code of a script: its cells, a line each; its constants; its functions and threads, a line each; and, where
-// they are wanted, the places of their instructions.
-fn listed(alloc: Global, script: &str, places: bool, out: &mut Vec<u8>) -> Result<(), Fail> {
-    let (_, verified) = compile(alloc, script.as_bytes())?;
+// Verified code: its cells, a line each; its constants; its functions and threads, a line each; and, where they are wanted,
+// the places of their instructions.
+fn write_code(
+    out: &mut Vec<u8>,
+    alloc: Global,
+    verified: &Verified,
+    places: bool,
+) -> Result<(), AllocError> {
     let code = verified.code();
     let (of_functions, of_threads) = verified.rooms();
     write_values(out, code)?;
-    for (body, room) in code.functions().iter().zip(of_functions) {
-        write_body(out, alloc, body, *room)?;
-    }
-    for (body, room) in code.threads().iter().zip(of_threads) {
-        write_body(out, alloc, body, *room)?;
-    }
+    write_bodies(out, alloc, code.functions(), of_functions)?;
+    write_bodies(out, alloc, code.threads(), of_threads)?;
     if places {
-        for body in code.functions() {
-            write_spans(out, alloc, body)?;
-        }
-        for body in code.threads() {
-            write_spans(out, alloc, body)?;
-        }
+        write_places(out, alloc, code.functions())?;
+        write_places(out, alloc, code.threads())?;
     }
     Ok(())
 }
 
-// The first of the scripts whose code isn't this.
-fn first_other<'a>(alloc: Global, rows: &[(&'a str, bool, &str)]) -> Result<Option<&'a str>, Fail> {
-    for (script, places, code) in rows {
-        let mut out = Vec::new(alloc);
-        listed(alloc, script, *places, &mut out)?;
-        if out.as_slice() != code.as_bytes() {
-            return Ok(Some(script));
-        }
-    }
-    Ok(None)
+// Whether the code of a script is listed so.
+fn has_code(alloc: Global, script: &str, places: bool, listing: &str) -> Result<bool, AllocError> {
+    let Ok((_, verified)) = compile(alloc, script.as_bytes()) else {
+        return Ok(false);
+    };
+    let mut out = Vec::new(alloc);
+    write_code(&mut out, alloc, &verified, places)?;
+    Ok(out.as_slice() == listing.as_bytes())
 }
 
 const LISTINGS: [(&str, bool, &str); 9] = [
@@ -185,6 +208,8 @@ const LISTINGS: [(&str, bool, &str); 9] = [
 
 #[test]
 fn scripts_have_this_code(rt: HostRuntime) -> Result<(), Fail> {
-    assert_eq!(rt; first_other(rt.alloc(), LISTINGS.as_slice())?, None);
+    for (script, places, listing) in LISTINGS {
+        assert!(rt; has_code(rt.alloc(), script, places, listing)?, "{script}");
+    }
     Ok(())
 }

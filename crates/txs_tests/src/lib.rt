@@ -1,5 +1,5 @@
-//! What no contract says from trees and code up: that calls succeed with ample memory, the worked rows of
-//! each layer and of the program, the printed text, and the limits.
+//! What no contract says from trees and code up, and no row of txs_examples shows: that calls succeed with ample memory,
+//! evaluators, code, streams that fail, and the limits of programs.
 #![tactic(auto)]
 
 #[cfg(test)]
@@ -7,14 +7,16 @@ mod checks;
 #[cfg(test)]
 mod code;
 #[cfg(test)]
-mod explained;
+mod limits;
+#[cfg(test)]
+mod meanings;
 #[cfg(test)]
 mod program;
 #[cfg(test)]
 mod rerun;
 #[cfg(test)]
-mod rows;
+mod schedules;
+#[cfg(test)]
+mod streams;
 #[cfg(test)]
 mod trees;
-#[cfg(test)]
-mod vector_rows;

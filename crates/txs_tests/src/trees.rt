@@ -3,7 +3,7 @@ use std::test::Fail;
 use txs_asks::Outcome;
 use txs_check::is_pure_callee;
 use txs_compile::compile;
-use txs_tree::{EvalStop, Needs, eval_pure, eval_thread};
+use txs_eval::{EvalStop, Needs, eval_pure, eval_thread};
 use txs_value::{Callee, Fault, FaultKind, Op, Span, Value, same};
 
 const SCRIPT: &[u8] =

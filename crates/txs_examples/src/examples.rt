@@ -1,0 +1,52 @@
+//! The examples: a script in a file of its own, with what it writes in files beside it.
+
+use crate::compare::agrees;
+use crate::written::{Written, words_in, written_of};
+use std::{fs, io};
+
+/// The words that an example is run by, with its file as the last: those of NAME.args, or `run` alone where there is no
+/// such file.
+fn words_of(rt: &HostRuntime, name: &str) -> io::Result<Vec<String>> {
+    let alloc = rt.alloc();
+    let file = format!(in alloc; "{name}.args")?;
+    let text = if fs::exists(rt, file.as_str())? {
+        fs::read_to_string(rt, file.as_str())?
+    } else {
+        String::from_str(alloc, "run")?
+    };
+    let mut words = words_in(alloc, text.as_str())?;
+    words.push(format!(in alloc; "{name}.clj")?)?;
+    Ok(words)
+}
+
+/// What the program writes for an example. Its status needs no look: each but 0 comes with a line on the
+/// standard error.
+fn run(rt: &HostRuntime, name: &str) -> io::Result<Written> {
+    let words = words_of(rt, name)?;
+    let file = format!(in rt.alloc(); "{name}.clj")?;
+    let script = fs::read(rt, file.as_str())?;
+    Ok(written_of(rt.alloc(), words.as_slice(), script.as_slice()))
+}
+
+/// Whether what was written is what the file NAME.KIND says; one that isn't there says nothing.
+fn agrees_with(rt: &HostRuntime, name: &str, kind: &str, got: &[u8]) -> io::Result<bool> {
+    let file = format!(in rt.alloc(); "{name}.{kind}")?;
+    let wanted = if fs::exists(rt, file.as_str())? {
+        fs::read(rt, file.as_str())?
+    } else {
+        Vec::new(rt.alloc())
+    };
+    agrees(rt, name, kind, got, wanted.as_slice())
+}
+
+/// Runs an example, and prints whether all is as expected: NAME.out holds the standard output, and
+/// NAME.err the standard error; a file that isn't there stands for nothing written.
+pub fn is_as_expected(rt: &HostRuntime, name: &str) -> io::Result<bool> {
+    let written = run(rt, name)?;
+    let first = agrees_with(rt, name, "out", written.output.as_slice())?;
+    let second = agrees_with(rt, name, "err", written.errors.as_slice())?;
+    if first && second {
+        println!(rt; "{name}: as expected")?;
+    }
+    Ok(first && second)
+}

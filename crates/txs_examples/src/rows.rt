@@ -1,0 +1,93 @@
+//! Files of rows: many scripts in one file, with what the program says of each.
+
+use crate::compare::agrees;
+use crate::layers::checked;
+use crate::marks::{ERRORS, OUTPUT, STATUS, WORDS, all_behind, first_behind, unmarked};
+use crate::written::{Written, words_in, written_of};
+use std::alloc::{AllocError, Global};
+use std::{fs, io};
+
+/// How many rows were run, and how many of them were wrong.
+#[derive(Clone, Copy, Drop)]
+pub struct Count {
+    pub rows: u32,
+    pub wrong: u32,
+}
+
+/// What is written for a row: by the layers up to the checks alone, or by the program.
+fn run(alloc: Global, words: &str, row: &str) -> Result<Written, AllocError> {
+    let script = unmarked(alloc, row)?;
+    if words == "check-all" {
+        return checked(alloc, script.as_bytes());
+    }
+    let words = words_in(alloc, words)?;
+    Ok(written_of(alloc, words.as_slice(), script.as_bytes()))
+}
+
+/// Whether what was written to a stream is what stands behind the row's marks.
+fn agrees_with(
+    rt: &HostRuntime,
+    name: &str,
+    stream: (&str, &str),
+    row: &str,
+    got: &[u8],
+) -> io::Result<bool> {
+    let (mark, stream) = stream;
+    let wanted = all_behind(rt.alloc(), row, mark)?;
+    agrees(rt, name, stream, got, wanted.as_bytes())
+}
+
+/// Whether a row ended with the status that is wanted. Prints both where it didn't.
+fn ended_so(rt: &HostRuntime, name: &str, got: u8, wanted: &str) -> io::Result<bool> {
+    if wanted.parse::<u8>().ok() == Some(got) {
+        return Ok(true);
+    }
+    println!(rt; "{name}: the status is {got}, and not {wanted}")?;
+    Ok(false)
+}
+
+/// Runs a row by the words and the status of its own, or else of the file's head. Whether all is as it says.
+fn is_as_expected(rt: &HostRuntime, name: &str, head: &str, row: &str) -> io::Result<bool> {
+    let words = first_behind(row, WORDS)
+        .or(first_behind(head, WORDS))
+        .unwrap_or("run");
+    let status = first_behind(row, STATUS)
+        .or(first_behind(head, STATUS))
+        .unwrap_or("0");
+    let written = run(rt.alloc(), words, row)?;
+    let output = (OUTPUT, "the standard output");
+    let errors = (ERRORS, "the standard error");
+    let first = agrees_with(rt, name, output, row, written.output.as_slice())?;
+    let second = agrees_with(rt, name, errors, row, written.errors.as_slice())?;
+    let third = ended_so(rt, name, written.status, status)?;
+    Ok(first && second && third)
+}
+
+/// Runs a row, with its title in its first line, and counts it.
+fn run_row(
+    rt: &HostRuntime,
+    file: &str,
+    head: &str,
+    row: &str,
+    count: &mut Count,
+) -> io::Result<()> {
+    let (title, row) = row.split_once('\n').unwrap_or((row, ""));
+    let name = format!(in rt.alloc(); "{file}: {title}")?;
+    count.rows = count.rows.saturating_add(1);
+    if !is_as_expected(rt, name.as_str(), head, row)? {
+        count.wrong = count.wrong.saturating_add(1);
+    }
+    Ok(())
+}
+
+/// Runs the rows of a file, each of which begins at a line `# TITLE`, and counts them; what stands before the first is the
+/// head.
+pub fn run_rows(rt: &HostRuntime, file: &str, count: &mut Count) -> io::Result<()> {
+    let text = fs::read_to_string(rt, file)?;
+    let mut rows = text.as_str().split("\n# ");
+    let head = rows.next().unwrap_or("");
+    for row in rows {
+        run_row(rt, file, head, row, count)?;
+    }
+    Ok(())
+}

@@ -1,0 +1,44 @@
+//! What the program writes.
+
+use std::alloc::{AllocError, Global};
+use txs_play::play;
+
+/// What a run of the program wrote to its standard output and error, and its status.
+#[derive(Drop)]
+pub struct Written {
+    pub output: Vec<u8>,
+    pub errors: Vec<u8>,
+    pub status: u8,
+}
+
+/// Nothing written so far.
+pub fn nothing(alloc: Global) -> Written {
+    Written {
+        output: Vec::new(alloc),
+        errors: Vec::new(alloc),
+        status: 0,
+    }
+}
+
+/// What the program writes for these words, of this script.
+pub fn written_of(alloc: Global, words: &[String], script: &[u8]) -> Written {
+    let mut reader = script;
+    let mut written = nothing(alloc);
+    written.status = play(
+        alloc,
+        words,
+        &mut reader,
+        &mut written.output,
+        &mut written.errors,
+    );
+    written
+}
+
+/// The words between the white space of a text.
+pub fn words_in(alloc: Global, text: &str) -> Result<Vec<String>, AllocError> {
+    let mut words = Vec::new(alloc);
+    for word in text.split_whitespace() {
+        words.push(String::from_str(alloc, word)?)?;
+    }
+    Ok(words)
+}
