@@ -1,4 +1,4 @@
-//! The program that runs scripts: `txs run [FILE]` and `txs check [FILE]`.
+//! The program that runs scripts: `txs run [FILE]`, `txs schedule [FILE]`, `txs check [FILE]` and `txs dis [FILE]`.
 #![tactic(auto)]
 
 use std::fs::File;
@@ -30,10 +30,11 @@ fn args_of(rt: &HostRuntime) -> io::Result<Vec<String>> {
 /// The file that the words name, if they name one.
 fn file_of(words: &Words) -> Option<&str> {
     match words {
-        Words::Check { file, .. } | Words::Run { file, .. } => match file {
-            Some(name) => Some(name.as_str()),
-            None => None,
-        },
+        Words::Check { file, .. } | Words::Listing { file, .. } | Words::Run { file, .. } =>
+            match file {
+                Some(name) => Some(name.as_str()),
+                None => None,
+            },
         Words::Shown(_) | Words::Faulty(_) => None,
     }
 }

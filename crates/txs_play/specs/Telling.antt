@@ -4,7 +4,7 @@ use Rattle.std.proofs.Common.{String, Global}
 use Rattle.txs_tell.specs.Told.{Told, Tells, ScheduleTells}
 use Rattle.txs_tell.specs.Told as wanted
 use Rattle.txs_words.specs.declared.words.Words.{Words}
-use Rattle.txs_words.specs.declared.words.Words.TheVariants.{Check, Run, Shown, Faulty}
+use Rattle.txs_words.specs.declared.words.Words.TheVariants.{Check, Listing, Run, Shown, Faulty}
 
 -- the name under which lines are explained, where they are: that of the file, or "-" for the standard input
 abbrev pub explained_as : Bool → Option (String Global) → Option (List ℕ)
@@ -16,6 +16,7 @@ explained_as true (Some name) = Some (string_bytes name)
 -- help (status 0) or a usage fault (status 2).
 abbrev pub WordsTell : List ℕ → Words → Told → Type 0
 WordsTell input (Check file explain) t = Tells (record { text = input; file = explained_as explain file }) wanted.Check t
+WordsTell input (Listing file explain) t = Tells (record { text = input; file = explained_as explain file }) wanted.Listing t
 WordsTell input (Run file turns steps cells events explain) t = ScheduleTells (record { text = input; file = explained_as explain file }) (string_bytes turns) steps cells events t
 WordsTell input (Shown text) t = t ≡ record { output = string_bytes text; errors = []; status = 0 }
 WordsTell input (Faulty text) t = t ≡ record { output = []; errors = string_bytes text; status = 2 }

@@ -1,5 +1,5 @@
 //! The program over any streams: `play` takes the words of the command line and a script, and writes what
-//! a run, a check or a refusal tells, or the text of help or of a usage fault.
+//! a run, a check, a listing or a refusal tells, or the text of help or of a usage fault.
 #![tactic(auto)]
 
 pub mod program;

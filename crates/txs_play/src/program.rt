@@ -43,6 +43,10 @@ pub fn play_words<R: Read, W: Write, F: Write>(
             let name = explained_as(*explain, file);
             play_script(alloc, Use::Check, name, reader, writer, faults)
         }
+        Words::Listing { file, explain } => {
+            let name = explained_as(*explain, file);
+            play_script(alloc, Use::Listing, name, reader, writer, faults)
+        }
         Words::Run {
             file,
             turns,

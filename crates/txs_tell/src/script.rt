@@ -1,10 +1,11 @@
-//! What is told of a script: that it is refused, that it compiles, or what its run told.
+//! What is told of a script: that it is refused, that it compiles, the listing of its code, or what its run told.
 
 ghost use Rattle.std.specs.Option.{option_map};
 ghost use Rattle.std.specs.Prelude.{◌≡◌, ◌++◌, ◌≤◌, length, [], codes, IfOk, OnOk};
+ghost use Rattle.txs_disasm.specs.Listing.{listing};
 ghost use Rattle.txs_machine.specs.RunOver.{IsStoreOf};
 ghost use Rattle.txs_tell.specs.Lent.{script_of, told_of, wanted_of};
-ghost use Rattle.txs_tell.specs.Told.{RunAnswers, ScriptTells, Check, Run, cells_told, events_told};
+ghost use Rattle.txs_tell.specs.Told.{RunAnswers, ScriptTells, Check, Listing, Run, cells_told, events_told};
 ghost use Rattle.txs_world.specs.Store.{cells_of};
 
 use crate::cells::write_cells;
@@ -13,6 +14,7 @@ use crate::told::{Told, UNUSABLE, Use, answer, complaint, of_threads, refused};
 use std::alloc::{AllocError, Global};
 use txs_code::Verified;
 use txs_compile::compile;
+use txs_disasm::write_listing;
 use txs_machine::{Play, ScheduleError, run_schedule};
 use txs_schedule::write_events;
 use txs_tree::Program;
@@ -155,12 +157,41 @@ fn check_script(alloc: Global, script: Script<'_>) -> Result<Told, AllocError>
     Ok(told)
 }
 
+/// The listing of the code, on the standard output.
+fn listing_of(alloc: Global, code: &Verified) -> Result<Told, AllocError>
+    ensures output { IfOk result (λ t. t.output.items ≡ listing code.now) }
+    ensures errors { IfOk result (λ t. t.errors.items ≡ []) }
+    ensures status { IfOk result (λ t. t.status ≡ 0) }
+{
+    let mut output = Vec::new(alloc);
+    match write_listing(alloc, code.code(), &mut output) {
+        Ok(()) => Ok(answer(output, alloc)),
+        Err(_) => Err(AllocError),
+    }
+}
+
+/// Compiles the script and lists its code. Nothing runs.
+fn list_script(alloc: Global, script: Script<'_>) -> Result<Told, AllocError>
+    ensures { IfOk result (λ t. ScriptTells (script_of script.entry) (told_of t) Listing) }
+{
+    let (_program, code) = match compile(alloc, script.text) {
+        Ok(compiled) => compiled,
+        Err(error) => {
+            let told = refused(alloc, script, &error)?;
+            return Ok(told);
+        }
+    };
+    let told = listing_of(alloc, &code)?;
+    Ok(told)
+}
+
 /// Does with the script what is wanted.
 pub fn use_script(alloc: Global, script: Script<'_>, wanted: Use<'_>) -> Result<Told, AllocError>
     ensures { IfOk result (λ t. ScriptTells (script_of script.entry) (told_of t) (wanted_of wanted.entry)) }
 {
     match wanted {
         Use::Check => check_script(alloc, script),
+        Use::Listing => list_script(alloc, script),
         Use::Run {
             plays,
             steps,

@@ -28,6 +28,8 @@ pub struct Told {
 pub enum Use<'a> {
     /// It is compiled, and nothing runs.
     Check,
+    /// It is compiled, and its code is listed.
+    Listing,
     /// Its threads run by these plays and then in rounds, each for so many steps at most, with its cells and
     /// the events of the run told or not.
     Run {

@@ -15,6 +15,11 @@ pub enum Words {
         file: Option<String>,
         explain: bool,
     },
+    /// To list the code that a script compiles to: its file, where it is named, and whether a refusal is explained.
+    Listing {
+        file: Option<String>,
+        explain: bool,
+    },
     /// To run a script: its file, where it is named, the list of plays that come before the rounds (empty
     /// for `run`), how many steps an actor makes at most, whether the cells and the events are printed, and
     /// whether refusals, faults and stops are explained.
@@ -45,10 +50,14 @@ fn explain_arg<'a>(alloc: Global) -> Arg<'a> {
         .action(ArgAction::SetTrue)
 }
 
-/// The command that checks.
-fn check_command<'a>(alloc: Global) -> Result<Command<'a>, AllocError> {
-    Command::new(alloc, "check")
-        .about("Checks a script without running it")
+/// A command that compiles a script and runs nothing.
+fn compiling_command<'a>(
+    alloc: Global,
+    name: &'a str,
+    about: &'a str,
+) -> Result<Command<'a>, AllocError> {
+    Command::new(alloc, name)
+        .about(about)
         .arg(explain_arg(alloc))?
         .arg(file_arg(alloc))
 }
@@ -102,7 +111,8 @@ fn schedule_command<'a>(alloc: Global) -> Result<Command<'a>, AllocError> {
 
 /// The commands and their options.
 fn command<'a>(alloc: Global) -> Result<Command<'a>, AllocError> {
-    let check = check_command(alloc)?;
+    let check = compiling_command(alloc, "check", "Checks a script without running it")?;
+    let listing = compiling_command(alloc, "dis", "Lists the code of a script")?;
     let run = run_command(alloc)?;
     let schedule = schedule_command(alloc)?;
     Command::new(alloc, "txs")
@@ -110,6 +120,7 @@ fn command<'a>(alloc: Global) -> Result<Command<'a>, AllocError> {
         .subcommand_required(true)
         .disable_help_subcommand(true)
         .subcommand(check)?
+        .subcommand(listing)?
         .subcommand(run)?
         .subcommand(schedule)
 }
@@ -139,6 +150,9 @@ fn asked(alloc: Global, matches: &ArgMatches<'_>) -> Result<Words, AllocError> {
     let explain = words.get_flag("explain");
     if name == "check" {
         return Ok(Words::Check { file, explain });
+    }
+    if name == "dis" {
+        return Ok(Words::Listing { file, explain });
     }
     let steps = words.get_one::<u64>("steps").unwrap_or(DEFAULT_STEPS);
     let cells = words.get_flag("cells");
