@@ -21,11 +21,11 @@ def timed(command):
         return seconds, usage.ru_maxrss, out.read().decode(), err.read().decode().strip()
 
 
-def filled(folder, name, size, ending=".clj"):
-    """The script with its size, and with 1,000 accounts where it names them, as a file."""
+def filled(folder, name, size, ending=".clj", accounts=1000):
+    """The script with its size, and with so many accounts where it names them, as a file."""
     with open(os.path.join(HERE, "scripts", name + ending), encoding="utf-8") as h:
         text = h.read().replace("@N@", str(size))
-    names = ["account-%d" % i for i in range(1000)]
+    names = ["account-%d" % i for i in range(accounts)]
     text = text.replace("@ACCOUNTS@", "\n".join("(def %s (ref 100))" % it for it in names)).replace("@NAMES@", " ".join(names))
     path = os.path.join(folder, name + ending)
     with open(path, "w", encoding="utf-8") as h:

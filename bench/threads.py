@@ -1,0 +1,55 @@
+#!/usr/bin/env python3
+"""threads.py [--only contended,transfers,readers] [--runs R] [--warm W] [--growth]
+Runs scripts of eight threads in txs, by rounds, and in real Clojure with as many threads, and compares what they print.
+`@N@` in a script is how many transactions each of them makes.
+  clj warm   best time inside one JVM, after W runs of the same compiled code
+  txs        best wall time of `txs run`, from its start to its end
+With --growth the nanoseconds of a commit by one thread are told instead, as commits and refs beside it grow."""
+import argparse, tempfile
+import beside
+SIZES = {"contended": 1200, "transfers": 25000, "readers": 25000}
+
+
+def compared(folder, name, runs, warm):
+    path = beside.filled(folder, name, SIZES[name], accounts=900)
+    ours = [beside.txs(path) for _ in range(runs)]
+    _, _, printed, _ = beside.whole_clojure(path)
+    best, theirs = min(it[0] for it in ours), beside.warm_clojure(path, warm, runs)
+    same = {(it[2], it[3]) for it in ours} == {(printed, "")}
+    print("%-10s %9d %11.4f %8.4f %12.2f  %s" % (name, 8 * SIZES[name], theirs, best, best / theirs,
+                                                "same" if same else "DIFFER " + ours[0][3]), flush=True)
+
+
+def growth(folder, runs):
+    def seconds(commits, refs):
+        path = beside.filled(folder, "commits", commits)
+        with open(path, encoding="utf-8") as h:
+            text = h.read()
+        with open(path, "w", encoding="utf-8") as h:
+            h.write("".join("(def beside-%d (ref 0))\n" % i for i in range(refs)) + text)
+        return min(beside.txs(path)[0] for _ in range(runs))
+    for commits, refs in [(20000, 0), (80000, 0), (320000, 0), (980000, 0), (80000, 100), (80000, 900)]:
+        took = seconds(commits, refs) - seconds(1, refs)
+        print("%7d commits, %3d refs beside: %5.0f ns a commit" % (commits, refs, took * 1e9 / commits), flush=True)
+
+
+def main():
+    parser = argparse.ArgumentParser(description=__doc__, formatter_class=argparse.RawDescriptionHelpFormatter)
+    parser.add_argument("--only", default="")
+    parser.add_argument("--runs", type=int, default=5)
+    parser.add_argument("--warm", type=int, default=5)
+    parser.add_argument("--growth", action="store_true")
+    a = parser.parse_args()
+    beside.need_the_program()
+    with tempfile.TemporaryDirectory() as folder:
+        if a.growth:
+            growth(folder, a.runs)
+            return
+        print("%-10s %9s %11s %8s %12s  %s" % ("script", "commits", "clj warm s", "txs s", "txs by warm", "printed"))
+        for name in SIZES:
+            if not a.only or name in a.only.split(","):
+                compared(folder, name, a.runs, a.warm)
+
+
+if __name__ == "__main__":
+    main()
