@@ -4,7 +4,7 @@ use std::test::Fail;
 use txs_bytes::{CodeError, CodeErrorKind, Opcode, decode, encode, same_code};
 use txs_code::Instr;
 
-const FORM: [u8; 62] = [
+pub const FORM: [u8; 62] = [
     0x54, 0x58, 0x53, 0x31, 0, 0, 0, 0, 0, 1, 3, 0, 0, 0, 0, 0, 0, 0, 7, 0, 0, 0, 1, 0, 0, 0, 0, 0,
     3, 0, 0, 0, 0, 0, 0, 0, 0, 0x11, 0, 0, 0, 0x12, 0x0a, 0, 1, 0, 0, 0, 8, 0, 0, 0, 0x13, 0x18, 0,
     0, 0, 0, 0, 0, 0, 0x14,

@@ -12,6 +12,8 @@ mod copies;
 #[cfg(test)]
 mod frame;
 #[cfg(test)]
+mod listing;
+#[cfg(test)]
 mod mail;
 #[cfg(test)]
 mod positions;

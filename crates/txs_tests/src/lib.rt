@@ -7,6 +7,10 @@ mod checks;
 #[cfg(test)]
 mod code;
 #[cfg(test)]
+mod events;
+#[cfg(test)]
+mod every_schedule;
+#[cfg(test)]
 mod limits;
 #[cfg(test)]
 mod meanings;
