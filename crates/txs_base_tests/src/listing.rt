@@ -3,7 +3,6 @@ use crate::bytes::FORM;
 use std::alloc::Global;
 use std::io;
 use std::io::{ErrorKind, Write};
-use std::test::Fail;
 use txs_bytes::decode;
 use txs_disasm::{WriteFault, write_listing};
 
@@ -31,21 +30,24 @@ impl Write for Sink {
     }
 }
 
-// What a writer gets of the listing of code in its byte form, where it takes at most so many bytes a call and has room for so many, and how it ends.
-fn listed(
+// Whether a writer that takes at most so many bytes a call, and has room for so many, gets this of the listing of code in its byte form, which ends so.
+fn is_listed(
     alloc: Global,
     form: &[u8],
     most: usize,
     room: usize,
-) -> Result<(Vec<u8>, Result<(), WriteFault>), Fail> {
-    let code = decode(alloc, form)?;
+    told: (&[u8], Result<(), WriteFault>),
+) -> bool {
+    let Ok(code) = decode(alloc, form) else {
+        return false;
+    };
     let mut sink = Sink {
         got: Vec::new(alloc),
         most,
         room,
     };
     let end = write_listing(alloc, &code, &mut sink);
-    Ok((sink.got, end))
+    end == told.1 && sink.got.as_slice() == told.0
 }
 
 // The listing of `(future (println 7))`, as it is documented.
@@ -85,27 +87,21 @@ thread 0 locals 0
 ";
 
 #[test]
-fn is_written_whole(rt: HostRuntime) -> Result<(), Fail> {
+fn is_written_whole(rt: HostRuntime) {
     for (form, text) in [(FORM.as_slice(), PRINTS), (OTHER, OTHER_LISTED)] {
+        let whole = (text.as_bytes(), Ok(()));
         for most in [1, 7, 10_000] {
-            let (got, end) = listed(rt.alloc(), form, most, 10_000)?;
-            assert!(rt; end.is_ok() && got.as_slice() == text.as_bytes(), "{text}");
+            assert!(rt; is_listed(rt.alloc(), form, most, 10_000, whole), "{text}");
         }
     }
-    Ok(())
 }
 
 #[test]
-fn is_begun_where_a_writer_fails(rt: HostRuntime) -> Result<(), Fail> {
+fn is_begun_where_a_writer_fails(rt: HostRuntime) {
     let text = OTHER_LISTED.as_bytes();
     for room in 0..text.len() {
-        let (got, end) = listed(rt.alloc(), OTHER, 3, room)?;
-        assert!(rt;
-            end == Err(WriteFault::Write) && got.as_slice() == &text[..room],
-            "{room}"
-        );
+        let begun = (&text[..room], Err(WriteFault::Write));
+        assert!(rt; is_listed(rt.alloc(), OTHER, 3, room, begun), "{room}");
     }
-    let (got, end) = listed(rt.alloc(), OTHER, 3, text.len())?;
-    assert!(rt; end.is_ok() && got.as_slice() == text);
-    Ok(())
+    assert!(rt; is_listed(rt.alloc(), OTHER, 3, text.len(), (text, Ok(()))));
 }

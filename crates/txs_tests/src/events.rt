@@ -1,18 +1,13 @@
-// What a thread means on events of the cell with number 0, and what a transaction means on a world, also of forms that don't run yet.
-ghost use Rattle.std.specs.Prelude.{IfSome, None};
-ghost use Rattle.txs_tree.specs.Known.{known};
-ghost use Rattle.txs_tree.specs.Sound.{SoundTree, in_dosync};
-ghost use Rattle.txs_tree.specs.View.{functions_of, tree_of};
-
+// What a thread means on events of the cell with number 0; also of forms that don't run yet.
 use std::alloc::{AllocError, Global};
 use std::test::Fail;
 use txs_asks::{EventKind, Outcome};
 use txs_check::check;
-use txs_eval::{Needs, RefView, Seen, ThreadMeaning, TxMeaning, eval_thread, eval_tx};
+use txs_eval::{Needs, RefView, Seen, ThreadMeaning, eval_thread};
 use txs_reader::read_script;
 use txs_resolve::resolve;
-use txs_tree::{Node, NodeKind, Program};
-use txs_value::{CellId, CellKind, Listed, Value, write_text};
+use txs_tree::Program;
+use txs_value::{CellId, CellKind, Listed, Value};
 
 /// What was done at an event.
 #[derive(Clone, Copy)]
@@ -259,80 +254,5 @@ fn the_last_retry_on_events(rt: HostRuntime) -> Result<(), Fail> {
     }
     let wanted = ("", 10_000, "RetryLimit at 24..46");
     assert!(rt; means(rt.alloc(), script, &[0], did.as_slice(), wanted)?);
-    Ok(())
-}
-
-/// The body of the first thread, where that is a transaction.
-fn transaction_of(program: &Program) -> Option<&Node>
-    ensures { IfSome result (λ n. SoundTree (known (functions_of program.now.functions)) in_dosync 0 None (tree_of n.now)) }
-{
-    let (thread, _) = program.threads().split_first()?;
-    match &thread.body.kind {
-        NodeKind::Dosync(body) => Some(body),
-        _ => None,
-    }
-}
-
-/// What the script's transaction means where its cells hold these values.
-fn transacted(alloc: Global, script: &str, values: &[i64]) -> Result<TxMeaning, Fail> {
-    let Some(program) = program_of(alloc, script) else {
-        return Err(Fail::from("no program"));
-    };
-    let Some(body) = transaction_of(&program) else {
-        return Err(Fail::from("no transaction"));
-    };
-    let mut cells = Vec::new(alloc);
-    for value in values {
-        cells.push(Listed::from_vec(vec![in alloc; (0, Value::Int(*value))]?))?;
-    }
-    let world = RefView {
-        cells: cells.as_slice(),
-        place: 0,
-    };
-    match eval_tx(alloc, &program, body, &[], world, 100) {
-        Ok(meaning) => Ok(meaning),
-        Err(_) => Err(Fail::from("no meaning")),
-    }
-}
-
-/// Appends the numbers of cells.
-fn write_cells(out: &mut Vec<u8>, alloc: Global, cells: &[CellId]) -> Result<(), AllocError> {
-    for cell in cells {
-        let word = format!(in alloc; " {}", cell.number)?;
-        out.extend_from_slice(word.as_bytes())?;
-    }
-    Ok(out.push(b'\n')?)
-}
-
-/// What is told of a transaction: its value; what it wrote; which refs it ensured, commuted and read; how many sends it holds; and whether
-/// a commute was used.
-fn told(alloc: Global, meaning: &TxMeaning) -> Result<Vec<u8>, AllocError> {
-    let mut out = Vec::new(alloc);
-    if let Ok(value) = &meaning.result {
-        write_text(value, &mut out)?;
-    }
-    for write in &meaning.done.writes()? {
-        out.push(b' ')?;
-        write_text(&write.1, &mut out)?;
-    }
-    out.push(b'\n')?;
-    write_cells(&mut out, alloc, meaning.done.ensured())?;
-    write_cells(&mut out, alloc, meaning.done.commuted()?.as_slice())?;
-    write_cells(&mut out, alloc, meaning.reads.as_slice())?;
-    let rest = format!(in alloc; "{} {}\n", meaning.done.sends().len(), meaning.used)?;
-    out.extend_from_slice(rest.as_bytes())?;
-    Ok(out)
-}
-
-#[test]
-fn a_transaction_on_a_world(rt: HostRuntime) -> Result<(), Fail> {
-    let script = "(def a (ref 0)) (def b (ref 0)) (def c (ref 0)) (def d (ref 0)) (def g (agent 0))
-(future (dosync (ref-set a 7) (alter a + @c) (commute b + 1) (ensure d) (send g + 2) [@a @b]))";
-    let meaning = transacted(rt.alloc(), script, &[1, 10, 5, 3])?;
-    let told = told(rt.alloc(), &meaning)?;
-    assert_eq!(rt;
-        told.as_slice(),
-        b"[12 11] 12\n 3\n 1\n 2 3\n1 true\n".as_slice()
-    );
     Ok(())
 }

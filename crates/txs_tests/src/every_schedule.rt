@@ -78,7 +78,7 @@ fn end_so(
     Ok(seen.len() == ends.len())
 }
 
-/// Asks of two threads: 511 lists have at most eight of them, and 63 at most five.
+/// Asks of two threads: 511 lists have at most eight of them.
 const TWO: &[Play] = &[Play::Ask(0), Play::Ask(1)];
 
 /// Asks of three threads: 121 lists have at most four of them, which suffice for each order.
@@ -87,63 +87,52 @@ const THREE: &[Play] = &[Play::Ask(0), Play::Ask(1), Play::Ask(2)];
 /// Asks and single turns of two threads: 341 lists have at most four of them.
 const TURNS: &[Play] = &[Play::Ask(0), Play::Ask(1), Play::Turn(0), Play::Turn(1)];
 
-/// Scripts of two threads, each with how many lists it is run by, and all ends that its runs may have.
-const OF_TWO: [(usize, &str, &[&str]); 11] = [
+/// Scripts of two threads, and all ends that their runs may have.
+const OF_TWO: [(&str, &[&str]); 11] = [
     (
-        511,
         "(def r (ref 0)) (future (dosync (alter r inc))) (future (dosync (alter r inc)))",
         &["r 2\n"],
     ),
     (
-        63,
         "(def r (ref 0)) (future (dosync (alter r inc))) (future (loop [i 0] (when (< i 3) (dosync (alter r inc)) (recur (inc i)))))",
         &["r 4\n"],
     ),
     (
-        511,
         "(def r (ref 0)) (future (println (dosync @r))) (future (dosync (ref-set r 7)))",
         &["r 7\n0\n", "r 7\n7\n"],
     ),
     // reads of one transaction are of one moment, those outside of transactions each of its own
     (
-        63,
         "(def r (ref 0)) (future (println (dosync [@r @r]))) (future (dosync (ref-set r 7)))",
         &["r 7\n[0 0]\n", "r 7\n[7 7]\n"],
     ),
     (
-        63,
         "(def r (ref 0)) (future (println @r @r)) (future (dosync (ref-set r 7)))",
         &["r 7\n0 0\n", "r 7\n0 7\n", "r 7\n7 7\n"],
     ),
     (
-        63,
         "(def a (ref 0)) (def b (ref 0)) (future (println (dosync [@a @b]))) (future (dosync (ref-set a 7) (ref-set b 7)))",
         &["a 7\nb 7\n[0 0]\n", "a 7\nb 7\n[7 7]\n"],
     ),
     (
-        63,
         "(def a (ref 0)) (def b (ref 0)) (future (println @a @b)) (future (dosync (ref-set a 7) (ref-set b 7)))",
         &["a 7\nb 7\n0 0\n", "a 7\nb 7\n0 7\n", "a 7\nb 7\n7 7\n"],
     ),
     // who ensures runs again, who only reads doesn't
     (
-        511,
         "(def a (ref 1)) (def b (ref 1)) (future (dosync (when (= 2 (+ @a @b)) (alter a dec)))) (future (dosync (when (= 2 (+ @a @b)) (alter b dec))))",
         &["a 0\nb 0\n", "a 0\nb 1\n", "a 1\nb 0\n"],
     ),
     (
-        511,
         "(def a (ref 1)) (def b (ref 1)) (future (dosync (when (= 2 (+ (ensure a) (ensure b))) (alter a dec)))) (future (dosync (when (= 2 (+ (ensure a) (ensure b))) (alter b dec))))",
         &["a 0\nb 1\n", "a 1\nb 0\n"],
     ),
     (
-        63,
         "(def a (ref 1)) (def b (ref 1)) (future (dosync (when (= 2 (+ @a (ensure b))) (alter a dec)))) (future (dosync (when (= 2 (+ @a @b)) (alter b dec))))",
         &["a 0\nb 0\n", "a 0\nb 1\n", "a 1\nb 0\n"],
     ),
     // one fails where the other comes first, and leaves nothing
     (
-        63,
         "(def r (ref 1)) (def s (ref 0)) (future (dosync (alter r dec))) (future (dosync (ref-set s 5) (alter r + (quot 6 @r))))",
         &["r 6\ns 5\n", "r 0\ns 0\n!"],
     ),
@@ -170,15 +159,15 @@ const OF_THREE: [(&str, &[&str]); 2] = [
 
 #[test]
 fn two_threads(rt: HostRuntime) -> Result<(), Fail> {
-    for (lists, script, ends) in OF_TWO {
-        assert!(rt; end_so(rt.alloc(), script, TWO, lists, ends)?, "{script}");
+    for (script, ends) in OF_TWO {
+        assert!(rt; end_so(rt.alloc(), script, TWO, 511, ends)?, "{script}");
     }
     Ok(())
 }
 
 #[test]
 fn single_turns(rt: HostRuntime) -> Result<(), Fail> {
-    let (_, script, ends) = OF_TWO[2];
+    let (script, ends) = OF_TWO[2];
     assert!(rt; end_so(rt.alloc(), script, TURNS, 341, ends)?);
     Ok(())
 }
