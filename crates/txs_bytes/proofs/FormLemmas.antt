@@ -21,7 +21,7 @@ use Rattle.txs_code.specs.declared.instr.Instr.TheVariants as instr
 use Rattle.txs_code.specs.declared.instr.OpenForm.TheVariants as open_form
 use Rattle.txs_bytes.specs.declared.error.CodeErrorKind.{CodeErrorKind}
 use Rattle.txs_bytes.specs.CellForm.{kind_byte, mode_byte, kind_format, mode_format, constant_format, cell_format, kinds_of, cell_bytes, constant_bytes}
-use Rattle.txs_bytes.specs.CodeForm.{paired, body_format, instructions, all_instructions, most_instructions, magic, magic_format, cells_format, constants_format, functions_format, threads_format, program_format, code_format, HasForm, counted_bytes, body_bytes, form, AreBodies, AreCells, AreConstants}
+use Rattle.txs_bytes.specs.CodeForm.{paired, body_format, instructions, all_instructions, most_instructions, magic, magic_format, cells_format, constants_format, functions_format, threads_format, program_format, code_format, HasForm, counted_bytes, body_bytes, form, AreBodies, AreCells, AreConstants, IsSmall}
 use Rattle.txs_bytes.specs.Format.{Format, sharing_form, SharingFits}
 use Rattle.txs_bytes.specs.InstrForm.{op_format, callee_format, callee_bytes, opcode_format, instr_format, instr_bytes, span_format, placed_format, placed_bytes}
 use Rattle.txs_bytes.specs.ValueForm.{tag_format, keyword_format, cell_name_format, text_format, value_format, name_bytes, value_bytes, row_bytes, IsWritable, AreWritable}
@@ -185,18 +185,8 @@ bodies_short f h (suc n) left (b ∷ bs) fits = (h left b fits.0, bodies_short f
 
 -- ---- code
 
--- the counts fit their fields, and each part can be written
-pub record Small (c : PlainCode) : Type 0 where
-  pub few_cells : length c.cells < 2 ^ 16
-  pub few_constants : length c.constants < 2 ^ 32
-  pub few_functions : length c.functions < 2 ^ 16
-  pub few_threads : length c.threads < 2 ^ 16
-  pub cells : AreCells c.cells
-  pub constants : AreConstants c.constants
-  pub functions : AreBodies c.functions
-  pub threads : AreBodies c.threads
-
-pub code_small : (c : PlainCode) → HasForm c → Small c
+-- code that has a form is small
+pub code_small : (c : PlainCode) → HasForm c → IsSmall c
 unfolding code_format cells_format constants_format program_format functions_format threads_format
 code_small c fits = record {
   few_cells = fits.0.1.0.0.0.0;

@@ -1,6 +1,6 @@
 -- What is written item by item.
-use Rattle.std.proofs.Common.{◌≡◌, ℕ, zero, suc, ◌+◌, ◌<◌, ◌≤◌, List, [], ◌∷◌, ◌++◌, length, get_or, take, add-one, Option, Some, None, Result, Ok, Err, refl, sym, ap, ◌∙◌, append_assoc, arith}
-use Rattle.std.specs.List.{slice_get, flat_map}
+use Rattle.std.proofs.Common.{◌≡◌, ℕ, zero, suc, ◌+◌, ◌<◌, ◌≤◌, List, [], ◌∷◌, ◌++◌, length, get_or, take, add-one, Option, Some, None, Result, Ok, Err, refl, sym, ap, ◌∙◌, append_assoc, subst, arith}
+use Rattle.std.specs.List.{slice_get, flat_map, AllByRecursion}
 use Rattle.std.specs.Int.{w16, w32, to_be_bytes}
 use Rattle.std.specs.Prelude.{OnOk, slice_index_or}
 use Rattle.std.proofs.lemmas.List.{append-nil, take_all}
@@ -88,3 +88,31 @@ vector_put old a b new ds h k n =
     let front : b ≡ old ++ (6 ∷ to_be_bytes w16 (length ds)) = k ∙ ap (λ (x : List ℕ). x ++ to_be_bytes w16 (length ds)) h ∙ append_assoc old (6 ∷ []) (to_be_bytes w16 (length ds)) in
     n ∙ ap (λ (x : List ℕ). x ++ row_bytes (plain_row ds)) front ∙ append_assoc old (6 ∷ to_be_bytes w16 (length ds)) (row_bytes (plain_row ds))
     ∙ ap (λ (xs : List PlainValue). old ++ (6 ∷ (to_be_bytes w16 (length xs) ++ row_bytes (plain_row ds)))) (sym (plain_row_again ds))
+
+-- ---- what can be written
+
+-- one more item can be written
+pub writable_next : (ds : List PlainValue) (i : ℕ) (d : PlainValue) → slice_get ds i ≡ Some d → AreWritable (plain_row (take i ds)) → IsWritable d → AreWritable (plain_row (take (i + 1) ds))
+writable_next ds i d e all one = subst (λ (n : ℕ). AreWritable (plain_row (take n ds))) (sym (add-one i)) (by ds i e all)
+  where
+    by : (xs : List PlainValue) (j : ℕ) → slice_get xs j ≡ Some d → AreWritable (plain_row (take j xs)) → AreWritable (plain_row (take (suc j) xs))
+    by [] j e1 a = absurd cc
+    by (x ∷ xs) zero e1 a = (rw (some_same x d e1) one, tt)
+    by (x ∷ xs) (suc j) e1 a = (a.0, by xs j e1 a.1)
+
+-- all items can
+pub writable_all : (ds : List PlainValue) (i : ℕ) → length ds ≤ i → AreWritable (plain_row (take i ds)) → AreWritable (plain_row ds)
+writable_all ds i le all = subst (λ (xs : List PlainValue). AreWritable (plain_row xs)) (take_all i ds le) all
+
+-- one more of a list is so
+pub all_next : {A : Type 0} (P : A → Type 0) (xs : List A) (i : ℕ) (x : A) → i < length xs → x ≡ get_or xs i x → AllByRecursion P (take i xs) → P x → AllByRecursion P (take (i + 1) xs)
+all_next {A = A} P xs i x lt is all one = subst (λ (n : ℕ). AllByRecursion P (take n xs)) (sym (add-one i)) (by xs i lt is all)
+  where
+    by : (ys : List A) (j : ℕ) → j < length ys → x ≡ get_or ys j x → AllByRecursion P (take j ys) → AllByRecursion P (take (suc j) ys)
+    by [] j l e a = absurd (omega (arith, l))
+    by (y ∷ ys) zero l e a = (subst P e one, tt)
+    by (y ∷ ys) (suc j) l e a = (a.0, by ys j (omega (arith, l)) e a.1)
+
+-- all of it is
+pub all_whole : {A : Type 0} (P : A → Type 0) (xs : List A) (i : ℕ) → length xs ≤ i → AllByRecursion P (take i xs) → AllByRecursion P xs
+all_whole P xs i le all = subst (AllByRecursion P) (take_all i xs le) all

@@ -1,5 +1,5 @@
 -- The byte form of code: a magic, the cells, the constants, the functions, the threads.
-use Rattle.std.specs.Prelude.{◌≡◌, ℕ, zero, suc, ◌+◌, ◌-◌, ◌<◌, ◌^◌, ◌==◌, Bool, true, false, List, [], ◌∷◌, ◌++◌, length, map, codes, Result, Ok, Err}
+use Rattle.std.specs.Prelude.{◌≡◌, ℕ, zero, suc, ◌+◌, ◌-◌, ◌<◌, ◌^◌, ◌==◌, Bool, true, false, List, [], ◌∷◌, ◌++◌, length, map, codes, Option, Some, None, Result, Ok, Err}
 use Rattle.std.specs.List.{flat_map, AllByRecursion}
 use Rattle.std.specs.Int.{Width, w16, w32, to_be_bytes}
 use Rattle.txs_value.specs.Limits.{most_definitions, most_threads}
@@ -142,6 +142,17 @@ AreConstants values = AllByRecursion (λ v. IsWritable (plain_of v)) values
 abbrev pub AreBodies : List CodeBody → Type 0
 AreBodies bodies = AllByRecursion (λ b. length b.instrs < 2 ^ 32) bodies
 
+-- The counts of code fit their fields, and each of its parts can be written, as is so of all code that has a form.
+pub record IsSmall (c : PlainCode) : Type 0 where
+  pub few_cells : length c.cells < 2 ^ 16
+  pub few_constants : length c.constants < 2 ^ 32
+  pub few_functions : length c.functions < 2 ^ 16
+  pub few_threads : length c.threads < 2 ^ 16
+  pub cells : AreCells c.cells
+  pub constants : AreConstants c.constants
+  pub functions : AreBodies c.functions
+  pub threads : AreBodies c.threads
+
 -- ---- what reading all bytes gives
 
 -- a refusal with its place among so many bytes
@@ -166,3 +177,8 @@ decoded bytes = at_place (length bytes) (whole code_format bytes)
 abbrev pub Answers : Result PlainCode CodeError → Result PlainCode CodeError → Type 0
 Answers (Ok code) wanted = wanted ≡ Ok code
 Answers (Err e) wanted = (e ≡ out_of_memory → ⊥) → wanted ≡ Err e
+
+-- the bytes of code that has a form, or none of code that has none
+abbrev pub FormOf : PlainCode → Option (List ℕ) → Type 0
+FormOf code None = HasForm code → ⊥
+FormOf code (Some bytes) = HasForm code × (bytes ≡ form code)

@@ -1,13 +1,18 @@
 //! Code, written.
 
-ghost use Rattle.std.specs.Prelude.{◌≡◌, ◌<◌, ◌^◌, ◌++◌, length, slice_index_or, OnOk, IfOk};
+ghost use Rattle.std.specs.Option.{option_map};
+ghost use Rattle.std.specs.Prelude.{◌≡◌, ◌<◌, ◌^◌, ◌++◌, length, slice_index_or, OnOk, IfOk, IsTrue, false};
 ghost use Rattle.txs_code.specs.declared.instr.Instr.TheVariants as instr;
 ghost use Rattle.std.specs.Int.{w16, w32};
 ghost use Rattle.txs_bytes.specs.CellForm.{cell_bytes, constant_bytes, kind_byte, mode_byte};
-ghost use Rattle.txs_bytes.specs.CodeForm.{AreBodies, AreCells, AreConstants, HasForm, body_bytes, counted_bytes, form};
+ghost use Rattle.txs_bytes.specs.CodeForm.{AreBodies, AreCells, AreConstants, FormOf, HasForm, IsSmall, body_bytes, counted_bytes, form};
 ghost use Rattle.txs_bytes.specs.ValueForm.{IsWritable};
 ghost use Rattle.txs_value.specs.View.{plain_of};
 
+use crate::decoding::decode;
+use crate::error::CodeErrorKind;
+use crate::same::same_code;
+use crate::small::is_small;
 use crate::written::{put_name, put_placed, put_value};
 use std::alloc::{AllocError, Global};
 use txs_code::{Body, Code, Instr};
@@ -116,9 +121,9 @@ fn put_bodies(bodies: &[Body], out: &mut Vec<u8>) -> Result<(), AllocError>
     Ok(())
 }
 
-/// The byte form of code.
-pub fn encode(alloc: Global, code: &Code) -> Result<Vec<u8>, AllocError>
-    requires { HasForm code.now }
+/// The bytes of code, part behind part: of code that has a form, its form.
+fn written(alloc: Global, code: &Code) -> Result<Vec<u8>, AllocError>
+    requires { IsSmall code.now }
     ensures { IfOk result (λ bytes. bytes.items ≡ form code.now) }
 {
     let mut out = Vec::new(alloc);
@@ -128,4 +133,43 @@ pub fn encode(alloc: Global, code: &Code) -> Result<Vec<u8>, AllocError>
     put_bodies(code.functions(), &mut out)?;
     put_bodies(code.threads(), &mut out)?;
     Ok(out)
+}
+
+/// The byte form of code.
+pub fn encode(alloc: Global, code: &Code) -> Result<Vec<u8>, AllocError>
+    requires { HasForm code.now }
+    ensures { IfOk result (λ bytes. bytes.items ≡ form code.now) }
+{
+    written(alloc, code)
+}
+
+/// Whether these bytes, which are the code's if it has a form, are a form: whether they are read as this code.
+fn is_form(alloc: Global, code: &Code, bytes: &[u8]) -> Result<bool, AllocError>
+    requires { bytes.now ≡ form code.now }
+    ensures form { IfOk result (λ b. IsTrue b → HasForm code.now) }
+    ensures none { IfOk result (λ b. b ≡ false → HasForm code.now → ⊥) }
+{
+    match decode(alloc, bytes) {
+        Ok(read) => Ok(same_code(&read, code)),
+        Err(error) => {
+            if error.kind == CodeErrorKind::Memory {
+                return Err(AllocError);
+            }
+            Ok(false)
+        }
+    }
+}
+
+/// The byte form of code, or none of code that has none. It is read again, which is the test.
+pub fn bytes_of(alloc: Global, code: &Code) -> Result<Option<Vec<u8>>, AllocError>
+    ensures { IfOk result (λ bytes. FormOf code.now (option_map (λ b. b.items) bytes)) }
+{
+    if !is_small(code) {
+        return Ok(None);
+    }
+    let bytes = written(alloc, code)?;
+    if is_form(alloc, code, bytes.as_slice())? {
+        return Ok(Some(bytes));
+    }
+    Ok(None)
 }

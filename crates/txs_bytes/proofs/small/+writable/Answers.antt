@@ -1,0 +1,18 @@
+use Rattle.std.proofs.Common.{rules}
+use Rattle.txs_value.specs.View.{plain_of}
+use Rattle.txs_bytes.proofs.WrittenLemmas.{item_less, item_writable, writable_next}
+use Rattle.txs_bytes.proofs.small.+writable.Goals as goal
+
+pub are_writable-is_writable-requires : goal.are_writable-is_writable-requires
+are_writable-is_writable-requires t c =
+    let less = item_less c.args.items.now c.loop-i.i (plain_of c.get.result.now) c.get.ensures in
+    search (rules, less)
+
+pub are_writable-returns-then-not-is_writable : goal.are_writable-returns-then-not-is_writable
+are_writable-returns-then-not-is_writable t c =
+    let item = item_writable c.args.items.now c.loop-i.i (plain_of c.get.result.now) c.get.ensures in
+    (λ h. absurd cc, λ all. let one = c.is_writable.ensures.1 (item all) in search (rules, one))
+
+pub are_writable-loop-i-preserved : goal.are_writable-loop-i-preserved
+are_writable-loop-i-preserved t c =
+    writable_next c.args.items.now c.loop-i.i (plain_of c.get.result.now) c.get.ensures c.loop-i.invariant (c.is_writable.ensures.0 (search rules))
