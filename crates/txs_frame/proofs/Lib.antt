@@ -1,4 +1,6 @@
 pub mod Frames
 pub mod Laws
 pub mod Owns
+pub mod Phases
+pub mod Phasing
 pub mod Places

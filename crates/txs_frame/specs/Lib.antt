@@ -1,3 +1,4 @@
 pub mod Frame
 pub mod Kept
 pub mod Laws
+pub mod Phase

@@ -2,7 +2,7 @@
 
 ghost use Rattle.std.specs.Prelude.{◌≡◌, ◌||◌, ◌++◌, ◌∷◌, [], option_copied, is_some, IfOk, OnOk, OnErr};
 ghost use Rattle.txs_asks.specs.Ask.{buffered};
-ghost use Rattle.txs_frame.specs.Frame.{Work, no_work, is_set, is_commuted, set_ref, ensure_ref, commute_ref, hold_send, commuted, set_writes, with_cell, SetAnswers};
+ghost use Rattle.txs_frame.specs.Frame.{Work, no_work, is_set, is_commuted, set_ref, ensure_ref, commute_ref, hold_send, commuted, commutes_of, by_ref, phase_work, set_writes, with_cell, SetAnswers};
 ghost use Rattle.txs_frame.specs.Kept.{Ascends, IsPlaceOf, cell_number, cells_by, writes_by, was_set, only_commuted};
 ghost use Rattle.txs_value.specs.declared.value.CellKind.TheVariants.{Ref as a_ref};
 ghost use Rattle.txs_frame.specs.declared.frame.SetError.TheVariants.{Memory as no_memory};
@@ -11,7 +11,7 @@ use crate::own::{How, Own, find, how_at, put, was_commuted, with_commute};
 use std::alloc::{AllocError, Global};
 use std::marker::Model;
 use thiserror::Error;
-use txs_value::{Action, Callee, CellId, CellKind, Listed, Value, copy_value};
+use txs_value::{Action, Callee, CellId, CellKind, Listed, Value, copy_value, copy_values};
 
 /// A commute that is kept: its ref, what it calls, and the arguments behind the ref's value.
 #[derive(Drop)]
@@ -199,6 +199,25 @@ impl TxFrame {
         Ok(cells)
     }
 
+    /// The commutes of the refs that were commuted and not set, ref by ref by ascending number, in a list of their own.
+    pub fn phase_work(&self) -> Result<Vec<Commute>, AllocError>
+        ensures { IfOk result (λ work. work.items ≡ phase_work self.now) }
+    {
+        let cells = self.commuted()?;
+        self.work_on(cells.as_slice())
+    }
+
+    /// The commutes of these refs, ref by ref, in a list of their own.
+    pub(crate) fn work_on(&self, cells: &[CellId]) -> Result<Vec<Commute>, AllocError>
+        ensures { IfOk result (λ work. work.items ≡ by_ref cells.now self.now.commutes) }
+    {
+        let mut work = Vec::new(self.alloc);
+        for cell in cells {
+            push_commutes_of(self.alloc, &mut work, cell.number, self.commutes.as_slice())?;
+        }
+        Ok(work)
+    }
+
     /// The refs that were set with their values, which the frame goes on sharing, by ascending number.
     pub fn writes(&self) -> Result<Vec<(CellId, Value)>, AllocError>
         ensures { IfOk result (λ writes. writes.items ≡ set_writes self.now) }
@@ -283,6 +302,47 @@ fn push_set(writes: &mut Vec<(CellId, Value)>, own: &Own) -> Result<(), AllocErr
     match own.how {
         How::Set | How::Both => writes.push((ref_cell(own.number), copy_value(&own.value)?))?,
         How::Commuted => {}
+    }
+    Ok(())
+}
+
+/// The same commute once more.
+fn copy_commute(alloc: Global, commute: &Commute) -> Result<Commute, AllocError>
+    ensures { IfOk result (λ c. c ≡ commute.now) }
+{
+    Ok(Commute {
+        cell: commute.cell,
+        callee: commute.callee,
+        args: copy_values(alloc, &commute.args)?,
+    })
+}
+
+/// Adds a commute if it is one of the ref with this number.
+fn push_if_of(
+    alloc: Global,
+    work: &mut Vec<Commute>,
+    number: u16,
+    commute: &Commute,
+) -> Result<(), AllocError>
+    ensures { OnOk result (work.new.items ≡ work.old.items ++ commutes_of number (commute.now ∷ [])) }
+{
+    if commute.cell.number == number {
+        work.push(copy_commute(alloc, commute)?)?;
+    }
+    Ok(())
+}
+
+/// Adds the commutes of the ref with this number, in order.
+fn push_commutes_of(
+    alloc: Global,
+    work: &mut Vec<Commute>,
+    number: u16,
+    commutes: &[Commute],
+) -> Result<(), AllocError>
+    ensures { OnOk result (work.new.items ≡ work.old.items ++ commutes_of number commutes.now) }
+{
+    for commute in commutes {
+        push_if_of(alloc, work, number, commute)?;
     }
     Ok(())
 }

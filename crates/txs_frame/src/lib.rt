@@ -7,5 +7,7 @@
 pub mod frame;
 pub mod law;
 mod own;
+pub mod phase;
 
 pub use frame::{Commute, SetError, TxFrame};
+pub use phase::Phase;
