@@ -2,10 +2,6 @@
 use Rattle.std.proofs.Common.{◌≡◌, sym, subst, arith, ℕ, zero, suc, ◌+◌, Bool, true, false, List, [], ◌∷◌, ◌++◌, length}
 use Rattle.txs_value.specs.declared.fault.Span.{Span}
 use Rattle.txs_value.specs.declared.value.Value.{Value}
-use Rattle.txs_value.specs.declared.form.LookForm.{LookForm}
-use Rattle.txs_value.specs.declared.form.LookForm.TheVariants.{Deref, Ensure}
-use Rattle.txs_value.specs.declared.form.PutForm.{PutForm}
-use Rattle.txs_value.specs.declared.form.PutForm.TheVariants.{RefSet, Reset}
 use Rattle.txs_value.specs.declared.form.UpdateForm.{UpdateForm}
 use Rattle.txs_value.specs.declared.form.UpdateForm.TheVariants.{Alter, Commute, Swap}
 use Rattle.txs_value.specs.declared.op.Callee.{Callee}
@@ -13,28 +9,20 @@ use Rattle.txs_value.specs.declared.op.Callee.TheVariants.{Core as CoreOp, Funct
 use Rattle.txs_tree.specs.Tree.{Tree, Const, Local, If, Do, Let, Loop, Recur, Core, Call, VectorOf, Println, Dosync, Look, Put, Update, Send, Trees, none, more, count, is_none, PlainFunction, PlainThread, PlainProgram}
 use Rattle.txs_code.specs.declared.instr.Instr.{Instr}
 use Rattle.txs_code.specs.declared.instr.Instr.TheVariants as instr
-use Rattle.txs_code.specs.declared.instr.OpenForm.{OpenForm}
-use Rattle.txs_code.specs.declared.instr.OpenForm.TheVariants as open_form
 use Rattle.txs_code.specs.Machine.{PlainInstr, Store, Pop, Jump, CoreOf, CallOf, Return, MakeVector, PrintOf, TxEnd, LookOf, PutOf, OpenOf, CloseOf, SendOf, Halt}
 use Rattle.txs_code.specs.PlainCode.{CodeBody, PlainCode, parameters_of, plain_instr, plain_instrs}
 use Rattle.txs_code.specs.RunsToday.{IsRunToday, AreRunToday, BodiesRunToday, RunsToday, CellsRunToday}
 use Rattle.txs_gen.specs.Gen.{then_code, if_code, stores, do_code, opening, callee_code, gen, gen_all, gen_let, gen_do}
 use Rattle.txs_gen.specs.Generated.{IsCodeOf, IsFunctionOf, AreFunctionsOf, IsBodyOf, AreBodiesOf}
-use Rattle.txs_gen.specs.Today.{LooksToday, PutsToday, UpdatesToday, TreeRunsToday, TreesRunToday, FunctionsRunToday, ThreadsRunToday, ProgramRunsToday}
-
--- what an open begins runs today
-abbrev OpensToday : OpenForm → Type 0
-OpensToday open_form.Alter = Unit {0}
-OpensToday (open_form.Commute callee) = ⊥
-OpensToday (open_form.Swap callee) = ⊥
+use Rattle.txs_gen.specs.Today.{UpdatesToday, TreeRunsToday, TreesRunToday, FunctionsRunToday, ThreadsRunToday, ProgramRunsToday}
 
 -- an instruction as the machine sees it runs today
 abbrev Plain : PlainInstr → Type 0
-Plain (LookOf form span) = LooksToday form
-Plain (PutOf form span) = PutsToday form
-Plain (OpenOf form n span) = OpensToday form
-Plain (CloseOf form span) = UpdatesToday form
-Plain (SendOf callee n span) = ⊥
+Plain (LookOf form span) = IsRunToday (instr.Look form)
+Plain (PutOf form span) = IsRunToday (instr.Put form)
+Plain (OpenOf form n span) = IsRunToday (instr.Open form n)
+Plain (CloseOf form span) = IsRunToday (instr.Close form)
+Plain (SendOf callee n span) = IsRunToday (instr.Send callee n)
 Plain _ = Unit {0}
 
 abbrev AllPlain : List PlainInstr → Type 0
@@ -53,10 +41,11 @@ stores_today : (i n : ℕ) → AllPlain (stores i n)
 stores_today i zero = tt
 stores_today i (suc n) = both (stores (i + 1) n) (Store i ∷ []) (stores_today (i + 1) n) (tt, tt)
 
-opening_today : (form : UpdateForm) (callee : Callee) → UpdatesToday form → OpensToday (opening form callee)
-opening_today Alter callee h = tt
-opening_today Commute callee h = h
-opening_today Swap callee h = h
+-- what a form opens with runs where what closes it does
+opening_today : (form : UpdateForm) (callee : Callee) (n : ℕ) → UpdatesToday form → IsRunToday (instr.Open (opening form callee) n)
+opening_today Alter callee n h = h
+opening_today Commute callee n h = h
+opening_today Swap callee n h = h
 
 callee_today : (callee : Callee) (n : ℕ) (span : Span) → Plain (callee_code callee n span)
 callee_today (CoreOp op) n span = tt
@@ -96,7 +85,7 @@ mutual
       (λ p. gen_all args d b s p ++ (OpenOf (opening form callee) (count args) m.span ∷ callee_code callee (suc (count args)) m.span ∷ CloseOf form m.span ∷ []))
       (gen_today cell h.1 d b s pc)
       (λ p. both (gen_all args d b s p) (OpenOf (opening form callee) (count args) m.span ∷ callee_code callee (suc (count args)) m.span ∷ CloseOf form m.span ∷ []) (all_today args h.2 d b s p)
-      (opening_today form callee h.0, (callee_today callee (suc (count args)) m.span, (h.0, tt))))
+      (opening_today form callee (count args) h.0, (callee_today callee (suc (count args)) m.span, (h.0, tt))))
   gen_today (Send cell callee args m) h d b s pc = absurd h
 
   all_today : (ts : Trees) → TreesRunToday ts → (depth base start pc : ℕ) → AllPlain (gen_all ts depth base start pc)
@@ -116,24 +105,6 @@ mutual
 
 -- ---- from the machine's view of an instruction back to the instruction
 
-opens_back : (form : OpenForm) (n : ℕ) → OpensToday form → IsRunToday (instr.Open form n)
-opens_back open_form.Alter n h = tt
-opens_back (open_form.Commute callee) n h = h
-opens_back (open_form.Swap callee) n h = h
-
-looks_back : (form : LookForm) → LooksToday form → IsRunToday (instr.Look form)
-looks_back Deref h = tt
-looks_back Ensure h = tt
-
-puts_back : (form : PutForm) → PutsToday form → IsRunToday (instr.Put form)
-puts_back RefSet h = tt
-puts_back Reset h = h
-
-closes_back : (form : UpdateForm) → UpdatesToday form → IsRunToday (instr.Close form)
-closes_back Alter h = tt
-closes_back Commute h = h
-closes_back Swap h = h
-
 back : (ps : List ℕ) (ks : List Value) (i : Instr) (span : Span) → Plain (plain_instr ps ks i span) → IsRunToday i
 back ps ks (instr.Const k) span h = tt
 back ps ks (instr.Local i) span h = tt
@@ -146,13 +117,13 @@ back ps ks (instr.Call f) span h = tt
 back ps ks instr.Return span h = tt
 back ps ks (instr.Vector n) span h = tt
 back ps ks (instr.Print n) span h = tt
-back ps ks (instr.Look form) span h = looks_back form h
-back ps ks (instr.Put form) span h = puts_back form h
+back ps ks (instr.Look form) span h = h
+back ps ks (instr.Put form) span h = h
 back ps ks instr.TxBegin span h = tt
 back ps ks instr.TxEnd span h = tt
-back ps ks (instr.Open form n) span h = opens_back form n h
-back ps ks (instr.Close form) span h = closes_back form h
-back ps ks (instr.Send callee n) span h = absurd h
+back ps ks (instr.Open form n) span h = h
+back ps ks (instr.Close form) span h = h
+back ps ks (instr.Send callee n) span h = h
 back ps ks instr.Halt span h = tt
 
 -- instructions with a span for each

@@ -1,29 +1,23 @@
 -- The programs of which today's actors run the code.
 use Rattle.std.specs.Prelude.{List, [], ◌∷◌}
 use Rattle.txs_value.specs.declared.form.LookForm.{LookForm}
-use Rattle.txs_value.specs.declared.form.LookForm.TheVariants.{Deref, Ensure}
 use Rattle.txs_value.specs.declared.form.PutForm.{PutForm}
-use Rattle.txs_value.specs.declared.form.PutForm.TheVariants.{RefSet, Reset}
 use Rattle.txs_value.specs.declared.form.UpdateForm.{UpdateForm}
-use Rattle.txs_value.specs.declared.form.UpdateForm.TheVariants.{Alter, Commute, Swap}
-use Rattle.txs_code.specs.RunsToday.{CellsRunToday}
+use Rattle.txs_code.specs.RunsToday.{IsRunToday, CellsRunToday}
+use Rattle.txs_code.specs.declared.instr.Instr.TheVariants as instr
 use Rattle.txs_tree.specs.Tree.{Tree, Const, Local, If, Do, Let, Loop, Recur, Core, Call, VectorOf, Println, Dosync, Look, Put, Update, Send, Trees, none, more, PlainFunction, PlainThread, PlainProgram}
 
--- the forms that read a cell, `deref` and `ensure`, run today
+-- a form that reads a cell runs today, where its instruction does
 abbrev pub LooksToday : LookForm → Type 0
-LooksToday Deref = Unit {0}
-LooksToday Ensure = Unit {0}
+LooksToday form = IsRunToday (instr.Look form)
 
--- of the forms that give a cell a value, `ref-set` does
+-- so does one that gives a cell a value
 abbrev pub PutsToday : PutForm → Type 0
-PutsToday RefSet = Unit {0}
-PutsToday Reset = ⊥
+PutsToday form = IsRunToday (instr.Put form)
 
--- of those that give it what a callee makes of its value, `alter` does
+-- and one that gives it what a callee makes of its value, by the instruction that closes it
 abbrev pub UpdatesToday : UpdateForm → Type 0
-UpdatesToday Alter = Unit {0}
-UpdatesToday Commute = ⊥
-UpdatesToday Swap = ⊥
+UpdatesToday form = IsRunToday (instr.Close form)
 
 -- each form on a cell in this tree runs today; `send` doesn't
 abbrev mutual

@@ -45,11 +45,11 @@ append_nil (x ∷ xs) = ap (λ l. x ∷ l) (append_nil xs)
 module _ (cells : List CellDefinition) where
   -- ---- a commute phase that has to begin again
 
-  abbrev WantsView : Option Ask → Type 0
+  abbrev pub WantsView : Option Ask → Type 0
   WantsView None = ⊥
   WantsView (Some q) = IsView q
 
-  abbrev AsksView : Turned Configuration → Type 0
+  abbrev pub AsksView : Turned Configuration → Type 0
   AsksView (Ended s) = ⊥
   AsksView (Failed f s) = ⊥
   AsksView (Asking s) = WantsView s.wants
@@ -108,7 +108,7 @@ module _ (cells : List CellDefinition) where
   redo_ends (Acting g x) i w h = absurd h
 
   -- where a commute phase has to begin again, its view is asked
-  redo_asks : (code : ThreadCode) (c : Configuration) → c.state.todo ≡ [] → RedoIn cells c.doing (fetch code c.body c.place) c.state.done → AsksView (turn code c)
+  pub redo_asks : (code : ThreadCode) (c : Configuration) → c.state.todo ≡ [] → RedoIn cells c.doing (fetch code c.body c.place) c.state.done → AsksView (turn code c)
   redo_asks code c e h =
       subst (λ i. AsksView (act code i c)) (sym (is_end (fetch code c.body c.place) (redo_ends c.doing (fetch code c.body c.place) c.state.done h))) (ends_ask code c c.doing (fetch code c.body c.place) e h)
 

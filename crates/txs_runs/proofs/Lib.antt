@@ -11,6 +11,7 @@ pub mod Known
 pub mod Lasts
 pub mod Lawful
 pub mod Naming
+pub mod OneActor
 pub mod Refused
 pub mod Replayed
 pub mod Report
@@ -19,7 +20,6 @@ pub mod ServedKnown
 pub mod Serving
 pub mod Staging
 pub mod Steps
-pub mod Today
 pub mod Told
 pub mod Tracing
 pub mod Typed

@@ -10,7 +10,6 @@ use Rattle.txs_code.specs.Machine.{ThreadCode, fetch, Push, Configuration, Unfin
 use Rattle.txs_code.specs.PlainCode.{CodeBody, PlainCode, thread_code}
 use Rattle.txs_code.specs.WellTyped.{WellTyped}
 use Rattle.txs_value.specs.Places.{nth}
-use Rattle.txs_code.specs.RunsToday.{AreRunToday, BodiesRunToday}
 use Rattle.txs_world.specs.Book.{has_cell, opening}
 use Rattle.txs_world.specs.Store.{cells_of}
 use Rattle.txs_runs.specs.Explains.{code_of}
@@ -60,10 +59,6 @@ RunAsksLawful =
     (cells : List CellDefinition) (threads : ℕ) (codes : ℕ → ThreadCode) (ys : List Play)
     → OpeningIsKnown cells → ((a : ℕ) → CodeIsKnown cells (codes a))
     → AsksAreLawful cells threads codes (plays cells threads codes ys)
-
--- the instructions of each body that today's actors run stand where they may
-abbrev pub TodayStands : Type 0
-TodayStands = (code : PlainCode) (b : CodeBody) → BodiesRunToday code.functions → AreRunToday b.instrs → StandingCode (thread_code code b)
 
 -- the instructions of each thread of well-typed code stand where they may
 abbrev pub TypedStands : Type 0

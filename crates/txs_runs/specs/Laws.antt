@@ -3,8 +3,6 @@ use Rattle.std.specs.Prelude.{◌≡◌, ℕ, zero, suc, true, ◌==◌, Bool, L
 use Rattle.txs_asks.specs.declared.ask.Ask.{Ask}
 use Rattle.txs_asks.specs.declared.event.Event.{Event}
 use Rattle.txs_value.specs.declared.cell.CellDefinition.{CellDefinition}
-use Rattle.txs_code.specs.PlainCode.{CodeBody, PlainCode, thread_code}
-use Rattle.txs_code.specs.RunsToday.{AreRunToday, BodiesRunToday}
 use Rattle.txs_follows.specs.RepliesFit.{Out}
 use Rattle.txs_follows.specs.RepliesFitTo.{RepliesFitTo}
 use Rattle.txs_world.specs.Book.{Legal, opening}
@@ -13,7 +11,6 @@ use Rattle.txs_world.specs.Store.{cells_of}
 use Rattle.txs_runs.specs.Shared.{book_for, serve_on, may_ask}
 use Rattle.txs_runs.specs.Stages.{Stage, AsksIn, stage_after, phase_of}
 use Rattle.txs_runs.specs.Told.{Entry, exchange_of, IsExchanged, ToldBy, history_of}
-use Rattle.txs_runs.specs.Staged.{StagedCode}
 use Rattle.txs_runs.specs.Run.{entry}
 
 -- what an actor was told fits what it did, up to its stage's phase
@@ -39,10 +36,6 @@ abbrev pub OthersLeaveTold : Type 0
 OthersLeaveTold =
     (cells : List CellDefinition) (threads : ℕ) (books : ℕ → List Event) (k a : ℕ) (e : Event) (es : List Entry) (st : Stage) → (e.actor ≡ a → ⊥) → ToldBy cells threads books a es st
     → ToldBy cells threads (with_book k (books k ++ e ∷ []) books) a es st
-
--- the code of each body that today's actors run is staged
-abbrev pub TodayIsStaged : Type 0
-TodayIsStaged = (code : PlainCode) (b : CodeBody) → BodiesRunToday code.functions → AreRunToday b.instrs → StagedCode (thread_code code b)
 
 -- the store's book alone
 abbrev pub alone : List Event → ℕ → List Event

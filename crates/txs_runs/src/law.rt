@@ -4,8 +4,8 @@
 ghost use Rattle.txs_runs.specs.Agents.{ConsumesActions, RunActsMean};
 ghost use Rattle.txs_runs.specs.Explains.{RunExplained, ProgramExplained};
 ghost use Rattle.txs_runs.specs.Invariant.{OpeningHolds, PlayHolds, InvariantExplains};
-ghost use Rattle.txs_runs.specs.Lawful.{RunAsksLawful, TodayStands, TypedStands, TypedActorsStand};
-ghost use Rattle.txs_runs.specs.Laws.{ToldFits, ServedIsTold, OthersLeaveTold, TodayIsStaged, AloneHistory};
+ghost use Rattle.txs_runs.specs.Lawful.{RunAsksLawful, TypedStands, TypedActorsStand};
+ghost use Rattle.txs_runs.specs.Laws.{ToldFits, ServedIsTold, OthersLeaveTold, AloneHistory};
 ghost use Rattle.txs_runs.specs.Printed.{RunPrints};
 ghost use Rattle.txs_runs.specs.Refused.{RunRefusals};
 ghost use Rattle.txs_runs.specs.Report.{RunTraced, RunReported, TypedAreStaged};
@@ -77,11 +77,6 @@ pub fn typed_threads_are_staged()
     ensures { TypedAreStaged }
 {}
 
-/// The instructions of the code that today's actors run stand where they may.
-pub fn today_stands()
-    ensures { TodayStands }
-{}
-
 /// What holds between the plays of a run holds before the first.
 pub fn opening_holds()
     ensures { OpeningHolds }
@@ -118,11 +113,6 @@ pub fn served_is_told()
 /// What another actor adds to the books leaves what an actor was told.
 pub fn others_leave_told()
     ensures { OthersLeaveTold }
-{}
-
-/// The code that today's actors run asks at most once a turn, and each ask comes in its stage.
-pub fn today_is_staged()
-    ensures { TodayIsStaged }
 {}
 
 /// Of an actor that has the store for itself, what it did is what the store's book says of it.
