@@ -1,8 +1,10 @@
 pub mod Answering
+pub mod Applying
 pub mod Calling
 pub mod Departing
 pub mod Effects
 pub mod Following
+pub mod Keeping
 pub mod Landing
 pub mod Meaning
 pub mod Openings

@@ -1,10 +1,12 @@
 -- The replies that asks may have, one by one.
-use Rattle.std.proofs.Common.{ℕ, Bool, true, false, List, []}
+use Rattle.std.proofs.Common.{◌≡◌, ℕ, Bool, true, false, List, length, Option}
 use Rattle.txs_asks.specs.Ask.{Writes}
 use Rattle.txs_asks.specs.declared.ask.Ask.TheVariants as ask
 use Rattle.txs_asks.specs.declared.ask.Reply.{Reply}
 use Rattle.txs_asks.specs.declared.ask.Reply.TheVariants.{At, Is, Views, Done, Retry, Changed, AgentIsFailed, Action, Idle, Opened, Full, Memory}
-use Rattle.txs_frame.specs.Frame.{Work, set_writes}
+use Rattle.txs_frame.specs.Frame.{Work, commuted, set_writes}
+use Rattle.txs_frame.specs.Phase.{PlainPhase}
+use Rattle.txs_frame.specs.declared.frame.Commute.{Commute}
 use Rattle.txs_value.specs.declared.action.Action.{Action as AnAction}
 use Rattle.txs_value.specs.declared.fault.Fault.{Fault}
 use Rattle.txs_value.specs.declared.value.CellId.{CellId}
@@ -28,6 +30,20 @@ module _ (P : Reply → Type 0) where
   begin_replies at (Opened q v) m = absurd m
   begin_replies at Full m = absurd m
   begin_replies at Memory m = absurd m
+
+  pub view_replies : (cs : List CellId) → ((q : ℕ) (vs : List Value) → length vs ≡ length cs → P (Views q vs)) → P Memory → (r : Reply) → MayAnswer (ask.View cs) r → P r
+  view_replies cs views memory (Views q vs) m = views q vs m
+  view_replies cs views memory Memory m = memory
+  view_replies cs views memory (At p) m = absurd m
+  view_replies cs views memory (Is v) m = absurd m
+  view_replies cs views memory Done m = absurd m
+  view_replies cs views memory (Retry c) m = absurd m
+  view_replies cs views memory (Changed c) m = absurd m
+  view_replies cs views memory (AgentIsFailed g) m = absurd m
+  view_replies cs views memory (Action n x v) m = absurd m
+  view_replies cs views memory Idle m = absurd m
+  view_replies cs views memory (Opened q v) m = absurd m
+  view_replies cs views memory Full m = absurd m
 
   pub look_replies : (c : CellId) (p : ℕ) → ((v : Value) → P (Is v)) → ((d : CellId) → P (Retry d)) → P Full → P Memory → (r : Reply) → MayAnswer (ask.Look c p) r → P r
   look_replies c p is again full memory (Is v) m = is v
@@ -87,14 +103,15 @@ module _ (P : Reply → Type 0) where
   fail_replies p q done full memory (Opened n v) m = absurd m
 
 -- each reply that an actor's ask may have, by what it is for
-pub record Cases (P : Pending → Bool → Reply → Type 0) : Type 0 where
+pub record Cases (P : Pending → Bool → Reply → Type 0) (w : Work) : Type 0 where
   pub begins : (left : ℕ) (from : Origin) (i : Bool) (p : ℕ) → P (pending.Begin left from) i (At p)
   pub reads : (c : CellId) (i : Bool) (v : Value) → P (pending.Read c) i (Is v)
   pub reads_again : (c d : CellId) → P (pending.Read c) true (Retry d)
   pub ensures : (c : CellId) (es : List CellId) (i : Bool) (v : Value) → P (pending.Ensure c es) i (Is v)
   pub ensures_again : (c : CellId) (es : List CellId) (i : Bool) (d : CellId) → P (pending.Ensure c es) i (Retry d)
-  pub opens : (c : CellId) (n : ℕ) (i : Bool) (v : Value) → P (pending.Open c n) i (Is v)
-  pub opens_again : (c : CellId) (n : ℕ) (i : Bool) (d : CellId) → P (pending.Open c n) i (Retry d)
+  pub opens : (c : CellId) (n : ℕ) (kept : Option Commute) (i : Bool) (v : Value) → P (pending.Open c n kept) i (Is v)
+  pub opens_again : (c : CellId) (n : ℕ) (kept : Option Commute) (i : Bool) (d : CellId) → P (pending.Open c n kept) i (Retry d)
+  pub views : (phase : PlainPhase) (i : Bool) (q : ℕ) (vs : List Value) → length vs ≡ length (commuted w) → P (pending.View phase) i (Views q vs)
   pub commits : (i : Bool) → P pending.Commit i Done
   pub commits_again : (i : Bool) (d : CellId) → P pending.Commit i (Retry d)
   pub changed : (i : Bool) (d : CellId) → P pending.Commit i (Changed d)
@@ -103,11 +120,12 @@ pub record Cases (P : Pending → Bool → Reply → Type 0) : Type 0 where
   pub full : (p : Pending) (i : Bool) → P p i Full
   pub memory : (p : Pending) (i : Bool) → P p i Memory
 
-pub by_reply : (P : Pending → Bool → Reply → Type 0) → Cases P → (p : Pending) (inside : Bool) (at : ℕ) (w : Work) (r : Reply) → MayAnswer (ask_for p inside at w) r → P p inside r
-by_reply P k (pending.Begin left from) i at w r m = begin_replies (P (pending.Begin left from) i) (k.begins left from i) r m
-by_reply P k (pending.Read c) true at w r m = look_replies (P (pending.Read c) true) c at (k.reads c true) (k.reads_again c) (k.full (pending.Read c) true) (k.memory (pending.Read c) true) r m
-by_reply P k (pending.Read c) false at w r m = peek_replies (P (pending.Read c) false) c (k.reads c false) (k.full (pending.Read c) false) (k.memory (pending.Read c) false) r m
-by_reply P k (pending.Ensure c es) i at w r m = look_replies (P (pending.Ensure c es) i) c at (k.ensures c es i) (k.ensures_again c es i) (k.full (pending.Ensure c es) i) (k.memory (pending.Ensure c es) i) r m
-by_reply P k (pending.Open c n) i at w r m = look_replies (P (pending.Open c n) i) c at (k.opens c n i) (k.opens_again c n i) (k.full (pending.Open c n) i) (k.memory (pending.Open c n) i) r m
-by_reply P k pending.Commit i at w r m = commit_replies (P pending.Commit i) at (set_writes w) w.ensures at [] w.sends (k.commits i) (k.commits_again i) (k.changed i) (k.denied i) (k.full pending.Commit i) (k.memory pending.Commit i) r m
-by_reply P k (pending.Fail f) i at w r m = fail_replies (P (pending.Fail f) i) at at (k.fails f i) (k.full (pending.Fail f) i) (k.memory (pending.Fail f) i) r m
+pub by_reply : (P : Pending → Bool → Reply → Type 0) (w : Work) → Cases P w → (p : Pending) (inside : Bool) (at view : ℕ) (ws : Writes) (r : Reply) → MayAnswer (ask_for p inside at view ws w) r → P p inside r
+by_reply P w k (pending.Begin left from) i at view ws r m = begin_replies (P (pending.Begin left from) i) (k.begins left from i) r m
+by_reply P w k (pending.Read c) true at view ws r m = look_replies (P (pending.Read c) true) c at (k.reads c true) (k.reads_again c) (k.full (pending.Read c) true) (k.memory (pending.Read c) true) r m
+by_reply P w k (pending.Read c) false at view ws r m = peek_replies (P (pending.Read c) false) c (k.reads c false) (k.full (pending.Read c) false) (k.memory (pending.Read c) false) r m
+by_reply P w k (pending.Ensure c es) i at view ws r m = look_replies (P (pending.Ensure c es) i) c at (k.ensures c es i) (k.ensures_again c es i) (k.full (pending.Ensure c es) i) (k.memory (pending.Ensure c es) i) r m
+by_reply P w k (pending.Open c n kept) i at view ws r m = look_replies (P (pending.Open c n kept) i) c at (k.opens c n kept i) (k.opens_again c n kept i) (k.full (pending.Open c n kept) i) (k.memory (pending.Open c n kept) i) r m
+by_reply P w k (pending.View phase) i at view ws r m = view_replies (P (pending.View phase) i) (commuted w) (k.views phase i) (k.memory (pending.View phase) i) r m
+by_reply P w k pending.Commit i at view ws r m = commit_replies (P pending.Commit i) at (set_writes w) w.ensures view ws w.sends (k.commits i) (k.commits_again i) (k.changed i) (k.denied i) (k.full pending.Commit i) (k.memory pending.Commit i) r m
+by_reply P w k (pending.Fail f) i at view ws r m = fail_replies (P (pending.Fail f) i) at view (k.fails f i) (k.full (pending.Fail f) i) (k.memory (pending.Fail f) i) r m

@@ -2,7 +2,7 @@
 
 use crate::state::Pending;
 use txs_asks::{Ask, Outcome};
-use txs_value::FaultKind;
+use txs_value::{Fault, FaultKind};
 
 /// What a turn came to.
 #[derive(Drop)]
@@ -20,10 +20,14 @@ pub enum Turn {
 pub(crate) enum Moved {
     /// The next instruction follows.
     On,
+    /// The same instruction follows.
+    Stays,
     /// The shared state has to be asked.
     Asks(Pending),
-    /// A fault.
+    /// A fault of the instruction.
     Faults(FaultKind),
+    /// A fault of another place.
+    Falls(Fault),
     /// There was no memory.
     Memory,
 }

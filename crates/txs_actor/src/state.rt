@@ -1,5 +1,6 @@
 //! What an actor keeps of its transaction and of its unanswered ask.
 
+use txs_frame::{Commute, Phase};
 use txs_stack::Stack;
 use txs_value::{CellId, Fault, Listed, Span};
 
@@ -16,9 +17,21 @@ pub enum Transaction {
     /// None.
     Outside,
     /// It begins anew, and may run again so many times.
-    Restarting { left: u16 },
+    Restarting {
+        left: u16,
+    },
     /// It runs, with so many inner ones, and may run again so many times from where it began.
-    Running { left: u16, inner: u64, from: Origin },
+    Running {
+        left: u16,
+        inner: u64,
+        from: Origin,
+    },
+    /// At its end its commutes are applied, and it may run again so many times from where it began.
+    Applying {
+        left: u16,
+        from: Origin,
+        phase: Phase,
+    },
 }
 
 /// What an actor's unanswered ask is for.
@@ -30,8 +43,10 @@ pub enum Pending {
     Read(CellId),
     /// A ref's value takes the ref's place at the top of the stack, and these refs are ensured then.
     Ensure(CellId, Listed<CellId>),
-    /// A ref's value goes between the ref and so many arguments.
-    Open(CellId, u16),
+    /// A ref's value goes between the ref and so many arguments, and this commute is open then, if one is.
+    Open(CellId, u16, Option<Commute>),
+    /// The refs that were commuted and not set are viewed, for this commute phase.
+    View(Phase),
     /// A transaction ends.
     Commit,
     /// A transaction has ended with a fault.

@@ -1,24 +1,35 @@
 //! Instructions on cells and the transaction of an actor.
 
-ghost use Rattle.std.specs.Prelude.{List, ◌≡◌, ◌<◌, ◌≤◌, ◌^◌, length, true, Ok, IfOk};
+ghost use Rattle.std.specs.Prelude.{ℕ, List, ◌≡◌, ◌<◌, ◌≤◌, ◌^◌, length, true, Ok, Some, Option, IfOk};
 ghost use Rattle.txs_asks.specs.Ask.{buffered};
-ghost use Rattle.txs_frame.specs.Frame.{Work};
+ghost use Rattle.txs_code.specs.ActorState.{kept_open};
+ghost use Rattle.txs_frame.specs.Frame.{Work, commuted};
+ghost use Rattle.txs_frame.specs.Phase.{next_arguments};
+ghost use Rattle.txs_operations.specs.Core.{Answers, core, takes};
+ghost use Rattle.txs_frame.specs.declared.frame.Commute.{Commute as ACommute};
 ghost use Rattle.txs_value.specs.Forms.{rule, cell_of};
 ghost use Rattle.txs_value.specs.declared.value.CellId.{CellId as ACell};
 ghost use Rattle.txs_value.specs.declared.value.Value.{Value as AValue};
 ghost use Rattle.txs_value.specs.declared.form.CellForm.TheVariants as form;
 ghost use Rattle.txs_value.specs.declared.form.UpdateForm.TheVariants as update;
-ghost use Rattle.txs_actor.specs.Effect.{Comes, CanMove, effect, reads, ensures, opens, sets, begins, ends, IsForRefs};
-ghost use Rattle.txs_actor.specs.PlainActor.{is_running, depth_in};
-ghost use Rattle.txs_stack.specs.Values.{under};
+ghost use Rattle.txs_actor.specs.Effect.{Comes, CanMove, effect, reads, ensures, update_of, opens, sets, closes, begins, settles, applying, goes_through, ends, LeftApply, IsForRefs};
+ghost use Rattle.txs_actor.specs.declared.state.Transaction.{Transaction as ATransaction};
+ghost use Rattle.txs_actor.specs.PlainActor.{is_running, depth_in, IsUnapplied, AllApply};
+ghost use Rattle.txs_stack.specs.PlainFrame.{PlainStack};
+ghost use Rattle.txs_stack.specs.Values.{topmost};
 
 use crate::outcome::Moved;
 use crate::state::{Origin, Pending, Transaction};
 use std::alloc::{AllocError, Global};
+use std::mem;
 use txs_code::{Instr, OpenForm};
-use txs_frame::{SetError, TxFrame};
+use txs_frame::{Commute, Phase, SetError, TxFrame};
+use txs_operations::apply_owned;
 use txs_stack::Stack;
-use txs_value::{CellForm, FaultKind, LookForm, PutForm, Span, UpdateForm, Value, copy_value};
+use txs_value::{
+    Callee, CellForm, CellId, Fault, FaultKind, Listed, LookForm, Op, PutForm, Span, Stop,
+    UpdateForm, Value, copy_value, copy_values,
+};
 
 /// How often a transaction may run again.
 const RERUNS: u16 = 9_999;
@@ -28,7 +39,10 @@ const RERUNS: u16 = 9_999;
 pub(crate) fn is_running(tx: &Transaction) -> bool
     ensures { result ≡ is_running tx.now }
 {
-    matches!(tx, Transaction::Running { .. })
+    matches!(
+        tx,
+        Transaction::Running { .. } | Transaction::Applying { .. }
+    )
 }
 
 /// The transaction's own value of the ref with this number, if it has one: the frame goes on sharing it.
@@ -46,7 +60,7 @@ fn own_value(frame: &TxFrame, number: u16) -> Result<Option<Value>, AllocError>
 #[inline(always)]
 fn deref(stack: &mut Stack, tx: &Transaction, frame: &TxFrame) -> Moved
     requires room { (0 < length stack.old.values) × (length stack.old.values ≤ stack.old.room) }
-    ensures comes { Comes result stack.new.values tx.now frame.now frame.now (reads (is_running tx.now) stack.old.values tx.now frame.now) }
+    ensures comes { (k : Option ACommute) → Comes result stack.new.values tx.now frame.now k frame.now k (reads (is_running tx.now) stack.old.values tx.now frame.now k) }
     ensures rest { stack.new ≡ record stack.old { values = stack.new.values } }
 {
     let inside = is_running(tx);
@@ -68,7 +82,7 @@ fn deref(stack: &mut Stack, tx: &Transaction, frame: &TxFrame) -> Moved
 #[inline(never)]
 fn ensure(stack: &mut Stack, tx: &Transaction, frame: &mut TxFrame) -> Moved
     requires room { (0 < length stack.old.values) × (length stack.old.values ≤ stack.old.room) }
-    ensures comes { Comes result stack.new.values tx.now frame.new frame.old (ensures stack.old.values tx.now frame.old) }
+    ensures comes { (k : Option ACommute) → Comes result stack.new.values tx.now frame.new k frame.old k (ensures stack.old.values tx.now frame.old k) }
     ensures rest { stack.new ≡ record stack.old { values = stack.new.values } }
 {
     let cell = match CellForm::Look(LookForm::Ensure).cell_of(true, stack.last()) {
@@ -91,23 +105,69 @@ fn ensure(stack: &mut Stack, tx: &Transaction, frame: &mut TxFrame) -> Moved
     }
 }
 
-/// The value of the ref below n arguments.
+/// The n values at the top, which the stack goes on sharing.
+fn copy_topmost(alloc: Global, stack: &Stack, n: usize) -> Result<Listed<Value>, AllocError>
+    requires { n ≤ length stack.now.values }
+    ensures { IfOk result (λ copies. copies ≡ topmost n stack.now.values) }
+{
+    let mut copies = Vec::with_capacity(alloc, n)?;
+    for i in 0..n {
+        copies.push(copy_value(stack.under(n - i - 1))?)?;
+    }
+    Ok(Listed::from_vec(copies))
+}
+
+/// The commute of a ref that is open once its value stands below the n values at the top, where it is one.
 #[inline(always)]
-fn open(n: u16, stack: &mut Stack, tx: &Transaction, frame: &TxFrame) -> Moved
+fn opening(
+    alloc: Global,
+    callee: Option<Callee>,
+    cell: CellId,
+    stack: &Stack,
+    n: usize,
+) -> Result<Option<Commute>, AllocError>
+    requires { n ≤ length stack.now.values }
+    ensures { IfOk result (λ kept. kept ≡ kept_open (update_of callee) cell (topmost n stack.now.values)) }
+{
+    match callee {
+        None => Ok(None),
+        Some(callee) => {
+            let args = copy_topmost(alloc, stack, n)?;
+            Ok(Some(Commute { cell, callee, args }))
+        }
+    }
+}
+
+/// The value of the ref below n arguments. A commute is open then, with copies of these.
+#[inline(always)]
+fn open(
+    alloc: Global,
+    callee: Option<Callee>,
+    n: u16,
+    stack: &mut Stack,
+    tx: &Transaction,
+    frame: &TxFrame,
+    commuting: &mut Option<Commute>,
+) -> Moved
     requires room { (n < length stack.old.values) × (length stack.old.values < stack.old.room) }
-    ensures comes { Comes result stack.new.values tx.now frame.now frame.now (opens n stack.old.values tx.now frame.now (cell_of (rule (form.Update update.Alter)) true (under n stack.old.values))) }
+    ensures comes { Comes result stack.new.values tx.now frame.now commuting.new frame.now commuting.old (opens (update_of callee) n stack.old.values tx.now frame.now commuting.old) }
     ensures rest { stack.new ≡ record stack.old { values = stack.new.values } }
 {
-    match CellForm::Update(UpdateForm::Alter).cell_of(true, stack.under(n as usize)) {
-        Err(kind) => Moved::Faults(kind),
-        Ok(cell) => match own_value(frame, cell.number) {
-            Err(_) => Moved::Memory,
-            Ok(None) => Moved::Asks(Pending::Open(cell, n)),
-            Ok(Some(value)) => {
-                stack.insert_under(n as usize, value);
-                Moved::On
-            }
-        },
+    let cell = match CellForm::Update(UpdateForm::Alter).cell_of(true, stack.under(n as usize)) {
+        Err(kind) => return Moved::Faults(kind),
+        Ok(cell) => cell,
+    };
+    let Ok(kept) = opening(alloc, callee, cell, stack, n as usize) else {
+        return Moved::Memory;
+    };
+    match own_value(frame, cell.number) {
+        Err(_) => Moved::Memory,
+        Ok(None) => Moved::Asks(Pending::Open(cell, n, kept)),
+        Ok(Some(value)) => {
+            stack.insert_under(n as usize, value);
+            drop(mem::replace(commuting, kept));
+            Moved::On
+        }
     }
 }
 
@@ -116,7 +176,7 @@ fn open(n: u16, stack: &mut Stack, tx: &Transaction, frame: &TxFrame) -> Moved
 fn set(form: CellForm, stack: &mut Stack, tx: &Transaction, frame: &mut TxFrame) -> Moved
     requires refs { IsForRefs form }
     requires room { (1 < length stack.old.values) × (length stack.old.values ≤ stack.old.room) }
-    ensures comes { Comes result stack.new.values tx.now frame.new frame.old (sets form stack.old.values tx.now frame.old) }
+    ensures comes { (k : Option ACommute) → Comes result stack.new.values tx.now frame.new k frame.old k (sets form stack.old.values tx.now frame.old k) }
     ensures rest { stack.new ≡ record stack.old { values = stack.new.values } }
 {
     let cell = match form.cell_of(true, stack.under(1)) {
@@ -136,12 +196,69 @@ fn set(form: CellForm, stack: &mut Stack, tx: &Transaction, frame: &mut TxFrame)
     }
 }
 
+/// The commute that is open is kept, with copies of its arguments, and with the last value as that of the ref below it.
+#[inline(never)]
+fn keep(
+    alloc: Global,
+    stack: &mut Stack,
+    tx: &Transaction,
+    frame: &mut TxFrame,
+    commuting: &mut Option<Commute>,
+) -> Moved
+    requires open { (o : ACommute) × (commuting.old ≡ Some o) }
+    requires room { (1 < length stack.old.values) × (length stack.old.values ≤ stack.old.room) }
+    ensures comes { Comes result stack.new.values tx.now frame.new commuting.new frame.old commuting.old (closes stack.old.values tx.now frame.old commuting.old) }
+    ensures rest { stack.new ≡ record stack.old { values = stack.new.values } }
+{
+    let cell = match CellForm::Update(UpdateForm::Alter).cell_of(true, stack.under(1)) {
+        Err(kind) => return Moved::Faults(kind),
+        Ok(cell) => cell,
+    };
+    let Some(open) = commuting else {
+        unreachable!();
+    };
+    let Ok(args) = copy_values(alloc, &open.args) else {
+        return Moved::Memory;
+    };
+    let Ok(value) = copy_value(stack.last()) else {
+        return Moved::Memory;
+    };
+    match frame.commute(cell, open.callee, args, value) {
+        Err(_) => Moved::Memory,
+        Ok(()) => {
+            stack.drop_under();
+            drop(mem::replace(commuting, None));
+            Moved::On
+        }
+    }
+}
+
+/// The close of an update: the ref is set, or the commute that was open is kept.
+#[inline(always)]
+fn close(
+    alloc: Global,
+    stack: &mut Stack,
+    tx: &Transaction,
+    frame: &mut TxFrame,
+    commuting: &mut Option<Commute>,
+) -> Moved
+    requires room { (1 < length stack.old.values) × (length stack.old.values ≤ stack.old.room) }
+    ensures comes { Comes result stack.new.values tx.now frame.new commuting.new frame.old commuting.old (closes stack.old.values tx.now frame.old commuting.old) }
+    ensures rest { stack.new ≡ record stack.old { values = stack.new.values } }
+{
+    if commuting.is_some() {
+        return keep(alloc, stack, tx, frame, commuting);
+    }
+    set(CellForm::Update(UpdateForm::Alter), stack, tx, frame)
+}
+
 /// A transaction begins, or joins the one that runs.
 #[inline(always)]
 #[tactic(auto, unfolding(txs_value::specs::Limits::reruns))]
 fn begin(alloc: Global, span: Span, stack: &Stack, tx: &mut Transaction) -> Moved
-    requires { depth_in tx.old < 2 ^ 64 }
-    ensures { (w : Work) → Comes result stack.now.values tx.new w w (begins (record { span = span; stack = stack.now }) stack.now.values w tx.old) }
+    requires counted { depth_in tx.old < 2 ^ 64 }
+    requires unapplied { IsUnapplied tx.old }
+    ensures { (w : Work) (k : Option ACommute) → Comes result stack.now.values tx.new w k w k (begins (record { span = span; stack = stack.now }) stack.now.values w k tx.old) }
 {
     let left = match tx {
         Transaction::Running { inner, .. } => {
@@ -150,6 +267,7 @@ fn begin(alloc: Global, span: Span, stack: &Stack, tx: &mut Transaction) -> Move
         }
         Transaction::Outside => RERUNS,
         Transaction::Restarting { left } => *left,
+        Transaction::Applying { .. } => unreachable!(),
     };
     match stack.copy(alloc) {
         Ok(stack) => Moved::Asks(Pending::Begin {
@@ -160,19 +278,70 @@ fn begin(alloc: Global, span: Span, stack: &Stack, tx: &mut Transaction) -> Move
     }
 }
 
+/// The commit of a transaction, or the view of the refs that it commuted and didn't set.
+fn settle(alloc: Global, frame: &TxFrame) -> Moved
+    ensures { (vs : List AValue) (tx : ATransaction) (k : Option ACommute) → Comes result vs tx frame.now k frame.now k (settles (commuted frame.now) vs tx frame.now k) }
+{
+    let Ok(cells) = frame.commuted() else {
+        return Moved::Memory;
+    };
+    if cells.is_empty() {
+        return Moved::Asks(Pending::Commit);
+    }
+    match frame.phase(alloc) {
+        Ok(phase) => Moved::Asks(Pending::View(phase)),
+        Err(_) => Moved::Memory,
+    }
+}
+
+/// The value of an operation that the next commute of a phase calls.
+fn operate(alloc: Global, op: Op, phase: &Phase) -> Result<Value, Stop>
+    requires left { 0 < length phase.now.work }
+    requires takes { takes op (length (next_arguments phase.now.work phase.now.values)) ≡ true }
+    ensures { Answers result (core op (next_arguments phase.now.work phase.now.values)) }
+{
+    let Ok(mut args) = phase.arguments() else {
+        return Err(Stop::Memory);
+    };
+    apply_owned(alloc, op, args.as_mut_slice())
+}
+
+/// One stage of a commute phase: the next commute is applied, whose fault is one of the transaction's beginning, or the
+/// transaction commits.
+#[inline(never)]
+fn go_through(alloc: Global, span: Span, phase: &mut Phase) -> Moved
+    requires { AllApply phase.old.work }
+    ensures { (left : ℕ) (stack : PlainStack) (vs : List AValue) (w : Work) (k : Option ACommute) → Comes result vs (applying left (record { span = span; stack = stack }) phase.new.work phase.new.values) w k w k (goes_through left (record { span = span; stack = stack }) vs w k phase.old.work phase.old.values) }
+{
+    match phase.callee() {
+        None => Moved::Asks(Pending::Commit),
+        Some(Callee::Core(op)) => match operate(alloc, op, phase) {
+            Ok(value) => {
+                phase.give(value);
+                Moved::Stays
+            }
+            Err(Stop::Fault(kind)) => Moved::Falls(Fault { kind, span }),
+            Err(Stop::Memory) => Moved::Memory,
+        },
+        Some(Callee::Function(_)) => unreachable!(),
+    }
+}
+
 /// A transaction ends, or leaves the one that runs.
 #[inline(always)]
-fn end(tx: &mut Transaction) -> Moved
-    ensures { (vs : List AValue) (w : Work) → Comes result vs tx.new w w (ends vs w tx.old) }
+fn end(alloc: Global, tx: &mut Transaction, frame: &TxFrame) -> Moved
+    requires { LeftApply tx.old }
+    ensures { (vs : List AValue) (k : Option ACommute) → Comes result vs tx.new frame.now k frame.now k (ends vs frame.now k tx.old) }
 {
     match tx {
         Transaction::Running { inner, .. } => {
             if *inner == 0 {
-                return Moved::Asks(Pending::Commit);
+                return settle(alloc, frame);
             }
             *inner -= 1;
             Moved::On
         }
+        Transaction::Applying { from, phase, .. } => go_through(alloc, from.span, phase),
         Transaction::Outside | Transaction::Restarting { .. } => Moved::On,
     }
 }
@@ -186,9 +355,10 @@ pub(crate) fn transact(
     stack: &mut Stack,
     tx: &mut Transaction,
     frame: &mut TxFrame,
+    commuting: &mut Option<Commute>,
 ) -> Moved
     requires { CanMove stack.old.values stack.old.room tx.old instr }
-    ensures comes { Comes result stack.new.values tx.new frame.new frame.old (effect (record { span = span; stack = stack.old }) stack.old.values tx.old frame.old instr) }
+    ensures comes { Comes result stack.new.values tx.new frame.new commuting.new frame.old commuting.old (effect (record { span = span; stack = stack.old }) stack.old.values tx.old frame.old commuting.old instr) }
     ensures rest { stack.new ≡ record stack.old { values = stack.new.values } }
 {
     match instr {
@@ -196,10 +366,13 @@ pub(crate) fn transact(
         Instr::Look(LookForm::Ensure) => ensure(stack, tx, frame),
         Instr::Put(PutForm::RefSet) => set(CellForm::Put(PutForm::RefSet), stack, tx, frame),
         Instr::TxBegin => begin(alloc, span, stack, tx),
-        Instr::TxEnd => end(tx),
-        Instr::Open(OpenForm::Alter, n) => open(n, stack, tx, frame),
-        Instr::Close(UpdateForm::Alter) => {
-            set(CellForm::Update(UpdateForm::Alter), stack, tx, frame)
+        Instr::TxEnd => end(alloc, tx, frame),
+        Instr::Open(OpenForm::Alter, n) => open(alloc, None, n, stack, tx, frame, commuting),
+        Instr::Open(OpenForm::Commute(callee), n) => {
+            open(alloc, Some(callee), n, stack, tx, frame, commuting)
+        }
+        Instr::Close(UpdateForm::Alter | UpdateForm::Commute) => {
+            close(alloc, stack, tx, frame, commuting)
         }
         _ => unreachable!(),
     }
