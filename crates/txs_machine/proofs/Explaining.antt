@@ -10,7 +10,6 @@ use Rattle.txs_value.specs.declared.cell.CellDefinition.{CellDefinition}
 use Rattle.txs_tree.specs.Meaning.{Completion}
 use Rattle.txs_tree.specs.Thread.{ThreadState, thread_meaning}
 use Rattle.txs_tree.specs.Tree.{PlainThread, PlainProgram, ThreadSource}
-use Rattle.txs_code.specs.Machine.{ThreadCode}
 use Rattle.txs_code.specs.PlainCode.{CodeBody, PlainCode, thread_code}
 use Rattle.txs_follows.specs.Follows.{Follows}
 use Rattle.txs_follows.specs.FollowsAll.{source_of, FollowsAll}
@@ -22,16 +21,16 @@ use Rattle.txs_world.specs.History.{history_of}
 use Rattle.txs_world.specs.Laws.{UnwrittenStays, DoneIsUndisturbed}
 use Rattle.txs_world.specs.Store.{cells_of}
 use Rattle.txs_runs.specs.Laws.{alone, ToldFits, AloneHistory}
-use Rattle.txs_runs.specs.Printed.{Prints, HasPrinted, PrintedOn, PrintedBeforeLast}
+use Rattle.txs_runs.specs.Printed.{Prints, HasPrinted, PrintedBeforeLast}
 use Rattle.txs_runs.specs.Run.{Actor}
 use Rattle.txs_runs.specs.Told.{Entry, exchange_of, places_by}
 use Rattle.txs_runs.specs.Told as told_by
-use Rattle.txs_runs.proofs.Lasts.{WaitsOn, EachWaits, printed_before}
-use Rattle.txs_runs.proofs.Whole.{Lower, all_undisturbed}
+use Rattle.txs_runs.proofs.Lasts.{EachWaits, printed_before}
+use Rattle.txs_runs.proofs.Whole.{all_undisturbed}
 use Rattle.txs_machine.specs.Followed.{ActorsExplained, told}
 use Rattle.txs_machine.specs.RunOver.{RunOver}
 use Rattle.txs_machine.specs.Playing.{IsBetween, AreBetween, HaveSteps, AllEnded, IsReported, AreReported}
-use Rattle.txs_machine.specs.Schedule.{plays_of, in_store, HasDone, AreDone, ArePlayed, HaveEnded, ExplainsSo, HasPrintedLeast, ExplainsThread, Explains, IsExplainedBy}
+use Rattle.txs_machine.specs.Schedule.{plays_of, in_store, HasDone, AreDone, ArePlayed, HaveEnded, ExplainsSo, HasPrintedLeast, ExplainsThread, IsExplainedBy}
 use Rattle.txs_machine.specs.declared.schedule.Play.{Play}
 use Rattle.txs_machine.specs.declared.schedule.ThreadReport.{ThreadReport}
 use Rattle.txs_machine.proofs.Playing.{between_of}

@@ -1,3 +1,4 @@
+pub mod Answered
 pub mod Explaining
 pub mod Following
 pub mod Lawfully

@@ -2,28 +2,15 @@
 use Rattle.std.proofs.Common.{◌≡◌, ℕ, zero, suc, ◌+◌, ◌-◌, ◌<◌, ◌≤◌, Bool, true, false, nat_lt, Option, Some, None, refl, sym, subst, ◌∙◌, arith}
 use Rattle.std.proofs.lemmas.Bool.{ltb-false, ltb-true}
 use Rattle.txs_asks.specs.declared.ask.Reply.{Reply}
-use Rattle.txs_asks.specs.declared.ask.Reply.TheVariants as reply
 use Rattle.txs_asks.specs.declared.event.Outcome.{Outcome}
 use Rattle.txs_asks.specs.declared.event.Outcome.TheVariants as outcome
 use Rattle.txs_code.specs.PlainCode.{PlainCode}
-use Rattle.txs_actor.specs.PlainActor.{PlainActor, answered_if, run_again, end_again, refuse, unanswered}
+use Rattle.txs_actor.specs.PlainActor.{PlainActor, answered, unanswered}
 use Rattle.txs_actor.specs.Turns.{Answers, Moves, TurnsFrom, Turns, GoesOnAfter, TurnsOf}
 use Rattle.txs_actor.specs.declared.outcome.Turn.{Turn}
 use Rattle.txs_actor.specs.declared.outcome.Turn.TheVariants as turned
-use Rattle.txs_actor.specs.declared.state.Pending.{Pending}
-use Rattle.txs_actor.specs.declared.state.Pending.TheVariants.{Begin, Read, Ensure, Open, Commit, Fail}
-use Rattle.txs_actor.specs.declared.state.Transaction.{Transaction}
-use Rattle.txs_actor.specs.declared.state.Transaction.TheVariants.{Outside, Restarting, Running}
 use Rattle.txs_machine.specs.RunOver.{IsLimited}
-
--- an outcome that isn't want of steps
-abbrev Differs : Option Outcome → Type 0
-Differs None = Unit {0}
-Differs (Some outcome.Done) = Unit {0}
-Differs (Some (outcome.Failed f)) = Unit {0}
-Differs (Some outcome.StepsSpent) = ⊥
-Differs (Some outcome.JournalFull) = Unit {0}
-Differs (Some outcome.Memory) = Unit {0}
+use Rattle.txs_machine.proofs.Answered.{Differs, Leaves}
 
 limited_as : (limit : ℕ) (a b : PlainActor) → b.limit ≡ a.limit → Differs b.outcome → b.steps ≤ limit → IsLimited limit a → IsLimited limit b
 limited_as limit a b e d n h = record { limited = e ∙ h.limited; within = n; spent = λ s. absurd (subst Differs s d) }
@@ -68,109 +55,9 @@ turns_limited code limit (suc n) a b r t h = after_turn (λ g x. turns_limited c
 
 -- ---- answers
 
--- the limit and the steps stay, and what ends now doesn't end for want of steps
-abbrev Stays : PlainActor → PlainActor → Type 0
-Stays a b = (b.limit ≡ a.limit) × (a.outcome ≡ None → Differs b.outcome) × (b.steps ≡ a.steps)
-
-as_was : (a : PlainActor) → a.outcome ≡ None → Differs a.outcome
-as_was a e = subst Differs (sym e) tt
-
-again_stays : (a : PlainActor) (tx : Transaction) → Stays a (run_again a tx)
-again_stays a Outside = (refl, as_was a, refl)
-again_stays a (Restarting left) = (refl, as_was a, refl)
-again_stays a (Running zero inner from) = (refl, λ e. tt, refl)
-again_stays a (Running (suc left) inner from) = (refl, as_was a, refl)
-
-end_stays : (a : PlainActor) (tx : Transaction) → Stays a (end_again a tx)
-end_stays a Outside = (refl, as_was a, refl)
-end_stays a (Restarting left) = (refl, as_was a, refl)
-end_stays a (Running zero inner from) = (refl, λ e. tt, refl)
-end_stays a (Running (suc left) inner from) = (refl, as_was a, refl)
-
-refuse_stays : (a : PlainActor) (tx : Transaction) → Stays a (refuse a tx)
-refuse_stays a Outside = (refl, as_was a, refl)
-refuse_stays a (Restarting left) = (refl, as_was a, refl)
-refuse_stays a (Running left inner from) = (refl, λ e. tt, refl)
-
-answer_stays : (a : PlainActor) (p : Option Pending) (r : Reply) → Stays a (answered_if a p r)
-answer_stays a None r = (refl, as_was a, refl)
-answer_stays a (Some (Begin left from)) (reply.At p) = (refl, as_was a, refl)
-answer_stays a (Some (Begin left from)) (reply.Is v) = (refl, as_was a, refl)
-answer_stays a (Some (Begin left from)) (reply.Views p vs) = (refl, as_was a, refl)
-answer_stays a (Some (Begin left from)) reply.Done = (refl, as_was a, refl)
-answer_stays a (Some (Begin left from)) (reply.Retry d) = (refl, as_was a, refl)
-answer_stays a (Some (Begin left from)) (reply.Changed d) = (refl, as_was a, refl)
-answer_stays a (Some (Begin left from)) (reply.AgentIsFailed g) = (refl, as_was a, refl)
-answer_stays a (Some (Begin left from)) (reply.Action i x v) = (refl, as_was a, refl)
-answer_stays a (Some (Begin left from)) reply.Idle = (refl, as_was a, refl)
-answer_stays a (Some (Begin left from)) (reply.Opened p v) = (refl, as_was a, refl)
-answer_stays a (Some (Begin left from)) reply.Full = (refl, λ e. tt, refl)
-answer_stays a (Some (Begin left from)) reply.Memory = (refl, λ e. tt, refl)
-answer_stays a (Some (Read c)) (reply.At p) = (refl, as_was a, refl)
-answer_stays a (Some (Read c)) (reply.Is v) = (refl, as_was a, refl)
-answer_stays a (Some (Read c)) (reply.Views p vs) = (refl, as_was a, refl)
-answer_stays a (Some (Read c)) reply.Done = (refl, as_was a, refl)
-answer_stays a (Some (Read c)) (reply.Retry d) = again_stays a a.tx
-answer_stays a (Some (Read c)) (reply.Changed d) = (refl, as_was a, refl)
-answer_stays a (Some (Read c)) (reply.AgentIsFailed g) = (refl, as_was a, refl)
-answer_stays a (Some (Read c)) (reply.Action i x v) = (refl, as_was a, refl)
-answer_stays a (Some (Read c)) reply.Idle = (refl, as_was a, refl)
-answer_stays a (Some (Read c)) (reply.Opened p v) = (refl, as_was a, refl)
-answer_stays a (Some (Read c)) reply.Full = (refl, λ e. tt, refl)
-answer_stays a (Some (Read c)) reply.Memory = (refl, λ e. tt, refl)
-answer_stays a (Some (Ensure c es)) (reply.At p) = (refl, as_was a, refl)
-answer_stays a (Some (Ensure c es)) (reply.Is v) = (refl, as_was a, refl)
-answer_stays a (Some (Ensure c es)) (reply.Views p vs) = (refl, as_was a, refl)
-answer_stays a (Some (Ensure c es)) reply.Done = (refl, as_was a, refl)
-answer_stays a (Some (Ensure c es)) (reply.Retry d) = again_stays a a.tx
-answer_stays a (Some (Ensure c es)) (reply.Changed d) = (refl, as_was a, refl)
-answer_stays a (Some (Ensure c es)) (reply.AgentIsFailed g) = (refl, as_was a, refl)
-answer_stays a (Some (Ensure c es)) (reply.Action i x v) = (refl, as_was a, refl)
-answer_stays a (Some (Ensure c es)) reply.Idle = (refl, as_was a, refl)
-answer_stays a (Some (Ensure c es)) (reply.Opened p v) = (refl, as_was a, refl)
-answer_stays a (Some (Ensure c es)) reply.Full = (refl, λ e. tt, refl)
-answer_stays a (Some (Ensure c es)) reply.Memory = (refl, λ e. tt, refl)
-answer_stays a (Some (Open c n)) (reply.At p) = (refl, as_was a, refl)
-answer_stays a (Some (Open c n)) (reply.Is v) = (refl, as_was a, refl)
-answer_stays a (Some (Open c n)) (reply.Views p vs) = (refl, as_was a, refl)
-answer_stays a (Some (Open c n)) reply.Done = (refl, as_was a, refl)
-answer_stays a (Some (Open c n)) (reply.Retry d) = again_stays a a.tx
-answer_stays a (Some (Open c n)) (reply.Changed d) = (refl, as_was a, refl)
-answer_stays a (Some (Open c n)) (reply.AgentIsFailed g) = (refl, as_was a, refl)
-answer_stays a (Some (Open c n)) (reply.Action i x v) = (refl, as_was a, refl)
-answer_stays a (Some (Open c n)) reply.Idle = (refl, as_was a, refl)
-answer_stays a (Some (Open c n)) (reply.Opened p v) = (refl, as_was a, refl)
-answer_stays a (Some (Open c n)) reply.Full = (refl, λ e. tt, refl)
-answer_stays a (Some (Open c n)) reply.Memory = (refl, λ e. tt, refl)
-answer_stays a (Some Commit) (reply.At p) = (refl, as_was a, refl)
-answer_stays a (Some Commit) (reply.Is v) = (refl, as_was a, refl)
-answer_stays a (Some Commit) (reply.Views p vs) = (refl, as_was a, refl)
-answer_stays a (Some Commit) reply.Done = (refl, as_was a, refl)
-answer_stays a (Some Commit) (reply.Retry d) = again_stays a a.tx
-answer_stays a (Some Commit) (reply.Changed d) = end_stays a a.tx
-answer_stays a (Some Commit) (reply.AgentIsFailed g) = refuse_stays a a.tx
-answer_stays a (Some Commit) (reply.Action i x v) = (refl, as_was a, refl)
-answer_stays a (Some Commit) reply.Idle = (refl, as_was a, refl)
-answer_stays a (Some Commit) (reply.Opened p v) = (refl, as_was a, refl)
-answer_stays a (Some Commit) reply.Full = (refl, λ e. tt, refl)
-answer_stays a (Some Commit) reply.Memory = (refl, λ e. tt, refl)
-answer_stays a (Some (Fail f)) (reply.At p) = (refl, as_was a, refl)
-answer_stays a (Some (Fail f)) (reply.Is v) = (refl, as_was a, refl)
-answer_stays a (Some (Fail f)) (reply.Views p vs) = (refl, as_was a, refl)
-answer_stays a (Some (Fail f)) reply.Done = (refl, λ e. tt, refl)
-answer_stays a (Some (Fail f)) (reply.Retry d) = (refl, as_was a, refl)
-answer_stays a (Some (Fail f)) (reply.Changed d) = (refl, as_was a, refl)
-answer_stays a (Some (Fail f)) (reply.AgentIsFailed g) = (refl, as_was a, refl)
-answer_stays a (Some (Fail f)) (reply.Action i x v) = (refl, as_was a, refl)
-answer_stays a (Some (Fail f)) reply.Idle = (refl, as_was a, refl)
-answer_stays a (Some (Fail f)) (reply.Opened p v) = (refl, as_was a, refl)
-answer_stays a (Some (Fail f)) reply.Full = (refl, λ e. tt, refl)
-answer_stays a (Some (Fail f)) reply.Memory = (refl, λ e. tt, refl)
-
-pub answered_limited : (limit : ℕ) (a : PlainActor) (r : Reply) → a.outcome ≡ None → IsLimited limit a → IsLimited limit (answered_if a a.pending r)
-answered_limited limit a r e h =
-    let s = answer_stays a a.pending r in
-    limited_as limit a (answered_if a a.pending r) s.0 (s.1 e) (subst (λ n. n ≤ limit) (sym s.2) h.within) h
+-- an answer makes no step
+pub answered_limited : (limit : ℕ) (a : PlainActor) (r : Reply) → a.outcome ≡ None → Leaves a (answered a r) → IsLimited limit a → IsLimited limit (answered a r)
+answered_limited limit a r e leaves h = limited_as limit a (answered a r) leaves.limit (leaves.unspent e) (subst (λ n. n ≤ limit) (sym leaves.steps) h.within) h
 
 -- ---- the beginning
 
@@ -227,10 +114,6 @@ turns_count code (suc n) a b r some goes t = after_turn t.0 t.2 t.3
     after_turn turned.Went u g = omega (arith, turn_counts code a t.1 turned.Went a.outcome tt u, turns_steps code n t.1 b r g)
     after_turn (turned.Asks q) u g = subst (λ (x : PlainActor). a.steps < x.steps) (sym g.1) (turn_counts code a t.1 (turned.Asks q) a.outcome tt u)
     after_turn (turned.Ended o) u g = absurd (subst GoesOn g.0 goes)
-
--- no answer makes a step
-pub answered_steps : (a : PlainActor) (r : Reply) → (answered_if a a.pending r).steps ≡ a.steps
-answered_steps a r = (answer_stays a a.pending r).2
 
 -- how many rounds there may still be: none after the end
 abbrev pub rounds_left : Option Outcome → PlainActor → ℕ

@@ -1,5 +1,5 @@
 -- Code that names its own cells alone has constants and opening values in which all cells are the store's.
-use Rattle.std.proofs.Common.{◌≡◌, ℕ, zero, suc, Bool, true, false, not, List, [], ◌∷◌, Option, Some, None, refl, sym, ap, ◌∙◌, subst, slice_index_or}
+use Rattle.std.proofs.Common.{◌≡◌, ℕ, zero, suc, true, not, List, [], ◌∷◌, Option, Some, None, refl, sym, ap, subst, slice_index_or}
 use Rattle.std.proofs.lemmas.Bool.{false≢true}
 use Rattle.txs_value.specs.Forms.{same_kind}
 use Rattle.txs_value.specs.PlainValue.{PlainValue, nil, truth, int, key, text, vector, cell, PlainValues, end, more}
@@ -7,19 +7,18 @@ use Rattle.txs_value.specs.Places.{nth}
 use Rattle.txs_value.specs.View.{plain_of}
 use Rattle.txs_value.specs.declared.cell.CellDefinition.{CellDefinition}
 use Rattle.txs_value.specs.declared.fault.Span.{Span}
-use Rattle.txs_value.specs.declared.value.CellId.{CellId}
 use Rattle.txs_value.specs.declared.value.CellKind.{CellKind}
 use Rattle.txs_value.specs.declared.value.CellKind.TheVariants.{Ref, Atom, Agent}
 use Rattle.txs_value.specs.declared.value.Value.{Value}
 use Rattle.txs_value.specs.declared.value.Value.TheVariants.{Nil}
-use Rattle.txs_code.specs.Machine.{PlainInstr, Push, PlainBody, fetch, instr_at, body_of}
-use Rattle.txs_code.specs.OwnCells.{kind_at, IsDefined, HoldsDefined, RowHoldsDefined, NameDefined, NamesNone, OpeningsNameNone, NamesOwnCells}
-use Rattle.txs_code.specs.PlainCode.{CodeBody, PlainCode, parameters_of, plain_instr, plain_instrs, plain_body, plain_bodies, thread_code}
+use Rattle.txs_code.specs.Machine.{PlainInstr, Push, fetch, instr_at}
+use Rattle.txs_code.specs.OwnCells.{kind_at, HoldsDefined, RowHoldsDefined, NameDefined, OpeningsNameNone, NamesOwnCells}
+use Rattle.txs_code.specs.PlainCode.{CodeBody, PlainCode, parameters_of, plain_instr, plain_instrs, plain_bodies, thread_code}
 use Rattle.txs_code.specs.RunsToday.{KindRunsToday, CellsRunToday}
 use Rattle.txs_code.specs.declared.instr.Instr.{Instr}
 use Rattle.txs_code.specs.declared.instr.Instr.TheVariants as instr
 use Rattle.txs_actor.specs.PlainActor.{body_or_none, code_of}
-use Rattle.txs_world.specs.Book.{is_of_kind, has_cell, opening}
+use Rattle.txs_world.specs.Book.{is_of_kind, opening}
 use Rattle.txs_world.specs.Store.{cells_of}
 use Rattle.txs_runs.specs.Lawful.{HasCells, RowHasCells, IsKnown, CodeIsKnown, OpeningIsKnown}
 

@@ -1,23 +1,20 @@
 -- What plays make of all actors of a run.
-use Rattle.std.proofs.Common.{◌≡◌, ◌==◌, ◌≤◌, ◌<◌, ◌+◌, ◌-◌, ℕ, zero, suc, Bool, true, false, nat_lt, ◌&&◌, List, [], ◌∷◌, ◌++◌, length, map, set, get_or, take, drop, Option, Some, None, refl, sym, ap, subst, ◌∙◌, if◌then◌else◌, ◌⊎◌, inl, inr, arith}
-use Rattle.std.proofs.lemmas.Bool.{false≢true}
+use Rattle.std.proofs.Common.{◌≡◌, ◌==◌, ◌≤◌, ◌<◌, ◌+◌, ℕ, zero, suc, Bool, true, false, nat_lt, List, [], ◌∷◌, ◌++◌, length, map, set, get_or, take, drop, Option, Some, None, refl, sym, ap, subst, ◌∙◌, if◌then◌else◌, arith}
 use Rattle.std.proofs.lemmas.List.{take_more}
 use Rattle.std.proofs.lemmas.Bool.Decides.{nat_tests}
 use Rattle.txs_asks.specs.declared.event.Event.{Event}
 use Rattle.txs_asks.specs.declared.event.Outcome.{Outcome}
-use Rattle.txs_asks.specs.declared.event.Outcome.TheVariants as outcome
-use Rattle.txs_value.proofs.SameLemmas.{and_both, numbers, number-itself}
-use Rattle.txs_value.specs.Limits.{most_events}
+use Rattle.txs_value.proofs.SameLemmas.{and_both, number-itself}
 use Rattle.txs_value.specs.Places.{nth}
 use Rattle.txs_code.specs.PlainCode.{PlainCode}
-use Rattle.txs_actor.specs.PlainActor.{PlainActor}
+use Rattle.txs_actor.specs.PlainActor.{PlainActor, code_of, unanswered}
 use Rattle.txs_runs.specs.Laws.{alone}
-use Rattle.txs_runs.specs.Told.{places_by}
+use Rattle.txs_runs.specs.Told.{exchange_of, places_by}
 use Rattle.txs_runs.proofs.Growing.{Grown, AreOwn, differ, told_stays}
 use Rattle.txs_runs.proofs.ServedKnown.{BookKnown}
 use Rattle.txs_runs.specs.Lawful.{OpeningIsKnown}
 use Rattle.txs_machine.specs.Lawfully.{RunLawfully}
-use Rattle.txs_machine.proofs.Lawfully.{others_lawfully}
+use Rattle.txs_machine.proofs.Lawfully.{others_lawfully, others_stood}
 use Rattle.txs_machine.specs.RunOver.{IsOwn, IsGrownBy, IsLimited}
 use Rattle.txs_machine.specs.Playing.{IsBetween, AreBetween, IsPlayed, ArePlayedAt, AreLater, HaveSteps, AllEnded, IsUnended, noted, IsReported, AreReported}
 use Rattle.txs_machine.specs.Schedule.{player, plays_of, all_named, in_store}
@@ -77,7 +74,8 @@ over_others code k j book later a n g v w =
         full = λ x. (let m = h.full x in let l = longer k book later g in omega (arith, m, l));
       };
       thread = w.thread;
-      stood = w.stood;
+      stands = w.stands;
+      stood = others_stood code.cells (code_of code j) k j book later (map exchange_of h.entries) a h.stage a.outcome (unanswered a) n (grown k book later g) w.stood;
       lawful = others_lawfully code.cells k j book later h.entries h.stage n (grown k book later g) v w.lawful;
     }
 

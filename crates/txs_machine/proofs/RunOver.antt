@@ -1,8 +1,8 @@
 -- An actor's run over a store, step by step.
 use Rattle.std.proofs.Common.{◌≡◌, ◌==◌, ℕ, zero, suc, List, [], ◌∷◌, ◌++◌, length, map, true, false, Bool, not, ◌&&◌, nat_lt, ◌≤◌, ◌<◌, Option, Some, None, refl, sym, ap, subst, ◌∙◌, ◌+◌, ◌⊎◌, inl, inr, if◌then◌else◌, arith}
-use Rattle.std.proofs.lemmas.Bool.{false≢true, ltb-false}
+use Rattle.std.proofs.lemmas.Bool.{false≢true}
 use Rattle.txs_asks.specs.Ask.{Writes, Exchange}
-use Rattle.txs_asks.specs.SeenEvent.{home, atoms_below}
+use Rattle.txs_asks.specs.SeenEvent.{atoms_below}
 use Rattle.txs_asks.specs.declared.ask.Ask.{Ask}
 use Rattle.txs_asks.specs.declared.ask.Ask.TheVariants as ask
 use Rattle.txs_asks.specs.declared.ask.Reply.{Reply}
@@ -11,7 +11,6 @@ use Rattle.txs_asks.specs.declared.event.Event.{Event}
 use Rattle.txs_asks.specs.declared.event.EventKind.{EventKind}
 use Rattle.txs_asks.specs.declared.event.Outcome.{Outcome}
 use Rattle.txs_asks.specs.declared.event.Outcome.TheVariants as outcome
-use Rattle.txs_frame.specs.Frame.{Work}
 use Rattle.txs_value.proofs.SameLemmas.{and_both, numbers}
 use Rattle.txs_value.specs.Cells.{World}
 use Rattle.txs_value.specs.Places.{nth}
@@ -24,21 +23,18 @@ use Rattle.txs_code.specs.Machine.{ThreadCode, Configuration, Turned, Asking, Un
 use Rattle.txs_code.proofs.Acts.{run_more}
 use Rattle.txs_code.specs.Opening.{given, opening}
 use Rattle.txs_code.specs.PlainCode.{CodeBody, PlainCode, thread_code}
-use Rattle.txs_code.specs.RunsToday.{AreRunToday, BodiesRunToday, RunsToday}
+use Rattle.txs_code.specs.RunsToday.{RunsToday}
+use Rattle.txs_code.specs.WellTyped.{WellTyped}
 use Rattle.txs_follows.specs.Follows.{Follows}
 use Rattle.txs_follows.specs.RepliesFit.{Out, RepliesFit, Explained}
 use Rattle.txs_follows.specs.RepliesFitTo.{FittingToFits}
 use Rattle.txs_tree.specs.Meaning.{Completion}
 use Rattle.txs_tree.specs.Thread.{ThreadState, thread_meaning}
 use Rattle.txs_actor.specs.Laws.{ActorsRun}
-use Rattle.txs_actor.specs.PlainActor.{PlainActor, MayAnswer, Stops, answered, answered_if, asked_for, run_again, end_again, refuse, unanswered, is_running, configuration_of, state_of, body_or_none, code_of, stands_at, standing, HasAsked, HasRun, HasCome, Runs}
+use Rattle.txs_actor.specs.PlainActor.{PlainActor, MayAnswer, Stops, answered, unanswered, configuration_of, state_of, body_or_none, code_of, stands_at, standing, Awaits, HasAsked, HasRun, HasCome}
 use Rattle.txs_actor.specs.Turns.{IsNew, OneStep, Answers, Moves, TurnsFrom, Turns, GoesOnAfter, TurnsOf}
 use Rattle.txs_actor.specs.declared.outcome.Turn.{Turn}
 use Rattle.txs_actor.specs.declared.outcome.Turn.TheVariants as turned
-use Rattle.txs_actor.specs.declared.state.Pending.{Pending}
-use Rattle.txs_actor.specs.declared.state.Pending.TheVariants.{Begin, Read, Ensure, Open, Commit, Fail}
-use Rattle.txs_actor.specs.declared.state.Transaction.{Transaction}
-use Rattle.txs_actor.specs.declared.state.Transaction.TheVariants.{Outside, Restarting, Running}
 use Rattle.txs_actor.proofs.Following.{Unstopped, unstopped_if}
 use Rattle.txs_actor.proofs.Saying.{turn_says}
 use Rattle.txs_world.specs.Book as world_book
@@ -47,7 +43,7 @@ use Rattle.txs_world.specs.History.{history_of}
 use Rattle.txs_world.specs.Store as world
 use Rattle.txs_world.specs.Store.{PlainStore, store_with, cells_of, Served, is_lawful, serve, store_after}
 use Rattle.txs_value.specs.Limits.{most_events}
-use Rattle.txs_runs.specs.Laws.{alone, with_book, ToldFits, ServedIsTold, TodayIsStaged, AloneHistory}
+use Rattle.txs_runs.specs.Laws.{alone, with_book, ToldFits, ServedIsTold, AloneHistory}
 use Rattle.txs_runs.specs.Run.{entry}
 use Rattle.txs_runs.specs.Shared.{is_atom, atom_of, serve_atom, book_for, serve_on, may_ask}
 use Rattle.txs_runs.specs.Staged.{StagedCode, TurnIsStaged, IsStaged, StagedFrom, stage_of}
@@ -61,10 +57,13 @@ use Rattle.txs_runs.proofs.Lasts.{apart, still, turn_prints}
 use Rattle.txs_runs.proofs.Serving.{serves}
 use Rattle.txs_code.specs.OwnCells.{NamesOwnCells}
 use Rattle.txs_runs.specs.Standing.{StandingCode}
-use Rattle.txs_runs.specs.Lawful.{TodayStands}
+use Rattle.txs_runs.specs.Lawful.{TypedStands}
+use Rattle.txs_runs.proofs.Known.{standing_staged}
+use Rattle.txs_runs.proofs.OneActor.{MayView, idle_view, went_view}
 use Rattle.txs_machine.specs.Followed.{ActorsExplained, told}
 use Rattle.txs_machine.specs.Lawfully.{HasStood, RunLawfully}
-use Rattle.txs_machine.proofs.Lawfully.{asked_today, ask_lawful, heard_lawfully, is_below}
+use Rattle.txs_machine.proofs.Lawfully.{ask_lawful, heard_lawfully, heard_stood, is_below}
+use Rattle.txs_machine.proofs.Answered.{Leaves, answer_leaves, memory_stops, stop_ends}
 use Rattle.txs_machine.proofs.OwnCells.{openings_known, code_known}
 use Rattle.txs_machine.specs.RunOver.{IsStoreOf, IsIn, IsOwn, IsGrownBy, AskedOn, RunOver, ExplainsEnd, IsExplained}
 
@@ -163,54 +162,56 @@ turn_filled code a b r (Some o) e t x = ap (λ (x : PlainActor). x.outcome) (sym
 
 -- ---- where an actor stood when it asked
 
-stood_as : (code : ThreadCode) (xs : List Exchange) (b : PlainActor) (st : Stage) (o : Option Outcome) (q : Option Ask) → b.outcome ≡ o → unanswered b ≡ q → HasStood code xs b st o q → HasStood code xs b st b.outcome (unanswered b)
-stood_as code xs b st o q e f h = subst (λ x. HasStood code xs b st x (unanswered b)) (sym e) (subst (λ y. HasStood code xs b st o y) (sym f) h)
+module _ (code : PlainCode) (k : ℕ) (book : List Event) (xs : List Exchange) (st : Stage) where
+  -- where it stood, by its outcome and its ask
+  abbrev Stood : PlainActor → Option Outcome → Option Ask → Type 0
+  Stood b o q = HasStood code.cells (code_of code k) k book xs b st o q
 
-stood_known : (code : ThreadCode) (xs : List Exchange) (b : PlainActor) (st : Stage) (o : Option Outcome) (q : Option Ask) → b.outcome ≡ o → unanswered b ≡ q → HasStood code xs b st b.outcome (unanswered b) → HasStood code xs b st o q
-stood_known code xs b st o q e f h = subst (λ y. HasStood code xs b st o y) f (subst (λ x. HasStood code xs b st x (unanswered b)) e h)
+  stood_as : (b : PlainActor) (o : Option Outcome) (q : Option Ask) → b.outcome ≡ o → unanswered b ≡ q → Stood b o q → Stood b b.outcome (unanswered b)
+  stood_as b o q e f h = subst (λ x. Stood b x (unanswered b)) (sym e) (subst (λ y. Stood b o y) (sym f) h)
 
--- one that asks nothing stood nowhere
-stood_free : (code : ThreadCode) (xs : List Exchange) (b : PlainActor) (st : Stage) → unanswered b ≡ None → HasStood code xs b st b.outcome (unanswered b)
-stood_free code xs b st f = subst (λ y. HasStood code xs b st b.outcome y) (sym f) (nowhere b.outcome)
-  where
-    nowhere : (o : Option Outcome) → HasStood code xs b st o None
-    nowhere None = tt
-    nowhere (Some o) = tt
+  stood_known : (b : PlainActor) (o : Option Outcome) (q : Option Ask) → b.outcome ≡ o → unanswered b ≡ q → Stood b b.outcome (unanswered b) → Stood b o q
+  stood_known b o q e f h = subst (λ y. Stood b o y) f (subst (λ x. Stood b x (unanswered b)) e h)
 
-step_stood : (code : PlainCode) (a b : PlainActor) (r : Turn) (xs : List Exchange) (st : Stage) → run (code_of code a.number) a.steps (opening (code_of code a.number) xs) ≡ Unfinished (configuration_of a) → stage_of (configuration_of a) ≡ st → Answers code a r b
-    → HasStood (code_of code a.number) xs b st b.outcome (unanswered b)
-step_stood code a b turned.Went xs st ran here t = stood_as (code_of code a.number) xs b st None None t.1.outcome t.1.unanswered tt
-step_stood code a b (turned.Asks q) xs st ran here t =
-    stood_as (code_of code a.number) xs b st None (Some q) t.1.outcome t.1.unanswered (record { turns = a.steps; before = configuration_of a; ran = ran; consumed = refl; here = here; asks = t.0.asks })
-step_stood code a b (turned.Ended outcome.Done) xs st ran here t = stood_as (code_of code a.number) xs b st (Some outcome.Done) None t.1.outcome t.1.unanswered tt
-step_stood code a b (turned.Ended (outcome.Failed f)) xs st ran here t = stood_as (code_of code a.number) xs b st (Some (outcome.Failed f)) None t.1.outcome t.1.unanswered tt
-step_stood code a b (turned.Ended outcome.StepsSpent) xs st ran here t = absurd t
-step_stood code a b (turned.Ended outcome.JournalFull) xs st ran here t = absurd t
-step_stood code a b (turned.Ended outcome.Memory) xs st ran here t = stood_as (code_of code a.number) xs b st (Some outcome.Memory) None t.1.outcome t.1.unanswered tt
+  -- a step from where it may view
+  step_stood : (a b : PlainActor) (r : Turn) → a.number ≡ k → TurnIsStaged (code_of code k) (configuration_of a) → run (code_of code k) a.steps (opening (code_of code k) xs) ≡ Unfinished (configuration_of a) → stage_of (configuration_of a) ≡ st
+      → MayView code.cells (code_of code k) k (alone book) (configuration_of a) → Answers code a r b → Stood b b.outcome (unanswered b)
+  step_stood a b turned.Went n law ran here may t =
+      let c = code_of code k in
+      let went = subst (λ m. turn (code_of code m) (configuration_of a) ≡ Unfinished (configuration_of b)) n t.0 in
+      let staged = subst (λ (o : Turned Configuration). StagedFrom (stage_of (configuration_of a)) o (λ q r. turn c (given (record { ask = q; reply = r } ∷ []) (configuration_of a)))) went law in
+      stood_as b None None t.1.outcome t.1.unanswered (went_view code.cells c k (alone book) (configuration_of a) (configuration_of b) refl went staged.1 may)
+  step_stood a b (turned.Asks q) n law ran here may t =
+      stood_as b None (Some q) t.1.outcome t.1.unanswered
+      (record { turns = a.steps; before = configuration_of a; ran = ran; consumed = refl; here = here; awaits = subst (λ m. Awaits (code_of code m) (configuration_of a) b q) n t.0; views = may })
+  step_stood a b (turned.Ended outcome.Done) n law ran here may t = stood_as b (Some outcome.Done) None t.1.outcome t.1.unanswered tt
+  step_stood a b (turned.Ended (outcome.Failed f)) n law ran here may t = stood_as b (Some (outcome.Failed f)) None t.1.outcome t.1.unanswered tt
+  step_stood a b (turned.Ended outcome.StepsSpent) n law ran here may t = absurd t
+  step_stood a b (turned.Ended outcome.JournalFull) n law ran here may t = absurd t
+  step_stood a b (turned.Ended outcome.Memory) n law ran here may t = stood_as b (Some outcome.Memory) None t.1.outcome t.1.unanswered tt
 
-move_stood : (code : PlainCode) (a b : PlainActor) (r : Turn) (may : Bool) (xs : List Exchange) (st : Stage) → run (code_of code a.number) a.steps (opening (code_of code a.number) xs) ≡ Unfinished (configuration_of a) → stage_of (configuration_of a) ≡ st → Moves code a may r b
-    → HasStood (code_of code a.number) xs b st b.outcome (unanswered b)
-move_stood code a b r true xs st ran here t = step_stood code a b r xs st ran here t
-move_stood code a b r false xs st ran here t = subst (λ (x : PlainActor). HasStood (code_of code a.number) xs x st x.outcome (unanswered x)) (sym t.1) tt
+  move_stood : (a b : PlainActor) (r : Turn) (more : Bool) → a.number ≡ k → TurnIsStaged (code_of code k) (configuration_of a) → run (code_of code k) a.steps (opening (code_of code k) xs) ≡ Unfinished (configuration_of a) → stage_of (configuration_of a) ≡ st
+      → MayView code.cells (code_of code k) k (alone book) (configuration_of a) → Moves code a more r b → Stood b b.outcome (unanswered b)
+  move_stood a b r true n law ran here may t = step_stood a b r n law ran here may t
+  move_stood a b r false n law ran here may t = subst (λ (x : PlainActor). Stood x x.outcome (unanswered x)) (sym t.1) tt
 
-turn_stood : (code : PlainCode) (a b : PlainActor) (r : Turn) (o : Option Outcome) (xs : List Exchange) (st : Stage) → a.outcome ≡ o → unanswered a ≡ None → HasCome (code_of code a.number) xs a o None → IsIn a st o None → TurnsFrom code a o r b
-    → HasStood (code_of code a.number) xs b st b.outcome (unanswered b)
-turn_stood code a b r None xs st e f ran here t = move_stood code a b r (nat_lt a.steps a.limit) xs st ran here t
-turn_stood code a b r (Some o) xs st e f ran here t =
-    subst (λ (x : PlainActor). HasStood (code_of code a.number) xs x st x.outcome (unanswered x)) (sym t.1) (stood_as (code_of code a.number) xs a st (Some o) None e f tt)
+  turn_stood : (a b : PlainActor) (r : Turn) (o : Option Outcome) → a.number ≡ k → (o ≡ None → TurnIsStaged (code_of code k) (configuration_of a)) → a.outcome ≡ o → unanswered a ≡ None → HasCome (code_of code k) xs a o None → IsIn a st o None
+      → Stood a o None → TurnsFrom code a o r b → Stood b b.outcome (unanswered b)
+  turn_stood a b r None n law e f ran here stood t = move_stood a b r (nat_lt a.steps a.limit) n (law refl) ran here stood t
+  turn_stood a b r (Some o) n law e f ran here stood t = subst (λ (x : PlainActor). Stood x x.outcome (unanswered x)) (sym t.1) (stood_as a (Some o) None e f tt)
 
 -- ---- what is known of the code
 
-threads_today : (bs : List CodeBody) (n : ℕ) → BodiesRunToday bs → AreRunToday (body_or_none (nth bs n)).instrs
-threads_today [] n h = tt
-threads_today (b ∷ bs) zero h = h.0
-threads_today (b ∷ bs) (suc n) h = threads_today bs n h.1
+-- a body there is for each number below their count
+body_there : (bs : List CodeBody) (k : ℕ) → k < length bs → (b : CodeBody) × (nth bs k ≡ Some b)
+body_there [] k h = absurd (omega (arith, h))
+body_there (b ∷ bs) zero h = (b, refl)
+body_there (b ∷ bs) (suc k) h = body_there bs k (omega (arith, h))
 
-pub standing_of : TodayStands → (code : PlainCode) (n : ℕ) → RunsToday code → StandingCode (code_of code n)
-standing_of law code n h = law code (body_or_none (nth code.threads n)) h.functions (threads_today code.threads n h.threads)
-
-pub staged_of : TodayIsStaged → (code : PlainCode) (n : ℕ) → RunsToday code → StagedCode (code_of code n)
-staged_of law code n h = law code (body_or_none (nth code.threads n)) h.functions (threads_today code.threads n h.threads)
+-- the instructions of each thread of well-typed code stand where they may
+pub standing_of : TypedStands → (code : PlainCode) (function_rooms thread_rooms : List ℕ) (k : ℕ) → WellTyped code function_rooms thread_rooms → k < length code.threads → StandingCode (code_of code k)
+standing_of law code function_rooms thread_rooms k well below =
+    let b = body_there code.threads k below in subst (λ o. StandingCode (thread_code code (body_or_none o))) (sym b.1) (law code function_rooms thread_rooms k b.0 well b.1)
 
 -- an actor that goes on stands where its next instruction asks in its stage
 stands_staged : (code : PlainCode) (xs : List Exchange) (a : PlainActor) → StagedCode (code_of code a.number) → unanswered a ≡ None → HasRun code xs a → a.outcome ≡ None → TurnIsStaged (code_of code a.number) (configuration_of a)
@@ -257,10 +258,12 @@ turn_asked code before a b r None t w = move_asked code before a b r (nat_lt a.s
 turn_asked code before a b r (Some o) t w = subst (λ (x : PlainActor). AskedOn (code_of code a.number) before x) (sym t.1) w
 
 -- a turn keeps what an actor has done over a store
-turn_over : ActorsRun → (code : PlainCode) (k : ℕ) (book : List Event) (a b : PlainActor) (r : Turn) → StagedCode (code_of code k) → unanswered a ≡ None → Turns code a r b → RunLawfully code k book a → RunLawfully code k book b
-turn_over laws code k book a b r known f t w =
+turn_over : ActorsRun → (code : PlainCode) (k : ℕ) (book : List Event) (a b : PlainActor) (r : Turn) → unanswered a ≡ None → Turns code a r b → RunLawfully code k book a → RunLawfully code k book b
+turn_over laws code k book a b r f t w =
     let h = w.over in
-    let kept = turn_keeps code a b r h.stage a.outcome (stands_staged code (map exchange_of h.entries) a (subst (λ n. StagedCode (code_of code n)) (sym h.number) known) f h.ran) refl f t (as_known a h.stage a.outcome None refl f h.here) in
+    let known : StagedCode (code_of code k) = standing_staged (code_of code k) w.stands in
+    let staged = stands_staged code (map exchange_of h.entries) a (subst (λ n. StagedCode (code_of code n)) (sym h.number) known) f h.ran in
+    let kept = turn_keeps code a b r h.stage a.outcome staged refl f t (as_known a h.stage a.outcome None refl f h.here) in
     record {
       over = record {
         number = kept.0 ∙ h.number;
@@ -274,21 +277,23 @@ turn_over laws code k book a b r known f t w =
         full = λ x. h.full (turn_filled code a b r a.outcome refl t x);
       };
       thread = w.thread;
-      stood = subst (λ n. HasStood (code_of code n) (map exchange_of h.entries) b h.stage b.outcome (unanswered b)) h.number
-          (turn_stood code a b r a.outcome (map exchange_of h.entries) h.stage refl f (subst (λ q. HasCome (code_of code a.number) (map exchange_of h.entries) a a.outcome q) f h.ran) (as_known a h.stage a.outcome None refl f h.here) t);
+      stands = w.stands;
+      stood = turn_stood code k book (map exchange_of h.entries) h.stage a b r a.outcome h.number (λ e. subst (λ n. TurnIsStaged (code_of code n) (configuration_of a)) h.number (staged e)) refl f
+          (subst (λ n. HasCome (code_of code n) (map exchange_of h.entries) a a.outcome None) h.number (subst (λ q. HasCome (code_of code a.number) (map exchange_of h.entries) a a.outcome q) f h.ran))
+          (as_known a h.stage a.outcome None refl f h.here) (stood_known code k book (map exchange_of h.entries) h.stage a a.outcome None refl f w.stood) t;
       lawful = w.lawful;
     }
 
 -- so do many turns
-pub turns_over : ActorsRun → (code : PlainCode) (k : ℕ) (book : List Event) (n : ℕ) (a b : PlainActor) (r : Turn) → StagedCode (code_of code k) → unanswered a ≡ None → TurnsOf code n a r b → RunLawfully code k book a → RunLawfully code k book b
-turns_over laws code k book zero a b r known f t h = subst (λ x. RunLawfully code k book x) (sym t.1) h
-turns_over laws code k book (suc n) a b r known f t h = after_turn (λ i g x. turns_over laws code k book n t.1 b r known i g x) t.0 t.2 t.3
+pub turns_over : ActorsRun → (code : PlainCode) (k : ℕ) (book : List Event) (n : ℕ) (a b : PlainActor) (r : Turn) → unanswered a ≡ None → TurnsOf code n a r b → RunLawfully code k book a → RunLawfully code k book b
+turns_over laws code k book zero a b r f t h = subst (λ x. RunLawfully code k book x) (sym t.1) h
+turns_over laws code k book (suc n) a b r f t h = after_turn (λ i g x. turns_over laws code k book n t.1 b r i g x) t.0 t.2 t.3
   where
     after_turn : (unanswered t.1 ≡ None → TurnsOf code n t.1 r b → RunLawfully code k book t.1 → RunLawfully code k book b)
         → (s : Turn) → Turns code a s t.1 → GoesOnAfter s (TurnsOf code n t.1 r b) ((r ≡ s) × (b ≡ t.1)) → RunLawfully code k book b
-    after_turn go turned.Went u g = go (turn_says code a t.1 turned.Went a.outcome refl u) g (turn_over laws code k book a t.1 turned.Went known f u h)
-    after_turn go (turned.Asks q) u g = subst (λ x. RunLawfully code k book x) (sym g.1) (turn_over laws code k book a t.1 (turned.Asks q) known f u h)
-    after_turn go (turned.Ended o) u g = subst (λ x. RunLawfully code k book x) (sym g.1) (turn_over laws code k book a t.1 (turned.Ended o) known f u h)
+    after_turn go turned.Went u g = go (turn_says code a t.1 turned.Went a.outcome refl u) g (turn_over laws code k book a t.1 turned.Went f u h)
+    after_turn go (turned.Asks q) u g = subst (λ x. RunLawfully code k book x) (sym g.1) (turn_over laws code k book a t.1 (turned.Asks q) f u h)
+    after_turn go (turned.Ended o) u g = subst (λ x. RunLawfully code k book x) (sym g.1) (turn_over laws code k book a t.1 (turned.Ended o) f u h)
 
 -- ---- the beginning
 
@@ -300,8 +305,8 @@ no_entry : (before : List Entry) (e : Entry) (rest : List Entry) → [] ≡ befo
 no_entry [] e rest h = subst is_nil h tt
 no_entry (b ∷ bs) e rest h = subst is_nil h tt
 
-pub new_over : ActorsRun → (code : PlainCode) (k limit : ℕ) (book : List Event) (a : PlainActor) → book ≡ [] → k < length code.threads → IsNew code k limit a → RunLawfully code k book a
-new_over laws code k limit book a e there n = subst (λ es. RunLawfully code k es a) (sym e) (record {
+pub new_over : ActorsRun → (code : PlainCode) (k limit : ℕ) (book : List Event) (a : PlainActor) → book ≡ [] → k < length code.threads → StandingCode (code_of code k) → IsNew code k limit a → RunLawfully code k book a
+new_over laws code k limit book a e there stands n = subst (λ es. RunLawfully code k es a) (sym e) (record {
   over = record {
     number = n.number;
     entries = [];
@@ -313,8 +318,9 @@ new_over laws code k limit book a e there n = subst (λ es. RunLawfully code k e
     full = λ x. absurd (subst Unfilled x (subst Unfilled (sym n.unended) tt));
   };
   thread = there;
-  stood = stood_free (code_of code k) [] a Idle n.unasking;
-  lawful = record { replies = tt; values = λ opened. tt; places = tt; views = tt; quiet = λ v. v };
+  stands = stands;
+  stood = stood_as code k [] [] Idle a None None n.unended n.unasking (idle_view code.cells (code_of code k) k (alone []) (configuration_of a) (ap stage_of n.opens));
+  lawful = record { replies = tt; values = λ opened. tt; places = tt };
 })
   where
     nothing : (i : ℕ) → [] ≡ told_by.places_by k 0 (alone [] i)
@@ -322,178 +328,6 @@ new_over laws code k limit book a e there n = subst (λ es. RunLawfully code k e
     nothing (suc i) = refl
 
 -- ---- answers
-
--- the number, the steps and what was printed are as they were
-abbrev SameBut : PlainActor → PlainActor → Type 0
-SameBut a b = (b.number ≡ a.number) × (b.steps ≡ a.steps) × (b.printed ≡ a.printed)
-
-again_same : (a : PlainActor) (tx : Transaction) → SameBut a (run_again a tx)
-again_same a Outside = (refl, refl, refl)
-again_same a (Restarting left) = (refl, refl, refl)
-again_same a (Running zero inner from) = (refl, refl, refl)
-again_same a (Running (suc left) inner from) = (refl, refl, refl)
-
-end_same : (a : PlainActor) (tx : Transaction) → SameBut a (end_again a tx)
-end_same a Outside = (refl, refl, refl)
-end_same a (Restarting left) = (refl, refl, refl)
-end_same a (Running zero inner from) = (refl, refl, refl)
-end_same a (Running (suc left) inner from) = (refl, refl, refl)
-
-refuse_same : (a : PlainActor) (tx : Transaction) → SameBut a (refuse a tx)
-refuse_same a Outside = (refl, refl, refl)
-refuse_same a (Restarting left) = (refl, refl, refl)
-refuse_same a (Running left inner from) = (refl, refl, refl)
-
-answered_same : (a : PlainActor) (p : Option Pending) (r : Reply) → SameBut a (answered_if a p r)
-answered_same a None r = (refl, refl, refl)
-answered_same a (Some (Begin left from)) (reply.At p) = (refl, refl, refl)
-answered_same a (Some (Begin left from)) (reply.Is v) = (refl, refl, refl)
-answered_same a (Some (Begin left from)) (reply.Views p vs) = (refl, refl, refl)
-answered_same a (Some (Begin left from)) reply.Done = (refl, refl, refl)
-answered_same a (Some (Begin left from)) (reply.Retry d) = (refl, refl, refl)
-answered_same a (Some (Begin left from)) (reply.Changed d) = (refl, refl, refl)
-answered_same a (Some (Begin left from)) (reply.AgentIsFailed g) = (refl, refl, refl)
-answered_same a (Some (Begin left from)) (reply.Action i x v) = (refl, refl, refl)
-answered_same a (Some (Begin left from)) reply.Idle = (refl, refl, refl)
-answered_same a (Some (Begin left from)) (reply.Opened p v) = (refl, refl, refl)
-answered_same a (Some (Begin left from)) reply.Full = (refl, refl, refl)
-answered_same a (Some (Begin left from)) reply.Memory = (refl, refl, refl)
-answered_same a (Some (Read c)) (reply.At p) = (refl, refl, refl)
-answered_same a (Some (Read c)) (reply.Is v) = (refl, refl, refl)
-answered_same a (Some (Read c)) (reply.Views p vs) = (refl, refl, refl)
-answered_same a (Some (Read c)) reply.Done = (refl, refl, refl)
-answered_same a (Some (Read c)) (reply.Retry d) = again_same a a.tx
-answered_same a (Some (Read c)) (reply.Changed d) = (refl, refl, refl)
-answered_same a (Some (Read c)) (reply.AgentIsFailed g) = (refl, refl, refl)
-answered_same a (Some (Read c)) (reply.Action i x v) = (refl, refl, refl)
-answered_same a (Some (Read c)) reply.Idle = (refl, refl, refl)
-answered_same a (Some (Read c)) (reply.Opened p v) = (refl, refl, refl)
-answered_same a (Some (Read c)) reply.Full = (refl, refl, refl)
-answered_same a (Some (Read c)) reply.Memory = (refl, refl, refl)
-answered_same a (Some (Ensure c es)) (reply.At p) = (refl, refl, refl)
-answered_same a (Some (Ensure c es)) (reply.Is v) = (refl, refl, refl)
-answered_same a (Some (Ensure c es)) (reply.Views p vs) = (refl, refl, refl)
-answered_same a (Some (Ensure c es)) reply.Done = (refl, refl, refl)
-answered_same a (Some (Ensure c es)) (reply.Retry d) = again_same a a.tx
-answered_same a (Some (Ensure c es)) (reply.Changed d) = (refl, refl, refl)
-answered_same a (Some (Ensure c es)) (reply.AgentIsFailed g) = (refl, refl, refl)
-answered_same a (Some (Ensure c es)) (reply.Action i x v) = (refl, refl, refl)
-answered_same a (Some (Ensure c es)) reply.Idle = (refl, refl, refl)
-answered_same a (Some (Ensure c es)) (reply.Opened p v) = (refl, refl, refl)
-answered_same a (Some (Ensure c es)) reply.Full = (refl, refl, refl)
-answered_same a (Some (Ensure c es)) reply.Memory = (refl, refl, refl)
-answered_same a (Some (Open c n)) (reply.At p) = (refl, refl, refl)
-answered_same a (Some (Open c n)) (reply.Is v) = (refl, refl, refl)
-answered_same a (Some (Open c n)) (reply.Views p vs) = (refl, refl, refl)
-answered_same a (Some (Open c n)) reply.Done = (refl, refl, refl)
-answered_same a (Some (Open c n)) (reply.Retry d) = again_same a a.tx
-answered_same a (Some (Open c n)) (reply.Changed d) = (refl, refl, refl)
-answered_same a (Some (Open c n)) (reply.AgentIsFailed g) = (refl, refl, refl)
-answered_same a (Some (Open c n)) (reply.Action i x v) = (refl, refl, refl)
-answered_same a (Some (Open c n)) reply.Idle = (refl, refl, refl)
-answered_same a (Some (Open c n)) (reply.Opened p v) = (refl, refl, refl)
-answered_same a (Some (Open c n)) reply.Full = (refl, refl, refl)
-answered_same a (Some (Open c n)) reply.Memory = (refl, refl, refl)
-answered_same a (Some Commit) (reply.At p) = (refl, refl, refl)
-answered_same a (Some Commit) (reply.Is v) = (refl, refl, refl)
-answered_same a (Some Commit) (reply.Views p vs) = (refl, refl, refl)
-answered_same a (Some Commit) reply.Done = (refl, refl, refl)
-answered_same a (Some Commit) (reply.Retry d) = again_same a a.tx
-answered_same a (Some Commit) (reply.Changed d) = end_same a a.tx
-answered_same a (Some Commit) (reply.AgentIsFailed g) = refuse_same a a.tx
-answered_same a (Some Commit) (reply.Action i x v) = (refl, refl, refl)
-answered_same a (Some Commit) reply.Idle = (refl, refl, refl)
-answered_same a (Some Commit) (reply.Opened p v) = (refl, refl, refl)
-answered_same a (Some Commit) reply.Full = (refl, refl, refl)
-answered_same a (Some Commit) reply.Memory = (refl, refl, refl)
-answered_same a (Some (Fail f)) (reply.At p) = (refl, refl, refl)
-answered_same a (Some (Fail f)) (reply.Is v) = (refl, refl, refl)
-answered_same a (Some (Fail f)) (reply.Views p vs) = (refl, refl, refl)
-answered_same a (Some (Fail f)) reply.Done = (refl, refl, refl)
-answered_same a (Some (Fail f)) (reply.Retry d) = (refl, refl, refl)
-answered_same a (Some (Fail f)) (reply.Changed d) = (refl, refl, refl)
-answered_same a (Some (Fail f)) (reply.AgentIsFailed g) = (refl, refl, refl)
-answered_same a (Some (Fail f)) (reply.Action i x v) = (refl, refl, refl)
-answered_same a (Some (Fail f)) reply.Idle = (refl, refl, refl)
-answered_same a (Some (Fail f)) (reply.Opened p v) = (refl, refl, refl)
-answered_same a (Some (Fail f)) reply.Full = (refl, refl, refl)
-answered_same a (Some (Fail f)) reply.Memory = (refl, refl, refl)
-
--- a reply that stops an actor which asks ends it
-stop_ends : (a : PlainActor) (p : Option Pending) (r : Reply) (inside : Bool) (at : ℕ) (done : Work) (q : Ask) → asked_for p inside at done ≡ Some q → Stops r → (o : Outcome) × ((answered_if a p r).outcome ≡ Some o)
-stop_ends a None r inside at done q e h = absurd (subst is_some (sym e) tt)
-stop_ends a (Some (Begin left from)) (reply.At p) inside at done q e h = absurd h
-stop_ends a (Some (Begin left from)) (reply.Is v) inside at done q e h = absurd h
-stop_ends a (Some (Begin left from)) (reply.Views p vs) inside at done q e h = absurd h
-stop_ends a (Some (Begin left from)) reply.Done inside at done q e h = absurd h
-stop_ends a (Some (Begin left from)) (reply.Retry d) inside at done q e h = absurd h
-stop_ends a (Some (Begin left from)) (reply.Changed d) inside at done q e h = absurd h
-stop_ends a (Some (Begin left from)) (reply.AgentIsFailed g) inside at done q e h = absurd h
-stop_ends a (Some (Begin left from)) (reply.Action i x v) inside at done q e h = absurd h
-stop_ends a (Some (Begin left from)) reply.Idle inside at done q e h = absurd h
-stop_ends a (Some (Begin left from)) (reply.Opened p v) inside at done q e h = absurd h
-stop_ends a (Some (Begin left from)) reply.Full inside at done q e h = (outcome.JournalFull, refl)
-stop_ends a (Some (Begin left from)) reply.Memory inside at done q e h = (outcome.Memory, refl)
-stop_ends a (Some (Read c)) (reply.At p) inside at done q e h = absurd h
-stop_ends a (Some (Read c)) (reply.Is v) inside at done q e h = absurd h
-stop_ends a (Some (Read c)) (reply.Views p vs) inside at done q e h = absurd h
-stop_ends a (Some (Read c)) reply.Done inside at done q e h = absurd h
-stop_ends a (Some (Read c)) (reply.Retry d) inside at done q e h = absurd h
-stop_ends a (Some (Read c)) (reply.Changed d) inside at done q e h = absurd h
-stop_ends a (Some (Read c)) (reply.AgentIsFailed g) inside at done q e h = absurd h
-stop_ends a (Some (Read c)) (reply.Action i x v) inside at done q e h = absurd h
-stop_ends a (Some (Read c)) reply.Idle inside at done q e h = absurd h
-stop_ends a (Some (Read c)) (reply.Opened p v) inside at done q e h = absurd h
-stop_ends a (Some (Read c)) reply.Full inside at done q e h = (outcome.JournalFull, refl)
-stop_ends a (Some (Read c)) reply.Memory inside at done q e h = (outcome.Memory, refl)
-stop_ends a (Some (Ensure c es)) (reply.At p) inside at done q e h = absurd h
-stop_ends a (Some (Ensure c es)) (reply.Is v) inside at done q e h = absurd h
-stop_ends a (Some (Ensure c es)) (reply.Views p vs) inside at done q e h = absurd h
-stop_ends a (Some (Ensure c es)) reply.Done inside at done q e h = absurd h
-stop_ends a (Some (Ensure c es)) (reply.Retry d) inside at done q e h = absurd h
-stop_ends a (Some (Ensure c es)) (reply.Changed d) inside at done q e h = absurd h
-stop_ends a (Some (Ensure c es)) (reply.AgentIsFailed g) inside at done q e h = absurd h
-stop_ends a (Some (Ensure c es)) (reply.Action i x v) inside at done q e h = absurd h
-stop_ends a (Some (Ensure c es)) reply.Idle inside at done q e h = absurd h
-stop_ends a (Some (Ensure c es)) (reply.Opened p v) inside at done q e h = absurd h
-stop_ends a (Some (Ensure c es)) reply.Full inside at done q e h = (outcome.JournalFull, refl)
-stop_ends a (Some (Ensure c es)) reply.Memory inside at done q e h = (outcome.Memory, refl)
-stop_ends a (Some (Open c n)) (reply.At p) inside at done q e h = absurd h
-stop_ends a (Some (Open c n)) (reply.Is v) inside at done q e h = absurd h
-stop_ends a (Some (Open c n)) (reply.Views p vs) inside at done q e h = absurd h
-stop_ends a (Some (Open c n)) reply.Done inside at done q e h = absurd h
-stop_ends a (Some (Open c n)) (reply.Retry d) inside at done q e h = absurd h
-stop_ends a (Some (Open c n)) (reply.Changed d) inside at done q e h = absurd h
-stop_ends a (Some (Open c n)) (reply.AgentIsFailed g) inside at done q e h = absurd h
-stop_ends a (Some (Open c n)) (reply.Action i x v) inside at done q e h = absurd h
-stop_ends a (Some (Open c n)) reply.Idle inside at done q e h = absurd h
-stop_ends a (Some (Open c n)) (reply.Opened p v) inside at done q e h = absurd h
-stop_ends a (Some (Open c n)) reply.Full inside at done q e h = (outcome.JournalFull, refl)
-stop_ends a (Some (Open c n)) reply.Memory inside at done q e h = (outcome.Memory, refl)
-stop_ends a (Some Commit) (reply.At p) inside at done q e h = absurd h
-stop_ends a (Some Commit) (reply.Is v) inside at done q e h = absurd h
-stop_ends a (Some Commit) (reply.Views p vs) inside at done q e h = absurd h
-stop_ends a (Some Commit) reply.Done inside at done q e h = absurd h
-stop_ends a (Some Commit) (reply.Retry d) inside at done q e h = absurd h
-stop_ends a (Some Commit) (reply.Changed d) inside at done q e h = absurd h
-stop_ends a (Some Commit) (reply.AgentIsFailed g) inside at done q e h = absurd h
-stop_ends a (Some Commit) (reply.Action i x v) inside at done q e h = absurd h
-stop_ends a (Some Commit) reply.Idle inside at done q e h = absurd h
-stop_ends a (Some Commit) (reply.Opened p v) inside at done q e h = absurd h
-stop_ends a (Some Commit) reply.Full inside at done q e h = (outcome.JournalFull, refl)
-stop_ends a (Some Commit) reply.Memory inside at done q e h = (outcome.Memory, refl)
-stop_ends a (Some (Fail f)) (reply.At p) inside at done q e h = absurd h
-stop_ends a (Some (Fail f)) (reply.Is v) inside at done q e h = absurd h
-stop_ends a (Some (Fail f)) (reply.Views p vs) inside at done q e h = absurd h
-stop_ends a (Some (Fail f)) reply.Done inside at done q e h = absurd h
-stop_ends a (Some (Fail f)) (reply.Retry d) inside at done q e h = absurd h
-stop_ends a (Some (Fail f)) (reply.Changed d) inside at done q e h = absurd h
-stop_ends a (Some (Fail f)) (reply.AgentIsFailed g) inside at done q e h = absurd h
-stop_ends a (Some (Fail f)) (reply.Action i x v) inside at done q e h = absurd h
-stop_ends a (Some (Fail f)) reply.Idle inside at done q e h = absurd h
-stop_ends a (Some (Fail f)) (reply.Opened p v) inside at done q e h = absurd h
-stop_ends a (Some (Fail f)) reply.Full inside at done q e h = (outcome.JournalFull, refl)
-stop_ends a (Some (Fail f)) reply.Memory inside at done q e h = (outcome.Memory, refl)
 
 in_after : (b : PlainActor) (st : Stage) (o : Option Outcome) → IsStaged st (standing o (configuration_of b) (state_of b)) → IsIn b st o None
 in_after b st None h = h.1
@@ -507,16 +341,6 @@ unfilled_of (Some (outcome.Failed f)) u = tt
 unfilled_of (Some outcome.StepsSpent) u = tt
 unfilled_of (Some outcome.JournalFull) u = u
 unfilled_of (Some outcome.Memory) u = tt
-
--- neither is want of memory
-memory_unfilled : (a : PlainActor) (p : Option Pending) → a.outcome ≡ None → Unfilled (answered_if a p reply.Memory).outcome
-memory_unfilled a None e = subst Unfilled (sym e) tt
-memory_unfilled a (Some (Begin left from)) e = tt
-memory_unfilled a (Some (Read c)) e = tt
-memory_unfilled a (Some (Ensure c es)) e = tt
-memory_unfilled a (Some (Open c n)) e = tt
-memory_unfilled a (Some Commit) e = tt
-memory_unfilled a (Some (Fail f)) e = tt
 
 -- ---- what the store serves
 
@@ -640,65 +464,68 @@ module _ (code : PlainCode) (k : ℕ) (book : List Event) (taken : List Bool) (q
           (subst (λ (x : Served). IsExchanged x.reply) (sym same) ex)
 
 -- an answer prints nothing, and makes no step
-answer_asked : (code : ThreadCode) (before : List Entry) (a : PlainActor) (r : Reply) → AskedOn code before a → AskedOn code before (answered a r)
-answer_asked code before a r w =
-    let same = answered_same a a.pending r in
-    record {
-      waiting = w.waiting;
-      asking = ap (λ m. run code m (opening code (map exchange_of before))) same.1 ∙ w.asking;
-      consumed = w.consumed;
-      printed = prints_as w.waiting.printed a (answered a r) same.2 w.printed;
-    }
+answer_asked : (code : ThreadCode) (before : List Entry) (a : PlainActor) (r : Reply) → Leaves a (answered a r) → AskedOn code before a → AskedOn code before (answered a r)
+answer_asked code before a r same w = record {
+  waiting = w.waiting;
+  asking = ap (λ m. run code m (opening code (map exchange_of before))) same.steps ∙ w.asking;
+  consumed = w.consumed;
+  printed = prints_as w.waiting.printed a (answered a r) same.printed w.printed;
+}
 
 -- on the entries so far the code waits with the actor's ask
-own_asked : (code : ThreadCode) (es : List Entry) (a : PlainActor) (q : Ask) (r : Reply) → HasAsked code (map exchange_of es) a q → AskedOn code es (answered a r)
-own_asked code es a q r h =
-    let same = answered_same a a.pending r in
-    record {
-      waiting = record (state_of a) { wants = Some q };
-      asking = ap (λ m. run code m (opening code (map exchange_of es))) (same.1 ∙ h.2) ∙ run_more code h.0 (opening code (map exchange_of es)) ∙ ap (λ o. and_then o (turn code)) h.3 ∙ h.4.asks;
-      consumed = refl;
-      printed = ([], same.2 ∙ sym (append_nil a.printed));
-    }
+own_asked : (code : ThreadCode) (es : List Entry) (a : PlainActor) (q : Ask) (r : Reply) → Leaves a (answered a r) → HasAsked code (map exchange_of es) a q → AskedOn code es (answered a r)
+own_asked code es a q r same h = record {
+  waiting = record (state_of a) { wants = Some q };
+  asking = ap (λ m. run code m (opening code (map exchange_of es))) (same.steps ∙ h.2) ∙ run_more code h.0 (opening code (map exchange_of es)) ∙ ap (λ o. and_then o (turn code)) h.3 ∙ h.4.asks;
+  consumed = refl;
+  printed = ([], same.printed ∙ sym (append_nil a.printed));
+}
 
 -- so it is on the entries before each, with one more
-more_asked : (code : ThreadCode) (es : List Entry) (y : Entry) (a : PlainActor) (q : Ask) (r : Reply) → HasAsked code (map exchange_of es) a q
+more_asked : (code : ThreadCode) (es : List Entry) (y : Entry) (a : PlainActor) (q : Ask) (r : Reply) → Leaves a (answered a r) → HasAsked code (map exchange_of es) a q
     → ((before : List Entry) (e : Entry) (rest : List Entry) → es ≡ before ++ e ∷ rest → AskedOn code before a)
     → (before : List Entry) (e : Entry) (rest : List Entry) → es ++ y ∷ [] ≡ before ++ e ∷ rest → AskedOn code before (answered a r)
-more_asked code es y a q r h asked before e rest s = go (apart es y before e rest s)
+more_asked code es y a q r same h asked before e rest s = go (apart es y before e rest s)
   where
     go : (before ≡ es) ⊎ ((less : List Entry) × (es ≡ before ++ e ∷ less)) → AskedOn code before (answered a r)
-    go (inl i) = subst (λ l. AskedOn code l (answered a r)) (sym i) (own_asked code es a q r h)
-    go (inr i) = answer_asked code before a r (asked before e i.0 i.1)
+    go (inl i) = subst (λ l. AskedOn code l (answered a r)) (sym i) (own_asked code es a q r same h)
+    go (inr i) = answer_asked code before a r same (asked before e i.0 i.1)
 
 -- an answer that the actor goes on after
 heard_over : ActorsRun → ServedIsTold → (code : PlainCode) (k : ℕ) (book : List Event) (taken : List Bool) (a : PlainActor) (q : Ask) (r : Reply)
-    → NamesOwnCells code → StandingCode (code_of code k) → is_lawful (store_with (cells_of code.cells) (length code.threads) book taken) k q ≡ true
+    → NamesOwnCells code → is_lawful (store_with (cells_of code.cells) (length code.threads) book taken) k q ≡ true
     → a.outcome ≡ None → unanswered a ≡ Some q → unanswered (answered a r) ≡ None → MayAnswer q r → (Stops r → ⊥) → IsExchanged r → r ≡ (serve (cells_of code.cells) k q book).reply
     → RunLawfully code k book a → RunLawfully code k (serve (cells_of code.cells) k q book).book (answered a r)
-heard_over laws law code k book taken a q r mine stands lawful e f free may on x same w =
+heard_over laws law code k book taken a q r mine lawful e f free may on x same w =
     let h = w.over in
+    let v = serve (cells_of code.cells) k q book in
     let known = as_known a h.stage None (Some q) e f h.here in
+    let from = of_store code.cells (length code.threads) taken k q book lawful in
+    let stood = stood_known code k book (map exchange_of h.entries) h.stage a None (Some q) e f w.stood in
+    let leaves = answer_leaves a q r f may in
+    let below = is_below k (length code.threads) w.thread in
+    let more = map exchange_of (h.entries ++ entry q r (length book) ∷ []) in
+    let next = stage_after h.stage q r in
     record {
       over = record {
-        number = (answered_same a a.pending r).0 ∙ h.number;
+        number = leaves.number ∙ h.number;
         entries = h.entries ++ entry q r (length book) ∷ [];
         stage = stage_after h.stage q r;
         ran = subst (λ xs. HasRun code xs (answered a r)) (sym (map_append h.entries (entry q r (length book)))) (laws.answers code (map exchange_of h.entries) a q r e f may on h.ran);
         told = subst (λ y. ToldBy code.cells (length code.threads) (alone (serve (cells_of code.cells) k q book).book) k (h.entries ++ entry q y (length book) ∷ []) (stage_after h.stage q y)) (sym same)
             (told_served code k book taken q lawful law h.entries h.stage known.0 h.told (subst IsExchanged same x));
         here = as_is (answered a r) (stage_after h.stage q r) (answered a r).outcome None refl free (in_after (answered a r) (stage_after h.stage q r) (answered a r).outcome (known.1 r may on));
-        asked = more_asked (code_of code k) h.entries (entry q r (length book)) a q r
+        asked = more_asked (code_of code k) h.entries (entry q r (length book)) a q r leaves
             (subst (λ n. HasAsked (code_of code n) (map exchange_of h.entries) a q) h.number
             (subst (λ o. HasCome (code_of code a.number) (map exchange_of h.entries) a o (Some q)) e (subst (λ y. HasCome (code_of code a.number) (map exchange_of h.entries) a a.outcome y) f h.ran))) h.asked;
         full = λ x. absurd (subst Unfilled x (unfilled_of (answered a r).outcome (unstopped_if a e a.pending r on)));
       };
       thread = w.thread;
-      stood = stood_free (code_of code k) (map exchange_of (h.entries ++ entry q r (length book) ∷ [])) (answered a r) (stage_after h.stage q r) free;
+      stands = w.stands;
+      stood = stood_as code k v.book more next (answered a r) (answered a r).outcome None refl free
+          (heard_stood code.cells (length code.threads) (code_of code k) k book h.entries h.stage a q (openings_known code mine) (code_known code k mine) w.stands below h.told stood w.lawful v r from.1 from.0 same more next may on x);
       lawful =
-          heard_lawfully code.cells (length code.threads) (code_of code k) k book h.entries h.stage a q (serve (cells_of code.cells) k q book) r (length book) (openings_known code mine) (code_known code k mine) stands
-          (asked_today a.pending (is_running a.tx) a.at a.done q f) known.0 (of_store code.cells (length code.threads) taken k q book lawful).1 (of_store code.cells (length code.threads) taken k q book lawful).0 same
-          (stood_known (code_of code k) (map exchange_of h.entries) a h.stage None (Some q) e f w.stood) w.lawful;
+          heard_lawfully code.cells (length code.threads) (code_of code k) k book h.entries h.stage a q (openings_known code mine) (code_known code k mine) w.stands below h.told stood w.lawful v r from.1 from.0 same (length book) known.0;
     }
 
 -- an answer that stops the actor, and leaves the book as it was
@@ -706,20 +533,22 @@ stopped_over : ActorsRun → (code : PlainCode) (k : ℕ) (book : List Event) (a
     → a.outcome ≡ None → unanswered a ≡ Some q → MayAnswer q r → Stops r → ((answered a r).outcome ≡ Some outcome.JournalFull → most_events ≤ length book) → RunLawfully code k book a → RunLawfully code k book (answered a r)
 stopped_over laws code k book a q r e f may stop filled w =
     let h = w.over in
-    let ends = stop_ends a a.pending r _ a.at a.done q f stop in
+    let ends = stop_ends a q r f stop in
+    let leaves = answer_leaves a q r f may in
     record {
       over = record {
-        number = (answered_same a a.pending r).0 ∙ h.number;
+        number = leaves.number ∙ h.number;
         entries = h.entries;
         stage = h.stage;
         ran = laws.stops code (map exchange_of h.entries) a q r e f may stop h.ran;
         told = h.told;
         here = as_is (answered a r) h.stage (Some ends.0) (unanswered (answered a r)) ends.1 refl tt;
-        asked = λ before e rest s. answer_asked (code_of code k) before a r (h.asked before e rest s);
+        asked = λ before e rest s. answer_asked (code_of code k) before a r leaves (h.asked before e rest s);
         full = filled;
       };
       thread = w.thread;
-      stood = stood_as (code_of code k) (map exchange_of h.entries) (answered a r) h.stage (Some ends.0) (unanswered (answered a r)) ends.1 refl tt;
+      stands = w.stands;
+      stood = stood_as code k book (map exchange_of h.entries) h.stage (answered a r) (Some ends.0) (unanswered (answered a r)) ends.1 refl tt;
       lawful = w.lawful;
     }
 
@@ -743,37 +572,37 @@ idle_never st (ask.Broke c p) ok may = may
 
 -- what the store answers the actor, and the actor after the answer
 served_from : ActorsRun → ServedIsTold → (code : PlainCode) (book : List Event) (taken : List Bool) (t : PlainStore) (k : ℕ) (a : PlainActor) (q : Ask) (r : Reply)
-    → NamesOwnCells code → StandingCode (code_of code k) → is_lawful (store_with (cells_of code.cells) (length code.threads) book taken) k q ≡ true
+    → NamesOwnCells code → is_lawful (store_with (cells_of code.cells) (length code.threads) book taken) k q ≡ true
     → a.outcome ≡ None → unanswered a ≡ Some q → unanswered (answered a r) ≡ None → MayAnswer q r
     → world.Answers (store_with (cells_of code.cells) (length code.threads) book taken) (serve (cells_of code.cells) k q book) (store_after (store_with (cells_of code.cells) (length code.threads) book taken) q (serve (cells_of code.cells) k q book)) r t
     → RunLawfully code k book a → IsStoreOf code t × RunLawfully code k t.book (answered a r)
-served_from laws law code book taken t k a q (reply.At p) mine stands lawful e f free may g h =
-    (subst (IsStoreOf code) (sym g.1) (record { cells = refl; threads = refl }), subst (λ (x : PlainStore). RunLawfully code k x.book (answered a (reply.At p))) (sym g.1) (heard_over laws law code k book taken a q (reply.At p) mine stands lawful e f free may (λ x. x) tt g.0 h))
-served_from laws law code book taken t k a q (reply.Is v) mine stands lawful e f free may g h =
-    (subst (IsStoreOf code) (sym g.1) (record { cells = refl; threads = refl }), subst (λ (x : PlainStore). RunLawfully code k x.book (answered a (reply.Is v))) (sym g.1) (heard_over laws law code k book taken a q (reply.Is v) mine stands lawful e f free may (λ x. x) tt g.0 h))
-served_from laws law code book taken t k a q (reply.Views p vs) mine stands lawful e f free may g h =
-    (subst (IsStoreOf code) (sym g.1) (record { cells = refl; threads = refl }), subst (λ (x : PlainStore). RunLawfully code k x.book (answered a (reply.Views p vs))) (sym g.1) (heard_over laws law code k book taken a q (reply.Views p vs) mine stands lawful e f free may (λ x. x) tt g.0 h))
-served_from laws law code book taken t k a q reply.Done mine stands lawful e f free may g h =
-    (subst (IsStoreOf code) (sym g.1) (record { cells = refl; threads = refl }), subst (λ (x : PlainStore). RunLawfully code k x.book (answered a reply.Done)) (sym g.1) (heard_over laws law code k book taken a q reply.Done mine stands lawful e f free may (λ x. x) tt g.0 h))
-served_from laws law code book taken t k a q (reply.Retry d) mine stands lawful e f free may g h =
-    (subst (IsStoreOf code) (sym g.1) (record { cells = refl; threads = refl }), subst (λ (x : PlainStore). RunLawfully code k x.book (answered a (reply.Retry d))) (sym g.1) (heard_over laws law code k book taken a q (reply.Retry d) mine stands lawful e f free may (λ x. x) tt g.0 h))
-served_from laws law code book taken t k a q (reply.Changed d) mine stands lawful e f free may g h =
-    (subst (IsStoreOf code) (sym g.1) (record { cells = refl; threads = refl }), subst (λ (x : PlainStore). RunLawfully code k x.book (answered a (reply.Changed d))) (sym g.1) (heard_over laws law code k book taken a q (reply.Changed d) mine stands lawful e f free may (λ x. x) tt g.0 h))
-served_from laws law code book taken t k a q (reply.AgentIsFailed d) mine stands lawful e f free may g h =
-    (subst (IsStoreOf code) (sym g.1) (record { cells = refl; threads = refl }), subst (λ (x : PlainStore). RunLawfully code k x.book (answered a (reply.AgentIsFailed d))) (sym g.1) (heard_over laws law code k book taken a q (reply.AgentIsFailed d) mine stands lawful e f free may (λ x. x) tt g.0 h))
-served_from laws law code book taken t k a q (reply.Action i y v) mine stands lawful e f free may g h =
-    (subst (IsStoreOf code) (sym g.1) (record { cells = refl; threads = refl }), subst (λ (x : PlainStore). RunLawfully code k x.book (answered a (reply.Action i y v))) (sym g.1) (heard_over laws law code k book taken a q (reply.Action i y v) mine stands lawful e f free may (λ x. x) tt g.0 h))
-served_from laws law code book taken t k a q reply.Idle mine stands lawful e f free may g h = absurd (idle_never h.over.stage q (as_known a h.over.stage None (Some q) e f h.over.here).0 may)
-served_from laws law code book taken t k a q (reply.Opened p v) mine stands lawful e f free may g h =
-    (subst (IsStoreOf code) (sym g.1) (record { cells = refl; threads = refl }), subst (λ (x : PlainStore). RunLawfully code k x.book (answered a (reply.Opened p v))) (sym g.1) (heard_over laws law code k book taken a q (reply.Opened p v) mine stands lawful e f free may (λ x. x) tt g.0 h))
-served_from laws law code book taken t k a q reply.Full mine stands lawful e f free may g h = (
+served_from laws law code book taken t k a q (reply.At p) mine lawful e f free may g h =
+    (subst (IsStoreOf code) (sym g.1) (record { cells = refl; threads = refl }), subst (λ (x : PlainStore). RunLawfully code k x.book (answered a (reply.At p))) (sym g.1) (heard_over laws law code k book taken a q (reply.At p) mine lawful e f free may (λ x. x) tt g.0 h))
+served_from laws law code book taken t k a q (reply.Is v) mine lawful e f free may g h =
+    (subst (IsStoreOf code) (sym g.1) (record { cells = refl; threads = refl }), subst (λ (x : PlainStore). RunLawfully code k x.book (answered a (reply.Is v))) (sym g.1) (heard_over laws law code k book taken a q (reply.Is v) mine lawful e f free may (λ x. x) tt g.0 h))
+served_from laws law code book taken t k a q (reply.Views p vs) mine lawful e f free may g h =
+    (subst (IsStoreOf code) (sym g.1) (record { cells = refl; threads = refl }), subst (λ (x : PlainStore). RunLawfully code k x.book (answered a (reply.Views p vs))) (sym g.1) (heard_over laws law code k book taken a q (reply.Views p vs) mine lawful e f free may (λ x. x) tt g.0 h))
+served_from laws law code book taken t k a q reply.Done mine lawful e f free may g h =
+    (subst (IsStoreOf code) (sym g.1) (record { cells = refl; threads = refl }), subst (λ (x : PlainStore). RunLawfully code k x.book (answered a reply.Done)) (sym g.1) (heard_over laws law code k book taken a q reply.Done mine lawful e f free may (λ x. x) tt g.0 h))
+served_from laws law code book taken t k a q (reply.Retry d) mine lawful e f free may g h =
+    (subst (IsStoreOf code) (sym g.1) (record { cells = refl; threads = refl }), subst (λ (x : PlainStore). RunLawfully code k x.book (answered a (reply.Retry d))) (sym g.1) (heard_over laws law code k book taken a q (reply.Retry d) mine lawful e f free may (λ x. x) tt g.0 h))
+served_from laws law code book taken t k a q (reply.Changed d) mine lawful e f free may g h =
+    (subst (IsStoreOf code) (sym g.1) (record { cells = refl; threads = refl }), subst (λ (x : PlainStore). RunLawfully code k x.book (answered a (reply.Changed d))) (sym g.1) (heard_over laws law code k book taken a q (reply.Changed d) mine lawful e f free may (λ x. x) tt g.0 h))
+served_from laws law code book taken t k a q (reply.AgentIsFailed d) mine lawful e f free may g h =
+    (subst (IsStoreOf code) (sym g.1) (record { cells = refl; threads = refl }), subst (λ (x : PlainStore). RunLawfully code k x.book (answered a (reply.AgentIsFailed d))) (sym g.1) (heard_over laws law code k book taken a q (reply.AgentIsFailed d) mine lawful e f free may (λ x. x) tt g.0 h))
+served_from laws law code book taken t k a q (reply.Action i y v) mine lawful e f free may g h =
+    (subst (IsStoreOf code) (sym g.1) (record { cells = refl; threads = refl }), subst (λ (x : PlainStore). RunLawfully code k x.book (answered a (reply.Action i y v))) (sym g.1) (heard_over laws law code k book taken a q (reply.Action i y v) mine lawful e f free may (λ x. x) tt g.0 h))
+served_from laws law code book taken t k a q reply.Idle mine lawful e f free may g h = absurd (idle_never h.over.stage q (as_known a h.over.stage None (Some q) e f h.over.here).0 may)
+served_from laws law code book taken t k a q (reply.Opened p v) mine lawful e f free may g h =
+    (subst (IsStoreOf code) (sym g.1) (record { cells = refl; threads = refl }), subst (λ (x : PlainStore). RunLawfully code k x.book (answered a (reply.Opened p v))) (sym g.1) (heard_over laws law code k book taken a q (reply.Opened p v) mine lawful e f free may (λ x. x) tt g.0 h))
+served_from laws law code book taken t k a q reply.Full mine lawful e f free may g h = (
   subst (IsStoreOf code) (sym g.1) (record { cells = refl; threads = refl }),
   subst (λ (x : PlainStore). RunLawfully code k x.book (answered a reply.Full)) (sym g.1)
       (subst (λ (es : List Event). RunLawfully code k es (answered a reply.Full)) (sym (full_keeps code k book taken q lawful (subst IsFull g.0 tt)))
       (stopped_over laws code k book a q reply.Full e f may tt (λ x. full_past code k book taken q lawful (subst IsFull g.0 tt)) h)),
 )
-served_from laws law code book taken t k a q reply.Memory mine stands lawful e f free may g h =
-    (subst (IsStoreOf code) (sym g.1) (record { cells = refl; threads = refl }), subst (λ (x : PlainStore). RunLawfully code k x.book (answered a reply.Memory)) (sym g.1) (stopped_over laws code k book a q reply.Memory e f may tt (λ x. absurd (subst Unfilled x (memory_unfilled a a.pending e))) h))
+served_from laws law code book taken t k a q reply.Memory mine lawful e f free may g h =
+    (subst (IsStoreOf code) (sym g.1) (record { cells = refl; threads = refl }), subst (λ (x : PlainStore). RunLawfully code k x.book (answered a reply.Memory)) (sym g.1) (stopped_over laws code k book a q reply.Memory e f may tt (λ x. absurd (subst Unfilled x (subst Unfilled (sym (memory_stops a q f)) tt))) h))
 
 -- a store of the code's
 as_store : (code : PlainCode) (s : PlainStore) → IsStoreOf code s → s ≡ store_with (cells_of code.cells) (length code.threads) s.book s.taken
@@ -783,24 +612,24 @@ as_store code s h = rw (h.cells, h.threads) refl
 pub store_legal : (code : PlainCode) (s : PlainStore) → IsStoreOf code s → Legal s.cells s.threads s.book → Legal (cells_of code.cells) (length code.threads) s.book
 store_legal code s h l = subst (λ (x : PlainStore). Legal x.cells x.threads s.book) (as_store code s h) l
 
-pub served_over : ActorsRun → ServedIsTold → (code : PlainCode) (s t : PlainStore) (k : ℕ) (a : PlainActor) (q : Ask) (r : Reply) → IsStoreOf code s → NamesOwnCells code → StandingCode (code_of code k) → is_lawful s a.number q ≡ true
+pub served_over : ActorsRun → ServedIsTold → (code : PlainCode) (s t : PlainStore) (k : ℕ) (a : PlainActor) (q : Ask) (r : Reply) → IsStoreOf code s → NamesOwnCells code → is_lawful s a.number q ≡ true
     → a.outcome ≡ None → unanswered a ≡ Some q → unanswered (answered a r) ≡ None → MayAnswer q r
     → world.Answers s (serve s.cells a.number q s.book) (store_after s q (serve s.cells a.number q s.book)) r t
     → RunLawfully code k s.book a → IsStoreOf code t × RunLawfully code k t.book (answered a r)
-served_over laws law code s t k a q r of mine stands lawful e f free may g h =
-    served_from laws law code s.book s.taken t k a q r mine stands
+served_over laws law code s t k a q r of mine lawful e f free may g h =
+    served_from laws law code s.book s.taken t k a q r mine
     (subst (λ n. is_lawful (store_with (cells_of code.cells) (length code.threads) s.book s.taken) n q ≡ true) h.over.number (subst (λ (x : PlainStore). is_lawful x a.number q ≡ true) (as_store code s of) lawful)) e f free may
     (subst (λ n. world.Answers (store_with (cells_of code.cells) (length code.threads) s.book s.taken) (serve (cells_of code.cells) n q s.book) (store_after (store_with (cells_of code.cells) (length code.threads) s.book s.taken) q (serve (cells_of code.cells) n q s.book)) r t) h.over.number
     (subst (λ (x : PlainStore). world.Answers x (serve x.cells a.number q x.book) (store_after x q (serve x.cells a.number q x.book)) r t) (as_store code s of) g)) h
 
 -- an actor of a thread asks nothing that it may not ask of the store
-pub asks_lawfully : TodayStands → (code : PlainCode) (s : PlainStore) (k : ℕ) (a : PlainActor) (q : Ask) → NamesOwnCells code → RunsToday code → IsStoreOf code s → a.outcome ≡ None → unanswered a ≡ Some q → RunLawfully code k s.book a
+pub asks_lawfully : (code : PlainCode) (s : PlainStore) (k : ℕ) (a : PlainActor) (q : Ask) → NamesOwnCells code → RunsToday code → IsStoreOf code s → a.outcome ≡ None → unanswered a ≡ Some q → RunLawfully code k s.book a
     → is_lawful s a.number q ≡ true
-asks_lawfully law code s k a q mine today of e f h =
+asks_lawfully code s k a q mine today of e f h =
     subst (λ n. is_lawful s n q ≡ true) (sym h.over.number)
     (subst (λ (x : PlainStore). is_lawful x k q ≡ true) (sym (as_store code s of))
-    (ask_lawful code.cells (length code.threads) s.taken (code_of code k) k s.book h.over.entries h.over.stage a q (openings_known code mine) (code_known code k mine) (standing_of law code k today) today.cells (is_below k (length code.threads) h.thread)
-    (asked_today a.pending (is_running a.tx) a.at a.done q f) h.over.told (stood_known (code_of code k) (map exchange_of h.over.entries) a h.over.stage None (Some q) e f h.stood) h.lawful))
+    (ask_lawful code.cells (length code.threads) (code_of code k) k s.book h.over.entries h.over.stage a q (openings_known code mine) (code_known code k mine) h.stands (is_below k (length code.threads) h.thread) h.over.told
+    (stood_known code k s.book (map exchange_of h.over.entries) h.over.stage a None (Some q) e f h.stood) h.lawful s.taken today.cells))
 
 grown_from : (k : ℕ) (q : Ask) (s next t : PlainStore) (v : Served) (r : Reply) → IsGrownBy k s.book next.book → world.Answers s v next r t → IsGrownBy k s.book t.book
 grown_from k q s next t v (reply.At p) h g = subst (λ (x : PlainStore). IsGrownBy k s.book x.book) (sym g.1) h

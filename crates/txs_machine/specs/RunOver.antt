@@ -76,7 +76,7 @@ IsAfter a (Some o) = a.outcome ≡ Some o
 
 -- a source's meaning explains an actor that has printed these bytes and ended so: one that was stopped has printed a part of it
 abbrev pub ExplainsEnd : Outcome → List ℕ → Completion ThreadState Value → Type 0
-ExplainsEnd o out r = Explained (standing (Some o) (stating out 0 no_work) (stating out 0 no_work)) r
+ExplainsEnd o out r = Explained (standing (Some o) (stating out 0 0 no_work None) (stating out 0 0 no_work None)) r
 
 -- each source of the code's cells that the thread's code follows means just what the actor did in the book, for some bound on its loops, with what it printed and how it ended
 abbrev pub IsExplained : PlainCode → ℕ → List Event → Outcome → List ℕ → Type 0

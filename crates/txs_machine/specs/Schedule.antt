@@ -1,5 +1,5 @@
 -- Runs of all threads of a code over one store, by turns that a schedule names, and what a program's source says of them.
-use Rattle.std.specs.Prelude.{◌≡◌, ◌≤◌, ◌<◌, ℕ, suc, Bool, true, false, ◌&&◌, ◌==◌, nat_lt, List, [], ◌∷◌, ◌++◌, length, map, Option, Some, None, if◌then◌else◌}
+use Rattle.std.specs.Prelude.{◌≡◌, ◌≤◌, ℕ, suc, Bool, true, false, ◌&&◌, ◌==◌, nat_lt, List, [], ◌∷◌, ◌++◌, length, map, Option, Some, None, if◌then◌else◌}
 use Rattle.std.proofs.Common.{◌⊎◌}
 use Rattle.txs_asks.specs.SeenEvent.{SeenEvent}
 use Rattle.txs_asks.specs.declared.event.Event.{Event}
@@ -84,7 +84,7 @@ HaveEnded rans = (k : ℕ) (ran : ThreadReport) → nth rans k ≡ Some ran → 
 -- A source's meaning explains a thread that has printed these bytes, and ended so if it has: one that was stopped, or hasn't ended, has printed a
 -- part of what the source means.
 abbrev pub ExplainsSo : Option Outcome → List ℕ → Completion ThreadState Value → Type 0
-ExplainsSo o out r = Explained (standing o (stating out 0 no_work) (stating out 0 no_work)) r
+ExplainsSo o out r = Explained (standing o (stating out 0 0 no_work None) (stating out 0 0 no_work None)) r
 
 -- What the source means on all that a thread did but the last, for some bound on its loops, the thread has printed, and maybe more. Of one
 -- that did nothing this says nothing.

@@ -11,7 +11,7 @@ use txs_actor::{Actor, Turn, actors_run};
 use txs_asks::{Ask, Outcome};
 use txs_code::Verified;
 use txs_follows::replies_fit;
-use txs_runs::law::{alone_history, served_is_told, today_is_staged, today_stands, told_fits};
+use txs_runs::law::{alone_history, served_is_told, told_fits, typed_stands};
 use txs_world::Store;
 
 /// What a thread has printed, how it ended, and how many steps it made.
@@ -38,7 +38,6 @@ fn serve_ask(actor: &mut Actor, code: &Verified, store: &mut Store, ask: Ask, k:
     ensures over { RunLawfully code.now k store.new.book actor.new }
     ensures grown { IsGrownBy k store.old.book store.new.book }
 {
-    today_stands();
     let _own_cells = code.code();
     let number = actor.number();
     let reply = store.serve(number, ask);
@@ -72,7 +71,6 @@ pub(crate) fn round(
     ensures grown { IsGrownBy k store.old.book store.new.book }
 {
     actors_run();
-    today_is_staged();
     match actor.run(code, budget) {
         Turn::Ended(outcome) => Some(outcome),
         Turn::Went => None,
@@ -145,6 +143,8 @@ pub fn run_thread(
     replies_fit();
     told_fits();
     alone_history();
+    typed_stands();
+    let _rooms = code.rooms();
     let mut actor = Actor::thread(alloc, code, k, max_steps)?;
     let outcome = run_to_end(&mut actor, code, store, k);
     let _events = store.events();

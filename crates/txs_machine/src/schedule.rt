@@ -18,7 +18,7 @@ use txs_actor::{Actor, actors_run};
 use txs_asks::{Event, Outcome};
 use txs_code::Verified;
 use txs_follows::replies_fit;
-use txs_runs::law::{alone_history, told_fits};
+use txs_runs::law::{alone_history, told_fits, typed_stands};
 use txs_world::Store;
 use txs_world::law::{done_is_undisturbed, unwritten_stays};
 
@@ -118,6 +118,8 @@ fn open_actors(
     ensures between { IfOk result (λ v. AreBetween code.now max_steps [] 0 v.items) }
 {
     actors_run();
+    typed_stands();
+    let _rooms = code.rooms();
     let mut actors = Vec::with_capacity(alloc, usize::from(threads))?;
     for k in 0..threads {
         actors.push(Actor::thread(alloc, code, k, max_steps)?)?;

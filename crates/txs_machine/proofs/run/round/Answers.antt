@@ -2,7 +2,7 @@ use Rattle.std.proofs.Common.{ℕ, ◌<◌, sym, subst}
 use Rattle.txs_machine.specs.RunOver.{IsLimited}
 use Rattle.txs_actor.specs.declared.outcome.Turn.TheVariants.{Went, Asks, Ended}
 use Rattle.txs_machine.proofs.Limits.{turns_limited, turns_count, turns_free}
-use Rattle.txs_machine.proofs.RunOver.{turns_over, staged_of, not_grown}
+use Rattle.txs_machine.proofs.RunOver.{turns_over, not_grown}
 use Rattle.txs_machine.proofs.run.round.Goals as goal
 
 pub serve_ask-requires-clause-going : goal.serve_ask-requires-clause-going
@@ -17,7 +17,7 @@ returns-in-Ended-clause-after c = c.in-Ended.ensures.says
 pub returns-in-Ended-clause-over : goal.returns-in-Ended-clause-over
 returns-in-Ended-clause-over c =
     turns_over c.actors_run.ensures c.args.code.now c.args.k c.args.store.now.book c.args.budget c.args.actor.now c.run.new.self (Ended c.in-Ended.outcome)
-    (staged_of c.today_is_staged.ensures c.args.code.now c.args.k c.requires.runs.today) c.requires.answered c.in-Ended.ensures.turns c.requires.over
+    c.requires.answered c.in-Ended.ensures.turns c.requires.over
 
 pub returns-in-Went-clause-after : goal.returns-in-Went-clause-after
 returns-in-Went-clause-after c = c.in-Went.ensures.says
@@ -25,7 +25,7 @@ returns-in-Went-clause-after c = c.in-Went.ensures.says
 pub returns-in-Went-clause-over : goal.returns-in-Went-clause-over
 returns-in-Went-clause-over c =
     turns_over c.actors_run.ensures c.args.code.now c.args.k c.args.store.now.book c.args.budget c.args.actor.now c.run.new.self Went
-    (staged_of c.today_is_staged.ensures c.args.code.now c.args.k c.requires.runs.today) c.requires.answered c.in-Went.ensures.turns c.requires.over
+    c.requires.answered c.in-Went.ensures.turns c.requires.over
 
 pub returns-in-Ended-clause-limited : goal.returns-in-Ended-clause-limited
 returns-in-Ended-clause-limited c =
@@ -46,7 +46,7 @@ serve_ask-requires-clause-limited c =
 pub serve_ask-requires-clause-over : goal.serve_ask-requires-clause-over
 serve_ask-requires-clause-over c =
     turns_over c.actors_run.ensures c.args.code.now c.args.k c.args.store.now.book c.args.budget c.args.actor.now c.run.new.self (Asks c.in-Asks.ask)
-    (staged_of c.today_is_staged.ensures c.args.code.now c.args.k c.requires.runs.today) c.requires.answered c.in-Asks.ensures.turns c.requires.over
+    c.requires.answered c.in-Asks.ensures.turns c.requires.over
 
 pub returns-in-Asks-clause-limited : goal.returns-in-Asks-clause-limited
 returns-in-Asks-clause-limited c =

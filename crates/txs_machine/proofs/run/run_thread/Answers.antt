@@ -1,14 +1,15 @@
-use Rattle.std.proofs.Common.{◌≡◌, ℕ, List, Some, refl, sym, subst, ◌∙◌, ap}
+use Rattle.std.proofs.Common.{ℕ, List, Some, refl, sym, subst, ◌∙◌, ap}
 use Rattle.txs_asks.specs.declared.event.Outcome.{Outcome}
 use Rattle.txs_world.specs.Book.{Legal}
 use Rattle.txs_machine.specs.RunOver.{IsExplained, IsLimited}
 use Rattle.txs_machine.proofs.Limits.{new_limited}
-use Rattle.txs_machine.proofs.RunOver.{store_legal, new_over, ended_explained}
+use Rattle.txs_machine.proofs.RunOver.{store_legal, standing_of, new_over, ended_explained}
 use Rattle.txs_machine.proofs.run.run_thread.Goals as goal
 
 pub run_to_end-outcome-requires-clause-over : goal.run_to_end-outcome-requires-clause-over
 run_to_end-outcome-requires-clause-over c =
-    new_over c.actors_run.ensures c.args.code.now c.args.k c.args.max_steps c.args.store.now.book c.in_ok-actor.actor c.requires.unused c.requires.thread c.in_ok-actor.ensures.new
+    new_over c.actors_run.ensures c.args.code.now c.args.k c.args.max_steps c.args.store.now.book c.in_ok-actor.actor c.requires.unused c.requires.thread
+    (standing_of c.typed_stands.ensures c.args.code.now c.rooms-rooms.result.0.now c.rooms-rooms.result.1.now c.args.k c.rooms-rooms.ensures c.requires.thread) c.in_ok-actor.ensures.new
 
 pub returns-clause-explained : goal.returns-clause-explained
 returns-clause-explained c =

@@ -1,5 +1,4 @@
-use Rattle.std.proofs.Common.{◌≡◌, ℕ, None}
-use Rattle.txs_actor.specs.PlainActor.{Runs, unanswered}
+use Rattle.txs_actor.specs.PlainActor.{Runs}
 use Rattle.txs_machine.specs.Lawfully.{RunLawfully}
 use Rattle.txs_machine.specs.RunOver.{IsStoreOf, IsOwn, IsAfter, IsLimited}
 use Rattle.txs_machine.proofs.Limits.{rounds_left}

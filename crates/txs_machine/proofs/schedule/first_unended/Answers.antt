@@ -1,4 +1,4 @@
-use Rattle.std.proofs.Common.{◌≡◌, ◌<◌, ℕ, length, get_or, None, rules, sym, subst}
+use Rattle.std.proofs.Common.{◌≡◌, ◌<◌, length, get_or, None, rules, sym, subst}
 use Rattle.txs_machine.specs.Playing.{AllEnded}
 use Rattle.txs_machine.proofs.Playing.{nth_read, taken_read, unended_at, ended_more}
 use Rattle.txs_machine.proofs.schedule.first_unended.Goals as goal

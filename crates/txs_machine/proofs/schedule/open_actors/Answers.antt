@@ -2,7 +2,7 @@ use Rattle.std.proofs.Common.{◌≡◌, ◌<◌, ◌+◌, ◌++◌, ◌∷◌, 
 use Rattle.txs_machine.specs.Playing.{IsBetween, AreBetween}
 use Rattle.txs_machine.proofs.Limits.{new_limited}
 use Rattle.txs_machine.proofs.Playing.{between_more}
-use Rattle.txs_machine.proofs.RunOver.{new_over}
+use Rattle.txs_machine.proofs.RunOver.{standing_of, new_over}
 use Rattle.txs_machine.proofs.schedule.open_actors.Goals as goal
 
 pub loop-k-preserved : goal.loop-k-preserved
@@ -16,12 +16,13 @@ loop-k-preserved c =
     let pushed : c.push.new.self.items ≡ actors ++ a ∷ [] = search rules in
     let many = c.loop-k.invariant.many in
     let there : k < length code.threads = search rules in
+    let stands = standing_of c.typed_stands.ensures code c.rooms-rooms.result.0.now c.rooms-rooms.result.1.now k c.rooms-rooms.ensures there in
     let place : k ≡ 0 + length actors = omega (arith, many) in
     let between : IsBetween code k most [] a = record {
       runs = c.in_ok-thread.ensures.runs;
       free = new.unasking;
       limited = new_limited most a new.limited new.unended new.unused;
-      over = new_over c.actors_run.ensures code k most [] a refl there new;
+      over = new_over c.actors_run.ensures code k most [] a refl there stands new;
     } in
     record {
       many = search rules;

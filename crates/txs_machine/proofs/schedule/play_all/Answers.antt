@@ -1,7 +1,7 @@
-use Rattle.std.proofs.Common.{◌≡◌, ◌<◌, ℕ, length, get_or, rules, refl, sym, subst, ◌∙◌}
+use Rattle.std.proofs.Common.{◌<◌, ℕ, length, get_or, rules, refl, sym, subst, ◌∙◌}
 use Rattle.std.proofs.lemmas.List.{take_more}
 use Rattle.txs_machine.specs.Playing.{HaveSteps}
-use Rattle.txs_machine.specs.Schedule.{player, all_named}
+use Rattle.txs_machine.specs.Schedule.{player}
 use Rattle.txs_machine.specs.declared.schedule.Play.TheVariants.{Turn}
 use Rattle.txs_machine.proofs.Playing.{named_read, no_steps, plays_steps}
 use Rattle.txs_machine.proofs.schedule.play_all.Goals as goal

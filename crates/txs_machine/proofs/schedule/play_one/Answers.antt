@@ -1,5 +1,4 @@
-use Rattle.std.proofs.Common.{◌≡◌, ◌+◌, ℕ, get_or, set, Some, rules, sym, subst, ◌∙◌, arith}
-use Rattle.txs_value.specs.Places.{nth}
+use Rattle.std.proofs.Common.{◌≡◌, ◌+◌, ℕ, get_or, set, rules, sym, subst, ◌∙◌, arith}
 use Rattle.txs_machine.specs.Playing.{IsBetween, ArePlayedAt}
 use Rattle.txs_machine.specs.Schedule.{player}
 use Rattle.txs_machine.proofs.Playing.{between_of, nth_read, placed_between, played_at}

@@ -1,6 +1,5 @@
-use Rattle.std.proofs.Common.{◌≡◌, length, rules, sym, subst, ◌∙◌}
+use Rattle.std.proofs.Common.{◌≡◌, length, rules}
 use Rattle.txs_world.specs.Book.{Legal, Undisturbed}
-use Rattle.txs_world.specs.Store.{cells_of}
 use Rattle.txs_machine.specs.Playing.{AreReported}
 use Rattle.txs_machine.proofs.Explaining.{Known, all_done, all_played, all_ended, all_explained}
 use Rattle.txs_machine.proofs.RunOver.{store_legal}

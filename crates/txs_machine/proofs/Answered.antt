@@ -1,0 +1,185 @@
+-- What an answer leaves of an actor, and what it ends.
+use Rattle.std.proofs.Common.{◌≡◌, ℕ, zero, suc, List, Option, Some, None, refl, sym, subst, ◌∙◌}
+use Rattle.txs_asks.specs.declared.ask.Ask.{Ask}
+use Rattle.txs_asks.specs.declared.ask.Reply.{Reply}
+use Rattle.txs_asks.specs.declared.ask.Reply.TheVariants as reply
+use Rattle.txs_asks.specs.declared.event.Outcome.{Outcome}
+use Rattle.txs_asks.specs.declared.event.Outcome.TheVariants as outcome
+use Rattle.txs_frame.specs.Phase.{PlainPhase}
+use Rattle.txs_value.specs.declared.value.Value.{Value}
+use Rattle.txs_actor.specs.PlainActor.{PlainActor, MayAnswer, Stops, answered, answered_for, answered_if, asked_for, applied_in, run_again, end_again, refuse, views, unanswered, is_running}
+use Rattle.txs_actor.specs.declared.state.Pending.{Pending}
+use Rattle.txs_actor.specs.declared.state.Pending.TheVariants.{Begin, Read, Ensure, Open, View, Commit, Fail}
+use Rattle.txs_actor.specs.declared.state.Transaction.{Transaction}
+use Rattle.txs_actor.specs.declared.state.Transaction.TheVariants.{Outside, Restarting, Running, Applying}
+use Rattle.txs_actor.proofs.Replies.{by_reply}
+
+-- an outcome that isn't want of steps
+abbrev pub Differs : Option Outcome → Type 0
+Differs None = Unit {0}
+Differs (Some outcome.Done) = Unit {0}
+Differs (Some (outcome.Failed f)) = Unit {0}
+Differs (Some outcome.StepsSpent) = ⊥
+Differs (Some outcome.JournalFull) = Unit {0}
+Differs (Some outcome.Memory) = Unit {0}
+
+-- The number, the steps, their limit and what was printed are as they were, and an actor that ends now doesn't end for want of steps.
+pub record Leaves (a b : PlainActor) : Type 0 where
+  pub number : b.number ≡ a.number
+  pub steps : b.steps ≡ a.steps
+  pub limit : b.limit ≡ a.limit
+  pub printed : b.printed ≡ a.printed
+  pub unspent : a.outcome ≡ None → Differs b.outcome
+
+-- one that goes on
+goes : (a b : PlainActor) → b.number ≡ a.number → b.steps ≡ a.steps → b.limit ≡ a.limit → b.printed ≡ a.printed → b.outcome ≡ a.outcome → Leaves a b
+goes a b n s l p o = record { number = n; steps = s; limit = l; printed = p; unspent = λ e. subst Differs (sym (o ∙ e)) tt }
+
+-- one that ends so
+ends : (a b : PlainActor) (o : Outcome) → b.number ≡ a.number → b.steps ≡ a.steps → b.limit ≡ a.limit → b.printed ≡ a.printed → b.outcome ≡ Some o → Differs (Some o) → Leaves a b
+ends a b o n s l p e d = record { number = n; steps = s; limit = l; printed = p; unspent = λ x. subst Differs (sym e) d }
+
+again_leaves : (a : PlainActor) (tx : Transaction) → Leaves a (run_again a tx)
+again_leaves a Outside = goes a _ refl refl refl refl refl
+again_leaves a (Restarting left) = goes a _ refl refl refl refl refl
+again_leaves a (Running zero inner from) = ends a _ (outcome.Failed _) refl refl refl refl refl tt
+again_leaves a (Running (suc left) inner from) = goes a _ refl refl refl refl refl
+again_leaves a (Applying zero from phase) = ends a _ (outcome.Failed _) refl refl refl refl refl tt
+again_leaves a (Applying (suc left) from phase) = goes a _ refl refl refl refl refl
+
+end_leaves : (a : PlainActor) (tx : Transaction) → Leaves a (end_again a tx)
+end_leaves a Outside = goes a _ refl refl refl refl refl
+end_leaves a (Restarting left) = goes a _ refl refl refl refl refl
+end_leaves a (Running zero inner from) = ends a _ (outcome.Failed _) refl refl refl refl refl tt
+end_leaves a (Running (suc left) inner from) = goes a _ refl refl refl refl refl
+end_leaves a (Applying zero from phase) = ends a _ (outcome.Failed _) refl refl refl refl refl tt
+end_leaves a (Applying (suc left) from phase) = goes a _ refl refl refl refl refl
+
+refuse_leaves : (a : PlainActor) (tx : Transaction) → Leaves a (refuse a tx)
+refuse_leaves a Outside = goes a _ refl refl refl refl refl
+refuse_leaves a (Restarting left) = goes a _ refl refl refl refl refl
+refuse_leaves a (Running left inner from) = ends a _ (outcome.Failed _) refl refl refl refl refl tt
+refuse_leaves a (Applying left from phase) = ends a _ (outcome.Failed _) refl refl refl refl refl tt
+
+views_leaves : (a : PlainActor) (phase : PlainPhase) (q : ℕ) (vs : List Value) (tx : Transaction) → Leaves a (views a phase q vs tx)
+views_leaves a phase q vs Outside = goes a _ refl refl refl refl refl
+views_leaves a phase q vs (Restarting left) = goes a _ refl refl refl refl refl
+views_leaves a phase q vs (Running left inner from) = goes a _ refl refl refl refl refl
+views_leaves a phase q vs (Applying left from before) = goes a _ refl refl refl refl refl
+
+full_leaves : (a : PlainActor) (p : Pending) → Leaves a (answered_for a p reply.Full)
+full_leaves a (Begin left from) = ends a _ outcome.JournalFull refl refl refl refl refl tt
+full_leaves a (Read c) = ends a _ outcome.JournalFull refl refl refl refl refl tt
+full_leaves a (Ensure c es) = ends a _ outcome.JournalFull refl refl refl refl refl tt
+full_leaves a (Open c n kept) = ends a _ outcome.JournalFull refl refl refl refl refl tt
+full_leaves a (View phase) = ends a _ outcome.JournalFull refl refl refl refl refl tt
+full_leaves a Commit = ends a _ outcome.JournalFull refl refl refl refl refl tt
+full_leaves a (Fail f) = ends a _ outcome.JournalFull refl refl refl refl refl tt
+
+memory_leaves : (a : PlainActor) (p : Pending) → Leaves a (answered_for a p reply.Memory)
+memory_leaves a (Begin left from) = ends a _ outcome.Memory refl refl refl refl refl tt
+memory_leaves a (Read c) = ends a _ outcome.Memory refl refl refl refl refl tt
+memory_leaves a (Ensure c es) = ends a _ outcome.Memory refl refl refl refl refl tt
+memory_leaves a (Open c n kept) = ends a _ outcome.Memory refl refl refl refl refl tt
+memory_leaves a (View phase) = ends a _ outcome.Memory refl refl refl refl refl tt
+memory_leaves a Commit = ends a _ outcome.Memory refl refl refl refl refl tt
+memory_leaves a (Fail f) = ends a _ outcome.Memory refl refl refl refl refl tt
+
+some : {A : Type 0} {x y : A} → Some x ≡ Some y → x ≡ y
+some e = cc
+
+-- what an answer leaves, where it is one that the actor's ask may have
+pub answer_leaves : (a : PlainActor) (q : Ask) (r : Reply) → unanswered a ≡ Some q → MayAnswer q r → Leaves a (answered a r)
+answer_leaves a q r e m = go a.pending e
+  where
+    go : (o : Option Pending) → asked_for o (is_running a.tx) a.at a.view (applied_in a.tx) a.done ≡ Some q → Leaves a (answered_if a o r)
+    go None e = cc
+    go (Some p) e =
+        by_reply (λ y i x. Leaves a (answered_for a y x)) a.done
+        (record {
+          begins = λ left from i x. goes a _ refl refl refl refl refl;
+          reads = λ c i v. goes a _ refl refl refl refl refl;
+          reads_again = λ c d. again_leaves a a.tx;
+          ensures = λ c es i v. goes a _ refl refl refl refl refl;
+          ensures_again = λ c es i d. again_leaves a a.tx;
+          opens = λ c n kept i v. goes a _ refl refl refl refl refl;
+          opens_again = λ c n kept i d. again_leaves a a.tx;
+          views = λ phase i q vs m. views_leaves a phase q vs a.tx;
+          commits = λ i. goes a _ refl refl refl refl refl;
+          commits_again = λ i d. again_leaves a a.tx;
+          changed = λ i d. end_leaves a a.tx;
+          denied = λ i g. refuse_leaves a a.tx;
+          fails = λ f i. ends a _ (outcome.Failed f) refl refl refl refl refl tt;
+          full = λ y i. full_leaves a y;
+          memory = λ y i. memory_leaves a y;
+        }) p (is_running a.tx) a.at a.view (applied_in a.tx) r (subst (λ x. MayAnswer x r) (sym (some e)) m)
+
+-- ---- ends
+
+full_ends : (a : PlainActor) (p : Pending) → (answered_for a p reply.Full).outcome ≡ Some outcome.JournalFull
+full_ends a (Begin left from) = refl
+full_ends a (Read c) = refl
+full_ends a (Ensure c es) = refl
+full_ends a (Open c n kept) = refl
+full_ends a (View phase) = refl
+full_ends a Commit = refl
+full_ends a (Fail f) = refl
+
+memory_ends : (a : PlainActor) (p : Pending) → (answered_for a p reply.Memory).outcome ≡ Some outcome.Memory
+memory_ends a (Begin left from) = refl
+memory_ends a (Read c) = refl
+memory_ends a (Ensure c es) = refl
+memory_ends a (Open c n kept) = refl
+memory_ends a (View phase) = refl
+memory_ends a Commit = refl
+memory_ends a (Fail f) = refl
+
+-- the end of an actor that is stopped so
+abbrev end_by : Reply → Option Outcome → Type 0
+end_by reply.Full o = o ≡ Some outcome.JournalFull
+end_by reply.Memory o = o ≡ Some outcome.Memory
+end_by _ o = Unit {0}
+
+pending_ends : (a : PlainActor) (p : Pending) (r : Reply) → end_by r (answered_for a p r).outcome
+pending_ends a p (reply.At i) = tt
+pending_ends a p (reply.Is v) = tt
+pending_ends a p (reply.Views i vs) = tt
+pending_ends a p reply.Done = tt
+pending_ends a p (reply.Retry d) = tt
+pending_ends a p (reply.Changed d) = tt
+pending_ends a p (reply.AgentIsFailed g) = tt
+pending_ends a p (reply.Action i x v) = tt
+pending_ends a p reply.Idle = tt
+pending_ends a p (reply.Opened i v) = tt
+pending_ends a p reply.Full = full_ends a p
+pending_ends a p reply.Memory = memory_ends a p
+
+asker_ends : (a : PlainActor) (q : Ask) (r : Reply) → unanswered a ≡ Some q → end_by r (answered a r).outcome
+asker_ends a q r e = go a.pending e
+  where
+    go : (o : Option Pending) → asked_for o (is_running a.tx) a.at a.view (applied_in a.tx) a.done ≡ Some q → end_by r (answered_if a o r).outcome
+    go None e = cc
+    go (Some p) e = pending_ends a p r
+
+-- an actor that asks ends with a full book
+pub full_stops : (a : PlainActor) (q : Ask) → unanswered a ≡ Some q → (answered a reply.Full).outcome ≡ Some outcome.JournalFull
+full_stops a q e = asker_ends a q reply.Full e
+
+-- and for want of memory
+pub memory_stops : (a : PlainActor) (q : Ask) → unanswered a ≡ Some q → (answered a reply.Memory).outcome ≡ Some outcome.Memory
+memory_stops a q e = asker_ends a q reply.Memory e
+
+-- a reply that stops an actor which asks ends it
+pub stop_ends : (a : PlainActor) (q : Ask) (r : Reply) → unanswered a ≡ Some q → Stops r → (o : Outcome) × ((answered a r).outcome ≡ Some o)
+stop_ends a q reply.Full e h = (outcome.JournalFull, full_stops a q e)
+stop_ends a q reply.Memory e h = (outcome.Memory, memory_stops a q e)
+stop_ends a q (reply.At i) e h = absurd h
+stop_ends a q (reply.Is v) e h = absurd h
+stop_ends a q (reply.Views i vs) e h = absurd h
+stop_ends a q reply.Done e h = absurd h
+stop_ends a q (reply.Retry d) e h = absurd h
+stop_ends a q (reply.Changed d) e h = absurd h
+stop_ends a q (reply.AgentIsFailed g) e h = absurd h
+stop_ends a q (reply.Action i x v) e h = absurd h
+stop_ends a q reply.Idle e h = absurd h
+stop_ends a q (reply.Opened i v) e h = absurd h
