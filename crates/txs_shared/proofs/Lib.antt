@@ -1,0 +1,4 @@
+pub mod Asking
+pub mod Opening
+pub mod Placing
+pub mod Serving

@@ -1,0 +1,11 @@
+use Rattle.std.proofs.Common.{◌≡◌, ◌≤◌, ◌++◌, drop}
+use Rattle.txs_shared.specs.Kept.{places_of}
+use Rattle.txs_shared.proofs.atoms.open_places.Given as goal
+
+-- those that are there and those to come are all
+abbrev pub invariant-loop-cell : goal.invariant-loop-cell
+invariant-loop-cell l =
+    record {
+      all : l.places.items ++ places_of l.atoms (drop l.cell-index l.cells) ≡ places_of 0 l.cells;
+      few : l.atoms ≤ l.cell-index;
+    }

@@ -1,0 +1,10 @@
+//! The state that all actors share: the store with its book, and of each atom its book. Promises that each ask is answered by the book
+//! that it is for, which alone grows, just as the laws of runs say, and that all books stay legal.
+#![tactic(auto)]
+
+mod atoms;
+pub mod law;
+mod serve;
+pub mod state;
+
+pub use state::SharedState;

@@ -1,0 +1,65 @@
+//! What the state that actors share answers.
+
+ghost use Rattle.std.specs.Prelude.{◌≡◌, ◌&&◌, true};
+ghost use Rattle.txs_runs.specs.Shared.{has_atom};
+ghost use Rattle.txs_shared.specs.Kept.{names_place};
+ghost use Rattle.txs_shared.specs.SharedState.{is_lawful, book_of, answer_to, Answers};
+ghost use Rattle.txs_world.specs.Book.{has_cell};
+ghost use Rattle.txs_world.specs.Store.{cells_of};
+
+use crate::atoms::{atom_named, names_place, serve_at};
+use crate::state::SharedState;
+use txs_asks::{Ask, Reply};
+use txs_value::{CellId, CellKind};
+use txs_world::law::serve_keeps;
+
+impl SharedState {
+    /// Whether the actor may ask this: it makes such asks, there is what it names, and it may name the places.
+    pub fn lawful(&self, actor: u16, ask: &Ask) -> bool
+        ensures { result ≡ is_lawful self.now actor ask.now }
+    {
+        match atom_named(ask) {
+            Some(cell) => actor < self.store.threads() && self.may_name(actor, cell, ask),
+            None => self.store.lawful(actor, ask),
+        }
+    }
+
+    /// Whether there is this atom, and the actor may name the place of its book that it asks with.
+    fn may_name(&self, actor: u16, cell: CellId, ask: &Ask) -> bool
+        ensures { result ≡ (has_atom self.now.cells cell && names_place actor ask.now (book_of self.now cell)) }
+    {
+        self.has_atom(cell) && names_place(self.atom(cell), actor, ask)
+    }
+
+    /// Whether there is this cell, and it is an atom.
+    fn has_atom(&self, cell: CellId) -> bool
+        ensures { result ≡ has_atom self.now.cells cell }
+    {
+        cell.kind == CellKind::Atom && self.has_cell(cell)
+    }
+
+    /// Whether there is a cell of this kind and number.
+    fn has_cell(&self, cell: CellId) -> bool
+        ensures { result ≡ has_cell (cells_of self.now.cells) cell }
+    {
+        let number = usize::from(cell.number);
+        number < self.cells.len() && self.cells[number].kind == cell.kind
+    }
+
+    /// Answers an ask of an actor from the book that it is for, as a whole; no other book is looked at. The reply is `Full` exactly
+    /// where that book has as many events as it may have and the answer would add one, and `Memory` where there was no memory for
+    /// the event, or a value can have no more owners. After both the state is as before.
+    pub fn serve(&mut self, actor: u16, ask: Ask) -> Reply
+        requires { is_lawful self.old actor ask ≡ true }
+        ensures { Answers self.old ask (answer_to self.old actor ask) result self.new }
+    {
+        serve_keeps();
+        match atom_named(&ask) {
+            Some(cell) => {
+                let place = self.place(cell.number);
+                serve_at(&mut self.atoms, place, actor, ask)
+            }
+            None => self.store.serve(actor, ask),
+        }
+    }
+}
