@@ -1,11 +1,14 @@
-//! The program that runs scripts: `txs run [FILE]`, `txs schedule [FILE]`, `txs check [FILE]` and `txs dis [FILE]`.
+//! The program that runs scripts: `txs run [FILE]`, `txs schedule [FILE]`, `txs check [FILE]`, `txs dis [FILE]` and
+//! `txs build [FILE] --out F`.
 #![tactic(auto)]
 
 use std::fs::File;
-use std::io::{ErrorKind, Read};
+use std::io::{ErrorKind, Read, Write};
 use std::process::ExitCode;
-use std::{env, io};
+use std::{env, fs, io};
 use txs_play::play_words;
+use txs_tell::told::{DONE, UNUSABLE};
+use txs_tell::write_told;
 use txs_words::{Words, parse_words};
 
 /// The reader of a file that can't be opened.
@@ -30,32 +33,60 @@ fn args_of(rt: &HostRuntime) -> io::Result<Vec<String>> {
 /// The file that the words name, if they name one.
 fn file_of(words: &Words) -> Option<&str> {
     match words {
-        Words::Check { file, .. } | Words::Listing { file, .. } | Words::Run { file, .. } =>
-            match file {
-                Some(name) => Some(name.as_str()),
-                None => None,
-            },
+        Words::Check { file, .. }
+        | Words::Listing { file, .. }
+        | Words::Build { file, .. }
+        | Words::Run { file, .. } => match file {
+            Some(name) => Some(name.as_str()),
+            None => None,
+        },
         Words::Shown(_) | Words::Faulty(_) => None,
     }
 }
 
-/// Plays the words on their file or on standard input.
-fn play_on(rt: &HostRuntime, words: &Words) -> u8 {
+/// Plays the words on their file or on standard input, over this writer.
+fn play_on<W: Write>(rt: &HostRuntime, words: &Words, writer: &mut W) -> u8 {
     let alloc = rt.alloc();
-    let mut writer = io::writer(rt);
     let mut faults = rt.stderr();
     let Some(name) = file_of(words) else {
-        return play_words(alloc, words, &mut rt.stdin(), &mut writer, &mut faults);
+        return play_words(alloc, words, &mut rt.stdin(), writer, &mut faults);
     };
     match File::open(rt, name) {
-        Ok(mut file) => play_words(alloc, words, &mut file, &mut writer, &mut faults),
-        Err(_) => play_words(alloc, words, &mut Unreadable, &mut writer, &mut faults),
+        Ok(mut file) => play_words(alloc, words, &mut file, writer, &mut faults),
+        Err(_) => play_words(alloc, words, &mut Unreadable, writer, &mut faults),
+    }
+}
+
+/// Plays words whose code goes to a file. That is written where all went well, and else left as it is.
+fn build_to(rt: &HostRuntime, words: &Words, out: &str) -> u8 {
+    let mut code = Vec::new(rt.alloc());
+    let status = play_on(rt, words, &mut code);
+    if status != DONE {
+        return status;
+    }
+    match fs::write(rt, out, code) {
+        Ok(()) => DONE,
+        Err(_) => write_told(
+            &[],
+            b"write failed\n",
+            UNUSABLE,
+            &mut io::writer(rt),
+            &mut rt.stderr(),
+        ),
+    }
+}
+
+/// Plays the words.
+fn play_all(rt: &HostRuntime, words: &Words) -> u8 {
+    match words {
+        Words::Build { out, .. } => build_to(rt, words, out.as_str()),
+        _ => play_on(rt, words, &mut io::writer(rt)),
     }
 }
 
 fn main(rt: HostRuntime) -> io::Result<ExitCode> {
     let args = args_of(&rt)?;
     let words = parse_words(rt.alloc(), args.as_slice())?;
-    let status = play_on(&rt, &words);
+    let status = play_all(&rt, &words);
     Ok(ExitCode::from(status))
 }

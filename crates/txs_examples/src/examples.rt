@@ -1,5 +1,6 @@
 //! The examples: a script in a file of its own, with what it writes in files beside it.
 
+use crate::built::is_built;
 use crate::compare::agrees;
 use crate::written::{Written, words_in, written_of};
 use std::{fs, io};
@@ -21,11 +22,9 @@ fn words_of(rt: &HostRuntime, name: &str) -> io::Result<Vec<String>> {
 
 /// What the program writes for an example. Its status needs no look: each but 0 comes with a line on the
 /// standard error.
-fn run(rt: &HostRuntime, name: &str) -> io::Result<Written> {
+fn run(rt: &HostRuntime, name: &str, script: &[u8]) -> io::Result<Written> {
     let words = words_of(rt, name)?;
-    let file = format!(in rt.alloc(); "{name}.clj")?;
-    let script = fs::read(rt, file.as_str())?;
-    Ok(written_of(rt.alloc(), words.as_slice(), script.as_slice()))
+    Ok(written_of(rt.alloc(), words.as_slice(), script))
 }
 
 /// Whether what was written is what the file NAME.KIND says; one that isn't there says nothing.
@@ -40,13 +39,16 @@ fn agrees_with(rt: &HostRuntime, name: &str, kind: &str, got: &[u8]) -> io::Resu
 }
 
 /// Runs an example, and prints whether all is as expected: NAME.out holds the standard output, and
-/// NAME.err the standard error; a file that isn't there stands for nothing written.
+/// NAME.err the standard error; a file that isn't there stands for nothing written. Its code has a byte form.
 pub fn is_as_expected(rt: &HostRuntime, name: &str) -> io::Result<bool> {
-    let written = run(rt, name)?;
+    let file = format!(in rt.alloc(); "{name}.clj")?;
+    let script = fs::read(rt, file.as_str())?;
+    let written = run(rt, name, script.as_slice())?;
     let first = agrees_with(rt, name, "out", written.output.as_slice())?;
     let second = agrees_with(rt, name, "err", written.errors.as_slice())?;
-    if first && second {
+    let third = is_built(rt, name, script.as_slice())?;
+    if first && second && third {
         println!(rt; "{name}: as expected")?;
     }
-    Ok(first && second)
+    Ok(first && second && third)
 }

@@ -2,6 +2,7 @@
 //! stands beside or below it.
 #![tactic(auto)]
 
+mod built;
 mod compare;
 mod examples;
 mod layers;

@@ -1,5 +1,6 @@
 //! Files of rows: many scripts in one file, with what the program says of each.
 
+use crate::built::is_built;
 use crate::compare::agrees;
 use crate::layers::checked;
 use crate::marks::{ERRORS, OUTPUT, STATUS, WORDS, all_behind, first_behind, unmarked};
@@ -14,14 +15,13 @@ pub struct Count {
     pub wrong: u32,
 }
 
-/// What is written for a row: by the layers up to the checks alone, or by the program.
-fn run(alloc: Global, words: &str, row: &str) -> Result<Written, AllocError> {
-    let script = unmarked(alloc, row)?;
+/// What is written for a script: by the layers up to the checks alone, or by the program.
+fn run(alloc: Global, words: &str, script: &[u8]) -> Result<Written, AllocError> {
     if words == "check-all" {
-        return checked(alloc, script.as_bytes());
+        return checked(alloc, script);
     }
     let words = words_in(alloc, words)?;
-    Ok(written_of(alloc, words.as_slice(), script.as_bytes()))
+    Ok(written_of(alloc, words.as_slice(), script))
 }
 
 /// Whether what was written to a stream is what stands behind the row's marks.
@@ -46,7 +46,8 @@ fn ended_so(rt: &HostRuntime, name: &str, got: u8, wanted: &str) -> io::Result<b
     Ok(false)
 }
 
-/// Runs a row by the words and the status of its own, or else of the file's head. Whether all is as it says.
+/// Runs a row by the words and the status of its own, or else of the file's head. Whether all is as it says, and the code of
+/// its script has a byte form.
 fn is_as_expected(rt: &HostRuntime, name: &str, head: &str, row: &str) -> io::Result<bool> {
     let words = first_behind(row, WORDS)
         .or(first_behind(head, WORDS))
@@ -54,13 +55,15 @@ fn is_as_expected(rt: &HostRuntime, name: &str, head: &str, row: &str) -> io::Re
     let status = first_behind(row, STATUS)
         .or(first_behind(head, STATUS))
         .unwrap_or("0");
-    let written = run(rt.alloc(), words, row)?;
+    let script = unmarked(rt.alloc(), row)?;
+    let written = run(rt.alloc(), words, script.as_bytes())?;
     let output = (OUTPUT, "the standard output");
     let errors = (ERRORS, "the standard error");
     let first = agrees_with(rt, name, output, row, written.output.as_slice())?;
     let second = agrees_with(rt, name, errors, row, written.errors.as_slice())?;
     let third = ended_so(rt, name, written.status, status)?;
-    Ok(first && second && third)
+    let fourth = is_built(rt, name, script.as_bytes())?;
+    Ok(first && second && third && fourth)
 }
 
 /// Runs a row, with its title in its first line, and counts it.

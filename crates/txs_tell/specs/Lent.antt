@@ -1,7 +1,7 @@
 -- What is lent to the program's parts, as plain data.
 use Rattle.std.specs.Prelude.{ℕ, List, Option, Some, None}
 use Rattle.std.specs.Borrow.{Bor}
-use Rattle.txs_tell.specs.Told.{Script, Told, Wanted, Check, Listing, Run}
+use Rattle.txs_tell.specs.Told.{Script, Told, Wanted, Check, Listing, Build, Run}
 use Rattle.txs_tell.specs.declared.explain.Script as lent
 use Rattle.txs_tell.specs.declared.told.Told as owned
 use Rattle.txs_tell.specs.declared.told.Use.{Use}
@@ -24,4 +24,5 @@ told_of t = record { output = t.output.items; errors = t.errors.items; status = 
 abbrev pub wanted_of : Use → Wanted
 wanted_of lent_use.Check = Check
 wanted_of lent_use.Listing = Listing
+wanted_of lent_use.Build = Build
 wanted_of (lent_use.Run plays steps cells events) = Run plays.now steps cells events

@@ -9,6 +9,7 @@ use Rattle.txs_code.specs.PlainCode.{PlainCode}
 use Rattle.txs_compile.specs.Compiled.{IsProgramOf, IsRefusal, codes_of}
 use Rattle.txs_compile.specs.declared.compile_error.CompileError.{CompileError}
 use Rattle.txs_compile.specs.declared.compile_error.CompileError.TheVariants.{Read, Resolve, Check as Unsound, Memory as NoMemory}
+use Rattle.txs_bytes.specs.CodeForm.{HasForm, form}
 use Rattle.txs_disasm.specs.Listing.{listing}
 use Rattle.txs_follows.specs.FollowsAll.{FollowsAll}
 use Rattle.txs_machine.specs.RunOver.{IsStoreOf}
@@ -38,11 +39,12 @@ pub record Told : Type 0 where
   pub errors : List ℕ
   pub status : ℕ
 
--- What is wanted of a script: that it is compiled, that its code is listed, or that its threads run by these plays and then in rounds up to their ends, each for so many steps
+-- What is wanted of a script: that it is compiled, that its code is listed or written in its byte form, or that its threads run by these plays and then in rounds up to their ends, each for so many steps
 -- at most; and whether the cells and the events are told behind what they print.
 pub data Wanted : Type 0 where
   Check : Wanted
   Listing : Wanted
+  Build : Wanted
   Run : (plays : List Play) (steps : ℕ) (cells events : Bool) → Wanted
 
 -- a script as the program has it: its bytes, and the name of its file where lines are explained
@@ -169,7 +171,12 @@ abbrev pub events_told : Bool → List Event → List ℕ
 events_told false book = []
 events_told true book = event_lines 0 book
 
--- What is told of a script: that it is refused; that it compiles; the listing of its code; what its run told, and behind it its cells and events; or that a play
+-- What is told of code that is to be written: its byte form, or that it has none.
+pub data FormTold (code : PlainCode) (t : Told) : Type 0 where
+  of_form : (fits : HasForm code) (output : t.output ≡ form code) (errors : t.errors ≡ []) (status : t.status ≡ 0) → FormTold code t
+  of_none : (none : HasForm code → ⊥) (output : t.output ≡ []) (errors : t.errors ≡ codes "no byte form" ++ codes "\n") (status : t.status ≡ 1) → FormTold code t
+
+-- What is told of a script: that it is refused; that it compiles; the listing of its code; its code's byte form, or that this has none; what its run told, and behind it its cells and events; or that a play
 -- names no thread, and nothing ran.
 pub data ScriptTells (script : Script) (t : Told) : Wanted → Type 0 where
   of_refused :
@@ -181,6 +188,8 @@ pub data ScriptTells (script : Script) (t : Told) : Wanted → Type 0 where
   of_listed :
       (p : PlainProgram) (code : PlainCode) (program : IsProgramOf script.text p) (follows : FollowsAll (codes_of code) p) (same : code.cells ≡ p.cells)
       (output : t.output ≡ listing code) (errors : t.errors ≡ []) (status : t.status ≡ 0) → ScriptTells script t Listing
+  of_built :
+      (p : PlainProgram) (code : PlainCode) (program : IsProgramOf script.text p) (follows : FollowsAll (codes_of code) p) (same : code.cells ≡ p.cells) (told : FormTold code t) → ScriptTells script t Build
   of_run :
       (plays : List Play) (steps : ℕ) (with_cells with_events : Bool) (ran : Told) (p : PlainProgram) (code : PlainCode) (s : PlainStore) (program : IsProgramOf script.text p)
       (follows : FollowsAll (codes_of code) p) (same : code.cells ≡ p.cells) (of : IsStoreOf code s) (named : all_named (length code.threads) plays ≡ true) (told : RunTells code script steps s ran)

@@ -1,17 +1,18 @@
-//! What is told of a script: that it is refused, that it compiles, the listing of its code, or what its run told.
+//! What is told of a script: that it is refused, that it compiles, the listing of its code, its code's byte form, or what its run told.
 
 ghost use Rattle.std.specs.Option.{option_map};
 ghost use Rattle.std.specs.Prelude.{◌≡◌, ◌++◌, ◌≤◌, length, [], codes, IfOk, OnOk};
 ghost use Rattle.txs_disasm.specs.Listing.{listing};
 ghost use Rattle.txs_machine.specs.RunOver.{IsStoreOf};
 ghost use Rattle.txs_tell.specs.Lent.{script_of, told_of, wanted_of};
-ghost use Rattle.txs_tell.specs.Told.{RunAnswers, ScriptTells, Check, Listing, Run, cells_told, events_told};
+ghost use Rattle.txs_tell.specs.Told.{RunAnswers, ScriptTells, FormTold, Check, Listing, Build, Run, cells_told, events_told};
 ghost use Rattle.txs_world.specs.Store.{cells_of};
 
 use crate::cells::write_cells;
 use crate::explain::Script;
-use crate::told::{Told, UNUSABLE, Use, answer, complaint, of_threads, refused};
+use crate::told::{REFUSED, Told, UNUSABLE, Use, answer, complaint, of_threads, refused};
 use std::alloc::{AllocError, Global};
+use txs_bytes::bytes_of;
 use txs_code::Verified;
 use txs_compile::compile;
 use txs_disasm::write_listing;
@@ -185,6 +186,32 @@ fn list_script(alloc: Global, script: Script<'_>) -> Result<Told, AllocError>
     Ok(told)
 }
 
+/// The byte form of the code, on the standard output, or that it has none.
+fn form_of(alloc: Global, code: &Verified) -> Result<Told, AllocError>
+    ensures { IfOk result (λ t. FormTold code.now (told_of t)) }
+{
+    let bytes = bytes_of(alloc, code.code())?;
+    match bytes {
+        Some(bytes) => Ok(answer(bytes, alloc)),
+        None => complaint(alloc, REFUSED, "no byte form"),
+    }
+}
+
+/// Compiles the script and writes its code in its byte form. Nothing runs.
+fn build_script(alloc: Global, script: Script<'_>) -> Result<Told, AllocError>
+    ensures { IfOk result (λ t. ScriptTells (script_of script.entry) (told_of t) Build) }
+{
+    let (_program, code) = match compile(alloc, script.text) {
+        Ok(compiled) => compiled,
+        Err(error) => {
+            let told = refused(alloc, script, &error)?;
+            return Ok(told);
+        }
+    };
+    let told = form_of(alloc, &code)?;
+    Ok(told)
+}
+
 /// Does with the script what is wanted.
 pub fn use_script(alloc: Global, script: Script<'_>, wanted: Use<'_>) -> Result<Told, AllocError>
     ensures { IfOk result (λ t. ScriptTells (script_of script.entry) (told_of t) (wanted_of wanted.entry)) }
@@ -192,6 +219,7 @@ pub fn use_script(alloc: Global, script: Script<'_>, wanted: Use<'_>) -> Result<
     match wanted {
         Use::Check => check_script(alloc, script),
         Use::Listing => list_script(alloc, script),
+        Use::Build => build_script(alloc, script),
         Use::Run {
             plays,
             steps,

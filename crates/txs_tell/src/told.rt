@@ -30,6 +30,8 @@ pub enum Use<'a> {
     Check,
     /// It is compiled, and its code is listed.
     Listing,
+    /// It is compiled, and its code is written in its byte form.
+    Build,
     /// Its threads run by these plays and then in rounds, each for so many steps at most, with its cells and
     /// the events of the run told or not.
     Run {
@@ -43,8 +45,8 @@ pub enum Use<'a> {
 /// All threads ended.
 pub const DONE: u8 = 0;
 
-/// The script was refused.
-const REFUSED: u8 = 1;
+/// The script was refused, or its code has no byte form.
+pub const REFUSED: u8 = 1;
 
 /// The words can't be used, a play names no thread, or a stream couldn't be read or written.
 pub const UNUSABLE: u8 = 2;

@@ -20,6 +20,13 @@ pub enum Words {
         file: Option<String>,
         explain: bool,
     },
+    /// To write the code that a script compiles to, in its byte form: the script's file, where it is named, the file that is written,
+    /// and whether a refusal is explained.
+    Build {
+        file: Option<String>,
+        out: String,
+        explain: bool,
+    },
     /// To run a script: its file, where it is named, the list of plays that come before the rounds (empty
     /// for `run`), how many steps an actor makes at most, whether the cells and the events are printed, and
     /// whether refusals, faults and stops are explained.
@@ -109,10 +116,22 @@ fn schedule_command<'a>(alloc: Global) -> Result<Command<'a>, AllocError> {
         .arg(file_arg(alloc))
 }
 
+/// The command that writes code.
+fn build_command<'a>(alloc: Global) -> Result<Command<'a>, AllocError> {
+    let out = Arg::new(alloc, "out")
+        .long("out")
+        .value_name("F")
+        .help("The file that the byte form of the code is written to")
+        .action(ArgAction::Set)
+        .required(true);
+    compiling_command(alloc, "build", "Writes the code of a script to a file")?.arg(out)
+}
+
 /// The commands and their options.
 fn command<'a>(alloc: Global) -> Result<Command<'a>, AllocError> {
     let check = compiling_command(alloc, "check", "Checks a script without running it")?;
     let listing = compiling_command(alloc, "dis", "Lists the code of a script")?;
+    let build = build_command(alloc)?;
     let run = run_command(alloc)?;
     let schedule = schedule_command(alloc)?;
     Command::new(alloc, "txs")
@@ -121,6 +140,7 @@ fn command<'a>(alloc: Global) -> Result<Command<'a>, AllocError> {
         .disable_help_subcommand(true)
         .subcommand(check)?
         .subcommand(listing)?
+        .subcommand(build)?
         .subcommand(run)?
         .subcommand(schedule)
 }
@@ -153,6 +173,10 @@ fn asked(alloc: Global, matches: &ArgMatches<'_>) -> Result<Words, AllocError> {
     }
     if name == "dis" {
         return Ok(Words::Listing { file, explain });
+    }
+    if name == "build" {
+        let out = String::from_str(alloc, words.get_str("out").unwrap_or(""))?;
+        return Ok(Words::Build { file, out, explain });
     }
     let steps = words.get_one::<u64>("steps").unwrap_or(DEFAULT_STEPS);
     let cells = words.get_flag("cells");
