@@ -1,0 +1,13 @@
+pub mod Agree
+pub mod Staged
+pub mod Closed
+pub mod Whole
+pub mod Never
+pub mod Lists
+pub mod Reached
+pub mod Going
+pub mod Seen
+pub mod Stands
+pub mod Lawfulness
+pub mod Roomy
+pub mod Ends

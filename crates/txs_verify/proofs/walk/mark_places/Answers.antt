@@ -1,0 +1,12 @@
+use Rattle.std.proofs.Common.{rules, arith, ◌≡◌, ◌+◌, ◌∷◌, [], ap, length, set, Some}
+use Rattle.txs_code.specs.PlainCode.{parameters_of}
+use Rattle.txs_verify.specs.Going.{no_marks}
+use Rattle.txs_verify.proofs.Going.{goes_from}
+use Rattle.txs_verify.proofs.walk.mark_places.Goals as goal
+
+pub look_at_each-requires-clause-goes : goal.look_at_each-requires-clause-goes
+look_at_each-requires-clause-goes c =
+    let is = c.args.instrs.now in
+    let none : c.in_ok-marks.marks.items ≡ no_marks (length is + 1) = first_of (search rules, first_of (cc, grind arith)) in
+    let one : c.in_ok-waiting.waiting.items ≡ 0 ∷ [] = first_of (search rules, cc) in
+    goes_from (parameters_of c.args.functions.now) is _ c.in_ok-waiting.waiting.items (ap (λ ms. set ms 0 (Some (record { depth = 0; txs = 0 }))) none) one

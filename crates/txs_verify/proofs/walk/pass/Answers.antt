@@ -1,0 +1,20 @@
+use Rattle.std.proofs.Common.{rules, arith, length}
+use Rattle.txs_code.specs.PlainCode.{parameters_of}
+use Rattle.txs_code.specs.declared.instr.Instr.TheVariants.{Const}
+use Rattle.txs_value.specs.Places.{nth}
+use Rattle.txs_verify.proofs.Going.{jumps_further}
+use Rattle.txs_verify.proofs.Lists.{nth_is}
+use Rattle.txs_verify.proofs.Reached.{gives_passed}
+use Rattle.txs_verify.proofs.walk.pass.Goals as goal
+
+pub reach_next-requires-clause-jump : goal.reach_next-requires-clause-jump
+reach_next-requires-clause-jump c =
+    let is = c.args.instrs.now in
+    let stands = nth_is is c.args.at (Const 0) (search rules) in
+    jumps_further (length is) (length c.args.marks.now.items) _ (omega (arith, c.requires.many)) (c.requires.jumps c.args.at _ stands)
+
+pub returns : goal.returns
+returns c =
+    let is = c.args.instrs.now in
+    let stands = nth_is is c.args.at (Const 0) (search rules) in
+    gives_passed (parameters_of c.args.functions.now) c.args.at c.args.mark (c.args.marks.now.items, c.args.waiting.now.items) (nth is c.args.at) _ (record { depth = c.depth_behind.result; txs = c.txs_behind.result }) c.reach_next.result (c.reach_next.new.marks.items, c.reach_next.new.waiting.items) stands (search rules) (search rules) (search rules) (search rules) c.reach_next.ensures

@@ -1,0 +1,57 @@
+-- Why a body whose instructions are each lawful is refused: what a path of it comes to.
+use Rattle.std.specs.Prelude.{◌≡◌, ◌⊎◌, ℕ, ◌<◌, List, Some, None}
+use Rattle.txs_value.specs.Places.{nth}
+use Rattle.txs_code.specs.WellTyped.{Functions, Owner}
+use Rattle.txs_code.specs.declared.instr.Instr.{Instr}
+use Rattle.txs_verify.specs.declared.error.VerifyErrorKind.{VerifyErrorKind}
+use Rattle.txs_verify.specs.declared.error.VerifyErrorKind.TheVariants.{JumpOut, StackLow, StackDiffers, LocalOut, ArityWrong, CallOrder, TxNesting, FallsOff, Memory}
+use Rattle.txs_verify.specs.Paths.{wants, MayEnd, EndsWell, IsAllowed, ComesIn, stage_for}
+
+-- a path comes to a place with so many values and open transactions
+abbrev pub Comes : List ℕ → List Instr → ℕ → ℕ → ℕ → Type 0
+Comes ps is p d t = (n : ℕ) × ComesIn ps is n p d t
+
+-- a path comes to an instruction
+pub record IsMet (ps : List ℕ) (is : List Instr) (p d t : ℕ) (i : Instr) : Type 0 where
+  pub comes : Comes ps is p d t
+  pub stands : nth is p ≡ Some i
+
+-- the stack is low: an instruction is met with fewer values than it takes
+abbrev pub IsLow : List ℕ → List Instr → ℕ → Type 0
+IsLow ps is p = (d : ℕ) × (t : ℕ) × (i : Instr) × IsMet ps is p d t i × (d < wants ps i)
+
+-- two depths at one place
+abbrev pub HasTwoDepths : List ℕ → List Instr → ℕ → Type 0
+HasTwoDepths ps is p = (d : ℕ) × (t : ℕ) × (e : ℕ) × (u : ℕ) × Comes ps is p d t × Comes ps is p e u × (d ≡ e → ⊥)
+
+-- two numbers of open transactions at one place
+abbrev pub HasTwoNestings : List ℕ → List Instr → ℕ → Type 0
+HasTwoNestings ps is p = (d : ℕ) × (t : ℕ) × (e : ℕ) × (u : ℕ) × Comes ps is p d t × Comes ps is p e u × (t ≡ u → ⊥)
+
+-- an end outside every transaction of the body
+abbrev pub EndsNothing : List ℕ → List Instr → ℕ → Type 0
+EndsNothing ps is p = (d : ℕ) × (t : ℕ) × (i : Instr) × IsMet ps is p d t i × (MayEnd i t → ⊥)
+
+-- a body that goes on past its end
+abbrev pub GoesPast : List ℕ → List Instr → ℕ → Type 0
+GoesPast ps is p = (d : ℕ) × (t : ℕ) × Comes ps is p d t × (nth is p ≡ None)
+
+-- a return or halt that isn't one of a body of this kind, or not with one value alone, or in a transaction
+abbrev pub EndsBadly : List ℕ → List Instr → Owner → ℕ → Type 0
+EndsBadly ps is owner p = (d : ℕ) × (t : ℕ) × (i : Instr) × IsMet ps is p d t i × (EndsWell owner d t i → ⊥)
+
+-- an instruction that may not stand where it does
+abbrev pub IsMisplaced : Functions → List Instr → Owner → ℕ → Type 0
+IsMisplaced fs is owner p = (d : ℕ) × (t : ℕ) × (i : Instr) × IsMet fs.parameters is p d t i × (IsAllowed fs owner (stage_for is p t) i → ⊥)
+
+-- why no path may go on as the paths of a body do
+abbrev pub BreaksOff : List ℕ → List Instr → VerifyErrorKind → ℕ → Type 0
+BreaksOff ps is JumpOut p = ⊥
+BreaksOff ps is StackLow p = IsLow ps is p
+BreaksOff ps is StackDiffers p = HasTwoDepths ps is p
+BreaksOff ps is LocalOut p = ⊥
+BreaksOff ps is ArityWrong p = ⊥
+BreaksOff ps is CallOrder p = ⊥
+BreaksOff ps is TxNesting p = HasTwoNestings ps is p ⊎ EndsNothing ps is p
+BreaksOff ps is FallsOff p = GoesPast ps is p
+BreaksOff ps is Memory p = ⊥

@@ -1,0 +1,145 @@
+-- The verdict on code.
+use Rattle.std.specs.Prelude.{◌≡◌, ◌⊎◌, ℕ, zero, suc, ◌<◌, ◌≤◌, Bool, true, false, List, [], ◌∷◌, length, Some}
+use Rattle.txs_value.specs.Places.{nth}
+use Rattle.txs_code.specs.PlainCode.{CodeBody, PlainCode, parameters_of}
+use Rattle.txs_code.specs.declared.instr.Instr.{Instr}
+use Rattle.txs_verify.specs.Alone.{HasConstant, IsRightBody, IsWrongAlone}
+use Rattle.txs_verify.specs.Going.{AreReached}
+use Rattle.txs_verify.specs.Marks.{Marks, mark_at, IsClosed}
+use Rattle.txs_verify.specs.Refused.{BreaksOff}
+use Rattle.txs_verify.specs.Standing.{IsKindOf, IsSeen, StandsWrongly}
+use Rattle.txs_verify.specs.declared.error.BodyName.{BodyName}
+use Rattle.txs_verify.specs.declared.error.BodyName.TheVariants.{Function, Thread}
+use Rattle.txs_verify.specs.declared.error.Stop.{Stop}
+use Rattle.txs_verify.specs.declared.error.Stop.TheVariants as stop
+use Rattle.txs_verify.specs.declared.error.VerifyError.{VerifyError}
+use Rattle.txs_verify.specs.declared.error.VerifyErrorKind.{VerifyErrorKind}
+use Rattle.txs_verify.specs.declared.error.VerifyErrorKind.TheVariants.{JumpOut, StackLow, StackDiffers, LocalOut, ArityWrong, CallOrder, TxNesting, FallsOff, Memory}
+use Rattle.txs_verify.specs.declared.standing.Kind.{Kind}
+use Rattle.txs_verify.specs.declared.walk.Mark.{Mark}
+
+-- ---- what the form of code gives
+
+-- a body has fewer than 2^32 - 1 instructions, each of which names one of so many constants
+pub record BodyInForm (constants : ℕ) (b : CodeBody) : Type 0 where
+  pub few : length b.instrs < 4294967295
+  pub known : (at : ℕ) (i : Instr) → nth b.instrs at ≡ Some i → HasConstant constants i
+
+-- So of all bodies; and threads have no parameters. All code that has a byte form is so.
+pub record IsInForm (code : PlainCode) : Type 0 where
+  pub functions : (n : ℕ) (b : CodeBody) → nth code.functions n ≡ Some b → BodyInForm (length code.constants) b
+  pub threads : (n : ℕ) (b : CodeBody) → nth code.threads n ≡ Some b → BodyInForm (length code.constants) b
+  pub parameters : (n : ℕ) (b : CodeBody) → nth code.threads n ≡ Some b → b.parameters ≡ 0
+
+-- ---- bodies
+
+-- functions, or threads
+abbrev pub bodies_of : Bool → PlainCode → List CodeBody
+bodies_of true code = code.threads
+bodies_of false code = code.functions
+
+-- the name of a body: a thread's, or a function's
+abbrev pub name_of : Bool → ℕ → BodyName
+name_of true n = Thread n
+name_of false n = Function n
+
+-- how many functions the n-th body may call, of so many: a thread all, a function those before it
+abbrev pub callable : Bool → ℕ → ℕ → ℕ
+callable true all n = all
+callable false all n = n
+
+-- each instruction of the first so many bodies is right alone
+abbrev pub AreRightBodies : Bool → List CodeBody → List CodeBody → ℕ → Type 0
+AreRightBodies thread fs bs k = (n : ℕ) (b : CodeBody) → n < k → nth bs n ≡ Some b → IsRightBody (callable thread (length fs) n) (parameters_of fs) b
+
+-- ---- paths
+
+-- the kinds of the first so many functions
+abbrev pub kinds_before : ℕ → List Kind → List Kind
+kinds_before zero ks = []
+kinds_before (suc n) [] = []
+kinds_before (suc n) (k ∷ ks) = k ∷ kinds_before n ks
+
+-- there is room for what stands on the stack at each marked place
+abbrev pub IsRoomFor : Marks → ℕ → Type 0
+IsRoomFor ms room = (p : ℕ) (m : Mark) → mark_at ms p ≡ Some m → m.depth ≤ room
+
+-- A body whose paths were looked at: its marks are closed, a path comes to each, nothing is wrong there, and there is room.
+pub record IsWalked (ks : List Kind) (thread : Bool) (ps : List ℕ) (is : List Instr) (kind : Kind) (room : ℕ) : Type 0 where
+  pub marks : Marks
+  pub closed : IsClosed ps is marks
+  pub reached : AreReached ps is marks
+  pub seen : IsSeen ks thread is marks (length is) kind
+  pub roomy : IsRoomFor marks room
+
+-- why a body is refused for what its paths come to, where functions before it are of these kinds
+abbrev pub IsWrongOnPaths : List Kind → Bool → List ℕ → List Instr → VerifyErrorKind → ℕ → Type 0
+IsWrongOnPaths ks thread ps is kind at = BreaksOff ps is kind at ⊎ StandsWrongly ks thread ps is kind at
+
+-- functions whose paths were looked at, each with the kinds of those before it
+pub record AreWalked (ps : List ℕ) (bs : List CodeBody) (ks : List Kind) (rooms : List ℕ) : Type 0 where
+  pub many : length rooms ≡ length ks
+  pub each : (n : ℕ) (b : CodeBody) (k : Kind) (room : ℕ) → nth bs n ≡ Some b → nth ks n ≡ Some k → nth rooms n ≡ Some room → IsWalked (kinds_before n ks) false ps b.instrs k room
+
+-- threads whose paths were looked at
+pub record AreWalkedThreads (ks : List Kind) (ps : List ℕ) (bs : List CodeBody) (rooms : List ℕ) : Type 0 where
+  pub each : (n : ℕ) (b : CodeBody) (room : ℕ) → nth bs n ≡ Some b → nth rooms n ≡ Some room → (k : Kind) × IsWalked ks true ps b.instrs k room
+
+-- each function's kind is that of its body, where those before it are of their kinds
+abbrev pub AreKinds : List ℕ → List CodeBody → List Kind → Type 0
+AreKinds ps bs ks = (n : ℕ) (b : CodeBody) (k : Kind) → nth bs n ≡ Some b → nth ks n ≡ Some k → IsKindOf (kinds_before n ks) ps b.instrs k
+
+-- ---- refusals
+
+-- this, unless it is want of memory
+abbrev pub OrMemory : VerifyErrorKind → Type 0 → Type 0
+OrMemory JumpOut P = P
+OrMemory StackLow P = P
+OrMemory StackDiffers P = P
+OrMemory LocalOut P = P
+OrMemory ArityWrong P = P
+OrMemory CallOrder P = P
+OrMemory TxNesting P = P
+OrMemory FallsOff P = P
+OrMemory Memory P = Unit {0}
+
+-- a body of these is refused for an instruction alone, and all before it are right
+pub record IsRefusedAlone (thread : Bool) (fs bs : List CodeBody) (e : VerifyError) : Type 0 where
+  pub number : ℕ
+  pub body : CodeBody
+  pub name : e.body ≡ name_of thread number
+  pub stands : nth bs number ≡ Some body
+  pub wrong : IsWrongAlone (callable thread (length fs) number) (parameters_of fs) body e.kind e.at
+  pub before : AreRightBodies thread fs bs number
+
+-- a body of these is refused for what its paths come to
+pub record IsRefusedOnPaths (ks : List Kind) (thread : Bool) (ps : List ℕ) (bs : List CodeBody) (e : VerifyError) : Type 0 where
+  pub number : ℕ
+  pub body : CodeBody
+  pub name : e.body ≡ name_of thread number
+  pub stands : nth bs number ≡ Some body
+  pub wrong : IsWrongOnPaths ks thread ps body.instrs e.kind e.at
+
+-- a function is refused for what its paths come to, where those before it are of their kinds
+pub record IsRefusedFunction (fs : List CodeBody) (e : VerifyError) : Type 0 where
+  pub kinds : List Kind
+  pub are : AreKinds (parameters_of fs) fs kinds
+  pub refused : IsRefusedOnPaths kinds false (parameters_of fs) fs e
+  pub before : length kinds ≡ refused.number
+
+-- All instructions of all bodies are right alone.
+abbrev pub AllAreRight : PlainCode → Type 0
+AllAreRight code = AreRightBodies false code.functions code.functions (length code.functions) × AreRightBodies true code.functions code.threads (length code.threads)
+
+-- Why code is refused. The first instruction that is wrong alone is looked for in functions and then in threads; where there is none,
+-- in a body something is wrong that a path comes to, by what the functions before it are for.
+pub data IsRefused (code : PlainCode) (e : VerifyError) : Type 0 where
+  in_a_function : IsRefusedAlone false code.functions code.functions e → IsRefused code e
+  in_a_thread : AreRightBodies false code.functions code.functions (length code.functions) → IsRefusedAlone true code.functions code.threads e → IsRefused code e
+  on_paths_of_a_function : AllAreRight code → IsRefusedFunction code.functions e → IsRefused code e
+  on_paths_of_a_thread : AllAreRight code → (ks : List Kind) → AreKinds (parameters_of code.functions) code.functions ks → length ks ≡ length code.functions → IsRefusedOnPaths ks true (parameters_of code.functions) code.threads e → IsRefused code e
+
+-- the error that a stop is, of a body
+abbrev pub stopped : Bool → ℕ → Stop → VerifyError
+stopped thread n (stop.Refused r) = record { kind = r.kind; body = name_of thread n; at = r.at }
+stopped thread n stop.Memory = record { kind = Memory; body = name_of thread n; at = 0 }

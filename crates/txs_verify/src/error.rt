@@ -1,0 +1,78 @@
+//! Why code is refused, and where.
+
+ghost use Rattle.std.specs.Prelude.{◌≡◌};
+ghost use Rattle.txs_verify.specs.Walk.{out_of_memory};
+
+use std::alloc::{AllocError, AllocFailed};
+
+/// The reasons for which code is refused.
+#[derive(Clone, Copy)]
+pub enum VerifyErrorKind {
+    /// A jump to what is no place of the body.
+    JumpOut,
+    /// An instruction that takes more values than stand on the stack.
+    StackLow,
+    /// Two depths of the stack at one place, or a body that ends with another number of values than one.
+    StackDiffers,
+    /// A local that the body doesn't have.
+    LocalOut,
+    /// A number of arguments that the operation or callee doesn't take.
+    ArityWrong,
+    /// A function that isn't numbered below its caller, or an open, call and close that don't stand together.
+    CallOrder,
+    /// What may not stand inside a transaction or outside one, or two numbers of open transactions at one place.
+    TxNesting,
+    /// Code that goes on past its end, or that ends as a body of its kind doesn't.
+    FallsOff,
+    /// There was no memory for the checks.
+    Memory,
+}
+
+/// A body of the code.
+#[derive(Clone, Copy)]
+pub enum BodyName {
+    /// That of a function, by its number.
+    Function(usize),
+    /// That of a thread, in script order.
+    Thread(usize),
+}
+
+/// Why code is refused: the reason, the body, and the place of the instruction in it.
+#[derive(Clone, Copy)]
+pub struct VerifyError {
+    pub kind: VerifyErrorKind,
+    pub body: BodyName,
+    pub at: usize,
+}
+
+/// Why a body is refused, and at which of its places.
+#[derive(Clone, Copy)]
+pub struct Refusal {
+    pub kind: VerifyErrorKind,
+    pub at: usize,
+}
+
+/// Why the checks of a body stop.
+#[derive(Clone, Copy)]
+pub enum Stop {
+    /// The body is refused.
+    Refused(Refusal),
+    /// There was no memory.
+    Memory,
+}
+
+impl From<AllocError> for Stop {
+    ghost from_gives = { λ _ e. e ≡ out_of_memory };
+
+    fn from(_: AllocError) -> Stop {
+        Stop::Memory
+    }
+}
+
+impl<T: Drop> From<AllocFailed<T>> for Stop {
+    ghost from_gives = { λ _ e. e ≡ out_of_memory };
+
+    fn from(_: AllocFailed<T>) -> Stop {
+        Stop::Memory
+    }
+}
