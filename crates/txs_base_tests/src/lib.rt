@@ -22,6 +22,8 @@ mod reader;
 #[cfg(test)]
 mod replies;
 #[cfg(test)]
+mod shared;
+#[cfg(test)]
 mod store;
 #[cfg(test)]
 mod values;

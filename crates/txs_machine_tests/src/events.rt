@@ -1,13 +1,18 @@
-// What a thread means on events of the cell with number 0; also of forms that don't run yet.
+// What a thread means on events of the cell with number 0, and what a transaction means on a world, also of forms that don't run yet.
+ghost use Rattle.std.specs.Prelude.{IfSome, None};
+ghost use Rattle.txs_tree.specs.Known.{known};
+ghost use Rattle.txs_tree.specs.Sound.{SoundTree, in_dosync};
+ghost use Rattle.txs_tree.specs.View.{functions_of, tree_of};
+
 use std::alloc::{AllocError, Global};
 use std::test::Fail;
 use txs_asks::{EventKind, Outcome};
 use txs_check::check;
-use txs_eval::{Needs, RefView, Seen, ThreadMeaning, eval_thread};
+use txs_eval::{Needs, RefView, Seen, ThreadMeaning, TxMeaning, eval_thread, eval_tx};
 use txs_reader::read_script;
 use txs_resolve::resolve;
-use txs_tree::Program;
-use txs_value::{CellId, CellKind, Listed, Value};
+use txs_tree::{Node, NodeKind, Program};
+use txs_value::{CellId, CellKind, Listed, Value, write_text};
 
 /// What was done at an event.
 #[derive(Clone, Copy)]
@@ -80,18 +85,20 @@ fn meaning(
     program: &Program,
     values: &[i64],
     did: &[Told],
-) -> Result<ThreadMeaning, Fail> {
+) -> Option<ThreadMeaning> {
     let (Some(definition), false) = (program.cells().first(), program.threads().is_empty()) else {
-        return Err(Fail::from("no cell or no thread"));
+        return None;
     };
     let kind = definition.kind;
-    let cells = history(alloc, values)?;
-    let kinds = kinds_of(alloc, CellId { kind, number: 0 }, did)?;
+    let cells = history(alloc, values).ok()?;
+    let kinds = kinds_of(alloc, CellId { kind, number: 0 }, did).ok()?;
     let mut events = Vec::new(alloc);
     for (event, told) in kinds.iter().zip(did) {
-        events.push(seen(kind, event, cells.as_slice(), *told))?;
+        events
+            .push(seen(kind, event, cells.as_slice(), *told))
+            .ok()?;
     }
-    Ok(eval_thread(alloc, program, 0, events.as_slice(), 100)?)
+    eval_thread(alloc, program, 0, events.as_slice(), 100).ok()
 }
 
 /// The book of what was done to such a cell: an atom's swaps and reads stand in its own, the first behind the store's.
@@ -147,17 +154,19 @@ fn means(
     values: &[i64],
     did: &[Told],
     wanted: (&str, usize, &str),
-) -> Result<bool, Fail> {
+) -> bool {
     let Some(program) = program_of(alloc, script) else {
-        return Ok(false);
+        return false;
     };
-    let meaning = meaning(alloc, &program, values, did)?;
-    let end = end_of(alloc, &meaning)?;
-    Ok(
-        meaning.printed.as_slice() == wanted.0.as_bytes()
-            && meaning.eaten == wanted.1
-            && end.as_str() == wanted.2,
-    )
+    let Some(meaning) = meaning(alloc, &program, values, did) else {
+        return false;
+    };
+    let Ok(end) = end_of(alloc, &meaning) else {
+        return false;
+    };
+    meaning.printed.as_slice() == wanted.0.as_bytes()
+        && meaning.eaten == wanted.1
+        && end.as_str() == wanted.2
 }
 
 const ADDS: &str = "(def r (ref 0)) (future (println (dosync (alter r inc))))";
@@ -202,11 +211,10 @@ const OF_REFS: [(&str, &[i64], &[Told], (&str, usize, &str)); 7] = [
 ];
 
 #[test]
-fn transactions_on_events(rt: HostRuntime) -> Result<(), Fail> {
+fn transactions_on_events(rt: HostRuntime) {
     for (script, values, did, wanted) in OF_REFS {
-        assert!(rt; means(rt.alloc(), script, values, did, wanted)?, "{script}");
+        assert!(rt; means(rt.alloc(), script, values, did, wanted), "{script}");
     }
-    Ok(())
 }
 
 /// Swaps and sends, each with the values of its atom or agent, and its events.
@@ -238,11 +246,10 @@ const OF_OTHERS: [(&str, &[i64], &[Told], (&str, usize, &str)); 4] = [
 ];
 
 #[test]
-fn swaps_and_sends_on_events(rt: HostRuntime) -> Result<(), Fail> {
+fn swaps_and_sends_on_events(rt: HostRuntime) {
     for (script, values, did, wanted) in OF_OTHERS {
-        assert!(rt; means(rt.alloc(), script, values, did, wanted)?, "{script}");
+        assert!(rt; means(rt.alloc(), script, values, did, wanted), "{script}");
     }
-    Ok(())
 }
 
 #[test]
@@ -253,6 +260,78 @@ fn the_last_retry_on_events(rt: HostRuntime) -> Result<(), Fail> {
         did.push((Did::Retry, 0, 0))?;
     }
     let wanted = ("", 10_000, "RetryLimit at 24..46");
-    assert!(rt; means(rt.alloc(), script, &[0], did.as_slice(), wanted)?);
+    assert!(rt; means(rt.alloc(), script, &[0], did.as_slice(), wanted));
+    Ok(())
+}
+
+/// The body of the first thread, where that is a transaction.
+fn transaction_of(program: &Program) -> Option<&Node>
+    ensures { IfSome result (λ n. SoundTree (known (functions_of program.now.functions)) in_dosync 0 None (tree_of n.now)) }
+{
+    let (thread, _) = program.threads().split_first()?;
+    match &thread.body.kind {
+        NodeKind::Dosync(body) => Some(body),
+        _ => None,
+    }
+}
+
+/// What the script's transaction means where its cells hold these values.
+fn transacted(alloc: Global, script: &str, values: &[i64]) -> Option<TxMeaning> {
+    let program = program_of(alloc, script)?;
+    let body = transaction_of(&program)?;
+    let mut cells = Vec::new(alloc);
+    for value in values {
+        cells
+            .push(Listed::from_vec(vec![in alloc; (0, Value::Int(*value))].ok()?))
+            .ok()?;
+    }
+    let world = RefView {
+        cells: cells.as_slice(),
+        place: 0,
+    };
+    eval_tx(alloc, &program, body, &[], world, 100).ok()
+}
+
+/// Appends the numbers of cells.
+fn write_cells(out: &mut Vec<u8>, alloc: Global, cells: &[CellId]) -> Result<(), AllocError> {
+    for cell in cells {
+        let word = format!(in alloc; " {}", cell.number)?;
+        out.extend_from_slice(word.as_bytes())?;
+    }
+    Ok(out.push(b'\n')?)
+}
+
+/// What is told of a transaction: its value; what it wrote; which refs it ensured, commuted and read; how many sends it holds; and whether
+/// a commute was used.
+fn told(alloc: Global, meaning: &TxMeaning) -> Result<Vec<u8>, AllocError> {
+    let mut out = Vec::new(alloc);
+    if let Ok(value) = &meaning.result {
+        write_text(value, &mut out)?;
+    }
+    for write in &meaning.done.writes()? {
+        out.push(b' ')?;
+        write_text(&write.1, &mut out)?;
+    }
+    out.push(b'\n')?;
+    write_cells(&mut out, alloc, meaning.done.ensured())?;
+    write_cells(&mut out, alloc, meaning.done.commuted()?.as_slice())?;
+    write_cells(&mut out, alloc, meaning.reads.as_slice())?;
+    let rest = format!(in alloc; "{} {}\n", meaning.done.sends().len(), meaning.used)?;
+    out.extend_from_slice(rest.as_bytes())?;
+    Ok(out)
+}
+
+#[test]
+fn a_transaction_on_a_world(rt: HostRuntime) -> Result<(), Fail> {
+    let script = "(def a (ref 0)) (def b (ref 0)) (def c (ref 0)) (def d (ref 0)) (def g (agent 0))
+(future (dosync (ref-set a 7) (alter a + @c) (commute b + 1) (ensure d) (send g + 2) [@a @b]))";
+    let Some(meaning) = transacted(rt.alloc(), script, &[1, 10, 5, 3]) else {
+        return Err(Fail::from("no meaning"));
+    };
+    let told = told(rt.alloc(), &meaning)?;
+    assert_eq!(rt;
+        told.as_slice(),
+        b"[12 11] 12\n 3\n 1\n 2 3\n1 true\n".as_slice()
+    );
     Ok(())
 }

@@ -1,6 +1,6 @@
 use Rattle.std.proofs.Common.{◌≡◌, None}
 use Rattle.txs_actor.specs.PlainActor.{Runs, unanswered}
-use Rattle.txs_tests.proofs.rerun.commits_of.Given as goal
+use Rattle.txs_machine_tests.proofs.rerun.commits_of.Given as goal
 
 -- between two rounds the actor asks nothing
 abbrev pub invariant-loop : goal.invariant-loop

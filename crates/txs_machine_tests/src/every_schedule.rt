@@ -1,13 +1,16 @@
 // Scripts under every short list of plays, each with rounds behind it: each run ends as some order of the threads allows, one behind the
 // other, and each of these ends is that of some list. So no increment is lost, no transfer is seen by half, and both commit who shouldn't only
 // where neither ensures what the other sets.
+ghost use Rattle.std.specs.Prelude.{◌≡◌, ◌≤◌, length};
+ghost use Rattle.txs_world.specs.Store.{cells_of};
+
 use std::alloc::{AllocError, Global};
 use std::test::Fail;
 use txs_asks::Outcome;
 use txs_code::Verified;
 use txs_compile::compile;
 use txs_machine::{Play, ThreadReport, run_schedule};
-use txs_tell::cells::write_cells;
+use txs_value::{CellDefinition, CellId, write_text};
 use txs_world::Store;
 
 /// The list of such plays with this number, where the empty list has 0, and each other one a number of its own, the shorter the smaller. It
@@ -33,6 +36,24 @@ fn write_printed(out: &mut Vec<u8>, threads: &[ThreadReport]) -> Result<(), Allo
         if thread.outcome != Some(Outcome::Done) {
             out.push(b'!')?;
         }
+    }
+    Ok(())
+}
+
+/// Appends a line for each cell: its name, and its newest value.
+fn write_cells(out: &mut Vec<u8>, cells: &[CellDefinition], store: &Store) -> Result<(), AllocError>
+    requires few { length cells.now ≤ 1000 }
+    requires made { store.now.cells ≡ cells_of cells.now }
+{
+    for (i, cell) in cells.iter().enumerate() {
+        let id = CellId {
+            kind: cell.kind,
+            number: i as u16,
+        };
+        out.extend_from_slice(cell.name.as_bytes())?;
+        out.push(b' ')?;
+        write_text(store.newest(id), out)?;
+        out.push(b'\n')?;
     }
     Ok(())
 }
