@@ -2,9 +2,9 @@
 use Rattle.std.proofs.Common.{◌≡◌, List, [], ◌∷◌, ◌++◌, Ok, Err, refl, sym, ap, subst, ◌∙◌}
 use Rattle.txs_reader.specs.Tree.{Tree as Form}
 use Rattle.txs_tree.specs.Tree.{PlainProgram}
-use Rattle.txs_resolve.specs.declared.error.ResolveError.{ResolveError}
-use Rattle.txs_resolve.specs.Answers.{◌>>=◌}
-use Rattle.txs_resolve.specs.Expressions.{Answer}
+use Rattle.txs_expand.specs.declared.error.ResolveError.{ResolveError}
+use Rattle.txs_expand.specs.Answers.{◌>>=◌}
+use Rattle.txs_expand.specs.Expressions.{Answer}
 use Rattle.txs_resolve.specs.Names.{State, nothing, program, step, steps, behind_namespace, ResolveStops}
 use Rattle.txs_language.specs.FirstForm.{StopsAt}
 

@@ -15,20 +15,20 @@ use Rattle.txs_names.specs.declared.names.FormName.{FormName}
 use Rattle.txs_names.specs.declared.names.FormName.TheVariants as kind
 use Rattle.txs_names.specs.declared.scope.Definition.TheVariants.{Constant, Cell as ACell, Function as AFunction}
 use Rattle.txs_names.specs.Scope.{Scope, Meaning, a_form, dotted, a_local, the_current, defined_as, operation, unknown, meaning, with_local}
-use Rattle.txs_resolve.specs.declared.error.ResolveErrorKind.TheVariants.{BadForm, TooMany}
-use Rattle.txs_resolve.specs.declared.nodes.Change.{Change}
-use Rattle.txs_resolve.specs.declared.nodes.Change.TheVariants as change_by
-use Rattle.txs_resolve.specs.declared.nodes.Sequence.{Sequence}
-use Rattle.txs_resolve.specs.declared.nodes.Sequence.TheVariants as sequence
-use Rattle.txs_resolve.specs.declared.nodes.Single.{Single}
-use Rattle.txs_resolve.specs.declared.nodes.Single.TheVariants as single
-use Rattle.txs_resolve.specs.declared.nodes.Spot.{Spot}
-use Rattle.txs_resolve.specs.Answers.{◌>>=◌, refuse}
-use Rattle.txs_resolve.specs.Depths.{at_place, callee_depth, depths, depths_in}
-use Rattle.txs_resolve.specs.Expansions.{alone, body, expand_once, form_at}
-use Rattle.txs_resolve.specs.Expressions.{Answer, Bound, Special, row, one_part, putting, choice, binding, changing, Core as ACore, whole, parted, Resolver, spot_at, spot_mark, some_room, in_room, narrow, symbol_node, leaf_node, callee_at, callee_of, flag, sequence_node, are_wanted, choice_node, single_node, is_wanted, change_node, binding_node, are_pairs, bound_in, cell_form, of_family, special, applied, list_core, core_of, bound_name, named_all, named_bindings, put_together, made, resolved, named}
-use Rattle.txs_language.specs.Levels.{IfGives, LevelsStand}
-use Rattle.txs_language.proofs.Limits.{gives_bind, gives_on, gives_narrow, gives_room, up_most, positive, MeaningStands, meaning_stands}
+use Rattle.txs_expand.specs.declared.error.ResolveErrorKind.TheVariants.{BadForm, TooMany}
+use Rattle.txs_expand.specs.declared.shapes.Change.{Change}
+use Rattle.txs_expand.specs.declared.shapes.Change.TheVariants as change_by
+use Rattle.txs_expand.specs.declared.shapes.Sequence.{Sequence}
+use Rattle.txs_expand.specs.declared.shapes.Sequence.TheVariants as sequence
+use Rattle.txs_expand.specs.declared.shapes.Single.{Single}
+use Rattle.txs_expand.specs.declared.shapes.Single.TheVariants as single
+use Rattle.txs_expand.specs.declared.shapes.Spot.{Spot}
+use Rattle.txs_expand.specs.Answers.{◌>>=◌, refuse}
+use Rattle.txs_nodes.specs.Depths.{at_place, callee_depth, depths, depths_in}
+use Rattle.txs_expand.specs.Expansions.{alone, body, expand_once, form_at}
+use Rattle.txs_expand.specs.Expressions.{Answer, Bound, Special, row, one_part, putting, choice, binding, changing, Core as ACore, whole, parted, Resolver, spot_at, spot_mark, some_room, in_room, narrow, symbol_node, leaf_node, callee_at, callee_of, flag, sequence_node, are_wanted, choice_node, single_node, is_wanted, change_node, binding_node, are_pairs, bound_in, cell_form, of_family, special, applied, list_core, core_of, bound_name, named_all, named_bindings, put_together, made, resolved, named}
+use Rattle.txs_language.specs.Levels.{IfGives}
+use Rattle.txs_language.proofs.Limits.{LevelsStand, gives_bind, gives_on, gives_narrow, gives_room, up_most, positive, MeaningStands, meaning_stands}
 
 some_most : (n a : ℕ) → a ≤ n → suc a ≤ suc n
 some_most n a h = omega (arith, h)

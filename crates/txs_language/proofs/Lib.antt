@@ -1,4 +1,5 @@
 pub mod Ascending
+pub mod Behind
 pub mod Bodies
 pub mod Earliest
 pub mod First

@@ -19,20 +19,33 @@ use Rattle.txs_names.specs.declared.names.FormName.TheVariants as kind
 use Rattle.txs_names.specs.declared.scope.Definition.{Definition}
 use Rattle.txs_names.specs.declared.scope.Definition.TheVariants.{Constant, Cell as ACell, Function as AFunction}
 use Rattle.txs_names.specs.Scope.{Entry, Scope, Meaning, a_form, dotted, a_local, the_current, defined_as, operation, unknown, definition_of, form_name, form_names, is_current, is_dot, local_number, meaning, operations, or_defined, or_form, or_local, or_unknown, with_local, with_name}
-use Rattle.txs_resolve.specs.declared.error.ResolveErrorKind.TheVariants.{BadForm, TooMany}
-use Rattle.txs_resolve.specs.declared.nodes.Change.{Change}
-use Rattle.txs_resolve.specs.declared.nodes.Change.TheVariants as change_by
-use Rattle.txs_resolve.specs.declared.nodes.Sequence.{Sequence}
-use Rattle.txs_resolve.specs.declared.nodes.Sequence.TheVariants as sequence
-use Rattle.txs_resolve.specs.declared.nodes.Single.{Single}
-use Rattle.txs_resolve.specs.declared.nodes.Single.TheVariants as single
-use Rattle.txs_resolve.specs.declared.nodes.Spot.{Spot}
-use Rattle.txs_resolve.specs.Answers.{◌>>=◌, refuse}
-use Rattle.txs_resolve.specs.Depths.{at_place, callee_depth, depths, depths_in}
-use Rattle.txs_resolve.specs.Expansions.{alone, body, expand_once, form_at}
-use Rattle.txs_resolve.specs.Expressions.{Answer, Bound, Special, row, one_part, putting, choice, binding, changing, Core as ACore, whole, parted, Resolver, spot_at, spot_mark, some_room, in_room, narrow, symbol_node, leaf_node, callee_at, callee_of, flag, sequence_node, are_wanted, choice_node, single_node, is_wanted, change_node, binding_node, are_pairs, bound_in, cell_form, of_family, special, applied, list_core, core_of, bound_name, named_all, named_bindings, put_together, made, resolved, named}
-use Rattle.txs_language.specs.Levels.{IfGives, LevelsOf, LevelsStand, Limited, as_wider, too_many}
+use Rattle.txs_expand.specs.declared.error.ResolveErrorKind.TheVariants.{BadForm, TooMany}
+use Rattle.txs_expand.specs.declared.shapes.Change.{Change}
+use Rattle.txs_expand.specs.declared.shapes.Change.TheVariants as change_by
+use Rattle.txs_expand.specs.declared.shapes.Sequence.{Sequence}
+use Rattle.txs_expand.specs.declared.shapes.Sequence.TheVariants as sequence
+use Rattle.txs_expand.specs.declared.shapes.Single.{Single}
+use Rattle.txs_expand.specs.declared.shapes.Single.TheVariants as single
+use Rattle.txs_expand.specs.declared.shapes.Spot.{Spot}
+use Rattle.txs_expand.specs.Answers.{◌>>=◌, refuse}
+use Rattle.txs_nodes.specs.Depths.{at_place, callee_depth, depths, depths_in}
+use Rattle.txs_expand.specs.Expansions.{alone, body, expand_once, form_at}
+use Rattle.txs_expand.specs.Expressions.{Answer, Bound, Special, row, one_part, putting, choice, binding, changing, Core as ACore, whole, parted, Resolver, spot_at, spot_mark, some_room, in_room, narrow, symbol_node, leaf_node, callee_at, callee_of, flag, sequence_node, are_wanted, choice_node, single_node, is_wanted, change_node, binding_node, are_pairs, bound_in, cell_form, of_family, special, applied, list_core, core_of, bound_name, named_all, named_bindings, put_together, made, resolved, named}
+use Rattle.txs_language.specs.Levels.{IfGives, Limited, as_wider, too_many}
 use Rattle.txs_language.proofs.Levels.{special_same}
+
+-- ---- levels of the functions that are defined
+
+-- a definition of a function tells the levels that the list has for it
+abbrev pub LevelsOf : List ℕ → Definition → Type 0
+LevelsOf ls (Constant v) = Unit {0}
+LevelsOf ls (ACell c) = Unit {0}
+LevelsOf ls (AFunction n levels) = at_place ls n ≡ levels
+
+-- each function that is defined has its levels in the list, at its number
+abbrev pub LevelsStand : List ℕ → List Entry → Type 0
+LevelsStand ls [] = Unit {0}
+LevelsStand ls (e ∷ es) = LevelsOf ls e.what × LevelsStand ls es
 
 -- ---- what answers give
 

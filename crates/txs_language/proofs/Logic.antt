@@ -14,10 +14,10 @@ use Rattle.txs_tree.specs.View.{mark_of}
 use Rattle.txs_names.specs.declared.names.FormName.TheVariants as kind
 use Rattle.txs_names.specs.Scope.{Scope, a_local, definition_of, is_current, local_number, may_bind, meaning, operations, or_defined, or_local, or_unknown, the_current, with_local, with_name}
 use Rattle.txs_value.specs.Operations.{op_name}
-use Rattle.txs_resolve.specs.Answers.{◌>>=◌, refuse}
-use Rattle.txs_resolve.specs.Expansions.{hidden, list, three, body}
-use Rattle.txs_resolve.specs.declared.error.ResolveErrorKind.TheVariants.{BadForm, TooMany}
-use Rattle.txs_resolve.specs.Expressions.{Answer, Bound, bound_name, named, named_bindings, spot_at, symbol_node}
+use Rattle.txs_expand.specs.Answers.{◌>>=◌, refuse}
+use Rattle.txs_expand.specs.Expansions.{hidden, list, three, body}
+use Rattle.txs_expand.specs.declared.error.ResolveErrorKind.TheVariants.{BadForm, TooMany}
+use Rattle.txs_expand.specs.Expressions.{Answer, Bound, bound_name, named, named_bindings, spot_at, symbol_node}
 use Rattle.txs_language.specs.Logic.{and_then, or_else, and_tree, or_tree}
 
 -- ---- which tree

@@ -7,10 +7,10 @@ use Rattle.txs_reader.specs.Tree.{Tree as Form, Trees as Forms, leaf, group, fir
 use Rattle.txs_reader.specs.Tree.{none as no_forms}
 use Rattle.txs_tree.specs.Tree.{Tree}
 use Rattle.txs_names.specs.Scope.{Entry, Scope, may_bind, meaning, with_local}
-use Rattle.txs_resolve.specs.declared.error.ResolveErrorKind.TheVariants.{BadForm, TooMany}
-use Rattle.txs_resolve.specs.Answers.{◌>>=◌, refuse}
-use Rattle.txs_resolve.specs.Expansions.{body}
-use Rattle.txs_resolve.specs.Expressions.{Answer, is_symbol, named}
+use Rattle.txs_expand.specs.declared.error.ResolveErrorKind.TheVariants.{BadForm, TooMany}
+use Rattle.txs_expand.specs.Answers.{◌>>=◌, refuse}
+use Rattle.txs_expand.specs.Expansions.{body}
+use Rattle.txs_expand.specs.Expressions.{Answer, is_symbol, named}
 use Rattle.txs_resolve.specs.Names.{State, step, parameter, parameters, are_symbols, Written, function, new_name, with_function}
 use Rattle.txs_language.specs.Renaming.{is_named, renamed, all_renamed, AllLack, Lacks, MayRename, joined, has_parameter, About, function_form}
 use Rattle.txs_language.proofs.Renamed.{body_stays}

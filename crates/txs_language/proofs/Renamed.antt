@@ -10,8 +10,8 @@ use Rattle.txs_reader.specs.Tree.{none as no_forms}
 use Rattle.txs_names.specs.declared.names.FormName.{FormName}
 use Rattle.txs_names.specs.declared.names.FormName.TheVariants as kind
 use Rattle.txs_names.specs.Scope.{form_name, form_names, is_dot, is_none, may_bind, with_name}
-use Rattle.txs_resolve.specs.Expansions.{alone, body, expand_once, expansion, expansion_by, form_at, hidden, is_alone, is_even, let_hidden, list, or_same, three, two}
-use Rattle.txs_resolve.specs.Expressions.{are_pairs, is_symbol, flag, all_but_last, last_of}
+use Rattle.txs_expand.specs.Expansions.{alone, body, expand_once, expansion, expansion_by, form_at, hidden, is_alone, is_even, let_hidden, list, or_same, three, two}
+use Rattle.txs_expand.specs.Expressions.{are_pairs, is_symbol, flag, all_but_last, last_of}
 use Rattle.txs_language.specs.Renaming.{name_renamed, leaf_renamed, is_named, binds, hides, is_binding, binds_names, renamed, parts_renamed, all_renamed, scope_renamed, vector_renamed, pairs_renamed, LeafLacks, Lacks, AllLack, MayRename}
 use Rattle.txs_language.proofs.Names.{IsTrue, and_first, equal, differs}
 

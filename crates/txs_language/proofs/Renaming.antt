@@ -15,14 +15,14 @@ use Rattle.txs_tree.specs.Tree.{Tree, Trees, Put, more}
 use Rattle.txs_names.specs.declared.names.FormName.{FormName}
 use Rattle.txs_names.specs.declared.names.FormName.TheVariants as kind
 use Rattle.txs_names.specs.Scope.{Scope, Meaning, a_local, dotted, form_name, form_names, is_dot, local_number, may_bind, meaning, or_form, with_local, with_name}
-use Rattle.txs_resolve.specs.declared.error.ResolveError.{ResolveError}
-use Rattle.txs_resolve.specs.declared.error.ResolveErrorKind.TheVariants.{BadForm, TooMany, NotCallable}
-use Rattle.txs_resolve.specs.declared.nodes.Sequence.TheVariants as sequence
-use Rattle.txs_resolve.specs.declared.nodes.Single.TheVariants as single
-use Rattle.txs_resolve.specs.declared.nodes.Spot.{Spot}
-use Rattle.txs_resolve.specs.Answers.{◌>>=◌, refuse}
-use Rattle.txs_resolve.specs.Expansions.{alone, body, expand_once, form_at, list}
-use Rattle.txs_resolve.specs.Expressions.{Answer, Bound, Special, row, one_part, putting, choice, binding, changing, Core as ACore, whole, parted, Resolver, spot_at, spot_mark, some_room, in_room, narrow, symbol_node, leaf_node, callee_at, callee_of, flag, sequence_node, are_wanted, choice_node, single_node, is_wanted, change_node, binding_node, are_pairs, is_symbol, bound_in, cell_form, of_family, special, is_chain, all_but_last, last_of, operands, applied, list_core, core_of, bound_name, named_all, named_bindings, put_together, made, resolved, named}
+use Rattle.txs_expand.specs.declared.error.ResolveError.{ResolveError}
+use Rattle.txs_expand.specs.declared.error.ResolveErrorKind.TheVariants.{BadForm, TooMany, NotCallable}
+use Rattle.txs_expand.specs.declared.shapes.Sequence.TheVariants as sequence
+use Rattle.txs_expand.specs.declared.shapes.Single.TheVariants as single
+use Rattle.txs_expand.specs.declared.shapes.Spot.{Spot}
+use Rattle.txs_expand.specs.Answers.{◌>>=◌, refuse}
+use Rattle.txs_expand.specs.Expansions.{alone, body, expand_once, form_at, list}
+use Rattle.txs_expand.specs.Expressions.{Answer, Bound, Special, row, one_part, putting, choice, binding, changing, Core as ACore, whole, parted, Resolver, spot_at, spot_mark, some_room, in_room, narrow, symbol_node, leaf_node, callee_at, callee_of, flag, sequence_node, are_wanted, choice_node, single_node, is_wanted, change_node, binding_node, are_pairs, is_symbol, bound_in, cell_form, of_family, special, is_chain, all_but_last, last_of, operands, applied, list_core, core_of, bound_name, named_all, named_bindings, put_together, made, resolved, named}
 use Rattle.txs_language.specs.Renaming.{name_renamed, leaf_renamed, is_named, binds, hides, is_binding, binds_names, renamed, all_renamed, scope_renamed, vector_renamed, pairs_renamed, LeafLacks, Lacks, AllLack, MayRename, joined, binding_form}
 use Rattle.txs_language.proofs.Names.{IsTrue, and_first, and_second, equal, differs, with_number, by_number, bound_name_is, others_stay}
 use Rattle.txs_language.proofs.Renamed.{no_form, no_keyword, form_at_same, place_same, parts_same, flag_same, are_pairs_same, args_renamed, list_stays, body_stays, expanded, alone_renamed, all_but_last_renamed, last_renamed, lacks_alone, lacks_expanded}

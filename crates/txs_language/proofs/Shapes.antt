@@ -14,15 +14,15 @@ use Rattle.txs_names.specs.declared.names.FormName.{FormName}
 use Rattle.txs_names.specs.declared.names.FormName.TheVariants as kind
 use Rattle.txs_names.specs.declared.scope.Definition.TheVariants.{Constant, Cell as ACell, Function as AFunction}
 use Rattle.txs_names.specs.Scope.{Scope, Meaning, a_form, dotted, a_local, the_current, defined_as, operation, unknown, meaning}
-use Rattle.txs_resolve.specs.declared.error.ResolveError.{ResolveError}
-use Rattle.txs_resolve.specs.declared.error.ResolveErrorKind.{ResolveErrorKind}
-use Rattle.txs_resolve.specs.declared.error.ResolveErrorKind.TheVariants.{BadForm, TooMany}
-use Rattle.txs_resolve.specs.declared.nodes.Sequence.{Sequence}
-use Rattle.txs_resolve.specs.declared.nodes.Sequence.TheVariants as sequence
-use Rattle.txs_resolve.specs.declared.nodes.Spot.{Spot}
-use Rattle.txs_resolve.specs.Answers.{◌>>=◌, refuse}
-use Rattle.txs_resolve.specs.Expansions.{alone, body, expand_once, expansion, expansion_by, form_at, hidden, is_even, list, or_same, three}
-use Rattle.txs_resolve.specs.Expressions.{Answer, Special, row, one_part, putting, choice, binding, changing, Core as ACore, whole, parted, some_room, in_room, callee_at, callee_of, are_pairs, bound_in, cell_form, of_family, special, folds, is_chain, all_but_last, last_of, operands, applied, list_core, core_of}
+use Rattle.txs_expand.specs.declared.error.ResolveError.{ResolveError}
+use Rattle.txs_expand.specs.declared.error.ResolveErrorKind.{ResolveErrorKind}
+use Rattle.txs_expand.specs.declared.error.ResolveErrorKind.TheVariants.{BadForm, TooMany}
+use Rattle.txs_expand.specs.declared.shapes.Sequence.{Sequence}
+use Rattle.txs_expand.specs.declared.shapes.Sequence.TheVariants as sequence
+use Rattle.txs_expand.specs.declared.shapes.Spot.{Spot}
+use Rattle.txs_expand.specs.Answers.{◌>>=◌, refuse}
+use Rattle.txs_expand.specs.Expansions.{alone, body, expand_once, expansion, expansion_by, form_at, hidden, is_even, list, or_same, three}
+use Rattle.txs_expand.specs.Expressions.{Answer, Special, row, one_part, putting, choice, binding, changing, Core as ACore, whole, parted, some_room, in_room, callee_at, callee_of, are_pairs, bound_in, cell_form, of_family, special, folds, is_chain, all_but_last, last_of, operands, applied, list_core, core_of}
 use Rattle.txs_language.specs.TextOrder.{Nests, NestIn}
 use Rattle.txs_language.proofs.Windows.{nests_on, nest_ends, nest_wider, alone_written, Frame, Made, made_nil, made_hidden, made_body, made_and, made_or, made_cond, chosen_and, chosen_or, body_and, body_or, Front, Lies, is_written, is_made, is_front, LieRow, written_row, lies_from}
 

@@ -14,19 +14,19 @@ use Rattle.txs_names.specs.declared.names.FormName.{FormName}
 use Rattle.txs_names.specs.declared.names.FormName.TheVariants as kind
 use Rattle.txs_names.specs.declared.scope.Definition.TheVariants.{Constant, Cell as ACell, Function as AFunction}
 use Rattle.txs_names.specs.Scope.{Scope, Meaning, a_form, dotted, a_local, the_current, defined_as, operation, unknown, meaning, may_bind, with_local}
-use Rattle.txs_resolve.specs.declared.error.ResolveError.{ResolveError}
-use Rattle.txs_resolve.specs.declared.error.ResolveErrorKind.{ResolveErrorKind}
-use Rattle.txs_resolve.specs.declared.error.ResolveErrorKind.TheVariants.{BadForm, TooMany}
-use Rattle.txs_resolve.specs.declared.nodes.Change.TheVariants as change_by
-use Rattle.txs_resolve.specs.declared.nodes.Change.{Change}
-use Rattle.txs_resolve.specs.declared.nodes.Sequence.{Sequence}
-use Rattle.txs_resolve.specs.declared.nodes.Sequence.TheVariants as sequence
-use Rattle.txs_resolve.specs.declared.nodes.Single.{Single}
-use Rattle.txs_resolve.specs.declared.nodes.Single.TheVariants as single
-use Rattle.txs_resolve.specs.declared.nodes.Spot.{Spot}
-use Rattle.txs_resolve.specs.Answers.{◌>>=◌, refuse}
-use Rattle.txs_resolve.specs.Expansions.{alone, expand_once}
-use Rattle.txs_resolve.specs.Expressions.{Answer, Bound, Special, row, one_part, putting, choice, binding, changing, Core as ACore, whole, parted, Resolver, spot_at, spot_mark, some_room, in_room, narrow, symbol_node, leaf_value, leaf_node, callee_of, flag, sequence_node, are_wanted, choice_node, single_node, is_wanted, change_node, binding_node, core_of, bound_name, named_all, named_bindings, put_together, made, resolved, named}
+use Rattle.txs_expand.specs.declared.error.ResolveError.{ResolveError}
+use Rattle.txs_expand.specs.declared.error.ResolveErrorKind.{ResolveErrorKind}
+use Rattle.txs_expand.specs.declared.error.ResolveErrorKind.TheVariants.{BadForm, TooMany}
+use Rattle.txs_expand.specs.declared.shapes.Change.TheVariants as change_by
+use Rattle.txs_expand.specs.declared.shapes.Change.{Change}
+use Rattle.txs_expand.specs.declared.shapes.Sequence.{Sequence}
+use Rattle.txs_expand.specs.declared.shapes.Sequence.TheVariants as sequence
+use Rattle.txs_expand.specs.declared.shapes.Single.{Single}
+use Rattle.txs_expand.specs.declared.shapes.Single.TheVariants as single
+use Rattle.txs_expand.specs.declared.shapes.Spot.{Spot}
+use Rattle.txs_expand.specs.Answers.{◌>>=◌, refuse}
+use Rattle.txs_expand.specs.Expansions.{alone, expand_once}
+use Rattle.txs_expand.specs.Expressions.{Answer, Bound, Special, row, one_part, putting, choice, binding, changing, Core as ACore, whole, parted, Resolver, spot_at, spot_mark, some_room, in_room, narrow, symbol_node, leaf_value, leaf_node, callee_of, flag, sequence_node, are_wanted, choice_node, single_node, is_wanted, change_node, binding_node, core_of, bound_name, named_all, named_bindings, put_together, made, resolved, named}
 use Rattle.txs_check.specs.Refused.{place_of, turned, turned_in}
 use Rattle.txs_language.proofs.Windows.{nests_on, nest_ends, Frame, Made, made_nil, made_hidden, made_body, made_and, made_or, made_cond, chosen_and, chosen_or, body_and, body_or, Lies, LieRow, is_written, is_made, is_front, lies_alone, lies_order}
 use Rattle.txs_language.proofs.Shapes.{LiePairs, IsStraight, Turned, Halved, LieBranches, RowLies, Fits, Fit, EndsBefore, callee_of_before, written_fits, made_fits, front_fits}

@@ -8,14 +8,14 @@ use Rattle.txs_reader.specs.Tree.{Tree as Form, Trees as Forms, leaf, group, fir
 use Rattle.txs_reader.specs.Tree.{none as no_forms}
 use Rattle.txs_tree.specs.Tree.{Tree, Trees, Put, more}
 use Rattle.txs_names.specs.Scope.{Scope, with_local}
-use Rattle.txs_resolve.specs.declared.error.ResolveError.{ResolveError}
-use Rattle.txs_resolve.specs.declared.error.ResolveErrorKind.TheVariants.{TooMany}
-use Rattle.txs_resolve.specs.declared.nodes.Sequence.{Sequence}
-use Rattle.txs_resolve.specs.declared.nodes.Sequence.TheVariants as sequence
-use Rattle.txs_resolve.specs.declared.nodes.Spot.{Spot}
-use Rattle.txs_resolve.specs.Answers.{◌>>=◌, refuse}
-use Rattle.txs_resolve.specs.Expansions.{alone, body, expand_once}
-use Rattle.txs_resolve.specs.Expressions.{Answer, Bound, Special, row, one_part, putting, choice, binding, changing, Core as ACore, whole, parted, Resolver, spot_at, spot_mark, bound_name, callee_of, flag, sequence_node, are_wanted, choice_node, single_node, is_wanted, change_node, binding_node, core_of, named_all, named_bindings, narrow, put_together, made, resolved, named}
+use Rattle.txs_expand.specs.declared.error.ResolveError.{ResolveError}
+use Rattle.txs_expand.specs.declared.error.ResolveErrorKind.TheVariants.{TooMany}
+use Rattle.txs_expand.specs.declared.shapes.Sequence.{Sequence}
+use Rattle.txs_expand.specs.declared.shapes.Sequence.TheVariants as sequence
+use Rattle.txs_expand.specs.declared.shapes.Spot.{Spot}
+use Rattle.txs_expand.specs.Answers.{◌>>=◌, refuse}
+use Rattle.txs_expand.specs.Expansions.{alone, body, expand_once}
+use Rattle.txs_expand.specs.Expressions.{Answer, Bound, Special, row, one_part, putting, choice, binding, changing, Core as ACore, whole, parted, Resolver, spot_at, spot_mark, bound_name, callee_of, flag, sequence_node, are_wanted, choice_node, single_node, is_wanted, change_node, binding_node, core_of, named_all, named_bindings, narrow, put_together, made, resolved, named}
 use Rattle.txs_language.specs.TextOrder.{Nests, NestIn}
 use Rattle.txs_language.specs.Standing.{IsOne, one_now, one_later, IsValue, value_now, value_later, IsBehind, behind_none, behind_one, IsPart, in_row, in_one, in_filled, in_value, in_test, in_first, in_second, in_bound, in_body, in_cell, in_argument, StandsIn, is_whole, in_part, HasTree}
 use Rattle.txs_language.proofs.Windows.{nests_on, nest_ends, Frame, Made, made_nil, made_body, Front, Lies, LieRow, is_written, is_made, is_front, lies_alone, lies_from, lies_order}

@@ -9,7 +9,7 @@ use Rattle.txs_reader.specs.Tree.{Leaf, Tree as Form, Trees as Forms, leaf, grou
 use Rattle.txs_reader.specs.Tree.{none as no_forms}
 use Rattle.txs_names.specs.declared.names.FormName.{FormName}
 use Rattle.txs_names.specs.declared.names.FormName.TheVariants as kind
-use Rattle.txs_resolve.specs.Expansions.{alone, body, form_at, hidden, is_alone, list, three}
+use Rattle.txs_expand.specs.Expansions.{alone, body, form_at, hidden, is_alone, list, three}
 use Rattle.txs_language.specs.TextOrder.{Nests, NestIn}
 
 -- ---- written forms

@@ -1,7 +1,7 @@
 -- At which form of a script the resolution of names stops.
 use Rattle.std.specs.Prelude.{◌≡◌, List, ◌∷◌, ◌++◌, Ok, Err}
 use Rattle.txs_reader.specs.Tree.{Tree as Form}
-use Rattle.txs_resolve.specs.declared.error.ResolveError.{ResolveError}
+use Rattle.txs_expand.specs.declared.error.ResolveError.{ResolveError}
 use Rattle.txs_resolve.specs.Names.{State, nothing, step, steps, behind_namespace}
 
 -- The top-level forms before one of them are all resolved, and that one, behind what they define, is refused so; whatever

@@ -1,24 +1,16 @@
 -- What the limit of levels refuses.
-use Rattle.std.specs.Prelude.{◌≡◌, ℕ, List, [], ◌∷◌, Ok, Err}
+use Rattle.std.specs.Prelude.{◌≡◌, List, Ok, Err}
 use Rattle.txs_value.specs.declared.fault.Span.{Span}
-use Rattle.txs_names.specs.declared.scope.Definition.{Definition}
-use Rattle.txs_names.specs.declared.scope.Definition.TheVariants.{Constant, Cell, Function}
-use Rattle.txs_names.specs.Scope.{Entry}
-use Rattle.txs_resolve.specs.declared.error.ResolveErrorKind.TheVariants.{TooMany}
-use Rattle.txs_resolve.specs.Answers.{refuse}
-use Rattle.txs_resolve.specs.Depths.{at_place}
-use Rattle.txs_resolve.specs.Expressions.{Answer}
+use Rattle.txs_reader.specs.Tree.{Tree as Form}
+use Rattle.txs_names.specs.Scope.{Scope}
+use Rattle.txs_expand.specs.declared.error.ResolveErrorKind.TheVariants.{TooMany}
+use Rattle.txs_expand.specs.Answers.{refuse}
+use Rattle.txs_expand.specs.Expressions.{Answer}
+use Rattle.txs_resolve.specs.Names.{State, nothing, steps}
 
--- a definition of a function tells the levels that the list has for it
-abbrev pub LevelsOf : List ℕ → Definition → Type 0
-LevelsOf ls (Constant v) = Unit {0}
-LevelsOf ls (Cell c) = Unit {0}
-LevelsOf ls (Function n levels) = at_place ls n ≡ levels
-
--- each function that is defined has its levels in the list, at its number
-abbrev pub LevelsStand : List ℕ → List Entry → Type 0
-LevelsStand ls [] = Unit {0}
-LevelsStand ls (e ∷ es) = LevelsOf ls e.what × LevelsStand ls es
+-- these forms resolve to what is in this state, and the scope has their definitions, whatever its locals are and whichever function is being defined
+abbrev pub ScopeBehind : List Form → State → Scope → Type 0
+ScopeBehind forms s scope = (steps nothing forms ≡ Ok s) × (scope.defined ≡ s.defined)
 
 -- what an answer gives is so; a refusal gives nothing
 abbrev pub IfGives : {A : Type 0} → (A → Type 0) → Answer A → Type 0

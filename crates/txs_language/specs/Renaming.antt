@@ -8,7 +8,7 @@ use Rattle.txs_reader.specs.Tree.{none as no_forms}
 use Rattle.txs_names.specs.declared.names.FormName.{FormName}
 use Rattle.txs_names.specs.declared.names.FormName.TheVariants as kind
 use Rattle.txs_names.specs.Scope.{may_bind}
-use Rattle.txs_resolve.specs.Expansions.{form_at, list}
+use Rattle.txs_expand.specs.Expansions.{form_at, list}
 
 -- the new name in the place of the old one; every other name stays
 abbrev pub name_renamed : List ℕ → List ℕ → List ℕ → List ℕ

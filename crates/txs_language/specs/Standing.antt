@@ -5,11 +5,11 @@ use Rattle.txs_reader.specs.Tree.{Tree as Form, Trees as Forms, first, place}
 use Rattle.txs_reader.specs.Tree.{none as no_forms}
 use Rattle.txs_tree.specs.Tree.{Tree}
 use Rattle.txs_names.specs.Scope.{Scope, with_local}
-use Rattle.txs_resolve.specs.declared.nodes.Change.{Change}
-use Rattle.txs_resolve.specs.declared.nodes.Sequence.{Sequence}
-use Rattle.txs_resolve.specs.declared.nodes.Single.{Single}
-use Rattle.txs_resolve.specs.Expansions.{alone, expand_once}
-use Rattle.txs_resolve.specs.Expressions.{Special, row, one_part, putting, choice, binding, changing, parted, bound_name, core_of, named, spot_at}
+use Rattle.txs_expand.specs.declared.shapes.Change.{Change}
+use Rattle.txs_expand.specs.declared.shapes.Sequence.{Sequence}
+use Rattle.txs_expand.specs.declared.shapes.Single.{Single}
+use Rattle.txs_expand.specs.Expansions.{alone, expand_once}
+use Rattle.txs_expand.specs.Expressions.{Special, row, one_part, putting, choice, binding, changing, parted, bound_name, core_of, named, spot_at}
 
 -- it is one of these
 pub data IsOne (form : Form) : Forms → Type 0 where

@@ -12,12 +12,11 @@ ghost use Rattle.txs_names.specs.declared.scope.Definition.{Definition};
 ghost use Rattle.txs_reader.specs.Script.{Reads};
 ghost use Rattle.txs_reader.specs.Tree.{Tree as Form, Trees as Forms, first, leaf, place, symbol, trees_of};
 ghost use Rattle.txs_reader.specs.Tree.{none as no_forms};
-ghost use Rattle.txs_resolve.specs.Depths.{depths};
-ghost use Rattle.txs_resolve.specs.Expansions.{body, list};
-ghost use Rattle.txs_resolve.specs.Expressions.{are_pairs, named};
+ghost use Rattle.txs_expand.specs.Expansions.{body, list};
+ghost use Rattle.txs_expand.specs.Expressions.{are_pairs, named};
 ghost use Rattle.txs_resolve.specs.Names.{State, step, Resolves, ResolveStops};
-ghost use Rattle.txs_resolve.specs.declared.error.ResolveError.{ResolveError};
-ghost use Rattle.txs_tree.specs.Known.{known};
+ghost use Rattle.txs_expand.specs.declared.error.ResolveError.{ResolveError};
+ghost use Rattle.txs_tree.specs.Known.{known, levels};
 ghost use Rattle.txs_tree.specs.Meaning.{Completion, Effects, eval};
 ghost use Rattle.txs_tree.specs.Tree.{Tree, Const, PlainProgram};
 ghost use Rattle.txs_tree.specs.View.{mark_of};
@@ -28,7 +27,7 @@ ghost use Rattle.txs_value.specs.declared.op.Op.{Op};
 ghost use Rattle.txs_value.specs.declared.value.Value.{Value};
 ghost use Rattle.txs_value.specs.declared.value.Value.TheVariants.{Nil, Truth};
 ghost use Rattle.txs_language.specs.FirstForm.{StopsAt};
-ghost use Rattle.txs_language.specs.Levels.{IfGives, LevelsStand, Limited};
+ghost use Rattle.txs_language.specs.Levels.{IfGives, Limited, ScopeBehind};
 ghost use Rattle.txs_language.specs.Logic.{AndDoes, OrDoes, and_tree, or_tree};
 ghost use Rattle.txs_language.specs.Renaming.{About, AllLack, MayRename, all_renamed, binding_form, binds, function_form, has_parameter, joined, pairs_renamed};
 ghost use Rattle.txs_language.specs.Standing.{HasTree, StandsIn};
@@ -104,12 +103,13 @@ pub fn one_level_more_changes_no_tree()
 
 /// The limit of levels refuses what is too deep, and changes nothing else. Where a form may have so many levels its answer is the one that
 /// it has with any more of them, be that a tree or a refusal; or it is too much, and the tree that it has with more, if it has one, is
-/// deeper. A tree is never deeper than so many levels. A called function counts with its levels.
+/// deeper. A tree is never deeper than so many levels. A called function counts with its levels. The scope is any behind forms of a
+/// script: what these define is defined in it.
 pub fn the_limit_of_levels_refuses_what_is_deeper()
-    ensures refuses { (levels : List ℕ) (room further : ℕ) (scope : Scope) (wanted : Bool) (form : Form) → LevelsStand levels scope.defined
-        → Limited Tree (λ t. room < depths levels t) (named (room + further) scope wanted form) (named room scope wanted form) }
-    ensures fits { (levels : List ℕ) (room : ℕ) (scope : Scope) (wanted : Bool) (form : Form) → LevelsStand levels scope.defined
-        → IfGives (λ t. depths levels t ≤ room) (named room scope wanted form) }
+    ensures refuses { (forms : List Form) (s : State) (scope : Scope) → ScopeBehind forms s scope → (room further : ℕ) (wanted : Bool) (form : Form)
+        → Limited Tree (λ t. room < levels (known s.functions) t) (named (room + further) scope wanted form) (named room scope wanted form) }
+    ensures fits { (forms : List Form) (s : State) (scope : Scope) → ScopeBehind forms s scope → (room : ℕ) (wanted : Bool) (form : Form)
+        → IfGives (λ t. levels (known s.functions) t ≤ room) (named room scope wanted form) }
 {}
 
 /// `(and)` is true, `(or)` is nil, and `(and e)` and `(or e)` are e.

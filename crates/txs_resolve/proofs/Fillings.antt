@@ -11,26 +11,28 @@ use Rattle.txs_tree.specs.View.{tree_of, trees_of}
 use Rattle.txs_tree.specs.declared.node.Node.{Node}
 use Rattle.txs_names.specs.declared.names.FormName.TheVariants as kind
 use Rattle.txs_names.specs.Scope.{Scope, may_bind, with_local}
-use Rattle.txs_resolve.specs.declared.error.ResolveError.{ResolveError}
-use Rattle.txs_resolve.specs.declared.error.ResolveErrorKind.TheVariants.{TooMany}
-use Rattle.txs_resolve.specs.declared.error.Stop.{Stop}
-use Rattle.txs_resolve.specs.declared.error.Stop.TheVariants.{Refused, Memory}
-use Rattle.txs_resolve.specs.declared.nodes.Change.{Change}
-use Rattle.txs_resolve.specs.declared.nodes.Couple.{Couple}
-use Rattle.txs_resolve.specs.declared.nodes.Couple.TheVariants as couple
-use Rattle.txs_resolve.specs.declared.nodes.Sequence.{Sequence}
-use Rattle.txs_resolve.specs.declared.nodes.Single.{Single}
-use Rattle.txs_resolve.specs.declared.nodes.Spot.{Spot}
-use Rattle.txs_resolve.specs.declared.parts.Part.{Part}
-use Rattle.txs_resolve.specs.declared.parts.Part.TheVariants as part
-use Rattle.txs_resolve.specs.declared.parts.Special.{Special}
-use Rattle.txs_resolve.specs.declared.parts.Special.TheVariants as special
-use Rattle.txs_resolve.specs.Answers.{◌>>=◌, refuse}
-use Rattle.txs_resolve.specs.Expansions.{alone, body, expand_once, hidden}
-use Rattle.txs_resolve.specs.Expressions.{Answer, Bound, Core, whole, parted, Resolver, are_wanted, bound_name, binding_node, callee_of, change_node, changing, choice_node, core_of, is_wanted, made, named, named_all, named_bindings, narrow, put_together, resolved, sequence_node, single_node, spot_at, spot_mark}
-use Rattle.txs_resolve.specs.Given.{Fills, Pushes, PushesAll, PushesBound, Wants, WantsNode}
-use Rattle.txs_resolve.specs.Parts.{IsMade, couple_node, hidden_choice, part_form, plain, special_form}
-use Rattle.txs_resolve.proofs.Building.{parts_plain, roomy}
+use Rattle.txs_expand.specs.declared.error.ResolveError.{ResolveError}
+use Rattle.txs_expand.specs.declared.error.ResolveErrorKind.TheVariants.{TooMany}
+use Rattle.txs_nodes.specs.declared.stop.Stop.{Stop}
+use Rattle.txs_nodes.specs.declared.stop.Stop.TheVariants.{Refused, Memory}
+use Rattle.txs_expand.specs.declared.shapes.Change.{Change}
+use Rattle.txs_expand.specs.declared.shapes.Couple.{Couple}
+use Rattle.txs_expand.specs.declared.shapes.Couple.TheVariants as couple
+use Rattle.txs_expand.specs.declared.shapes.Sequence.{Sequence}
+use Rattle.txs_expand.specs.declared.shapes.Single.{Single}
+use Rattle.txs_expand.specs.declared.shapes.Spot.{Spot}
+use Rattle.txs_expand.specs.declared.parts.Part.{Part}
+use Rattle.txs_expand.specs.declared.parts.Part.TheVariants as part
+use Rattle.txs_expand.specs.declared.parts.Special.{Special}
+use Rattle.txs_expand.specs.declared.parts.Special.TheVariants as special
+use Rattle.txs_expand.specs.Answers.{◌>>=◌, refuse}
+use Rattle.txs_expand.specs.Expansions.{alone, body, expand_once, hidden}
+use Rattle.txs_expand.specs.Expressions.{Answer, Bound, Core, whole, parted, Resolver, are_wanted, bound_name, binding_node, callee_of, change_node, changing, choice_node, core_of, is_wanted, made, named, named_all, named_bindings, narrow, put_together, resolved, sequence_node, single_node, spot_at, spot_mark}
+use Rattle.txs_resolve.specs.Given.{Fills, PushesAll, PushesBound, Wants, WantsNode}
+use Rattle.txs_nodes.specs.Given.{Pushes}
+use Rattle.txs_nodes.specs.Made.{IsMade, couple_node}
+use Rattle.txs_expand.specs.Parts.{core_at, own_spot, hidden_choice, part_form, plain, special_form}
+use Rattle.txs_expand.proofs.Rows.{parts_plain, roomy}
 
 -- ---- the definition, one level at a time
 
@@ -55,37 +57,25 @@ named_is (suc room) scope wanted form =
 pub named_alone : (room : ℕ) (scope : Scope) (wanted : Bool) (form : FormTree) (at : Span) → named room scope wanted (body (first form no_forms) at) ≡ named room scope wanted form
 named_alone room scope wanted form at = named_is room scope wanted (body (first form no_forms) at) ∙ sym (named_is room scope wanted form)
 
-part_same : (at : Span) (p : Part) → part_form (place (part_form at p)) p ≡ part_form at p
-part_same at (part.Written f) = refl
-part_same at (part.List name fs) = refl
-part_same at (part.Prefix fs) = refl
-part_same at part.Nil = refl
-part_same at (part.Hidden n) = refl
-part_same at (part.Choice n false rest) = refl
-part_same at (part.Choice n true rest) = refl
+-- what is made of a form at its own spot
+pub named_core : (here : Spot) (scope : Scope) (form : FormTree) (s : Spot) (k : Core) → s ≡ own_spot here form → Ok k ≡ core_at scope here form
+    → named here.room scope here.wanted form ≡ made (named (s.room - 1)) scope s k
+named_core here scope form s k is core =
+    let own = own_spot here form in
+    named_is here.room scope here.wanted form
+    ∙ ap (λ (o : Answer Core). o >>= made (named (here.room - 1)) scope own) (sym core)
+    ∙ ap (λ (z : Spot). made (named (z.room - 1)) scope z k) (sym is)
 
--- what is made of a part at its spot
-abbrev pub part_made : Scope → Part → Spot → Answer Tree
-part_made scope p s = core_of scope s (expand_once (part_form s.span p)) >>= made (named (s.room - 1)) scope s
+-- a form that is refused itself
+pub named_stop : (here : Spot) (scope : Scope) (form : FormTree) (e : ResolveError) → Err e ≡ core_at scope here form → named here.room scope here.wanted form ≡ Err e
+named_stop here scope form e core =
+    named_is here.room scope here.wanted form ∙ ap (λ (o : Answer Core). o >>= made (named (here.room - 1)) scope (own_spot here form)) (sym core)
 
-pub named_part : (at : Span) (room : ℕ) (scope : Scope) (wanted : Bool) (written p : Part) (s : Spot) → alone (part_form at written) ≡ part_form at p → s ≡ spot_at room (place (part_form at p)) wanted
-    → named room scope wanted (part_form at written) ≡ part_made scope p s
-named_part at room scope wanted written p s same is =
-    let here = spot_at room (place (part_form at p)) wanted in
-    named_is room scope wanted (part_form at written)
-    ∙ ap (resolved (named (room - 1)) room scope wanted) same
-    ∙ ap (λ f. core_of scope here (expand_once f) >>= made (named (room - 1)) scope here) (sym (part_same at p))
-    ∙ ap (part_made scope p) (sym is)
-
--- a part that is not refused itself
-pub wants_part : (at : Span) (room : ℕ) (scope : Scope) (wanted : Bool) (written p : Part) (s : Spot) → alone (part_form at written) ≡ part_form at p → s ≡ spot_at room (place (part_form at p)) wanted
-    → (o : Answer Core) → core_of scope s (expand_once (part_form s.span p)) ≡ o → WantsNode scope s o → Wants scope (spot_at room at wanted) (alone (part_form at written))
-wants_part at room scope wanted written p s same is o e w =
-    let here = spot_at room (place (part_form at p)) wanted in
-    subst (Wants scope (spot_at room at wanted)) (sym same)
-    (subst (λ f. WantsNode scope here (core_of scope here (expand_once f))) (part_same at p)
-    (subst (λ (z : Spot). WantsNode scope z (core_of scope z (expand_once (part_form z.span p)))) is
-    (subst (WantsNode scope s) (sym e) w)))
+-- a form that is not refused itself
+pub wants_core : (here : Spot) (scope : Scope) (form : FormTree) (s : Spot) (k : Core) → s ≡ own_spot here form → Ok k ≡ core_at scope here form
+    → WantsNode scope s (Ok k) → Wants scope here (alone form)
+wants_core here scope form s k is core w =
+    subst (λ (z : Spot). WantsNode scope z (core_at scope here form)) is (subst (WantsNode scope s) core w)
 
 -- the node of a part, where its spot is told
 pub at_spot : (i : Spot) (room : ℕ) (at : Span) (wanted : Bool) (scope : Scope) (p : Part) → i ≡ spot_at room at wanted → named i.room scope i.wanted (part_form i.span p) ≡ named room scope wanted (part_form at p)

@@ -15,17 +15,17 @@ use Rattle.txs_tree.specs.Known.{Known, callee_levels, levels, levels_in, levels
 use Rattle.txs_tree.specs.Scoped.{Scoped, ScopedCallee, ScopedTree, ScopedAll, ScopedLet, ScopedFunction, ScopedFunctions, ScopedThread, ScopedThreads}
 use Rattle.txs_tree.specs.Tree.{Tree, Trees, Const, Local, If, Do, Let, Loop, Recur, Core, Call, VectorOf, Println, Dosync, Look, Put, Update, Send, none, more, count, PlainFunction, PlainThread, PlainProgram}
 use Rattle.txs_tree.proofs.Callable.{length-known}
-use Rattle.txs_resolve.specs.declared.error.ResolveErrorKind.TheVariants.{BadForm, TooMany}
+use Rattle.txs_expand.specs.declared.error.ResolveErrorKind.TheVariants.{BadForm, TooMany}
 use Rattle.txs_names.specs.declared.names.FormName.{FormName}
 use Rattle.txs_names.specs.declared.names.FormName.TheVariants as kind
 use Rattle.txs_names.specs.declared.scope.Definition.{Definition}
 use Rattle.txs_names.specs.declared.scope.Definition.TheVariants.{Constant, Cell as ACell, Function as AFunction}
 use Rattle.txs_resolve.specs.declared.definition.CellSort.{CellSort}
-use Rattle.txs_resolve.specs.Expansions.{body, form_at}
-use Rattle.txs_resolve.specs.Expressions.{Answer, named}
-use Rattle.txs_resolve.specs.Literals.{literal}
+use Rattle.txs_expand.specs.Expansions.{body, form_at}
+use Rattle.txs_expand.specs.Expressions.{Answer, named}
+use Rattle.txs_nodes.specs.Literals.{literal}
 use Rattle.txs_resolve.specs.Names.{State, nothing, program, new_name, Defining, defining_of, new_cell, with_constant, with_definition, defined_as_one, NamedForm, named_form, defined_at, define, parameter, parameters, Written, written, with_function, function, with_thread, future, top_level, step, steps, behind_namespace, named_script, Resolves}
-use Rattle.txs_resolve.specs.Answers.{◌>>=◌, refuse}
+use Rattle.txs_expand.specs.Answers.{◌>>=◌, refuse}
 use Rattle.txs_names.specs.Scope.{Scope, Entry, may_bind}
 use Rattle.txs_resolve.specs.Scripts.{IsKnown, AreKnown, ScopedState}
 use Rattle.txs_resolve.proofs.Scoping.{Every, then_every, one_every, two_every, if_every, is_less, Placed, form_named}
@@ -325,7 +325,7 @@ step_scoped s (group Round no_forms at) h = tt
 step_scoped s (group Round (first head parts) at) h = top_scoped (form_at head) s at parts h
 step_scoped s (group Square forms at) h = tt
 
-steps_scoped : (forms : List Form) (s : State) → ScopedState s → Every ScopedState (steps s forms)
+pub steps_scoped : (forms : List Form) (s : State) → ScopedState s → Every ScopedState (steps s forms)
 steps_scoped [] s h = h
 steps_scoped (form ∷ forms) s h = then_every ScopedState ScopedState (step s form) (λ t. steps t forms) (step_scoped s form h) (λ t k. steps_scoped forms t k)
 

@@ -1,16 +1,16 @@
 -- Where the resolver stops, and what nothing is.
-use Rattle.std.proofs.Common.{◌≡◌, ◌≤◌, List, [], Result, Ok, Err, IfErr, length, refl, sym, ap, ◌∙◌}
+use Rattle.std.proofs.Common.{◌≡◌, ◌≤◌, List, [], Ok, Err, length, refl, sym, ap, ◌∙◌}
 use Rattle.txs_tree.specs.Tree.{Tree}
 use Rattle.txs_tree.specs.declared.node.Node.{Node}
 use Rattle.txs_names.specs.Scope.{Scope}
-use Rattle.txs_resolve.specs.declared.error.ResolveErrorKind.TheVariants.{TooMany}
-use Rattle.txs_resolve.specs.declared.error.ResolveError.{ResolveError}
-use Rattle.txs_resolve.specs.declared.error.Stop.{Stop}
-use Rattle.txs_resolve.specs.declared.error.Stop.TheVariants.{Refused, Memory}
-use Rattle.txs_resolve.specs.declared.nodes.Spot.{Spot}
-use Rattle.txs_resolve.specs.declared.parts.Special.{Special}
-use Rattle.txs_resolve.specs.Answers.{refuse}
-use Rattle.txs_resolve.specs.Expressions.{Answer, Bound, spot_mark}
+use Rattle.txs_expand.specs.declared.error.ResolveErrorKind.TheVariants.{TooMany}
+use Rattle.txs_expand.specs.declared.error.ResolveError.{ResolveError}
+use Rattle.txs_nodes.specs.declared.stop.Stop.{Stop}
+use Rattle.txs_nodes.specs.declared.stop.Stop.TheVariants.{Refused, Memory}
+use Rattle.txs_expand.specs.declared.shapes.Spot.{Spot}
+use Rattle.txs_expand.specs.declared.parts.Special.{Special}
+use Rattle.txs_expand.specs.Answers.{refuse}
+use Rattle.txs_expand.specs.Expressions.{Answer, Bound, spot_mark}
 use Rattle.txs_resolve.specs.Given.{Fills, Hides}
 use Rattle.txs_resolve.proofs.Building.{bound_after}
 
@@ -23,13 +23,3 @@ pub full_stop : (stop : Stop) (form : Special) (now : List Node) (s : Spot) (bef
     → (200 ≤ length before.locals → wanted ≡ refuse TooMany s.span) → Fills (Err stop) form now (spot_mark s) wanted
 full_stop (Refused e) form now s before after wanted h go = go h.0 ∙ ap (λ (x : ResolveError). Err x) (sym h.1)
 full_stop Memory form now s before after wanted h go = tt
-
--- whatever the answer is, memory is wanted where it may be
-pub wanting : {A : Type 0} (r : Result A Stop) (P : Type 0) → P → IfErr r (λ e. e ≡ Memory → P)
-wanting (Ok x) P p = tt
-wanting (Err e) P p = λ wants. p
-
--- the same, where it is told otherwise
-pub wanting_as : {A : Type 0} (r : Result A Stop) (P Q : Type 0) → (P → Q) → IfErr r (λ e. e ≡ Memory → P) → IfErr r (λ e. e ≡ Memory → Q)
-wanting_as (Ok x) P Q go h = tt
-wanting_as (Err e) P Q go h = λ wants. go (h wants)

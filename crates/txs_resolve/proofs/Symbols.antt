@@ -14,11 +14,11 @@ use Rattle.txs_names.specs.declared.names.FormName.{FormName}
 use Rattle.txs_names.specs.declared.scope.Definition.{Definition}
 use Rattle.txs_names.specs.declared.scope.Definition.TheVariants.{Constant, Cell as ACell}
 use Rattle.txs_names.specs.Nearest.{IsNearest, NoneNamed}
-use Rattle.txs_names.specs.Scope.{Scope, Meaning, a_local, defined_as, dotted, unknown, the_current, definition_of, form_name, form_names, is_current, is_dot, is_none, local_number, may_bind, meaning, operations, or_defined, or_form, or_local, or_unknown, with_name}
+use Rattle.txs_names.specs.Scope.{Scope, Meaning, dotted, the_current, definition_of, form_name, form_names, is_current, is_dot, is_none, local_number, may_bind, meaning, operations, or_defined, or_form, or_local, or_unknown, with_name}
 use Rattle.txs_names.proofs.Nearest.{alone, nowhere}
-use Rattle.txs_resolve.specs.declared.error.ResolveErrorKind.TheVariants.{UnknownName}
-use Rattle.txs_resolve.specs.Answers.{refuse}
-use Rattle.txs_resolve.specs.Expressions.{named, spot_at, symbol_node}
+use Rattle.txs_expand.specs.declared.error.ResolveErrorKind.TheVariants.{UnknownName}
+use Rattle.txs_expand.specs.Answers.{refuse}
+use Rattle.txs_expand.specs.Expressions.{named, spot_at, symbol_node}
 
 abbrev IsTrue : Bool → Type 0
 IsTrue true = Unit {0}

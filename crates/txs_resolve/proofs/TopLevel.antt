@@ -4,13 +4,14 @@ use Rattle.txs_value.specs.declared.fault.Span.{Span}
 use Rattle.txs_reader.specs.declared.form.Form.{Form}
 use Rattle.txs_reader.specs.Tree.{tree, leaf, symbol, first}
 use Rattle.txs_names.specs.declared.names.FormName.TheVariants.{Ns}
-use Rattle.txs_resolve.specs.Expressions.{Answer, is_symbol}
-use Rattle.txs_resolve.specs.Given.{Gives, GivesLocals, Leaves}
+use Rattle.txs_expand.specs.Expressions.{Answer, is_symbol}
+use Rattle.txs_nodes.specs.Given.{Gives}
+use Rattle.txs_resolve.specs.Given.{GivesLocals, Leaves}
 use Rattle.txs_resolve.specs.Names.{named_form, names_space}
-use Rattle.txs_resolve.specs.declared.error.ResolveError.{ResolveError}
-use Rattle.txs_resolve.specs.declared.error.Stop.{Stop}
-use Rattle.txs_resolve.specs.declared.error.Stop.TheVariants.{Refused, Memory}
-use Rattle.txs_resolve.specs.Parts.{plain}
+use Rattle.txs_expand.specs.declared.error.ResolveError.{ResolveError}
+use Rattle.txs_nodes.specs.declared.stop.Stop.{Stop}
+use Rattle.txs_nodes.specs.declared.stop.Stop.TheVariants.{Refused, Memory}
+use Rattle.txs_expand.specs.Parts.{plain}
 
 pub not_one_form : (name : List ℕ) (at : Span) (fs : List Form) → (length fs ≡ 1 → ⊥) → named_form (first (leaf (symbol name) at) (plain fs)) ≡ None
 not_one_form name at [] h = refl

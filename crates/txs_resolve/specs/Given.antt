@@ -1,31 +1,19 @@
 -- What a resolver's answer says.
-use Rattle.std.specs.Prelude.{◌≡◌, ◌≤◌, ◌<◌, ◌-◌, ℕ, List, [], ◌∷◌, ◌++◌, drop, length, Result, Ok, Err, IsOk}
+use Rattle.std.specs.Prelude.{◌≡◌, ◌≤◌, ◌<◌, ◌-◌, ℕ, List, [], ◌++◌, drop, length, Result, Ok, Err, IsOk}
 use Rattle.txs_tree.specs.Tree.{Tree, Trees, Mark}
 use Rattle.txs_tree.specs.declared.node.Node.{Node}
-use Rattle.txs_tree.specs.View.{tree_of, trees_of}
+use Rattle.txs_tree.specs.View.{trees_of}
 use Rattle.txs_reader.specs.Tree.{Tree as Form, place}
 use Rattle.txs_names.specs.Scope.{Scope, with_local, with_locals}
-use Rattle.txs_resolve.specs.declared.error.ResolveErrorKind.TheVariants.{TooMany}
-use Rattle.txs_resolve.specs.declared.nodes.Spot.{Spot}
-use Rattle.txs_resolve.specs.Expressions.{Answer, Bound, Core, whole, parted, core_of, leaf_node, spot_at}
-use Rattle.txs_resolve.specs.Expansions.{expand_once}
-use Rattle.txs_resolve.specs.Parts.{IsMade}
-use Rattle.txs_resolve.specs.declared.parts.Special.{Special}
-use Rattle.txs_resolve.specs.declared.error.Stop.{Stop}
-use Rattle.txs_resolve.specs.declared.error.Stop.TheVariants.{Refused, Memory}
+use Rattle.txs_expand.specs.declared.error.ResolveErrorKind.TheVariants.{TooMany}
+use Rattle.txs_expand.specs.declared.shapes.Spot.{Spot}
+use Rattle.txs_expand.specs.Expressions.{Answer, Bound, Core, whole, parted, core_of, leaf_node, spot_at}
+use Rattle.txs_expand.specs.Expansions.{expand_once}
+use Rattle.txs_nodes.specs.Made.{IsMade}
+use Rattle.txs_expand.specs.declared.parts.Special.{Special}
+use Rattle.txs_nodes.specs.declared.stop.Stop.{Stop}
+use Rattle.txs_nodes.specs.declared.stop.Stop.TheVariants.{Refused, Memory}
 use Rattle.txs_value.specs.Limits.{most_locals}
-
--- the answer is the definition's, seen as plain data, unless memory ran out
-abbrev pub Gives : {A B : Type 0} → (A → B) → Result A Stop → Answer B → Type 0
-Gives view (Ok x) wanted = wanted ≡ Ok (view x)
-Gives view (Err (Refused e)) wanted = wanted ≡ Err e
-Gives view (Err Memory) wanted = Unit {0}
-
--- one more node stands behind these, which is the definition's
-abbrev pub Pushes : Result (Unit {0}) Stop → List Node → List Node → Answer Tree → Type 0
-Pushes (Ok u) before now wanted = (n : Node) × (now ≡ before ++ n ∷ []) × (wanted ≡ Ok (tree_of n))
-Pushes (Err (Refused e)) before now wanted = wanted ≡ Err e
-Pushes (Err Memory) before now wanted = Unit {0}
 
 -- more nodes stand behind these, which are the definition's
 abbrev pub PushesAll : Result (Unit {0}) Stop → List Node → List Node → Answer Trees → Type 0

@@ -1,12 +1,5 @@
-pub mod Answers
 pub mod Defined
-pub mod Depths
-pub mod Expansions
-pub mod Expressions
 pub mod Given
-pub mod Literals
 pub mod Memory
 pub mod Names
-pub mod Parts
-pub mod Reported
 pub mod Scripts

@@ -5,7 +5,7 @@ use Rattle.txs_reader.specs.declared.form.Bracket.TheVariants.{Round}
 use Rattle.txs_reader.specs.Tree.{Tree as Form, Trees as Forms, group, first}
 use Rattle.txs_names.specs.declared.names.FormName.{FormName}
 use Rattle.txs_names.specs.declared.names.FormName.TheVariants as kind
-use Rattle.txs_resolve.specs.Expansions.{form_at}
+use Rattle.txs_expand.specs.Expansions.{form_at}
 use Rattle.txs_resolve.specs.Names.{State, NamedForm, Written, defining_of, named_form, new_name, step, written}
 
 -- a `def` of a literal or of a cell, for which there is room

@@ -12,18 +12,18 @@ use Rattle.txs_reader.specs.Tree.{Tree as Form, Trees as Forms, leaf, group, fir
 use Rattle.txs_reader.specs.Tree.{none as no_forms}
 use Rattle.txs_tree.specs.Known.{levels, known}
 use Rattle.txs_tree.specs.Tree.{Tree, PlainFunction, PlainThread, PlainProgram}
-use Rattle.txs_resolve.specs.declared.error.ResolveError.{ResolveError}
-use Rattle.txs_resolve.specs.declared.error.ResolveErrorKind.TheVariants.{Redefined, BadForm, TooMany, Memory}
+use Rattle.txs_expand.specs.declared.error.ResolveError.{ResolveError}
+use Rattle.txs_expand.specs.declared.error.ResolveErrorKind.TheVariants.{Redefined, BadForm, TooMany, Memory}
 use Rattle.txs_names.specs.declared.names.FormName.{FormName}
 use Rattle.txs_names.specs.declared.names.FormName.TheVariants as kind
 use Rattle.txs_names.specs.declared.scope.Definition.TheVariants.{Constant, Cell, Function}
 use Rattle.txs_resolve.specs.declared.definition.CellSort.{CellSort}
 use Rattle.txs_value.specs.declared.cell.ErrorMode.{ErrorMode}
 use Rattle.txs_value.specs.declared.cell.ErrorMode.TheVariants.{Fail, Continue}
-use Rattle.txs_resolve.specs.Expansions.{body, form_at}
-use Rattle.txs_resolve.specs.Expressions.{Answer, is_symbol, named}
-use Rattle.txs_resolve.specs.Literals.{is_literal, literal}
-use Rattle.txs_resolve.specs.Answers.{◌>>=◌, refuse}
+use Rattle.txs_expand.specs.Expansions.{body, form_at}
+use Rattle.txs_expand.specs.Expressions.{Answer, is_symbol, named}
+use Rattle.txs_nodes.specs.Literals.{is_literal, literal}
+use Rattle.txs_expand.specs.Answers.{◌>>=◌, refuse}
 use Rattle.txs_names.specs.Scope.{Entry, definition_of, with_name, operations, may_bind, is_none}
 
 -- what a script has defined so far: names; cells; functions; threads; and how often `def` stood

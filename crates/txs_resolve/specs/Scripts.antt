@@ -16,9 +16,9 @@ use Rattle.txs_resolve.specs.declared.script.Script.{Script}
 use Rattle.txs_resolve.specs.declared.script.Signature.{Signature}
 use Rattle.txs_resolve.specs.Names.{State, Defining, Written, NamedForm, with_function}
 use Rattle.txs_names.specs.Scope.{Entry, with_locals}
-use Rattle.txs_resolve.specs.Answers.{◌>>=◌}
-use Rattle.txs_resolve.specs.Expansions.{body}
-use Rattle.txs_resolve.specs.Expressions.{Answer, named}
+use Rattle.txs_expand.specs.Answers.{◌>>=◌}
+use Rattle.txs_expand.specs.Expansions.{body}
+use Rattle.txs_expand.specs.Expressions.{Answer, named}
 
 -- what a script has defined so far, as the resolver keeps it
 abbrev pub state_of : Script → State

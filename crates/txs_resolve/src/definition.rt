@@ -2,12 +2,12 @@
 
 ghost use Rattle.std.specs.Prelude.{◌≡◌, Some};
 ghost use Rattle.txs_reader.specs.Tree.{tree, trees, trees_of};
-ghost use Rattle.txs_resolve.specs.Expansions.{form_at};
+ghost use Rattle.txs_expand.specs.Expansions.{form_at};
 ghost use Rattle.txs_resolve.specs.Names.{cell_of, defining_of, is_error_mode, kind_at, mode_behind, mode_of, only_literal};
+ghost use Rattle.txs_nodes.specs.Literals.{are_literals, is_literal};
 ghost use Rattle.txs_resolve.specs.Scripts.{defining};
 
-use crate::literal::is_literal;
-use crate::parts::form_at;
+use txs_expand::form_at;
 use txs_names::FormName;
 use txs_reader::{Bracket, Form};
 use txs_value::{CellKind, ErrorMode};
@@ -24,6 +24,32 @@ pub struct CellSort {
 pub struct Opening<'a> {
     pub sort: Option<CellSort>,
     pub value: &'a Form,
+}
+
+/// Whether there is no symbol and no list in the form.
+#[cycle(is_literal)]
+fn is_literal(form: &Form) -> bool
+    ensures { result ≡ is_literal (tree form.now) }
+{
+    match form {
+        Form::Symbol(_, _) => false,
+        Form::Group(Bracket::Round, _, _) => false,
+        Form::Group(Bracket::Square, forms, _) => are_literals(forms),
+        _ => true,
+    }
+}
+
+/// Whether there is none in any of the forms.
+#[cycle(is_literal)]
+fn are_literals(forms: &[Form]) -> bool
+    ensures { result ≡ are_literals (trees_of (trees forms.now)) }
+{
+    for form in forms {
+        if !is_literal(form) {
+            return false;
+        }
+    }
+    true
 }
 
 /// The form, where it is a literal.

@@ -2,21 +2,19 @@
 
 ghost use Rattle.std.specs.Prelude.{◌≡◌, ◌≤◌, ◌+◌, ◌-◌, [], length, IfErr, OnOk};
 ghost use Rattle.txs_reader.specs.Tree.{tree};
-ghost use Rattle.txs_resolve.specs.Expressions.{changing, made, named, named_all, named_bindings, narrow, parted, put_together, spot_mark};
-ghost use Rattle.txs_resolve.specs.Expansions.{alone};
-ghost use Rattle.txs_resolve.specs.Given.{Fills, IsWithin, Pushes, PushesAll, PushesBound, Wants};
-ghost use Rattle.txs_resolve.specs.Parts.{part_form, plain, special_form, PartFits, SpecialFits};
-ghost use Rattle.txs_resolve.specs.declared.error.Stop.TheVariants.{Memory};
-ghost use Rattle.txs_resolve.specs.declared.parts.Special.TheVariants as special;
+ghost use Rattle.txs_expand.specs.Expressions.{changing, made, named, named_all, named_bindings, narrow, parted, put_together, spot_mark};
+ghost use Rattle.txs_expand.specs.Expansions.{alone};
+ghost use Rattle.txs_resolve.specs.Given.{Fills, IsWithin, PushesAll, PushesBound, Wants};
+ghost use Rattle.txs_nodes.specs.Given.{Pushes};
+ghost use Rattle.txs_expand.specs.Parts.{part_form, plain, special_form, PartFits, SpecialFits};
+ghost use Rattle.txs_nodes.specs.declared.stop.Stop.TheVariants.{Memory};
+ghost use Rattle.txs_expand.specs.declared.parts.Special.TheVariants as special;
 
-use crate::error::{ResolveErrorKind, Stop, refused};
-use crate::nodes::{
-    Change, Couple, Spot, bindable, build, build_change, callee, flag_at, hide, push_whole,
-};
-use crate::parts::{Core, Part, Special, alone};
-use crate::plans::plan;
+use crate::below::{are_wanted, bindable, flag_at, hide, inner, last_wanted, part_wanted};
 use std::alloc::Global;
+use txs_expand::{Change, Core, Couple, Part, ResolveErrorKind, Special, Spot, callee, core_at};
 use txs_names::{FormName, Scope};
+use txs_nodes::{Stop, build, build_change, push_whole, refused};
 use txs_reader::Form;
 use txs_tree::Node;
 use txs_value::limits::MOST_ITEMS;
@@ -35,9 +33,8 @@ pub fn expression<'a>(
     ensures kept { OnOk result (scope.new ≡ scope.old) }
     ensures memory { IfErr result (λ e. e ≡ Memory → Wants scope.old spot (alone (part_form spot.span part.entry))) }
 {
-    let part = alone(part);
-    let spot = spot.at(part.span(spot.span));
-    match plan(scope, spot, part)? {
+    let (spot, core) = core_at(scope, spot, part)?;
+    match core {
         Core::Whole(whole) => push_whole(scope, nodes, spot, whole),
         Core::Parted(special) => parted(alloc, scope, nodes, spot, special),
         Core::Changing(change, cell, function, args) => changed(
@@ -92,7 +89,7 @@ fn changed<'a>(
         alloc,
         scope,
         &mut parts,
-        spot.inner(true),
+        inner(spot, true),
         Part::Written(cell),
     )?;
     let callee = callee(scope, spot, function)?;
@@ -117,11 +114,11 @@ fn children<'a>(
 {
     match special {
         Special::Row(kind, forms) => {
-            let (wanted, last) = (kind.are_wanted(), kind.last_wanted(spot.wanted));
+            let (wanted, last) = (are_wanted(kind), last_wanted(kind, spot.wanted));
             items(alloc, scope, parts, spot, wanted, last, forms)
         },
         Special::Single(single, part) => {
-            let inner = spot.inner(single.part_wanted(spot.wanted));
+            let inner = inner(spot, part_wanted(single, spot.wanted));
             expression(alloc, scope, parts, inner, part)
         }
         Special::Pair(couple, first, second) => pair(
@@ -156,7 +153,7 @@ fn pair<'a>(
     ensures nodes { Fills result (special.Pair couple first.entry second.entry) parts.new.items (spot_mark spot) (put_together (named (spot.room - 1)) scope.old spot (special_form spot.span (special.Pair couple first.entry second.entry))) }
     ensures kept { OnOk result (scope.new ≡ scope.old) }
 {
-    let inner = spot.inner(true);
+    let inner = inner(spot, true);
     expression(alloc, scope, parts, inner, first)?;
     expression(alloc, scope, parts, inner, Part::Written(second))
 }
@@ -179,8 +176,8 @@ fn choice<'a>(
     ensures nodes { Fills result (special.Choice turned test.entry one.entry other.entry) parts.new.items (spot_mark spot) (put_together (named (spot.room - 1)) scope.old spot (special_form spot.span (special.Choice turned test.entry one.entry other.entry))) }
     ensures kept { OnOk result (scope.new ≡ scope.old) }
 {
-    let branch = spot.inner(spot.wanted);
-    expression(alloc, scope, parts, spot.inner(true), test)?;
+    let branch = inner(spot, spot.wanted);
+    expression(alloc, scope, parts, inner(spot, true), test)?;
     expression(alloc, scope, parts, branch, one)?;
     expression(alloc, scope, parts, branch, other)
 }
@@ -207,7 +204,7 @@ fn bound<'a>(
         alloc,
         scope,
         parts,
-        spot.inner(spot.wanted),
+        inner(spot, spot.wanted),
         Part::List(FormName::Do, forms),
     )?;
     scope.truncate(outer);
@@ -230,13 +227,13 @@ fn hidden<'a>(
     ensures nodes { Fills result (special.Hidden is_or first.entry rest.entry) parts.new.items (spot_mark spot) (put_together (named (spot.room - 1)) scope.old spot (special_form spot.span (special.Hidden is_or first.entry rest.entry))) }
     ensures kept { OnOk result (scope.new ≡ scope.old) }
 {
-    expression(alloc, scope, parts, spot.inner(true), Part::Written(first))?;
+    expression(alloc, scope, parts, inner(spot, true), Part::Written(first))?;
     let local = hide(scope, spot)?;
     expression(
         alloc,
         scope,
         parts,
-        spot.inner(spot.wanted),
+        inner(spot, spot.wanted),
         Part::Choice(local, is_or, rest),
     )?;
     scope.truncate(usize::from(local));
@@ -262,7 +259,7 @@ fn bindings<'a>(
             alloc,
             scope,
             values,
-            spot.inner(true),
+            inner(spot, true),
             Part::Written(&pairs[at + 1]),
         )?;
         let name = bindable(scope, &pairs[at])?;
@@ -295,7 +292,13 @@ fn items<'a>(
     }
     for (i, form) in forms.iter().enumerate() {
         let wanted = flag_at(wanted, last, forms, i);
-        expression(alloc, scope, nodes, spot.inner(wanted), Part::Written(form))?;
+        expression(
+            alloc,
+            scope,
+            nodes,
+            inner(spot, wanted),
+            Part::Written(form),
+        )?;
     }
     Ok(())
 }

@@ -13,12 +13,12 @@ ghost use Rattle.txs_value.specs.declared.fault.Span.{Span};
 ghost use Rattle.txs_value.specs.declared.value.CellId.{CellId};
 ghost use Rattle.txs_value.specs.declared.value.Value.{Value};
 ghost use Rattle.txs_value.specs.declared.value.Value.TheVariants.{Cell};
-ghost use Rattle.txs_resolve.specs.Answers.{refuse};
+ghost use Rattle.txs_expand.specs.Answers.{refuse};
 ghost use Rattle.txs_resolve.specs.Defined.{AllDiffer, define_all};
 ghost use Rattle.txs_resolve.specs.Names.{behind_namespace, Resolves, ResolveStops};
-ghost use Rattle.txs_resolve.specs.Expressions.{named};
-ghost use Rattle.txs_resolve.specs.declared.error.ResolveError.{ResolveError};
-ghost use Rattle.txs_resolve.specs.declared.error.ResolveErrorKind.TheVariants.{UnknownName};
+ghost use Rattle.txs_expand.specs.Expressions.{named};
+ghost use Rattle.txs_expand.specs.declared.error.ResolveError.{ResolveError};
+ghost use Rattle.txs_expand.specs.declared.error.ResolveErrorKind.TheVariants.{UnknownName};
 
 /// The program that forms are is scoped: each local and function that it names is there, and the limits are kept.
 pub fn resolved_is_scoped()

@@ -4,18 +4,13 @@
 //! or one refusal; `resolve` answers the same.
 #![tactic(auto)]
 
+mod below;
 mod definition;
-pub mod error;
 mod expression;
 pub mod law;
-mod levels;
-mod literal;
-mod nodes;
-mod parts;
-mod plans;
 pub mod resolver;
 mod script;
 
-pub use error::{ResolveError, ResolveErrorKind};
 pub use resolver::resolve;
+pub use txs_expand::{ResolveError, ResolveErrorKind};
 pub use txs_tree::Raw;

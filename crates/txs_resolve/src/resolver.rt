@@ -5,14 +5,15 @@ ghost use Rattle.txs_resolve.specs.Given.{Leaves};
 ghost use Rattle.txs_resolve.specs.Names.{Resolves, ResolveStops, no_memory, nothing, behind_namespace, steps};
 ghost use Rattle.txs_resolve.specs.Memory.{OneWants};
 ghost use Rattle.txs_resolve.specs.Scripts.{state_of, IsScript};
-ghost use Rattle.txs_resolve.specs.declared.error.Stop.TheVariants as stop;
-ghost use Rattle.txs_resolve.specs.declared.error.ResolveErrorKind.TheVariants.{Memory};
+ghost use Rattle.txs_nodes.specs.declared.stop.Stop.TheVariants as stop;
+ghost use Rattle.txs_expand.specs.declared.error.ResolveErrorKind.TheVariants.{Memory};
 ghost use Rattle.txs_reader.specs.Tree.{trees};
 ghost use Rattle.txs_tree.specs.View.{program_of};
 
-use crate::error::{ResolveError, ResolveErrorKind, Stop};
 use crate::script::{Script, is_namespace, step};
 use std::alloc::Global;
+use txs_expand::{ResolveError, ResolveErrorKind};
+use txs_nodes::Stop;
 use txs_reader::Form;
 use txs_tree::Raw;
 use txs_value::Span;

@@ -1,13 +1,14 @@
 //! Top-level forms: definitions, functions and threads.
 
 ghost use Rattle.std.specs.Prelude.{◌≡◌, ◌<◌, ◌≤◌, [], ◌∷◌, ◌++◌, length, Some, None, OnOk, Ok, IfOk, IfErr};
-ghost use Rattle.txs_resolve.specs.Given.{Gives, GivesLocals, Leaves};
-ghost use Rattle.txs_resolve.specs.Parts.{seen};
+ghost use Rattle.txs_nodes.specs.Given.{Gives};
+ghost use Rattle.txs_resolve.specs.Given.{GivesLocals, Leaves};
+ghost use Rattle.txs_expand.specs.Parts.{seen};
 ghost use Rattle.txs_resolve.specs.Memory.{DefinitionWants, FormWants, FunctionWants};
-ghost use Rattle.txs_resolve.specs.declared.error.Stop.TheVariants.{Memory};
-ghost use Rattle.txs_resolve.specs.Expansions.{body, form_at};
+ghost use Rattle.txs_nodes.specs.declared.stop.Stop.TheVariants.{Memory};
+ghost use Rattle.txs_expand.specs.Expansions.{body, form_at};
 ghost use Rattle.txs_resolve.specs.Names.{nothing, entered, new_cell, new_name, named_form, define, untold, written, function, future, parameter, parameters, are_symbols, step, with_cell, with_constant, with_definition, with_function, names_space, is_namespace};
-ghost use Rattle.txs_resolve.specs.Expressions.{is_symbol, named};
+ghost use Rattle.txs_expand.specs.Expressions.{is_symbol, named};
 ghost use Rattle.txs_names.specs.declared.names.FormName.TheVariants.{Ns};
 ghost use Rattle.txs_names.specs.declared.scope.Definition.TheVariants.{Function as AFunction};
 ghost use Rattle.txs_names.specs.Scope.{definition_of, with_locals};
@@ -20,14 +21,11 @@ ghost use Rattle.txs_tree.specs.View.{functions_of, threads_of, tree_of};
 ghost use Rattle.txs_value.specs.Limits.{most_definitions, most_levels, most_parameters, most_threads};
 
 use crate::definition::{CellSort, Opening, defining_of};
-use crate::error::{ResolveError, ResolveErrorKind, Stop, refusal, refused};
 use crate::expression::expression;
-use crate::levels::levels;
-use crate::literal::literal;
-use crate::nodes::{Spot, is_symbol};
-use crate::parts::{Part, form_at};
 use std::alloc::{AllocError, Global};
+use txs_expand::{Part, ResolveError, ResolveErrorKind, Spot, form_at, is_symbol, refusal};
 use txs_names::{Definition, FormName, Scope, may_bind, operation_of};
+use txs_nodes::{Stop, levels, literal, refused};
 use txs_reader::{Bracket, Form};
 use txs_tree::{Function, Node, Thread};
 use txs_value::limits::{MOST_DEFINITIONS, MOST_DEPTH, MOST_LEVELS, MOST_PARAMETERS, MOST_THREADS};

@@ -2,7 +2,7 @@ use Rattle.std.proofs.Common.{◌≡◌, ◌∷◌, List, [], None, length, refl
 use Rattle.txs_value.specs.declared.value.CellKind.TheVariants.{Agent}
 use Rattle.txs_reader.specs.declared.form.Form.{Form}
 use Rattle.txs_resolve.specs.Names.{mode_behind}
-use Rattle.txs_resolve.specs.Parts.{plain}
+use Rattle.txs_expand.specs.Parts.{plain}
 use Rattle.txs_resolve.proofs.definition.mode_behind.Goals as goal
 
 -- more than a keyword and a mode

@@ -5,18 +5,19 @@ use Rattle.txs_reader.specs.Tree.{tree}
 use Rattle.txs_tree.specs.declared.node.Node.{Node}
 use Rattle.txs_tree.specs.View.{trees_of}
 use Rattle.txs_names.specs.Scope.{Scope, with_local, with_locals}
-use Rattle.txs_resolve.specs.declared.nodes.Spot.{Spot}
-use Rattle.txs_resolve.specs.declared.parts.Part.TheVariants as part
-use Rattle.txs_resolve.specs.declared.parts.Special.TheVariants as special
-use Rattle.txs_resolve.specs.declared.parts.Core.TheVariants as core
-use Rattle.txs_resolve.specs.Answers.{◌>>=◌}
-use Rattle.txs_resolve.specs.Expansions.{alone}
-use Rattle.txs_resolve.specs.Expressions.{bound_name, flag, leaf_node, made, named, named_all, named_bindings, narrow, put_together, spot_at, spot_mark}
-use Rattle.txs_resolve.specs.Given.{Fills, IsWithin, Pushes, Wants}
-use Rattle.txs_resolve.specs.Parts.{core_form, part_form, plain, special_form, whole_leaf}
+use Rattle.txs_expand.specs.declared.shapes.Spot.{Spot}
+use Rattle.txs_expand.specs.declared.parts.Part.TheVariants as part
+use Rattle.txs_expand.specs.declared.parts.Special.TheVariants as special
+use Rattle.txs_expand.specs.declared.parts.Core.TheVariants as core
+use Rattle.txs_expand.specs.Expansions.{alone}
+use Rattle.txs_expand.specs.Expressions.{bound_name, flag, leaf_node, made, named, named_all, named_bindings, narrow, put_together, spot_mark}
+use Rattle.txs_resolve.specs.Given.{Fills, IsWithin, Wants}
+use Rattle.txs_nodes.specs.Given.{Pushes}
+use Rattle.txs_expand.specs.Parts.{core_form, part_form, plain, special_form, whole_leaf}
 use Rattle.txs_resolve.proofs.Building.{all_end, all_step, bindings_end, bindings_step, bindings_unvalued, bound_after, within_push}
-use Rattle.txs_resolve.proofs.Fillings.{args_then, bound_filled, changed_whole, choice_filled, hidden_filled, hidden_full, hidden_stops, hidden_whole, named_part, narrow_ok, pair_filled, pair_stops, passed_bound, passed_filling, passed_items, remade, row_filled, single_filled, wants_part}
-use Rattle.txs_resolve.proofs.Stops.{bound_nil, full_stop, wanting, wanting_as}
+use Rattle.txs_resolve.proofs.Fillings.{args_then, bound_filled, changed_whole, choice_filled, hidden_filled, hidden_full, hidden_stops, hidden_whole, named_core, named_stop, narrow_ok, pair_filled, pair_stops, passed_bound, passed_filling, passed_items, remade, row_filled, single_filled, wants_core}
+use Rattle.txs_resolve.proofs.Stops.{bound_nil, full_stop}
+use Rattle.txs_nodes.proofs.Stops.{wanting, wanting_as}
 use Rattle.txs_resolve.proofs.expression.+resolve.Goals as goal
 
 counted : (before now : List Node) (n : Node) (k : ℕ) → before ≡ [] → now ≡ before ++ n ∷ [] → length now + k ≡ suc k
@@ -24,45 +25,37 @@ counted before now n k empty is = omega (arith, ap (λ (l : List Node). length l
 
 -- ---- forms
 
-pub expression-plan-requires-clause-fits : goal.expression-plan-requires-clause-fits
-expression-plan-requires-clause-fits t c = c.alone-part.ensures.fits c.args.scope.now c.requires
-
-pub expression-returns-in_err-whole-clause-node : goal.expression-returns-in_err-whole-clause-node
-expression-returns-in_err-whole-clause-node t c =
+pub expression-returns-in_err-spot-clause-node : goal.expression-returns-in_err-spot-clause-node
+expression-returns-in_err-spot-clause-node t c =
     let p = err_from_is_err_and c.from_residual.result c.from_residual.ensures.1 in
-    let s = c.at-spot.result in
-    let whole = named_part c.args.spot.span c.args.spot.room c.args.scope.now c.args.spot.wanted c.args.part c.alone-part.result s (c.alone-part.ensures.form c.args.spot.span)
-    (c.at-spot.ensures ∙ ap (λ at. spot_at c.args.spot.room at c.args.spot.wanted) c.span.ensures) in
-    rw (p.1, p.2) (whole ∙ ap (λ o. o >>= made (named (s.room - 1)) c.args.scope.now s) (sym c.in_err-whole.ensures.core))
+    let here = c.args.spot in
+    rw (p.1, p.2) (named_stop here c.args.scope.now (part_form here.span c.args.part) _ c.in_err-spot.ensures.core)
 
 pub expression-returns-in-Whole-clause-node : goal.expression-returns-in-Whole-clause-node
 expression-returns-in-Whole-clause-node t c =
-    let s = c.at-spot.result in
-    let scope = c.args.scope.now in
-    let whole = named_part c.args.spot.span c.args.spot.room scope c.args.spot.wanted c.args.part c.alone-part.result s (c.alone-part.ensures.form c.args.spot.span)
-    (c.at-spot.ensures ∙ ap (λ at. spot_at c.args.spot.room at c.args.spot.wanted) c.span.ensures) in
+    let here = c.args.spot in
+    let s = c.in_ok-spot.spot in
+    let found = c.in_ok-spot.ensures in
     subst (Pushes c.push_whole.result c.args.nodes.now.items c.push_whole.new.nodes.items)
-    (sym (whole ∙ ap (λ o. o >>= made (named (s.room - 1)) scope s) (sym c.in_ok-whole.ensures.core) ∙ ap (λ k. made (named (s.room - 1)) scope s (core_form s.span k)) c.in-Whole.is))
+    (sym (named_core here c.args.scope.now (part_form here.span c.args.part) s (core_form s.span (core.Whole c.in-Whole.whole)) found.spot (ap (λ k. Ok (core_form s.span k)) (sym c.in-Whole.is) ∙ found.core)))
     c.push_whole.ensures.node
 
 pub expression-returns-in-Parted-clause-node : goal.expression-returns-in-Parted-clause-node
 expression-returns-in-Parted-clause-node t c =
-    let s = c.at-spot.result in
-    let scope = c.args.scope.now in
-    let whole = named_part c.args.spot.span c.args.spot.room scope c.args.spot.wanted c.args.part c.alone-part.result s (c.alone-part.ensures.form c.args.spot.span)
-    (c.at-spot.ensures ∙ ap (λ at. spot_at c.args.spot.room at c.args.spot.wanted) c.span.ensures) in
+    let here = c.args.spot in
+    let s = c.in_ok-spot.spot in
+    let found = c.in_ok-spot.ensures in
     subst (Pushes c.parted.result c.args.nodes.now.items c.parted.new.nodes.items)
-    (sym (whole ∙ ap (λ o. o >>= made (named (s.room - 1)) scope s) (sym c.in_ok-whole.ensures.core) ∙ ap (λ k. made (named (s.room - 1)) scope s (core_form s.span k)) c.in-Parted.is))
+    (sym (named_core here c.args.scope.now (part_form here.span c.args.part) s (core_form s.span (core.Parted c.in-Parted.special)) found.spot (ap (λ k. Ok (core_form s.span k)) (sym c.in-Parted.is) ∙ found.core)))
     c.parted.ensures.node
 
 pub expression-returns-in-Changing-clause-node : goal.expression-returns-in-Changing-clause-node
 expression-returns-in-Changing-clause-node t c =
-    let s = c.at-spot.result in
-    let scope = c.args.scope.now in
-    let whole = named_part c.args.spot.span c.args.spot.room scope c.args.spot.wanted c.args.part c.alone-part.result s (c.alone-part.ensures.form c.args.spot.span)
-    (c.at-spot.ensures ∙ ap (λ at. spot_at c.args.spot.room at c.args.spot.wanted) c.span.ensures) in
+    let here = c.args.spot in
+    let s = c.in_ok-spot.spot in
+    let found = c.in_ok-spot.ensures in
     subst (Pushes c.changed.result c.args.nodes.now.items c.changed.new.nodes.items)
-    (sym (whole ∙ ap (λ o. o >>= made (named (s.room - 1)) scope s) (sym c.in_ok-whole.ensures.core) ∙ ap (λ k. made (named (s.room - 1)) scope s (core_form s.span k)) c.in-Changing.is))
+    (sym (named_core here c.args.scope.now (part_form here.span c.args.part) s (core_form s.span (core.Changing c.in-Changing.change c.in-Changing.cell c.in-Changing.function c.in-Changing.args)) found.spot (ap (λ k. Ok (core_form s.span k)) (sym c.in-Changing.is) ∙ found.core)))
     c.changed.ensures.node
 
 pub changed-returns-in_err-items-clause-node : goal.changed-returns-in_err-items-clause-node
@@ -100,42 +93,42 @@ parted-build-requires t c m =
 
 -- ---- where memory is wanted
 
-pub expression-returns-in_err-whole-clause-memory : goal.expression-returns-in_err-whole-clause-memory
-expression-returns-in_err-whole-clause-memory t c =
+pub expression-returns-in_err-spot-clause-memory : goal.expression-returns-in_err-spot-clause-memory
+expression-returns-in_err-spot-clause-memory t c =
     let p = err_from_is_err_and c.from_residual.result c.from_residual.ensures.1 in
     rw (p.1, p.2) (λ e. absurd cc)
 
 pub expression-returns-in-Whole-clause-memory : goal.expression-returns-in-Whole-clause-memory
 expression-returns-in-Whole-clause-memory t c =
-    let s = c.at-spot.result in
-    let scope = c.args.scope.now in
     let here = c.args.spot in
-    wanting_as c.push_whole.result (IsOk (leaf_node scope (whole_leaf c.in-Whole.whole) s)) (Wants scope here (alone (part_form here.span c.args.part)))
-    (wants_part here.span here.room scope here.wanted c.args.part c.alone-part.result s (c.alone-part.ensures.form here.span)
-    (c.at-spot.ensures ∙ ap (λ at. spot_at here.room at here.wanted) c.span.ensures) (Ok (core_form s.span (core.Whole c.in-Whole.whole)))
-    (sym c.in_ok-whole.ensures.core ∙ ap (λ k. Ok (core_form s.span k)) c.in-Whole.is))
+    let s = c.in_ok-spot.spot in
+    let scope = c.args.scope.now in
+    let form = part_form here.span c.args.part in
+    let found = c.in_ok-spot.ensures in
+    wanting_as c.push_whole.result (IsOk (leaf_node scope (whole_leaf c.in-Whole.whole) s)) (Wants scope here (alone form))
+    (wants_core here scope form s (core_form s.span (core.Whole c.in-Whole.whole)) found.spot (ap (λ k. Ok (core_form s.span k)) (sym c.in-Whole.is) ∙ found.core))
     c.push_whole.ensures.memory
 
 pub expression-returns-in-Parted-clause-memory : goal.expression-returns-in-Parted-clause-memory
 expression-returns-in-Parted-clause-memory t c =
-    let s = c.at-spot.result in
-    let scope = c.args.scope.now in
     let here = c.args.spot in
-    wanting_as c.parted.result (1 ≤ s.room) (Wants scope here (alone (part_form here.span c.args.part)))
-    (wants_part here.span here.room scope here.wanted c.args.part c.alone-part.result s (c.alone-part.ensures.form here.span)
-    (c.at-spot.ensures ∙ ap (λ at. spot_at here.room at here.wanted) c.span.ensures) (Ok (core_form s.span (core.Parted c.in-Parted.special)))
-    (sym c.in_ok-whole.ensures.core ∙ ap (λ k. Ok (core_form s.span k)) c.in-Parted.is))
+    let s = c.in_ok-spot.spot in
+    let scope = c.args.scope.now in
+    let form = part_form here.span c.args.part in
+    let found = c.in_ok-spot.ensures in
+    wanting_as c.parted.result (1 ≤ s.room) (Wants scope here (alone form))
+    (wants_core here scope form s (core_form s.span (core.Parted c.in-Parted.special)) found.spot (ap (λ k. Ok (core_form s.span k)) (sym c.in-Parted.is) ∙ found.core))
     c.parted.ensures.memory
 
 pub expression-returns-in-Changing-clause-memory : goal.expression-returns-in-Changing-clause-memory
 expression-returns-in-Changing-clause-memory t c =
-    let s = c.at-spot.result in
-    let scope = c.args.scope.now in
     let here = c.args.spot in
-    wanting_as c.changed.result (1 ≤ s.room) (Wants scope here (alone (part_form here.span c.args.part)))
-    (wants_part here.span here.room scope here.wanted c.args.part c.alone-part.result s (c.alone-part.ensures.form here.span)
-    (c.at-spot.ensures ∙ ap (λ at. spot_at here.room at here.wanted) c.span.ensures) (Ok (core_form s.span (core.Changing c.in-Changing.change c.in-Changing.cell c.in-Changing.function c.in-Changing.args)))
-    (sym c.in_ok-whole.ensures.core ∙ ap (λ k. Ok (core_form s.span k)) c.in-Changing.is))
+    let s = c.in_ok-spot.spot in
+    let scope = c.args.scope.now in
+    let form = part_form here.span c.args.part in
+    let found = c.in_ok-spot.ensures in
+    wanting_as c.changed.result (1 ≤ s.room) (Wants scope here (alone form))
+    (wants_core here scope form s (core_form s.span (core.Changing c.in-Changing.change c.in-Changing.cell c.in-Changing.function c.in-Changing.args)) found.spot (ap (λ k. Ok (core_form s.span k)) (sym c.in-Changing.is) ∙ found.core))
     c.changed.ensures.memory
 
 pub parted-returns-in_err-children-clause-memory : goal.parted-returns-in_err-children-clause-memory

@@ -1,8 +1,8 @@
 use Rattle.std.proofs.Common.{◌≡◌, ◌≤◌, ◌-◌, ◌+◌, ◌*◌, ◌++◌, List, drop, length}
 use Rattle.txs_tree.specs.declared.node.Node.{Node}
-use Rattle.txs_resolve.specs.Expressions.{named, named_all, named_bindings}
+use Rattle.txs_expand.specs.Expressions.{named, named_all, named_bindings}
 use Rattle.txs_resolve.specs.Given.{IsWithin}
-use Rattle.txs_resolve.specs.Parts.{plain}
+use Rattle.txs_expand.specs.Parts.{plain}
 use Rattle.txs_resolve.proofs.Building.{all_after, bound_after}
 use Rattle.txs_resolve.proofs.expression.+resolve.Given as goal
 

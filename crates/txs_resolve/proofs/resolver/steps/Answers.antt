@@ -2,8 +2,8 @@ use Rattle.std.proofs.Common.{◌≡◌, ◌<◌, ◌+◌, ◌∷◌, ℕ, List,
 use Rattle.std.proofs.lemmas.Result.{err_from_is_err_and}
 use Rattle.txs_reader.specs.declared.form.Form.{Form}
 use Rattle.txs_reader.specs.Tree.{tree, trees}
-use Rattle.txs_resolve.specs.Answers.{◌>>=◌}
-use Rattle.txs_resolve.specs.Expressions.{Answer}
+use Rattle.txs_expand.specs.Answers.{◌>>=◌}
+use Rattle.txs_expand.specs.Expressions.{Answer}
 use Rattle.txs_resolve.specs.Memory.{OneWants}
 use Rattle.txs_resolve.specs.Names.{State, step, steps}
 use Rattle.txs_resolve.specs.Scripts.{state_of}

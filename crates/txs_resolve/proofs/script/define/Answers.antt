@@ -1,9 +1,9 @@
-use Rattle.std.proofs.Common.{◌<◌, IsSome, refl, sym, ap, ◌∙◌, subst, arith}
+use Rattle.std.proofs.Common.{IsSome, refl, sym, ap, ◌∙◌, subst, arith}
 use Rattle.txs_resolve.specs.Memory.{DefinitionWants}
 use Rattle.txs_resolve.specs.Names.{named_form}
-use Rattle.txs_resolve.specs.Parts.{plain}
+use Rattle.txs_expand.specs.Parts.{plain}
 use Rattle.txs_resolve.specs.Scripts.{defining, name_and_form, state_of}
-use Rattle.txs_resolve.proofs.Stops.{wanting}
+use Rattle.txs_nodes.proofs.Stops.{wanting}
 use Rattle.txs_resolve.proofs.script.define.Goals as goal
 
 pub returns-clause-memory : goal.returns-clause-memory

@@ -1,14 +1,14 @@
 use Rattle.std.proofs.Common.{◌<◌, length, sym, ap, ◌∙◌, subst, arith, false, Ok, Err}
 use Rattle.std.proofs.lemmas.Result.{err_from_is_err_and}
 use Rattle.txs_tree.specs.View.{threads_of, tree_of}
-use Rattle.txs_resolve.specs.Expansions.{body}
-use Rattle.txs_resolve.specs.Expressions.{named}
+use Rattle.txs_expand.specs.Expansions.{body}
+use Rattle.txs_expand.specs.Expressions.{named}
 use Rattle.txs_resolve.specs.Given.{Leaves}
 use Rattle.txs_resolve.specs.Names.{State, future}
 use Rattle.txs_resolve.specs.Scripts.{ScopedState, state_of}
-use Rattle.txs_resolve.specs.declared.error.Stop.{Stop}
-use Rattle.txs_resolve.specs.Parts.{plain}
-use Rattle.txs_resolve.proofs.Stops.{wanting}
+use Rattle.txs_nodes.specs.declared.stop.Stop.{Stop}
+use Rattle.txs_expand.specs.Parts.{plain}
+use Rattle.txs_nodes.proofs.Stops.{wanting}
 use Rattle.txs_resolve.proofs.TopLevel.{failed_leaves}
 use Rattle.txs_resolve.proofs.Scoping.{Every}
 use Rattle.txs_resolve.proofs.ScopedScripts.{future_scoped}

@@ -1,6 +1,6 @@
 use Rattle.std.proofs.Common.{sym, ap, ◌∙◌}
 use Rattle.txs_reader.specs.Tree.{tree}
-use Rattle.txs_resolve.specs.Expressions.{is_symbol}
+use Rattle.txs_expand.specs.Expressions.{is_symbol}
 use Rattle.txs_resolve.proofs.TopLevel.{not_one_name, one_name}
 use Rattle.txs_resolve.proofs.script.is_name.Goals as goal
 

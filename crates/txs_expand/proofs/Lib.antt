@@ -1,0 +1,4 @@
+pub mod HiddenLocals
+pub mod Rows
+pub mod Singles
+pub mod Tables

@@ -1,0 +1,5 @@
+pub mod Answers
+pub mod Expansions
+pub mod Expressions
+pub mod Parts
+pub mod Reported

@@ -1,0 +1,5 @@
+pub mod Leaves
+pub mod LevelLists
+pub mod Literals
+pub mod NodeTrees
+pub mod Stops

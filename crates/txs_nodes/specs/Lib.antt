@@ -1,0 +1,4 @@
+pub mod Depths
+pub mod Given
+pub mod Literals
+pub mod Made
