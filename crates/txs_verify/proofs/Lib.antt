@@ -11,3 +11,5 @@ pub mod Stands
 pub mod Lawfulness
 pub mod Roomy
 pub mod Ends
+pub mod Least
+pub mod IllTyped

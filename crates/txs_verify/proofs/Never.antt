@@ -17,7 +17,7 @@ some_is : {A : Type 0} (x y : A) → Some x ≡ Some y → x ≡ y
 some_is x y e = cc
 
 -- how many transactions are open in a stage
-abbrev txs_in : Stage → ℕ
+abbrev pub txs_in : Stage → ℕ
 txs_in (plain t) = t
 txs_in (opened t n by) = t
 txs_in (applied t by) = t
@@ -213,6 +213,14 @@ right_at fs owner callable ks b room typed p d t comes =
       ends = subst (λ x. EndsWell owner d x deep.0) one (ends_well_of fs owner ss fs.parameters ds room p d (stage_for b.instrs p t) deep.0 deep.2 stage);
       allowed = allowed_of fs owner ss p (stage_for b.instrs p t) deep.0 stage;
     }
+
+-- what a path comes to fits the stage there, in as many transactions as the path
+pub staged_at : (fs : Functions) (owner : Owner) (callable : ℕ) (ks : List Value) (b : CodeBody) (room : ℕ) → WellTypedBody fs owner callable ks b room → (p d t : ℕ) (i : Instr) → IsMet fs.parameters b.instrs p d t i → (ss : Stages) × FitsStage fs owner ss p (stage_for b.instrs p t) i × (txs_in (stage_for b.instrs p t) ≡ t)
+staged_at fs owner callable ks b room typed p d t i met =
+    let ss = typed.staging.0 in
+    let staged = typed.staging.1.fits p (stage_for b.instrs p t) (has_stage fs owner b ss (λ at i stands. jumps callable fs.parameters ks b at i (typed.lawful at i stands)) typed.staging.1 met.comes.0 p d t met.comes.1) in
+    let same : staged.0 ≡ i = some_is staged.0 i (sym staged.1 ∙ met.stands) in
+    (ss, subst (λ x. FitsStage fs owner ss p (stage_for b.instrs p t) x) same staged.2, txs_are (opens (before b.instrs p)) (opens (before_that b.instrs p)) t)
 
 -- ---- no refusal is true of a well-typed body
 

@@ -1,4 +1,5 @@
 pub mod Alone
+pub mod Errors
 pub mod Going
 pub mod Marks
 pub mod Paths

@@ -2,6 +2,7 @@
 use Rattle.std.specs.Prelude.{◌≡◌, ◌⊎◌, ℕ, zero, suc, ◌<◌, ◌≤◌, Bool, true, false, List, [], ◌∷◌, length, Some}
 use Rattle.txs_value.specs.Places.{nth}
 use Rattle.txs_code.specs.PlainCode.{CodeBody, PlainCode, parameters_of}
+use Rattle.txs_code.specs.WellTyped.{WellTyped}
 use Rattle.txs_code.specs.declared.instr.Instr.{Instr}
 use Rattle.txs_verify.specs.Alone.{HasConstant, IsRightBody, IsWrongAlone}
 use Rattle.txs_verify.specs.Going.{AreReached}
@@ -138,6 +139,10 @@ pub data IsRefused (code : PlainCode) (e : VerifyError) : Type 0 where
   in_a_thread : AreRightBodies false code.functions code.functions (length code.functions) → IsRefusedAlone true code.functions code.threads e → IsRefused code e
   on_paths_of_a_function : AllAreRight code → IsRefusedFunction code.functions e → IsRefused code e
   on_paths_of_a_thread : AllAreRight code → (ks : List Kind) → AreKinds (parameters_of code.functions) code.functions ks → length ks ≡ length code.functions → IsRefusedOnPaths ks true (parameters_of code.functions) code.threads e → IsRefused code e
+
+-- With no rooms for stacks is the code well typed.
+abbrev pub IsIllTyped : PlainCode → Type 0
+IsIllTyped code = (function_rooms thread_rooms : List ℕ) → WellTyped code function_rooms thread_rooms → ⊥
 
 -- the error that a stop is, of a body
 abbrev pub stopped : Bool → ℕ → Stop → VerifyError

@@ -1,12 +1,13 @@
 //! Why code is refused, and where.
 
 ghost use Rattle.std.specs.Prelude.{◌≡◌};
+ghost use Rattle.txs_verify.specs.Errors.{verify_number, verify_name};
 ghost use Rattle.txs_verify.specs.Walk.{out_of_memory};
 
 use std::alloc::{AllocError, AllocFailed};
 
 /// The reasons for which code is refused.
-#[derive(Clone, Copy)]
+#[derive(Clone, Copy, PartialEq, Eq)]
 pub enum VerifyErrorKind {
     /// A jump to what is no place of the body.
     JumpOut,
@@ -28,8 +29,44 @@ pub enum VerifyErrorKind {
     Memory,
 }
 
+impl VerifyErrorKind {
+    /// The number under which the reason is reported: 41 to 48, and 0 for want of memory.
+    pub fn number(self) -> u8
+        ensures { result ≡ verify_number self }
+    {
+        match self {
+            VerifyErrorKind::JumpOut => 41,
+            VerifyErrorKind::StackLow => 42,
+            VerifyErrorKind::StackDiffers => 43,
+            VerifyErrorKind::LocalOut => 44,
+            VerifyErrorKind::ArityWrong => 45,
+            VerifyErrorKind::CallOrder => 46,
+            VerifyErrorKind::TxNesting => 47,
+            VerifyErrorKind::FallsOff => 48,
+            VerifyErrorKind::Memory => 0,
+        }
+    }
+
+    /// The name under which the reason is reported.
+    pub fn name(self) -> &'static str
+        ensures { result.now ≡ verify_name self }
+    {
+        match self {
+            VerifyErrorKind::JumpOut => "JumpOut",
+            VerifyErrorKind::StackLow => "StackLow",
+            VerifyErrorKind::StackDiffers => "StackDiffers",
+            VerifyErrorKind::LocalOut => "LocalOut",
+            VerifyErrorKind::ArityWrong => "ArityWrong",
+            VerifyErrorKind::CallOrder => "CallOrder",
+            VerifyErrorKind::TxNesting => "TxNesting",
+            VerifyErrorKind::FallsOff => "FallsOff",
+            VerifyErrorKind::Memory => "Memory",
+        }
+    }
+}
+
 /// A body of the code.
-#[derive(Clone, Copy)]
+#[derive(Clone, Copy, PartialEq, Eq)]
 pub enum BodyName {
     /// That of a function, by its number.
     Function(usize),
@@ -38,7 +75,7 @@ pub enum BodyName {
 }
 
 /// Why code is refused: the reason, the body, and the place of the instruction in it.
-#[derive(Clone, Copy)]
+#[derive(Clone, Copy, PartialEq, Eq)]
 pub struct VerifyError {
     pub kind: VerifyErrorKind,
     pub body: BodyName,

@@ -7,7 +7,7 @@ ghost use Rattle.txs_value.specs.Places.{nth};
 ghost use Rattle.txs_verify.specs.Alone.{IsRightBody, IsWrongAlone};
 ghost use Rattle.txs_verify.specs.Going.{AllJumpWithin};
 ghost use Rattle.txs_verify.specs.Marks.{mark_at};
-ghost use Rattle.txs_verify.specs.Verdict.{AreKinds, AreRightBodies, AreWalked, AreWalkedThreads, BodyInForm, IsInForm, IsRefused, IsRefusedAlone, IsRefusedFunction, IsRefusedOnPaths, IsRoomFor, IsWalked, IsWrongOnPaths, OrMemory, callable, name_of, stopped};
+ghost use Rattle.txs_verify.specs.Verdict.{AreKinds, AreRightBodies, AreWalked, AreWalkedThreads, BodyInForm, IsInForm, IsRefused, IsRefusedAlone, IsIllTyped, IsRefusedFunction, IsRefusedOnPaths, IsRoomFor, IsWalked, IsWrongOnPaths, OrMemory, callable, name_of, stopped};
 ghost use Rattle.txs_verify.specs.Walk.{WhereRefused};
 ghost use Rattle.txs_verify.specs.declared.walk.Mark.{Mark as AMark};
 
@@ -287,6 +287,8 @@ pub fn verify_code(alloc: Global, code: &Code) -> Result<Rooms, VerifyError>
     requires { IsInForm code.now }
     ensures typed { IfOk result (λ rooms. WellTyped code.now rooms.functions.items rooms.threads.items) }
     ensures refused { IfErr result (λ e. OrMemory e.kind (IsRefused code.now e)) }
+    // No refused code is well typed.
+    ensures ill_typed { IfErr result (λ e. OrMemory e.kind (IsIllTyped code.now)) }
 {
     let functions = code.functions();
     let threads = code.threads();
@@ -315,6 +317,7 @@ pub fn verify(alloc: Global, code: Code) -> Result<(Code, Rooms), (Code, VerifyE
     ensures typed { IfOk result (λ r. WellTyped code r.1.functions.items r.1.threads.items) }
     ensures kept { IfOk result (λ r. r.0 ≡ code) }
     ensures refused { IfErr result (λ r. OrMemory r.1.kind (IsRefused code r.1)) }
+    ensures ill_typed { IfErr result (λ r. OrMemory r.1.kind (IsIllTyped code)) }
     ensures handed_back { IfErr result (λ r. r.0 ≡ code) }
 {
     match verify_code(alloc, &code) {

@@ -1,5 +1,6 @@
 use Rattle.std.proofs.lemmas.Result.{err_from_is_err_and}
 use Rattle.txs_verify.proofs.Ends.{function_refused, thread_refused, all_typed}
+use Rattle.txs_verify.proofs.IllTyped.{ill_typed_or, ill_alone, ill_thread}
 use Rattle.txs_verify.proofs.verify.verify_code.Goals as goal
 
 pub returns-in_err-walk_functions-clause-refused : goal.returns-in_err-walk_functions-clause-refused
@@ -14,3 +15,25 @@ returns-in_err-walk_threads-clause-refused c =
 
 pub returns-clause-typed : goal.returns-clause-typed
 returns-clause-typed c = all_typed c.args.code.now c.functions-functions.result.now c.threads-threads.result.now c.functions-functions.ensures c.threads-threads.ensures c.in_ok-look_at_bodies.ensures.right c.in_ok-look_at_bodies-2.ensures.right c.walk_functions.new.kinds.items c.as_slice.result.now c.walk_functions.new.rooms.items c.walk_threads.new.rooms.items c.requires c.as_slice.ensures.value c.in_ok-walk_functions.ensures.walked c.in_ok-walk_functions.ensures.many c.in_ok-walk_threads.ensures.walked c.in_ok-walk_threads.ensures.many
+
+pub returns-in_err-look_at_bodies-clause-ill_typed : goal.returns-in_err-look_at_bodies-clause-ill_typed
+returns-in_err-look_at_bodies-clause-ill_typed c =
+    let p = err_from_is_err_and c.from_residual.result c.from_residual.ensures.1 in
+    rw (p.1, p.2) (ill_alone c.args.code.now c.functions-functions.result.now c.threads-threads.result.now c.functions-functions.ensures c.threads-threads.ensures c.in_err-look_at_bodies.field-0.0 c.in_err-look_at_bodies.ensures.wrong)
+
+pub returns-in_err-look_at_bodies-2-clause-ill_typed : goal.returns-in_err-look_at_bodies-2-clause-ill_typed
+returns-in_err-look_at_bodies-2-clause-ill_typed c =
+    let p = err_from_is_err_and c.from_residual-in_err-look_at_bodies-2.result c.from_residual-in_err-look_at_bodies-2.ensures.1 in
+    rw (p.1, p.2) (ill_thread c.args.code.now c.functions-functions.result.now c.threads-threads.result.now c.functions-functions.ensures c.threads-threads.ensures c.in_err-look_at_bodies-2.field-0.0 c.in_ok-look_at_bodies.ensures.right c.in_err-look_at_bodies-2.ensures.wrong)
+
+pub returns-in_err-walk_functions-clause-ill_typed : goal.returns-in_err-walk_functions-clause-ill_typed
+returns-in_err-walk_functions-clause-ill_typed c =
+    let p = err_from_is_err_and c.from_residual-in_err-walk_functions.result c.from_residual-in_err-walk_functions.ensures.1 in
+    let e = c.in_err-walk_functions.field-0.0 in
+    rw (p.1, p.2) (ill_typed_or c.args.code.now e (function_refused c.args.code.now c.functions-functions.result.now c.threads-threads.result.now c.functions-functions.ensures c.threads-threads.ensures c.in_ok-look_at_bodies.ensures.right c.in_ok-look_at_bodies-2.ensures.right e c.in_err-walk_functions.ensures.wrong))
+
+pub returns-in_err-walk_threads-clause-ill_typed : goal.returns-in_err-walk_threads-clause-ill_typed
+returns-in_err-walk_threads-clause-ill_typed c =
+    let p = err_from_is_err_and c.from_residual-in_err-walk_threads.result c.from_residual-in_err-walk_threads.ensures.1 in
+    let e = c.in_err-walk_threads.field-0.0 in
+    rw (p.1, p.2) (ill_typed_or c.args.code.now e (thread_refused c.args.code.now c.functions-functions.result.now c.threads-threads.result.now c.functions-functions.ensures c.threads-threads.ensures c.in_ok-look_at_bodies.ensures.right c.in_ok-look_at_bodies-2.ensures.right c.walk_functions.new.kinds.items c.as_slice.result.now c.walk_functions.new.rooms.items e c.as_slice.ensures.value c.in_ok-walk_functions.ensures.walked c.in_ok-walk_functions.ensures.many c.in_err-walk_threads.ensures.wrong))
