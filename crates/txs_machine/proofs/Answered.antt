@@ -11,7 +11,7 @@ use Rattle.txs_actor.specs.PlainActor.{PlainActor, MayAnswer, Stops, answered, a
 use Rattle.txs_actor.specs.declared.state.Pending.{Pending}
 use Rattle.txs_actor.specs.declared.state.Pending.TheVariants.{Begin, Read, Ensure, Open, View, Commit, Fail}
 use Rattle.txs_actor.specs.declared.state.Transaction.{Transaction}
-use Rattle.txs_actor.specs.declared.state.Transaction.TheVariants.{Outside, Restarting, Running, Applying}
+use Rattle.txs_actor.specs.declared.state.Transaction.TheVariants.{Outside, Restarting, Running, Applying, Evaluating}
 use Rattle.txs_actor.proofs.Replies.{by_reply}
 
 -- an outcome that isn't want of steps
@@ -46,6 +46,7 @@ again_leaves a (Running zero inner from) = ends a _ (outcome.Failed _) refl refl
 again_leaves a (Running (suc left) inner from) = goes a _ refl refl refl refl refl
 again_leaves a (Applying zero from phase) = ends a _ (outcome.Failed _) refl refl refl refl refl tt
 again_leaves a (Applying (suc left) from phase) = goes a _ refl refl refl refl refl
+again_leaves a (Evaluating left from phase aside) = goes a _ refl refl refl refl refl
 
 end_leaves : (a : PlainActor) (tx : Transaction) → Leaves a (end_again a tx)
 end_leaves a Outside = goes a _ refl refl refl refl refl
@@ -54,18 +55,21 @@ end_leaves a (Running zero inner from) = ends a _ (outcome.Failed _) refl refl r
 end_leaves a (Running (suc left) inner from) = goes a _ refl refl refl refl refl
 end_leaves a (Applying zero from phase) = ends a _ (outcome.Failed _) refl refl refl refl refl tt
 end_leaves a (Applying (suc left) from phase) = goes a _ refl refl refl refl refl
+end_leaves a (Evaluating left from phase aside) = goes a _ refl refl refl refl refl
 
 refuse_leaves : (a : PlainActor) (tx : Transaction) → Leaves a (refuse a tx)
 refuse_leaves a Outside = goes a _ refl refl refl refl refl
 refuse_leaves a (Restarting left) = goes a _ refl refl refl refl refl
 refuse_leaves a (Running left inner from) = ends a _ (outcome.Failed _) refl refl refl refl refl tt
 refuse_leaves a (Applying left from phase) = ends a _ (outcome.Failed _) refl refl refl refl refl tt
+refuse_leaves a (Evaluating left from phase aside) = goes a _ refl refl refl refl refl
 
 views_leaves : (a : PlainActor) (phase : PlainPhase) (q : ℕ) (vs : List Value) (tx : Transaction) → Leaves a (views a phase q vs tx)
 views_leaves a phase q vs Outside = goes a _ refl refl refl refl refl
 views_leaves a phase q vs (Restarting left) = goes a _ refl refl refl refl refl
 views_leaves a phase q vs (Running left inner from) = goes a _ refl refl refl refl refl
 views_leaves a phase q vs (Applying left from before) = goes a _ refl refl refl refl refl
+views_leaves a phase q vs (Evaluating left from before aside) = goes a _ refl refl refl refl refl
 
 full_leaves : (a : PlainActor) (p : Pending) → Leaves a (answered_for a p reply.Full)
 full_leaves a (Begin left from) = ends a _ outcome.JournalFull refl refl refl refl refl tt

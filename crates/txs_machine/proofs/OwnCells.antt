@@ -1,6 +1,5 @@
 -- Code that names its own cells alone has constants and opening values in which all cells are the store's.
-use Rattle.std.proofs.Common.{◌≡◌, ℕ, zero, suc, true, not, List, [], ◌∷◌, Option, Some, None, refl, sym, ap, subst, slice_index_or}
-use Rattle.std.proofs.lemmas.Bool.{false≢true}
+use Rattle.std.proofs.Common.{◌≡◌, ℕ, zero, suc, true, List, [], ◌∷◌, Option, Some, None, refl, sym, ap, subst, slice_index_or}
 use Rattle.txs_value.specs.Forms.{same_kind}
 use Rattle.txs_value.specs.PlainValue.{PlainValue, nil, truth, int, key, text, vector, cell, PlainValues, end, more}
 use Rattle.txs_value.specs.Places.{nth}
@@ -14,7 +13,6 @@ use Rattle.txs_value.specs.declared.value.Value.TheVariants.{Nil}
 use Rattle.txs_code.specs.Machine.{PlainInstr, Push, fetch, instr_at}
 use Rattle.txs_code.specs.OwnCells.{kind_at, HoldsDefined, RowHoldsDefined, NameDefined, OpeningsNameNone, NamesOwnCells}
 use Rattle.txs_code.specs.PlainCode.{CodeBody, PlainCode, parameters_of, plain_instr, plain_instrs, plain_bodies, thread_code}
-use Rattle.txs_code.specs.RunsToday.{KindRunsToday, CellsRunToday}
 use Rattle.txs_code.specs.declared.instr.Instr.{Instr}
 use Rattle.txs_code.specs.declared.instr.Instr.TheVariants as instr
 use Rattle.txs_actor.specs.PlainActor.{body_or_none, code_of}
@@ -42,19 +40,6 @@ is_there : (cells : List CellDefinition) (n : ℕ) (k : CellKind) → kind_at ce
 is_there [] n k h = absurd (subst IsThere (sym h) tt)
 is_there (d ∷ ds) zero k h = subst (λ j. same_kind k j ≡ true) (sym (ap (kind_or k) h)) (kind_itself k)
 is_there (d ∷ ds) (suc n) k h = is_there ds n k h
-
--- a ref may be read
-kind_readable : (j k : CellKind) → KindRunsToday j → same_kind k j ≡ true → not (same_kind k Atom) ≡ true
-kind_readable Ref Ref t h = refl
-kind_readable Ref Atom t h = absurd (false≢true h)
-kind_readable Ref Agent t h = refl
-kind_readable Atom k t h = absurd t
-kind_readable Agent k t h = absurd t
-
-pub readable : (cells : List CellDefinition) (n : ℕ) (k : CellKind) → CellsRunToday cells → is_of_kind k (nth (cells_of cells) n) ≡ true → not (same_kind k Atom) ≡ true
-readable [] n k t h = absurd (false≢true h)
-readable (d ∷ ds) zero k t h = kind_readable d.kind k t.0 h
-readable (d ∷ ds) (suc n) k t h = readable ds n k t.1 h
 
 -- ---- values
 

@@ -1,5 +1,5 @@
 -- What plays make of all actors of a run.
-use Rattle.std.proofs.Common.{◌≡◌, ◌==◌, ◌≤◌, ◌<◌, ◌+◌, ℕ, zero, suc, Bool, true, false, nat_lt, List, [], ◌∷◌, ◌++◌, length, map, set, get_or, take, drop, Option, Some, None, refl, sym, ap, subst, ◌∙◌, if◌then◌else◌, arith}
+use Rattle.std.proofs.Common.{◌≡◌, ◌==◌, ◌≤◌, ◌<◌, ◌+◌, ℕ, zero, suc, Bool, true, false, nat_lt, List, [], ◌∷◌, ◌++◌, length, set, get_or, take, Option, Some, None, refl, sym, ap, subst, ◌∙◌, if◌then◌else◌, arith}
 use Rattle.std.proofs.lemmas.List.{take_more}
 use Rattle.std.proofs.lemmas.Bool.Decides.{nat_tests}
 use Rattle.txs_asks.specs.declared.event.Event.{Event}
@@ -7,29 +7,16 @@ use Rattle.txs_asks.specs.declared.event.Outcome.{Outcome}
 use Rattle.txs_value.proofs.SameLemmas.{and_both, number-itself}
 use Rattle.txs_value.specs.Places.{nth}
 use Rattle.txs_code.specs.PlainCode.{PlainCode}
-use Rattle.txs_actor.specs.PlainActor.{PlainActor, code_of, unanswered}
-use Rattle.txs_runs.specs.Laws.{alone}
-use Rattle.txs_runs.specs.Told.{exchange_of, places_by}
-use Rattle.txs_runs.proofs.Growing.{Grown, AreOwn, differ, told_stays}
-use Rattle.txs_runs.proofs.ServedKnown.{BookKnown}
-use Rattle.txs_runs.specs.Lawful.{OpeningIsKnown}
-use Rattle.txs_machine.specs.Lawfully.{RunLawfully}
-use Rattle.txs_machine.proofs.Lawfully.{others_lawfully, others_stood}
-use Rattle.txs_machine.specs.RunOver.{IsOwn, IsGrownBy, IsLimited}
-use Rattle.txs_machine.specs.Playing.{IsBetween, AreBetween, IsPlayed, ArePlayedAt, AreLater, HaveSteps, AllEnded, IsUnended, noted, IsReported, AreReported}
-use Rattle.txs_machine.specs.Schedule.{player, plays_of, all_named, in_store}
-use Rattle.txs_machine.specs.declared.schedule.Place.{Place}
+use Rattle.txs_actor.specs.PlainActor.{PlainActor}
+use Rattle.txs_runs.proofs.Growing.{Grown, differ}
+use Rattle.txs_machine.specs.RunOver.{IsLimited}
+use Rattle.txs_machine.specs.Playing.{IsBetween, AreBetween, IsPlayed, ArePlayedAt, AreLater, HaveSteps, AllEnded, IsUnended, IsReported, AreReported}
+use Rattle.txs_machine.specs.Schedule.{player, plays_of, all_named}
+use Rattle.txs_machine.specs.declared.player.Player.{Player}
 use Rattle.txs_machine.specs.declared.schedule.Play.{Play}
 use Rattle.txs_machine.specs.declared.schedule.ThreadReport.{ThreadReport}
 use Rattle.txs_machine.proofs.Limits.{rounds_left}
-
-append_nil : {A : Type 0} (xs : List A) → xs ++ [] ≡ xs
-append_nil [] = refl
-append_nil (x ∷ xs) = ap (λ l. x ∷ l) (append_nil xs)
-
-length_append : {A : Type 0} (xs ys : List A) → length (xs ++ ys) ≡ length xs + length ys
-length_append [] ys = omega arith
-length_append (x ∷ xs) ys = let h = length_append xs ys in omega (arith, h)
+use Rattle.txs_machine.proofs.RunOver.{ValuesKnown, over_others}
 
 abbrev is_some : {A : Type 0} → Option A → Type 0
 is_some None = ⊥
@@ -37,106 +24,64 @@ is_some (Some x) = Unit {0}
 
 -- ---- what another actor adds
 
-are_own : (k : ℕ) (es : List Event) → IsOwn k es → AreOwn k es
-are_own k [] o = tt
-are_own k (e ∷ es) o = (o.0, are_own k es o.1)
+others : (code : PlainCode) (k j limit : ℕ) (books later : ℕ → List Event) (x : Player) → (k ≡ j → ⊥) → Grown k books later → ValuesKnown code later → IsBetween code j limit books x → IsBetween code j limit later x
+others code k j limit books later x n g v h = record { runs = h.runs; free = h.free; limited = h.limited; over = over_others code k j books later x.trace.items x.actor n g v h.over }
 
-grown : (k : ℕ) (book later : List Event) → IsGrownBy k book later → Grown k (alone book) (alone later)
-grown k book later g = record { more = alone g.more; grown = grows; own = owns }
-  where
-    grows : (n : ℕ) → alone later n ≡ alone book n ++ alone g.more n
-    grows zero = g.grown
-    grows (suc n) = refl
-
-    owns : (n : ℕ) → AreOwn k (alone g.more n)
-    owns zero = are_own k g.more g.own
-    owns (suc n) = tt
-
-longer : (k : ℕ) (book later : List Event) → IsGrownBy k book later → length book ≤ length later
-longer k book later g = let e = ap length g.grown ∙ length_append book g.more in omega (arith, e)
-
--- the values of the store's book name defined cells alone
-abbrev ValuesKnown : PlainCode → List Event → Type 0
-ValuesKnown code book = (opened : OpeningIsKnown code.cells) → BookKnown code.cells opened book
-
-over_others : (code : PlainCode) (k j : ℕ) (book later : List Event) (a : PlainActor) → (k ≡ j → ⊥) → IsGrownBy k book later → ValuesKnown code later → RunLawfully code j book a → RunLawfully code j later a
-over_others code k j book later a n g v w =
-    let h = w.over in
-    record {
-      over = record {
-        number = h.number;
-        entries = h.entries;
-        stage = h.stage;
-        ran = h.ran;
-        told = told_stays code.cells (length code.threads) k j (alone book) (alone later) (grown k book later g) n h.entries h.stage h.told;
-        here = h.here;
-        asked = h.asked;
-        full = λ x. (let m = h.full x in let l = longer k book later g in omega (arith, m, l));
-      };
-      thread = w.thread;
-      stands = w.stands;
-      stood = others_stood code.cells (code_of code j) k j book later (map exchange_of h.entries) a h.stage a.outcome (unanswered a) n (grown k book later g) w.stood;
-      lawful = others_lawfully code.cells k j book later h.entries h.stage n (grown k book later g) v w.lawful;
-    }
-
-others : (code : PlainCode) (k j limit : ℕ) (book later : List Event) (a : PlainActor) → (k ≡ j → ⊥) → IsGrownBy k book later → ValuesKnown code later → IsBetween code j limit book a → IsBetween code j limit later a
-others code k j limit book later a n g v h = record { runs = h.runs; free = h.free; limited = h.limited; over = over_others code k j book later a n g v h.over }
-
-all_others : (code : PlainCode) (k limit : ℕ) (book later : List Event) (j : ℕ) (xs : List PlainActor) → k < j → IsGrownBy k book later → ValuesKnown code later → AreBetween code limit book j xs → AreBetween code limit later j xs
-all_others code k limit book later j [] n g v h = tt
-all_others code k limit book later j (a ∷ xs) n g v h =
-    (others code k j limit book later a (λ e. absurd (omega (arith, e, n))) g v h.0, all_others code k limit book later (suc j) xs (omega (arith, n)) g v h.1)
+all_others : (code : PlainCode) (k limit : ℕ) (books later : ℕ → List Event) (j : ℕ) (xs : List Player) → k < j → Grown k books later → ValuesKnown code later → AreBetween code limit books j xs → AreBetween code limit later j xs
+all_others code k limit books later j [] n g v h = tt
+all_others code k limit books later j (x ∷ xs) n g v h =
+    (others code k j limit books later x (λ e. absurd (omega (arith, e, n))) g v h.0, all_others code k limit books later (suc j) xs (omega (arith, n)) g v h.1)
 
 -- the actor at a place, after a play of it
-pub placed_between : (code : PlainCode) (k limit : ℕ) (book later : List Event) (j i : ℕ) (xs : List PlainActor) (b : PlainActor) → k ≡ j + i → IsGrownBy k book later → IsBetween code k limit later b → AreBetween code limit book j xs
-    → AreBetween code limit later j (set xs i b)
-placed_between code k limit book later j i [] b e g p h = tt
-placed_between code k limit book later j zero (a ∷ xs) b e g p h =
-    (subst (λ n. IsBetween code n limit later b) (omega (arith, e)) p, all_others code k limit book later (suc j) xs (omega (arith, e)) g p.over.lawful.values h.1)
-placed_between code k limit book later j (suc i) (a ∷ xs) b e g p h =
-    (others code k j limit book later a (λ d. absurd (omega (arith, e, d))) g p.over.lawful.values h.0, placed_between code k limit book later (suc j) i xs b (omega (arith, e)) g p h.1)
+pub placed_between : (code : PlainCode) (k limit : ℕ) (books later : ℕ → List Event) (j i : ℕ) (xs : List Player) (y : Player) → k ≡ j + i → Grown k books later → IsBetween code k limit later y → AreBetween code limit books j xs
+    → AreBetween code limit later j (set xs i y)
+placed_between code k limit books later j i [] y e g p h = tt
+placed_between code k limit books later j zero (x ∷ xs) y e g p h =
+    (subst (λ n. IsBetween code n limit later y) (omega (arith, e)) p, all_others code k limit books later (suc j) xs (omega (arith, e)) g p.over.lawful.values h.1)
+placed_between code k limit books later j (suc i) (x ∷ xs) y e g p h =
+    (others code k j limit books later x (λ d. absurd (omega (arith, e, d))) g p.over.lawful.values h.0, placed_between code k limit books later (suc j) i xs y (omega (arith, e)) g p h.1)
 
 -- the actor at a place
-pub between_at : (code : PlainCode) (limit : ℕ) (book : List Event) (j i : ℕ) (xs : List PlainActor) (a : PlainActor) → nth xs i ≡ Some a → AreBetween code limit book j xs → IsBetween code (j + i) limit book a
-between_at code limit book j i [] a e h = absurd (subst is_some (sym e) tt)
-between_at code limit book j zero (x ∷ xs) a e h = subst (λ n. IsBetween code n limit book a) (omega arith) (subst (IsBetween code j limit book) (some_is x a e) h.0)
+pub between_at : (code : PlainCode) (limit : ℕ) (books : ℕ → List Event) (j i : ℕ) (xs : List Player) (x : Player) → nth xs i ≡ Some x → AreBetween code limit books j xs → IsBetween code (j + i) limit books x
+between_at code limit books j i [] x e h = absurd (subst is_some (sym e) tt)
+between_at code limit books j zero (y ∷ xs) x e h = subst (λ n. IsBetween code n limit books x) (omega arith) (subst (IsBetween code j limit books) (some_is y x e) h.0)
   where
-    or_first : Option PlainActor → PlainActor
-    or_first None = x
-    or_first (Some y) = y
+    or_first : Option Player → Player
+    or_first None = y
+    or_first (Some z) = z
 
-    some_is : (x y : PlainActor) → Some x ≡ Some y → x ≡ y
-    some_is x y e = ap or_first e
-between_at code limit book j (suc i) (x ∷ xs) a e h = subst (λ n. IsBetween code n limit book a) (omega arith) (between_at code limit book (suc j) i xs a e h.1)
+    some_is : (y z : Player) → Some y ≡ Some z → y ≡ z
+    some_is y z e = ap or_first e
+between_at code limit books j (suc i) (y ∷ xs) x e h = subst (λ n. IsBetween code n limit books x) (omega arith) (between_at code limit books (suc j) i xs x e h.1)
 
 -- so it is where the first is that of thread 0
-pub between_of : (code : PlainCode) (limit : ℕ) (book : List Event) (i : ℕ) (xs : List PlainActor) (a : PlainActor) → nth xs i ≡ Some a → AreBetween code limit book 0 xs → IsBetween code i limit book a
-between_of code limit book i xs a e h = let same : 0 + i ≡ i = omega arith in subst (λ n. IsBetween code n limit book a) same (between_at code limit book 0 i xs a e h)
+pub between_of : (code : PlainCode) (limit : ℕ) (books : ℕ → List Event) (i : ℕ) (xs : List Player) (x : Player) → nth xs i ≡ Some x → AreBetween code limit books 0 xs → IsBetween code i limit books x
+between_of code limit books i xs x e h = let same : 0 + i ≡ i = omega arith in subst (λ n. IsBetween code n limit books x) same (between_at code limit books 0 i xs x e h)
 
 -- one more actor behind the others
-pub between_more : (code : PlainCode) (limit : ℕ) (book : List Event) (j : ℕ) (xs : List PlainActor) (a : PlainActor) → AreBetween code limit book j xs → IsBetween code (j + length xs) limit book a → AreBetween code limit book j (xs ++ a ∷ [])
-between_more code limit book j [] a h p = (subst (λ n. IsBetween code n limit book a) (omega arith) p, tt)
-between_more code limit book j (x ∷ xs) a h p = (h.0, between_more code limit book (suc j) xs a h.1 (subst (λ n. IsBetween code n limit book a) (omega arith) p))
+pub between_more : (code : PlainCode) (limit : ℕ) (books : ℕ → List Event) (j : ℕ) (xs : List Player) (x : Player) → AreBetween code limit books j xs → IsBetween code (j + length xs) limit books x → AreBetween code limit books j (xs ++ x ∷ [])
+between_more code limit books j [] x h p = (subst (λ n. IsBetween code n limit books x) (omega arith) p, tt)
+between_more code limit books j (y ∷ xs) x h p = (h.0, between_more code limit books (suc j) xs x h.1 (subst (λ n. IsBetween code n limit books x) (omega arith) p))
 
 -- ---- steps
 
-pub played_at : (k : ℕ) (xs : List PlainActor) (a b : PlainActor) → nth xs k ≡ Some a → IsPlayed a b → ArePlayedAt k xs (set xs k b)
+pub played_at : (k : ℕ) (xs : List Player) (a b : Player) → nth xs k ≡ Some a → IsPlayed a.actor b.actor → ArePlayedAt k xs (set xs k b)
 played_at k [] a b e h = absurd (subst is_some (sym e) tt)
-played_at zero (x ∷ xs) a b e h = (subst (λ y. IsPlayed y b) (sym (ap or_first e)) h, refl)
+played_at zero (x ∷ xs) a b e h = (subst (λ (y : Player). IsPlayed y.actor b.actor) (sym (ap or_first e)) h, refl)
   where
-    or_first : Option PlainActor → PlainActor
+    or_first : Option Player → Player
     or_first None = x
     or_first (Some y) = y
 played_at (suc k) (x ∷ xs) a b e h = (refl, played_at k xs a b e h)
 
-all_later : (xs : List PlainActor) → AreLater xs xs
+all_later : (xs : List Player) → AreLater xs xs
 all_later [] = tt
 all_later (a ∷ xs) = (λ e. (e, omega arith), all_later xs)
 
-pub later_itself : (xs : List PlainActor) → AreLater xs xs
+pub later_itself : (xs : List Player) → AreLater xs xs
 later_itself xs = all_later xs
 
-pub later_than : (xs bs cs : List PlainActor) → AreLater xs bs → AreLater bs cs → AreLater xs cs
+pub later_than : (xs bs cs : List Player) → AreLater xs bs → AreLater bs cs → AreLater xs cs
 later_than [] [] [] h g = tt
 later_than [] [] (c ∷ cs) h g = absurd g
 later_than [] (b ∷ bs) cs h g = absurd h
@@ -145,15 +90,15 @@ later_than (a ∷ xs) (b ∷ bs) [] h g = absurd g
 later_than (a ∷ xs) (b ∷ bs) (c ∷ cs) h g =
     (λ e. (let x = g.0 e in let y = h.0 x.0 in (y.0, omega (arith, x.1, y.1))), later_than xs bs cs h.1 g.1)
 
-pub played_later : (k : ℕ) (xs bs : List PlainActor) → ArePlayedAt k xs bs → AreLater xs bs
+pub played_later : (k : ℕ) (xs bs : List Player) → ArePlayedAt k xs bs → AreLater xs bs
 played_later k [] bs h = absurd h
 played_later zero (a ∷ xs) [] h = absurd h
 played_later (suc k) (a ∷ xs) [] h = absurd h
 played_later zero (a ∷ xs) (b ∷ bs) h = (λ e. (let x = h.0 e in (x.0, omega (arith, x.1))), subst (AreLater xs) (sym h.1) (all_later xs))
-played_later (suc k) (a ∷ xs) (b ∷ bs) h = (subst (λ y. y.outcome ≡ None → (a.outcome ≡ None) × (a.steps ≤ y.steps)) (sym h.0) (λ e. (e, omega arith)), played_later k xs bs h.1)
+played_later (suc k) (a ∷ xs) (b ∷ bs) h = (subst (λ (y : Player). y.actor.outcome ≡ None → (a.actor.outcome ≡ None) × (a.actor.steps ≤ y.actor.steps)) (sym h.0) (λ e. (e, omega arith)), played_later k xs bs h.1)
 
 -- steps don't get fewer
-pub steps_later : (ys : List Play) (j : ℕ) (xs bs : List PlainActor) → AreLater xs bs → HaveSteps ys j xs → HaveSteps ys j bs
+pub steps_later : (ys : List Play) (j : ℕ) (xs bs : List Player) → AreLater xs bs → HaveSteps ys j xs → HaveSteps ys j bs
 steps_later ys j [] [] l h = tt
 steps_later ys j [] (b ∷ bs) l h = absurd l
 steps_later ys j (a ∷ xs) [] l h = absurd l
@@ -172,43 +117,43 @@ plays_more k (x ∷ ys) y = go (player x == k) (player y == k) (plays_more k ys 
     go false true h = h
     go false false h = h
 
-others_steps : (ys : List Play) (y : Play) (j : ℕ) (xs : List PlainActor) → player y < j → HaveSteps ys j xs → HaveSteps (ys ++ y ∷ []) j xs
+others_steps : (ys : List Play) (y : Play) (j : ℕ) (xs : List Player) → player y < j → HaveSteps ys j xs → HaveSteps (ys ++ y ∷ []) j xs
 others_steps ys y j [] n h = tt
 others_steps ys y j (a ∷ xs) n h =
-    (λ e. subst (λ m. m ≤ a.steps) (sym (plays_more j ys y ∙ ap (λ b. if b then suc (plays_of j ys) else plays_of j ys) (differ (player y) j (λ d. absurd (omega (arith, d, n)))))) (h.0 e), others_steps ys y (suc j) xs (omega (arith, n)) h.1)
+    (λ e. subst (λ m. m ≤ a.actor.steps) (sym (plays_more j ys y ∙ ap (λ b. if b then suc (plays_of j ys) else plays_of j ys) (differ (player y) j (λ d. absurd (omega (arith, d, n)))))) (h.0 e), others_steps ys y (suc j) xs (omega (arith, n)) h.1)
 
 -- a play is one more step at least of its actor
-steps_more : (ys : List Play) (y : Play) (j i : ℕ) (xs bs : List PlainActor) → player y ≡ j + i → ArePlayedAt i xs bs → HaveSteps ys j xs → HaveSteps (ys ++ y ∷ []) j bs
+steps_more : (ys : List Play) (y : Play) (j i : ℕ) (xs bs : List Player) → player y ≡ j + i → ArePlayedAt i xs bs → HaveSteps ys j xs → HaveSteps (ys ++ y ∷ []) j bs
 steps_more ys y j i [] bs e p h = absurd p
 steps_more ys y j zero (a ∷ xs) [] e p h = absurd p
 steps_more ys y j (suc i) (a ∷ xs) [] e p h = absurd p
 steps_more ys y j zero (a ∷ xs) (b ∷ bs) e p h = (
-  λ o. (let x = p.0 o in let s = h.0 x.0 in subst (λ m. m ≤ b.steps) (sym (plays_more j ys y ∙ ap (λ t. if t then suc (plays_of j ys) else plays_of j ys) here)) (omega (arith, x.1, s))),
+  λ o. (let x = p.0 o in let s = h.0 x.0 in subst (λ m. m ≤ b.actor.steps) (sym (plays_more j ys y ∙ ap (λ t. if t then suc (plays_of j ys) else plays_of j ys) here)) (omega (arith, x.1, s))),
   subst (HaveSteps (ys ++ y ∷ []) (suc j)) (sym p.1) (others_steps ys y (suc j) xs (omega (arith, e)) h.1),
 )
   where
     here : (player y == j) ≡ true
     here = ap (λ n. n == j) (omega (arith, e)) ∙ number-itself j
 steps_more ys y j (suc i) (a ∷ xs) (b ∷ bs) e p h = (
-  subst (λ x. x.outcome ≡ None → plays_of j (ys ++ y ∷ []) ≤ x.steps) (sym p.0)
-      (λ o. subst (λ m. m ≤ a.steps) (sym (plays_more j ys y ∙ ap (λ t. if t then suc (plays_of j ys) else plays_of j ys) (differ (player y) j (λ d. absurd (omega (arith, d, e)))))) (h.0 o)),
+  subst (λ (x : Player). x.actor.outcome ≡ None → plays_of j (ys ++ y ∷ []) ≤ x.actor.steps) (sym p.0)
+      (λ o. subst (λ m. m ≤ a.actor.steps) (sym (plays_more j ys y ∙ ap (λ t. if t then suc (plays_of j ys) else plays_of j ys) (differ (player y) j (λ d. absurd (omega (arith, d, e)))))) (h.0 o)),
   steps_more ys y (suc j) i xs bs (omega (arith, e)) p.1 h.1,
 )
 
-pub plays_steps : (ys : List Play) (y : Play) (xs bs : List PlainActor) → ArePlayedAt (player y) xs bs → HaveSteps ys 0 xs → HaveSteps (ys ++ y ∷ []) 0 bs
+pub plays_steps : (ys : List Play) (y : Play) (xs bs : List Player) → ArePlayedAt (player y) xs bs → HaveSteps ys 0 xs → HaveSteps (ys ++ y ∷ []) 0 bs
 plays_steps ys y xs bs p h = let e : player y ≡ 0 + player y = omega arith in steps_more ys y 0 (player y) xs bs e p h
 
 -- before the first play
-pub no_steps : (j : ℕ) (xs : List PlainActor) → HaveSteps [] j xs
+pub no_steps : (j : ℕ) (xs : List Player) → HaveSteps [] j xs
 no_steps j [] = tt
 no_steps j (a ∷ xs) = (λ e. omega arith, no_steps (suc j) xs)
 
 -- ---- how many rounds there may still be
 
 -- of all actors together
-abbrev pub left_in : List PlainActor → ℕ
+abbrev pub left_in : List Player → ℕ
 left_in [] = 0
-left_in (a ∷ xs) = rounds_left a.outcome a + left_in xs
+left_in (a ∷ xs) = rounds_left a.actor.outcome a.actor + left_in xs
 
 ended_none : (a : PlainActor) (o : Outcome) → a.outcome ≡ Some o → (a.outcome ≡ None → ⊥)
 ended_none a o e n = absurd (subst is_some (sym e ∙ n) tt)
@@ -222,50 +167,50 @@ left_played : (limit : ℕ) (a b : PlainActor) (p : Option Outcome) → a.outcom
 left_played limit a b (Some x) e f h g l = omega arith
 left_played limit a b None e f h g l = let x = l f in omega (arith, x.1, h.limited, g.limited, g.within)
 
-pub left_all : (code : PlainCode) (limit : ℕ) (book later : List Event) (j : ℕ) (xs bs : List PlainActor) → AreBetween code limit book j xs → AreBetween code limit later j bs → AreLater xs bs → left_in bs ≤ left_in xs
-left_all code limit book later j [] [] h g l = omega arith
-left_all code limit book later j [] (b ∷ bs) h g l = absurd l
-left_all code limit book later j (a ∷ xs) [] h g l = absurd l
-left_all code limit book later j (a ∷ xs) (b ∷ bs) h g l =
-    let x = left_later limit a b a.outcome b.outcome refl refl h.0.limited g.0.limited l.0 in
-    let y = left_all code limit book later (suc j) xs bs h.1 g.1 l.1 in
+pub left_all : (code : PlainCode) (limit : ℕ) (books later : ℕ → List Event) (j : ℕ) (xs bs : List Player) → AreBetween code limit books j xs → AreBetween code limit later j bs → AreLater xs bs → left_in bs ≤ left_in xs
+left_all code limit books later j [] [] h g l = omega arith
+left_all code limit books later j [] (b ∷ bs) h g l = absurd l
+left_all code limit books later j (a ∷ xs) [] h g l = absurd l
+left_all code limit books later j (a ∷ xs) (b ∷ bs) h g l =
+    let x = left_later limit a.actor b.actor a.actor.outcome b.actor.outcome refl refl h.0.limited g.0.limited l.0 in
+    let y = left_all code limit books later (suc j) xs bs h.1 g.1 l.1 in
     omega (arith, x, y)
 
-pub left_less : (code : PlainCode) (limit : ℕ) (book later : List Event) (j i : ℕ) (xs bs : List PlainActor) → AreBetween code limit book j xs → AreBetween code limit later j bs → IsUnended i xs → ArePlayedAt i xs bs → left_in bs < left_in xs
-left_less code limit book later j i [] bs h g u p = absurd p
-left_less code limit book later j zero (a ∷ xs) [] h g u p = absurd p
-left_less code limit book later j (suc i) (a ∷ xs) [] h g u p = absurd p
-left_less code limit book later j zero (a ∷ xs) (b ∷ bs) h g u p =
-    let x = subst (λ o. rounds_left b.outcome b < rounds_left o a) (sym u) (left_played limit a b b.outcome u refl h.0.limited g.0.limited p.0) in
+pub left_less : (code : PlainCode) (limit : ℕ) (books later : ℕ → List Event) (j i : ℕ) (xs bs : List Player) → AreBetween code limit books j xs → AreBetween code limit later j bs → IsUnended i xs → ArePlayedAt i xs bs → left_in bs < left_in xs
+left_less code limit books later j i [] bs h g u p = absurd p
+left_less code limit books later j zero (a ∷ xs) [] h g u p = absurd p
+left_less code limit books later j (suc i) (a ∷ xs) [] h g u p = absurd p
+left_less code limit books later j zero (a ∷ xs) (b ∷ bs) h g u p =
+    let x = subst (λ o. rounds_left b.actor.outcome b.actor < rounds_left o a.actor) (sym u) (left_played limit a.actor b.actor b.actor.outcome u refl h.0.limited g.0.limited p.0) in
     let y = ap left_in p.1 in
     omega (arith, x, y)
-left_less code limit book later j (suc i) (a ∷ xs) (b ∷ bs) h g u p =
-    let x = ap (λ (c : PlainActor). rounds_left c.outcome c) p.0 in
-    let y = left_less code limit book later (suc j) i xs bs h.1 g.1 u p.1 in
+left_less code limit books later j (suc i) (a ∷ xs) (b ∷ bs) h g u p =
+    let x = ap (λ (c : Player). rounds_left c.actor.outcome c.actor) p.0 in
+    let y = left_less code limit books later (suc j) i xs bs h.1 g.1 u p.1 in
     omega (arith, x, y)
 
 -- ---- which have ended
 
-pub ended_more : (xs : List PlainActor) (a : PlainActor) → AllEnded xs → (a.outcome ≡ None → ⊥) → AllEnded (xs ++ a ∷ [])
+pub ended_more : (xs : List Player) (a : Player) → AllEnded xs → (a.actor.outcome ≡ None → ⊥) → AllEnded (xs ++ a ∷ [])
 ended_more [] a h n = (n, tt)
 ended_more (x ∷ xs) a h n = (h.0, ended_more xs a h.1 n)
 
-pub unended_at : (xs : List PlainActor) (k : ℕ) (a : PlainActor) → nth xs k ≡ Some a → a.outcome ≡ None → IsUnended k xs
+pub unended_at : (xs : List Player) (k : ℕ) (a : Player) → nth xs k ≡ Some a → a.actor.outcome ≡ None → IsUnended k xs
 unended_at [] k a e n = absurd (subst is_some (sym e) tt)
-unended_at (x ∷ xs) zero a e n = ap (λ (y : PlainActor). y.outcome) (ap or_first e) ∙ n
+unended_at (x ∷ xs) zero a e n = ap (λ (y : Player). y.actor.outcome) (ap or_first e) ∙ n
   where
-    or_first : Option PlainActor → PlainActor
+    or_first : Option Player → Player
     or_first None = x
     or_first (Some y) = y
 unended_at (x ∷ xs) (suc k) a e n = unended_at xs k a e n
 
 -- ---- reports
 
-pub reported_more : (book : List Event) (xs : List PlainActor) (rs : List ThreadReport) (a : PlainActor) (r : ThreadReport) → AreReported book xs rs → IsReported book a r → AreReported book (xs ++ a ∷ []) (rs ++ r ∷ [])
-reported_more book [] [] a r h p = (p, tt)
-reported_more book [] (s ∷ rs) a r h p = absurd h
-reported_more book (x ∷ xs) [] a r h p = absurd h
-reported_more book (x ∷ xs) (s ∷ rs) a r h p = (h.0, reported_more book xs rs a r h.1 p)
+pub reported_more : (xs : List Player) (rs : List ThreadReport) (x : Player) (r : ThreadReport) → AreReported xs rs → IsReported x r → AreReported (xs ++ x ∷ []) (rs ++ r ∷ [])
+reported_more [] [] x r h p = (p, tt)
+reported_more [] (s ∷ rs) x r h p = absurd h
+reported_more (y ∷ xs) [] x r h p = absurd h
+reported_more (y ∷ xs) (s ∷ rs) x r h p = (h.0, reported_more xs rs x r h.1 p)
 
 -- an item that was read is there
 pub nth_read : {A : Type 0} (xs : List A) (i : ℕ) (x : A) → i < length xs → x ≡ get_or xs i x → nth xs i ≡ Some x
@@ -277,30 +222,9 @@ nth_read (y ∷ xs) (suc i) x l e = nth_read xs i x (omega (arith, l)) e
 pub taken_read : {A : Type 0} (xs : List A) (i : ℕ) (x : A) → i < length xs → x ≡ get_or xs i x → take (i + 1) xs ≡ take i xs ++ x ∷ []
 taken_read xs i x l e = take_more xs i x l ∙ ap (λ z. take i xs ++ z ∷ []) (sym e)
 
-pub dropped_read : {A : Type 0} (xs : List A) (i : ℕ) (x : A) → i < length xs → x ≡ get_or xs i x → drop i xs ≡ x ∷ drop (suc i) xs
-dropped_read [] i x l e = absurd (omega (arith, l))
-dropped_read (y ∷ xs) zero x l e = ap (λ z. z ∷ xs) (sym e)
-dropped_read (y ∷ xs) (suc i) x l e = dropped_read xs i x (omega (arith, l)) e
-
 -- ---- which plays name actors
 
 pub named_read : (n i : ℕ) (ys : List Play) (d : Play) → i < length ys → all_named n ys ≡ true → player (get_or ys i d) < n
 named_read n i [] d l h = absurd (omega (arith, l))
 named_read n zero (x ∷ ys) d l h = let g = (and_both (nat_lt (player x) n) (all_named n ys) h).0 in grind (arith, nat_tests, g)
 named_read n (suc i) (x ∷ ys) d l h = named_read n i ys d (omega (arith, l)) (and_both (nat_lt (player x) n) (all_named n ys) h).1
-
--- ---- traces
-
--- an event that was looked at leaves the rest of the trace to come
-pub trace_more : (a i : ℕ) (es : List Event) (e : Event) (ps : List Place) → i < length es → e ≡ get_or es i e
-    → noted ps e.actor i a ++ in_store (places_by a (suc i) (drop (suc i) es)) ≡ ps ++ in_store (places_by a i (drop i es))
-trace_more a i es e ps l h = go (e.actor == a) ∙ ap (λ d. ps ++ in_store (places_by a i d)) (sym (dropped_read es i e l h))
-  where
-    append_one : (qs rest : List Place) (q : Place) → (qs ++ q ∷ []) ++ rest ≡ qs ++ q ∷ rest
-    append_one [] rest q = refl
-    append_one (x ∷ qs) rest q = ap (λ l. x ∷ l) (append_one qs rest q)
-
-    go : (b : Bool) → (if b then ps ++ record { book = 0; at = i } ∷ [] else ps) ++ in_store (places_by a (suc i) (drop (suc i) es))
-        ≡ ps ++ in_store (if b then i ∷ places_by a (suc i) (drop (suc i) es) else places_by a (suc i) (drop (suc i) es))
-    go true = append_one ps (in_store (places_by a (suc i) (drop (suc i) es))) (record { book = 0; at = i })
-    go false = refl

@@ -1,6 +1,7 @@
--- An actor's run over a store, step by step.
-use Rattle.std.proofs.Common.{◌≡◌, ◌==◌, ℕ, zero, suc, List, [], ◌∷◌, ◌++◌, length, map, true, false, Bool, not, ◌&&◌, nat_lt, ◌≤◌, ◌<◌, Option, Some, None, refl, sym, ap, subst, ◌∙◌, ◌+◌, ◌⊎◌, inl, inr, if◌then◌else◌, arith}
+-- An actor's run over what is shared, step by step.
+use Rattle.std.proofs.Common.{◌≡◌, ◌==◌, ℕ, zero, suc, List, [], ◌∷◌, ◌++◌, length, map, take, get_or, true, false, Bool, ◌&&◌, nat_lt, ◌≤◌, ◌<◌, Option, Some, None, refl, sym, ap, subst, ◌∙◌, ◌+◌, ◌⊎◌, inl, inr, if◌then◌else◌, arith}
 use Rattle.std.proofs.lemmas.Bool.{false≢true}
+use Rattle.std.proofs.lemmas.Bool.Decides.{nat_tests}
 use Rattle.txs_asks.specs.Ask.{Writes, Exchange}
 use Rattle.txs_asks.specs.SeenEvent.{atoms_below}
 use Rattle.txs_asks.specs.declared.ask.Ask.{Ask}
@@ -11,7 +12,7 @@ use Rattle.txs_asks.specs.declared.event.Event.{Event}
 use Rattle.txs_asks.specs.declared.event.EventKind.{EventKind}
 use Rattle.txs_asks.specs.declared.event.Outcome.{Outcome}
 use Rattle.txs_asks.specs.declared.event.Outcome.TheVariants as outcome
-use Rattle.txs_value.proofs.SameLemmas.{and_both, numbers}
+use Rattle.txs_value.proofs.SameLemmas.{and_both, numbers, number-itself}
 use Rattle.txs_value.specs.Cells.{World}
 use Rattle.txs_value.specs.Places.{nth}
 use Rattle.txs_value.specs.declared.action.Action.{Action}
@@ -19,53 +20,61 @@ use Rattle.txs_value.specs.declared.cell.CellDefinition.{CellDefinition}
 use Rattle.txs_value.specs.declared.value.CellId.{CellId}
 use Rattle.txs_value.specs.declared.value.Value.{Value}
 use Rattle.txs_code.specs.ActorState.{ActorState}
-use Rattle.txs_code.specs.Machine.{ThreadCode, Configuration, Turned, Asking, Unfinished, and_then, turn, run}
+use Rattle.txs_code.specs.Machine.{ThreadCode, Configuration, Turned, Ended, Failed, Asking, Unfinished, Stuck, and_then, turn, run}
 use Rattle.txs_code.proofs.Acts.{run_more}
 use Rattle.txs_code.specs.Opening.{given, opening}
 use Rattle.txs_code.specs.PlainCode.{CodeBody, PlainCode, thread_code}
-use Rattle.txs_code.specs.RunsToday.{RunsToday}
 use Rattle.txs_code.specs.WellTyped.{WellTyped}
 use Rattle.txs_follows.specs.Follows.{Follows}
 use Rattle.txs_follows.specs.RepliesFit.{Out, RepliesFit, Explained}
 use Rattle.txs_follows.specs.RepliesFitTo.{FittingToFits}
 use Rattle.txs_tree.specs.Meaning.{Completion}
 use Rattle.txs_tree.specs.Thread.{ThreadState, thread_meaning}
+use Rattle.txs_tree.specs.Tree.{ThreadSource}
 use Rattle.txs_actor.specs.Laws.{ActorsRun}
-use Rattle.txs_actor.specs.PlainActor.{PlainActor, MayAnswer, Stops, answered, unanswered, configuration_of, state_of, body_or_none, code_of, stands_at, standing, Awaits, HasAsked, HasRun, HasCome}
+use Rattle.txs_actor.specs.PlainActor.{PlainActor, MayAnswer, Stops, answered, unanswered, configuration_of, state_of, body_or_none, code_of, stands_at, standing, Awaits, HasAsked, HasRun, HasCome, HasEndedSo}
 use Rattle.txs_actor.specs.Turns.{IsNew, OneStep, Answers, Moves, TurnsFrom, Turns, GoesOnAfter, TurnsOf}
 use Rattle.txs_actor.specs.declared.outcome.Turn.{Turn}
 use Rattle.txs_actor.specs.declared.outcome.Turn.TheVariants as turned
 use Rattle.txs_actor.proofs.Following.{Unstopped, unstopped_if}
 use Rattle.txs_actor.proofs.Saying.{turn_says}
 use Rattle.txs_world.specs.Book as world_book
-use Rattle.txs_world.specs.Book.{Legal, written, least_written, cells_in, is_failed, first_failed, has_cell}
-use Rattle.txs_world.specs.History.{history_of}
+use Rattle.txs_world.proofs.Merging.{joined}
+use Rattle.txs_world.specs.Atom.{closes, closes_at, swapped_since}
+use Rattle.txs_world.specs.Book.{written, least_written, cells_in, is_failed, first_failed, has_cell}
 use Rattle.txs_world.specs.Store as world
-use Rattle.txs_world.specs.Store.{PlainStore, store_with, cells_of, Served, is_lawful, serve, store_after}
+use Rattle.txs_world.specs.Store.{cells_of, Served, TakesMemory, serve}
 use Rattle.txs_value.specs.Limits.{most_events}
-use Rattle.txs_runs.specs.Laws.{alone, with_book, ToldFits, ServedIsTold, AloneHistory}
+use Rattle.txs_runs.specs.Invariant.{SharedStands}
+use Rattle.txs_runs.specs.Laws.{with_book, ToldFits, ServedIsTold}
 use Rattle.txs_runs.specs.Run.{entry}
-use Rattle.txs_runs.specs.Shared.{is_atom, atom_of, serve_atom, book_for, serve_on, may_ask}
+use Rattle.txs_runs.specs.Shared.{Shared, is_atom, has_atom, atom_of, serve_atom, book_for, serve_on, may_ask, may_close}
 use Rattle.txs_runs.specs.Staged.{StagedCode, TurnIsStaged, IsStaged, StagedFrom, stage_of}
 use Rattle.txs_runs.specs.Stages.{Stage, Idle, AsksIn, stage_after, phase_of}
 use Rattle.txs_runs.specs.Stages as stages
-use Rattle.txs_runs.specs.Told.{Entry, exchange_of, IsExchanged, ToldBy}
+use Rattle.txs_runs.specs.Told.{Entry, exchange_of, IsExchanged, AllHold, served_at, adding, trace_of, TraceHolds, seen_of, ToldBy}
 use Rattle.txs_runs.specs.Told as told_by
-use Rattle.txs_runs.proofs.Growing.{AreOwn, IsFull, Serves, told_stays}
+use Rattle.txs_runs.proofs.Growing as growing
+use Rattle.txs_runs.proofs.Growing.{Grown, IsFull, Serves, nothing_grown, trace_stays, told_stays}
 use Rattle.txs_runs.specs.Printed.{Prints, HasPrinted}
 use Rattle.txs_runs.proofs.Lasts.{apart, still, turn_prints}
 use Rattle.txs_runs.proofs.Serving.{serves}
 use Rattle.txs_code.specs.OwnCells.{NamesOwnCells}
 use Rattle.txs_runs.specs.Standing.{StandingCode}
-use Rattle.txs_runs.specs.Lawful.{TypedStands}
+use Rattle.txs_runs.specs.Lawful.{OpeningIsKnown, TypedStands}
 use Rattle.txs_runs.proofs.Known.{standing_staged}
 use Rattle.txs_runs.proofs.OneActor.{MayView, idle_view, went_view}
+use Rattle.txs_runs.proofs.ServedKnown.{BookKnown}
+use Rattle.txs_shared.specs.SharedState as shared
+use Rattle.txs_shared.specs.SharedState.{PlainShared, shared_of, numbered_book, is_lawful, answer_to, IsAfter}
 use Rattle.txs_machine.specs.Followed.{ActorsExplained, told}
 use Rattle.txs_machine.specs.Lawfully.{HasStood, RunLawfully}
-use Rattle.txs_machine.proofs.Lawfully.{ask_lawful, heard_lawfully, heard_stood, is_below}
-use Rattle.txs_machine.proofs.Answered.{Leaves, answer_leaves, memory_stops, stop_ends}
+use Rattle.txs_machine.proofs.Lawfully.{ask_lawful, heard_lawfully, heard_stood, is_below, others_lawfully, others_stood}
+use Rattle.txs_machine.proofs.Answered.{Leaves, answer_leaves, full_stops, memory_stops, stop_ends}
 use Rattle.txs_machine.proofs.OwnCells.{openings_known, code_known}
-use Rattle.txs_machine.specs.RunOver.{IsStoreOf, IsIn, IsOwn, IsGrownBy, AskedOn, RunOver, ExplainsEnd, IsExplained}
+use Rattle.txs_machine.specs.RunOver.{IsStateOf, books_of, IsIn, IsOwn, AreOwn, places_of, AskedOn, AtFullBook, ExplainsEnd}
+use Rattle.txs_machine.specs.Serving.{may_add, IsNext, with_place, IsServed}
+use Rattle.txs_machine.specs.declared.player.Place.{Place}
 
 append_nil : {A : Type 0} (xs : List A) → xs ++ [] ≡ xs
 append_nil [] = refl
@@ -156,16 +165,19 @@ move_unfilled : (code : PlainCode) (a b : PlainActor) (r : Turn) (may : Bool) �
 move_unfilled code a b r true t = step_unfilled code a b r t
 move_unfilled code a b r false t = subst (λ (x : PlainActor). Unfilled x.outcome) (sym t.1) tt
 
-turn_filled : (code : PlainCode) (a b : PlainActor) (r : Turn) (o : Option Outcome) → a.outcome ≡ o → TurnsFrom code a o r b → b.outcome ≡ Some outcome.JournalFull → a.outcome ≡ Some outcome.JournalFull
-turn_filled code a b r None e t x = absurd (subst Unfilled x (move_unfilled code a b r (nat_lt a.steps a.limit) t))
-turn_filled code a b r (Some o) e t x = ap (λ (x : PlainActor). x.outcome) (sym t.1) ∙ x
+-- so an actor that a turn leaves stopped for a full book was stopped before
+turn_full : (cells : List CellDefinition) (t : ThreadCode) (books : ℕ → List Event) (xs : List Exchange) (code : PlainCode) (a b : PlainActor) (r : Turn) (o : Option Outcome) → a.outcome ≡ o → TurnsFrom code a o r b
+    → (a.outcome ≡ Some outcome.JournalFull → AtFullBook cells t books xs a) → b.outcome ≡ Some outcome.JournalFull → AtFullBook cells t books xs b
+turn_full cells t books xs code a b r None e u h x = absurd (subst Unfilled x (move_unfilled code a b r (nat_lt a.steps a.limit) u))
+turn_full cells t books xs code a b r (Some o) e u h x =
+    subst (λ (y : PlainActor). y.outcome ≡ Some outcome.JournalFull → AtFullBook cells t books xs y) (sym u.1) h x
 
 -- ---- where an actor stood when it asked
 
-module _ (code : PlainCode) (k : ℕ) (book : List Event) (xs : List Exchange) (st : Stage) where
+module _ (code : PlainCode) (k : ℕ) (books : ℕ → List Event) (xs : List Exchange) (st : Stage) where
   -- where it stood, by its outcome and its ask
   abbrev Stood : PlainActor → Option Outcome → Option Ask → Type 0
-  Stood b o q = HasStood code.cells (code_of code k) k book xs b st o q
+  Stood b o q = HasStood code.cells (code_of code k) k books xs b st o q
 
   stood_as : (b : PlainActor) (o : Option Outcome) (q : Option Ask) → b.outcome ≡ o → unanswered b ≡ q → Stood b o q → Stood b b.outcome (unanswered b)
   stood_as b o q e f h = subst (λ x. Stood b x (unanswered b)) (sym e) (subst (λ y. Stood b o y) (sym f) h)
@@ -175,12 +187,12 @@ module _ (code : PlainCode) (k : ℕ) (book : List Event) (xs : List Exchange) (
 
   -- a step from where it may view
   step_stood : (a b : PlainActor) (r : Turn) → a.number ≡ k → TurnIsStaged (code_of code k) (configuration_of a) → run (code_of code k) a.steps (opening (code_of code k) xs) ≡ Unfinished (configuration_of a) → stage_of (configuration_of a) ≡ st
-      → MayView code.cells (code_of code k) k (alone book) (configuration_of a) → Answers code a r b → Stood b b.outcome (unanswered b)
+      → MayView code.cells (code_of code k) k books (configuration_of a) → Answers code a r b → Stood b b.outcome (unanswered b)
   step_stood a b turned.Went n law ran here may t =
       let c = code_of code k in
       let went = subst (λ m. turn (code_of code m) (configuration_of a) ≡ Unfinished (configuration_of b)) n t.0 in
       let staged = subst (λ (o : Turned Configuration). StagedFrom (stage_of (configuration_of a)) o (λ q r. turn c (given (record { ask = q; reply = r } ∷ []) (configuration_of a)))) went law in
-      stood_as b None None t.1.outcome t.1.unanswered (went_view code.cells c k (alone book) (configuration_of a) (configuration_of b) refl went staged.1 may)
+      stood_as b None None t.1.outcome t.1.unanswered (went_view code.cells c k books (configuration_of a) (configuration_of b) refl went staged.1 may)
   step_stood a b (turned.Asks q) n law ran here may t =
       stood_as b None (Some q) t.1.outcome t.1.unanswered
       (record { turns = a.steps; before = configuration_of a; ran = ran; consumed = refl; here = here; awaits = subst (λ m. Awaits (code_of code m) (configuration_of a) b q) n t.0; views = may })
@@ -191,7 +203,7 @@ module _ (code : PlainCode) (k : ℕ) (book : List Event) (xs : List Exchange) (
   step_stood a b (turned.Ended outcome.Memory) n law ran here may t = stood_as b (Some outcome.Memory) None t.1.outcome t.1.unanswered tt
 
   move_stood : (a b : PlainActor) (r : Turn) (more : Bool) → a.number ≡ k → TurnIsStaged (code_of code k) (configuration_of a) → run (code_of code k) a.steps (opening (code_of code k) xs) ≡ Unfinished (configuration_of a) → stage_of (configuration_of a) ≡ st
-      → MayView code.cells (code_of code k) k (alone book) (configuration_of a) → Moves code a more r b → Stood b b.outcome (unanswered b)
+      → MayView code.cells (code_of code k) k books (configuration_of a) → Moves code a more r b → Stood b b.outcome (unanswered b)
   move_stood a b r true n law ran here may t = step_stood a b r n law ran here may t
   move_stood a b r false n law ran here may t = subst (λ (x : PlainActor). Stood x x.outcome (unanswered x)) (sym t.1) tt
 
@@ -257,9 +269,9 @@ turn_asked : (code : PlainCode) (before : List Entry) (a b : PlainActor) (r : Tu
 turn_asked code before a b r None t w = move_asked code before a b r (nat_lt a.steps a.limit) t w
 turn_asked code before a b r (Some o) t w = subst (λ (x : PlainActor). AskedOn (code_of code a.number) before x) (sym t.1) w
 
--- a turn keeps what an actor has done over a store
-turn_over : ActorsRun → (code : PlainCode) (k : ℕ) (book : List Event) (a b : PlainActor) (r : Turn) → unanswered a ≡ None → Turns code a r b → RunLawfully code k book a → RunLawfully code k book b
-turn_over laws code k book a b r f t w =
+-- a turn keeps what an actor has done over the books
+turn_over : ActorsRun → (code : PlainCode) (k : ℕ) (books : ℕ → List Event) (tr : List Place) (a b : PlainActor) (r : Turn) → unanswered a ≡ None → Turns code a r b → RunLawfully code k books tr a → RunLawfully code k books tr b
+turn_over laws code k books tr a b r f t w =
     let h = w.over in
     let known : StagedCode (code_of code k) = standing_staged (code_of code k) w.stands in
     let staged = stands_staged code (map exchange_of h.entries) a (subst (λ n. StagedCode (code_of code n)) (sym h.number) known) f h.ran in
@@ -274,26 +286,27 @@ turn_over laws code k book a b r f t w =
         here = kept.1;
         asked = λ before e rest s. subst (λ n. AskedOn (code_of code n) before b) h.number
             (turn_asked code before a b r a.outcome t (subst (λ n. AskedOn (code_of code n) before a) (sym h.number) (h.asked before e rest s)));
-        full = λ x. h.full (turn_filled code a b r a.outcome refl t x);
+        full = turn_full code.cells (code_of code k) books (map exchange_of h.entries) code a b r a.outcome refl t h.full;
       };
+      traced = w.traced;
       thread = w.thread;
       stands = w.stands;
-      stood = turn_stood code k book (map exchange_of h.entries) h.stage a b r a.outcome h.number (λ e. subst (λ n. TurnIsStaged (code_of code n) (configuration_of a)) h.number (staged e)) refl f
+      stood = turn_stood code k books (map exchange_of h.entries) h.stage a b r a.outcome h.number (λ e. subst (λ n. TurnIsStaged (code_of code n) (configuration_of a)) h.number (staged e)) refl f
           (subst (λ n. HasCome (code_of code n) (map exchange_of h.entries) a a.outcome None) h.number (subst (λ q. HasCome (code_of code a.number) (map exchange_of h.entries) a a.outcome q) f h.ran))
-          (as_known a h.stage a.outcome None refl f h.here) (stood_known code k book (map exchange_of h.entries) h.stage a a.outcome None refl f w.stood) t;
+          (as_known a h.stage a.outcome None refl f h.here) (stood_known code k books (map exchange_of h.entries) h.stage a a.outcome None refl f w.stood) t;
       lawful = w.lawful;
     }
 
 -- so do many turns
-pub turns_over : ActorsRun → (code : PlainCode) (k : ℕ) (book : List Event) (n : ℕ) (a b : PlainActor) (r : Turn) → unanswered a ≡ None → TurnsOf code n a r b → RunLawfully code k book a → RunLawfully code k book b
-turns_over laws code k book zero a b r f t h = subst (λ x. RunLawfully code k book x) (sym t.1) h
-turns_over laws code k book (suc n) a b r f t h = after_turn (λ i g x. turns_over laws code k book n t.1 b r i g x) t.0 t.2 t.3
+pub turns_over : ActorsRun → (code : PlainCode) (k : ℕ) (books : ℕ → List Event) (tr : List Place) (n : ℕ) (a b : PlainActor) (r : Turn) → unanswered a ≡ None → TurnsOf code n a r b → RunLawfully code k books tr a → RunLawfully code k books tr b
+turns_over laws code k books tr zero a b r f t h = subst (λ x. RunLawfully code k books tr x) (sym t.1) h
+turns_over laws code k books tr (suc n) a b r f t h = after_turn (λ i g x. turns_over laws code k books tr n t.1 b r i g x) t.0 t.2 t.3
   where
-    after_turn : (unanswered t.1 ≡ None → TurnsOf code n t.1 r b → RunLawfully code k book t.1 → RunLawfully code k book b)
-        → (s : Turn) → Turns code a s t.1 → GoesOnAfter s (TurnsOf code n t.1 r b) ((r ≡ s) × (b ≡ t.1)) → RunLawfully code k book b
-    after_turn go turned.Went u g = go (turn_says code a t.1 turned.Went a.outcome refl u) g (turn_over laws code k book a t.1 turned.Went f u h)
-    after_turn go (turned.Asks q) u g = subst (λ x. RunLawfully code k book x) (sym g.1) (turn_over laws code k book a t.1 (turned.Asks q) f u h)
-    after_turn go (turned.Ended o) u g = subst (λ x. RunLawfully code k book x) (sym g.1) (turn_over laws code k book a t.1 (turned.Ended o) f u h)
+    after_turn : (unanswered t.1 ≡ None → TurnsOf code n t.1 r b → RunLawfully code k books tr t.1 → RunLawfully code k books tr b)
+        → (s : Turn) → Turns code a s t.1 → GoesOnAfter s (TurnsOf code n t.1 r b) ((r ≡ s) × (b ≡ t.1)) → RunLawfully code k books tr b
+    after_turn go turned.Went u g = go (turn_says code a t.1 turned.Went a.outcome refl u) g (turn_over laws code k books tr a t.1 turned.Went f u h)
+    after_turn go (turned.Asks q) u g = subst (λ x. RunLawfully code k books tr x) (sym g.1) (turn_over laws code k books tr a t.1 (turned.Asks q) f u h)
+    after_turn go (turned.Ended o) u g = subst (λ x. RunLawfully code k books tr x) (sym g.1) (turn_over laws code k books tr a t.1 (turned.Ended o) f u h)
 
 -- ---- the beginning
 
@@ -305,27 +318,24 @@ no_entry : (before : List Entry) (e : Entry) (rest : List Entry) → [] ≡ befo
 no_entry [] e rest h = subst is_nil h tt
 no_entry (b ∷ bs) e rest h = subst is_nil h tt
 
-pub new_over : ActorsRun → (code : PlainCode) (k limit : ℕ) (book : List Event) (a : PlainActor) → book ≡ [] → k < length code.threads → StandingCode (code_of code k) → IsNew code k limit a → RunLawfully code k book a
-new_over laws code k limit book a e there stands n = subst (λ es. RunLawfully code k es a) (sym e) (record {
+pub new_over : ActorsRun → (code : PlainCode) (k limit : ℕ) (tr : List Place) (a : PlainActor) → tr ≡ [] → k < length code.threads → StandingCode (code_of code k) → IsNew code k limit a → RunLawfully code k (λ n. []) tr a
+new_over laws code k limit tr a e there stands n = record {
   over = record {
     number = n.number;
     entries = [];
     stage = Idle;
     ran = laws.begins code k limit a n;
-    told = record { hold = tt; staged = refl; traced = nothing };
+    told = record { hold = tt; staged = refl; traced = λ i. refl };
     here = as_is a Idle None None n.unended n.unasking (ap stage_of n.opens);
     asked = λ before e rest s. absurd (no_entry before e rest s);
     full = λ x. absurd (subst Unfilled x (subst Unfilled (sym n.unended) tt));
   };
+  traced = ap places_of e;
   thread = there;
   stands = stands;
-  stood = stood_as code k [] [] Idle a None None n.unended n.unasking (idle_view code.cells (code_of code k) k (alone []) (configuration_of a) (ap stage_of n.opens));
-  lawful = record { replies = tt; values = λ opened. tt; places = tt };
-})
-  where
-    nothing : (i : ℕ) → [] ≡ told_by.places_by k 0 (alone [] i)
-    nothing zero = refl
-    nothing (suc i) = refl
+  stood = stood_as code k (λ n. []) [] Idle a None None n.unended n.unasking (idle_view code.cells (code_of code k) k (λ n. []) (configuration_of a) (ap stage_of n.opens));
+  lawful = record { replies = tt; values = λ opened n. tt; places = tt };
+}
 
 -- ---- answers
 
@@ -342,126 +352,64 @@ unfilled_of (Some outcome.StepsSpent) u = tt
 unfilled_of (Some outcome.JournalFull) u = u
 unfilled_of (Some outcome.Memory) u = tt
 
--- ---- what the store serves
+-- ---- books that grow
 
--- an ask that the store may be asked is served from its book, as what is shared serves it
-of_store : (cells : List CellDefinition) (threads : ℕ) (taken : List Bool) (a : ℕ) (q : Ask) (book : List Event) → is_lawful (store_with (cells_of cells) threads book taken) a q ≡ true
-    → (serve_on cells a q book ≡ serve (cells_of cells) a q book) × (book_for cells q ≡ 0) × (may_ask cells threads taken a q book ≡ true)
-of_store cells threads taken a ask.Begin book h = (refl, refl, h)
-of_store cells threads taken a (ask.Look c p) book h = (refl, refl, h)
-of_store cells threads taken a (ask.View cs) book h = (refl, refl, h)
-of_store cells threads taken a (ask.Commit p sets ensured q commuted sends) book h = (refl, refl, h)
-of_store cells threads taken a (ask.Fail p q) book h = (refl, refl, h)
-of_store cells threads taken a (ask.Send x) book h = (refl, refl, h)
-of_store cells threads taken a (ask.Take g) book h = (refl, refl, h)
-of_store cells threads taken a (ask.Finish g new) book h = (refl, refl, h)
-of_store cells threads taken a (ask.Peek c) book h =
-    let g = and_both (nat_lt a threads) (not (is_atom c) && has_cell (cells_of cells) c) h in
-    let n = and_both (not (is_atom c)) (has_cell (cells_of cells) c) g.1 in
-    let e = opposite (is_atom c) n.0 in (
-      ap (λ b. if b then serve_atom (atom_of cells c book) a (ask.Peek c) else serve (cells_of cells) a (ask.Peek c) book) e,
-      ap (λ b. if b then suc (atoms_below cells c.number) else 0) e,
-      both (nat_lt a threads) (has_cell (cells_of cells) c) g.0 n.1,
-    )
-  where
-    opposite : (b : Bool) → not b ≡ true → b ≡ false
-    opposite true h = absurd (false≢true h)
-    opposite false h = refl
+append_length : {A : Type 0} (xs ys : List A) → length (xs ++ ys) ≡ length xs + length ys
+append_length [] ys = omega arith
+append_length (x ∷ xs) ys = let h = append_length xs ys in omega (arith, h)
 
-    both : (x y : Bool) → x ≡ true → y ≡ true → (x && y) ≡ true
-    both x y p q = rw (p, q) refl
-of_store cells threads taken a (ask.OpenAt c) book h = absurd (false≢true (and_both (nat_lt a threads) false h).1)
-of_store cells threads taken a (ask.CloseAt c p v) book h = absurd (false≢true (and_both (nat_lt a threads) false h).1)
-of_store cells threads taken a (ask.Broke c p) book h = absurd (false≢true (and_both (nat_lt a threads) false h).1)
+pub longer : (k : ℕ) (books later : ℕ → List Event) → Grown k books later → (n : ℕ) → length (books n) ≤ length (later n)
+longer k books later g n = let e = ap length (g.grown n) ∙ append_length (books n) (g.more n) in omega (arith, e)
 
--- books that are the same tell the same
-told_same : (cells : List CellDefinition) (threads a : ℕ) (books later : ℕ → List Event) (es : List Entry) (st : Stage) → ((n : ℕ) → later n ≡ books n) → ToldBy cells threads books a es st → ToldBy cells threads later a es st
-told_same cells threads a books later es st same t =
-    told_stays cells threads (suc a) a books later (record { more = λ n. []; grown = λ n. same n ∙ sym (append_nil (books n)); own = λ n. tt }) (λ e. absurd (omega (arith, e))) es st t
+-- all values of the books name defined cells alone
+abbrev pub ValuesKnown : PlainCode → (ℕ → List Event) → Type 0
+ValuesKnown code books = (opened : OpeningIsKnown code.cells) (n : ℕ) → BookKnown code.cells opened (books n)
+
+-- what another actor adds leaves what an actor has done, and that its asks are lawful
+pub over_others : (code : PlainCode) (k j : ℕ) (books later : ℕ → List Event) (tr : List Place) (a : PlainActor) → (k ≡ j → ⊥) → Grown k books later → ValuesKnown code later → RunLawfully code j books tr a → RunLawfully code j later tr a
+over_others code k j books later tr a n g v w =
+    let h = w.over in
+    record {
+      over = record {
+        number = h.number;
+        entries = h.entries;
+        stage = h.stage;
+        ran = h.ran;
+        told = told_stays code.cells (length code.threads) k j books later g n h.entries h.stage h.told;
+        here = h.here;
+        asked = h.asked;
+        full = λ x. (let m = h.full x in let l = longer k books later g (book_for code.cells m.ask) in record { ask = m.ask; asked = m.asked; full = omega (arith, m.full, l) });
+      };
+      traced = w.traced ∙ sym (trace_stays code.cells (length code.threads) k j books later g h.entries h.told.hold);
+      thread = w.thread;
+      stands = w.stands;
+      stood = others_stood code.cells (code_of code j) k j books later (map exchange_of h.entries) a h.stage a.outcome (unanswered a) n g w.stood;
+      lawful = others_lawfully code.cells k j books later h.entries h.stage n g v w.lawful;
+    }
+
+-- so do books that are as they were
+pub over_same : (code : PlainCode) (k : ℕ) (books later : ℕ → List Event) (tr : List Place) (a : PlainActor) → ((n : ℕ) → later n ≡ books n) → RunLawfully code k books tr a → RunLawfully code k later tr a
+over_same code k books later tr a same w =
+    over_others code (suc k) k books later tr a (λ e. absurd (omega (arith, e))) (record { more = λ n. []; grown = λ n. same n ∙ sym (append_nil (books n)); own = λ n. tt })
+    (λ opened n. subst (BookKnown code.cells opened) (sym (same n)) (w.lawful.values opened n)) w
+
+-- books that are an actor's alone stay so where the actor alone adds to them
+own_append : (k : ℕ) (book more : List Event) → IsOwn k book → growing.AreOwn k more → IsOwn k (book ++ more)
+own_append k [] [] h o = tt
+own_append k [] (e ∷ more) h o = (o.0, own_append k [] more tt o.1)
+own_append k (e ∷ book) more h o = (h.0, own_append k book more h.1 o)
+
+pub own_grown : (k : ℕ) (books later : ℕ → List Event) → AreOwn k books → Grown k books later → AreOwn k later
+own_grown k books later h g n = subst (IsOwn k) (sym (g.grown n)) (own_append k (books n) (g.more n) (h n) (g.own n))
+
+pub not_grown : (k : ℕ) (books : ℕ → List Event) → Grown k books books
+not_grown k books = nothing_grown k books
+
+-- ---- what is served
 
 map_append : (xs : List Entry) (e : Entry) → map exchange_of (xs ++ e ∷ []) ≡ map exchange_of xs ++ exchange_of e ∷ []
 map_append [] e = refl
 map_append (x ∷ xs) e = ap (λ l. exchange_of x ∷ l) (map_append xs e)
-
--- what the store adds to the book is of the actor that asks
-own_of : (k : ℕ) (es : List Event) → AreOwn k es → IsOwn k es
-own_of k [] o = tt
-own_of k (e ∷ es) o = (o.0, own_of k es o.1)
-
--- a book that is an actor's alone stays so where the actor alone adds to it
-own_append : (k : ℕ) (book more : List Event) → IsOwn k book → IsOwn k more → IsOwn k (book ++ more)
-own_append k [] more h o = o
-own_append k (e ∷ book) more h o = (h.0, own_append k book more h.1 o)
-
-pub own_grown : (k : ℕ) (book later : List Event) → IsOwn k book → IsGrownBy k book later → IsOwn k later
-own_grown k book later h g = subst (IsOwn k) (sym g.grown) (own_append k book g.more h g.own)
-
-pub not_grown : (k : ℕ) (book : List Event) → IsGrownBy k book book
-not_grown k book = record { more = []; grown = sym (append_nil book); own = tt }
-
-module _ (code : PlainCode) (k : ℕ) (book : List Event) (taken : List Bool) (q : Ask) (lawful : is_lawful (store_with (cells_of code.cells) (length code.threads) book taken) k q ≡ true) where
-  abbrev v : Served
-  v = serve (cells_of code.cells) k q book
-
-  abbrev known : Serves k book (serve_on code.cells k q book)
-  known = serves k book code.cells q
-
-  same : serve_on code.cells k q book ≡ v
-  same = (of_store code.cells (length code.threads) taken k q book lawful).0
-
-  home_is : book_for code.cells q ≡ 0
-  home_is = (of_store code.cells (length code.threads) taken k q book lawful).1
-
-  -- what was served adds events of the actor alone
-  served_grows : IsGrownBy k book v.book
-  served_grows = record { more = known.more; grown = ap (λ (x : Served). x.book) (sym same) ∙ known.grown; own = own_of k known.more known.own }
-
-  -- a full book stays as it is
-  full_keeps : IsFull v.reply → v.book ≡ book
-  full_keeps f =
-      ap (λ (x : Served). x.book) (sym same) ∙ known.grown
-      ∙ ap (λ l. book ++ l) (known.stays (λ ex. never (serve_on code.cells k q book).reply ex (subst (λ (x : Served). IsFull x.reply) (sym same) f))) ∙ append_nil book
-    where
-      never : (r : Reply) → IsExchanged r → IsFull r → ⊥
-      never (reply.At p) ex f = f
-      never (reply.Is w) ex f = f
-      never (reply.Views p vs) ex f = f
-      never reply.Done ex f = f
-      never (reply.Retry c) ex f = f
-      never (reply.Changed c) ex f = f
-      never (reply.AgentIsFailed g) ex f = f
-      never (reply.Action n x w) ex f = f
-      never (reply.Opened p w) ex f = f
-      never reply.Idle ex f = f
-      never reply.Full ex f = ex
-      never reply.Memory ex f = f
-
-  full_past : IsFull v.reply → most_events ≤ length book
-  full_past f = known.full (subst (λ (x : Served). IsFull x.reply) (sym same) f)
-
-  -- what was served, told with the entry behind the others
-  told_served : ServedIsTold → (es : List Entry) (st : Stage) → AsksIn st q → ToldBy code.cells (length code.threads) (alone book) k es st → IsExchanged v.reply
-      → ToldBy code.cells (length code.threads) (alone v.book) k (es ++ entry q v.reply (length book) ∷ []) (stage_after st q v.reply)
-  told_served law es st ok t ex =
-      told_same code.cells (length code.threads) k (with_book 0 v.book (alone book)) (alone v.book) (es ++ entry q v.reply (length book) ∷ []) (stage_after st q v.reply) after
-      (subst (λ (x : Served). ToldBy code.cells (length code.threads) (with_book 0 x.book (alone book)) k (es ++ entry q x.reply (length book) ∷ []) (stage_after st q x.reply)) same
-      (at_home (book_for code.cells q) home_is refl))
-    where
-      after : (n : ℕ) → alone v.book n ≡ with_book 0 v.book (alone book) n
-      after zero = refl
-      after (suc n) = sym (ap (λ b. if b then v.book else []) (not_zero (suc n == 0) refl))
-        where
-          not_zero : (b : Bool) → (suc n == 0) ≡ b → (suc n == 0) ≡ false
-          not_zero true e = absurd (let z = numbers (suc n) 0 e in omega (arith, z))
-          not_zero false e = e
-
-      at_home : (n : ℕ) → n ≡ 0 → book_for code.cells q ≡ n → ToldBy code.cells (length code.threads) (with_book 0 (serve_on code.cells k q book).book (alone book)) k (es ++ entry q (serve_on code.cells k q book).reply (length book) ∷ []) (stage_after st q (serve_on code.cells k q book).reply)
-      at_home n z e =
-          subst (λ i. (may_ask code.cells (length code.threads) taken k q (alone book i) ≡ true) → IsExchanged (serve_on code.cells k q (alone book i)).reply
-          → ToldBy code.cells (length code.threads) (with_book i (serve_on code.cells k q (alone book i)).book (alone book)) k (es ++ entry q (serve_on code.cells k q (alone book i)).reply (length (alone book i)) ∷ []) (stage_after st q (serve_on code.cells k q (alone book i)).reply)) (e ∙ z)
-          (λ may x. law code.cells (length code.threads) (alone book) taken k q es st may ok t x)
-          (of_store code.cells (length code.threads) taken k q book lawful).2
-          (subst (λ (x : Served). IsExchanged x.reply) (sym same) ex)
 
 -- an answer prints nothing, and makes no step
 answer_asked : (code : ThreadCode) (before : List Entry) (a : PlainActor) (r : Reply) → Leaves a (answered a r) → AskedOn code before a → AskedOn code before (answered a r)
@@ -491,47 +439,174 @@ more_asked code es y a q r same h asked before e rest s = go (apart es y before 
     go (inl i) = subst (λ l. AskedOn code l (answered a r)) (sym i) (own_asked code es a q r same h)
     go (inr i) = answer_asked code before a r same (asked before e i.0 i.1)
 
+module _ (code : PlainCode) (k : ℕ) (books : ℕ → List Event) (taken : List Bool) (q : Ask) (lawful : may_ask code.cells (length code.threads) taken k q (books (book_for code.cells q)) ≡ true) where
+  -- the book for the ask
+  abbrev home : List Event
+  home = books (book_for code.cells q)
+
+  abbrev v : Served
+  v = serve_on code.cells k q home
+
+  -- the books after it was served
+  abbrev later : ℕ → List Event
+  later = with_book (book_for code.cells q) v.book books
+
+  abbrev known : Serves k home v
+  known = serves k home code.cells q
+
+  -- what was served adds events of the actor alone
+  served_grows : Grown k books later
+  served_grows = growing.own_grown code.cells (length code.threads) k books q taken lawful v refl known
+
+  -- where nothing is added, the books are as before
+  left_as : v.book ≡ home → (n : ℕ) → later n ≡ books n
+  left_as e n = go (n == book_for code.cells q) refl
+    where
+      go : (b : Bool) → (n == book_for code.cells q) ≡ b → (if b then v.book else books n) ≡ books n
+      go true h = e ∙ ap books (sym (numbers n (book_for code.cells q) h))
+      go false h = refl
+
+  -- a full book stays as it is
+  full_keeps : IsFull v.reply → v.book ≡ home
+  full_keeps f = known.grown ∙ ap (λ l. home ++ l) (known.stays (λ ex. never v.reply ex f)) ∙ append_nil home
+    where
+      never : (r : Reply) → IsExchanged r → IsFull r → ⊥
+      never (reply.At p) ex f = f
+      never (reply.Is w) ex f = f
+      never (reply.Views p vs) ex f = f
+      never reply.Done ex f = f
+      never (reply.Retry c) ex f = f
+      never (reply.Changed c) ex f = f
+      never (reply.AgentIsFailed g) ex f = f
+      never (reply.Action n x w) ex f = f
+      never (reply.Opened p w) ex f = f
+      never reply.Idle ex f = f
+      never reply.Full ex f = ex
+      never reply.Memory ex f = f
+
+  -- the place of the event that was added, if one was
+  abbrev added : List told_by.Place
+  added = if nat_lt (length home) (length v.book) then record { book = book_for code.cells q; at = length home } ∷ [] else []
+
+  -- an entry behind the others adds its place behind theirs
+  trace_grows : (es : List Entry) → AllHold code.cells (length code.threads) books k es → trace_of code.cells later k (es ++ entry q v.reply (length home) ∷ []) ≡ trace_of code.cells books k es ++ added
+  trace_grows es h =
+      appended es ∙ ap (λ ps. ps ++ adding code.cells later k own []) (trace_stays code.cells (length code.threads) k k books later served_grows es h)
+      ∙ ap (λ (x : Served). trace_of code.cells books k es ++ (if nat_lt (length home) (length x.book) then record { book = book_for code.cells q; at = length home } ∷ [] else [])) served_own
+    where
+      own : Entry
+      own = entry q v.reply (length home)
+
+      taken_back : {A : Type 0} (xs ys : List A) → take (length xs) (xs ++ ys) ≡ xs
+      taken_back [] [] = refl
+      taken_back [] (y ∷ ys) = refl
+      taken_back (x ∷ xs) ys = ap (λ l. x ∷ l) (taken_back xs ys)
+
+      home_later : later (book_for code.cells q) ≡ v.book
+      home_later = ap (λ b. if b then v.book else home) (number-itself (book_for code.cells q))
+
+      served_own : served_at code.cells later k (entry q v.reply (length home)) ≡ v
+      served_own = ap (serve_on code.cells k q) (ap (take (length home)) (home_later ∙ known.grown) ∙ taken_back home known.more)
+
+      appended : (xs : List Entry) → trace_of code.cells later k (xs ++ entry q v.reply (length home) ∷ []) ≡ trace_of code.cells later k xs ++ adding code.cells later k (entry q v.reply (length home)) []
+      appended [] = refl
+      appended (x ∷ xs) = ap (adding code.cells later k x) (appended xs) ∙ over (nat_lt x.at (length (served_at code.cells later k x).book))
+        where
+          over : (b : Bool) → (if b then record { book = book_for code.cells x.ask; at = x.at } ∷ (trace_of code.cells later k xs ++ adding code.cells later k (entry q v.reply (length home)) []) else trace_of code.cells later k xs ++ adding code.cells later k (entry q v.reply (length home)) [])
+              ≡ (if b then record { book = book_for code.cells x.ask; at = x.at } ∷ trace_of code.cells later k xs else trace_of code.cells later k xs) ++ adding code.cells later k (entry q v.reply (length home)) []
+          over true = refl
+          over false = refl
+
+-- places that were noted, as the laws of runs speak of them
+places_append : (ps qs : List Place) → places_of (ps ++ qs) ≡ places_of ps ++ places_of qs
+places_append [] qs = refl
+places_append (p ∷ ps) qs = ap (λ l. record { book = p.book; at = p.at } ∷ l) (places_append ps qs)
+
+place_is : (book at : ℕ) (p : Place) → p.book ≡ book → p.at ≡ at → places_of (p ∷ []) ≡ record { book = book; at = at } ∷ []
+place_is book at p e f = rw (e, f) refl
+
+noted_places : (b : Bool) (ps : List Place) (p : Place) (book at : ℕ) → p.book ≡ book → p.at ≡ at → places_of (with_place b ps p) ≡ places_of ps ++ (if b then record { book = book; at = at } ∷ [] else [])
+noted_places true ps p book at e f = places_append ps (p ∷ []) ∙ ap (λ l. places_of ps ++ l) (place_is book at p e f)
+noted_places false ps p book at e f = sym (append_nil (places_of ps))
+
+-- the ask at which an actor was stopped for a full book
+full_at : ActorsRun → (code : PlainCode) (k : ℕ) (books : ℕ → List Event) (xs : List Exchange) (a : PlainActor) (q : Ask) → a.number ≡ k → a.outcome ≡ None → unanswered a ≡ Some q → MayAnswer q reply.Full → most_events ≤ length (books (book_for code.cells q))
+    → HasRun code xs a → AtFullBook code.cells (code_of code k) books xs (answered a reply.Full)
+full_at laws code k books xs a q n e f may full ran =
+    let b = answered a reply.Full in
+    let leaves = answer_leaves a q reply.Full f may in
+    let asked : HasAsked (code_of code k) xs a q =
+    subst (λ i. HasAsked (code_of code i) xs a q) n (subst (λ o. HasCome (code_of code a.number) xs a o (Some q)) e (subst (λ y. HasCome (code_of code a.number) xs a a.outcome y) f ran))
+    in
+    let ends : HasEndedSo (code_of code k) xs b outcome.JournalFull =
+    subst (λ i. HasEndedSo (code_of code i) xs b outcome.JournalFull) (leaves.number ∙ n)
+    (subst (λ o. HasCome (code_of code b.number) xs b o (unanswered b)) (full_stops a q f) (laws.stops code xs a q reply.Full e f may tt ran))
+    in
+    let last = ends.2 in
+    let began = last.1 in
+    let count : asked.0 ≡ began.others = omega (arith, asked.2, leaves.steps, began.counted) in
+    let place : asked.1 ≡ last.0 = ap (place_or asked.1) (sym asked.3 ∙ ap (λ m. run (code_of code k) m (opening (code_of code k) xs)) count ∙ began.came) in
+    let same : Some q ≡ Some ends.0 = ap wanted (sym asked.4.asks ∙ ap (turn (code_of code k)) place ∙ last.3) in
+    record { ask = ends.0; asked = last; full = subst (λ (o : Option Ask). most_events ≤ length (books (book_for code.cells (ask_in q o)))) same full }
+  where
+    place_or : Configuration → Turned Configuration → Configuration
+    place_or c (Unfinished d) = d
+    place_or c (Ended s) = c
+    place_or c (Failed f s) = c
+    place_or c (Asking s) = c
+    place_or c Stuck = c
+
+    wanted : Turned Configuration → Option Ask
+    wanted (Asking s) = s.wants
+    wanted (Unfinished d) = None
+    wanted (Ended s) = None
+    wanted (Failed f s) = None
+    wanted Stuck = None
+
 -- an answer that the actor goes on after
-heard_over : ActorsRun → ServedIsTold → (code : PlainCode) (k : ℕ) (book : List Event) (taken : List Bool) (a : PlainActor) (q : Ask) (r : Reply)
-    → NamesOwnCells code → is_lawful (store_with (cells_of code.cells) (length code.threads) book taken) k q ≡ true
-    → a.outcome ≡ None → unanswered a ≡ Some q → unanswered (answered a r) ≡ None → MayAnswer q r → (Stops r → ⊥) → IsExchanged r → r ≡ (serve (cells_of code.cells) k q book).reply
-    → RunLawfully code k book a → RunLawfully code k (serve (cells_of code.cells) k q book).book (answered a r)
-heard_over laws law code k book taken a q r mine lawful e f free may on x same w =
+heard_over : ActorsRun → ServedIsTold → (code : PlainCode) (k : ℕ) (books : ℕ → List Event) (taken : List Bool) (tr new : List Place) (a : PlainActor) (q : Ask) (r : Reply)
+    → NamesOwnCells code → (lawful : may_ask code.cells (length code.threads) taken k q (books (book_for code.cells q)) ≡ true)
+    → a.outcome ≡ None → unanswered a ≡ Some q → unanswered (answered a r) ≡ None → MayAnswer q r → (Stops r → ⊥) → IsExchanged r → r ≡ (v code k books taken q lawful).reply → places_of new ≡ places_of tr ++ added code k books taken q lawful
+    → RunLawfully code k books tr a → RunLawfully code k (later code k books taken q lawful) new (answered a r)
+heard_over laws law code k books taken tr new a q r mine lawful e f free may on x same placed w =
     let h = w.over in
-    let v = serve (cells_of code.cells) k q book in
+    let at = length (books (book_for code.cells q)) in
+    let more = later code k books taken q lawful in
     let known = as_known a h.stage None (Some q) e f h.here in
-    let from = of_store code.cells (length code.threads) taken k q book lawful in
-    let stood = stood_known code k book (map exchange_of h.entries) h.stage a None (Some q) e f w.stood in
+    let stood = stood_known code k books (map exchange_of h.entries) h.stage a None (Some q) e f w.stood in
     let leaves = answer_leaves a q r f may in
     let below = is_below k (length code.threads) w.thread in
-    let more = map exchange_of (h.entries ++ entry q r (length book) ∷ []) in
+    let xs = map exchange_of (h.entries ++ entry q r at ∷ []) in
     let next = stage_after h.stage q r in
     record {
       over = record {
         number = leaves.number ∙ h.number;
-        entries = h.entries ++ entry q r (length book) ∷ [];
+        entries = h.entries ++ entry q r at ∷ [];
         stage = stage_after h.stage q r;
-        ran = subst (λ xs. HasRun code xs (answered a r)) (sym (map_append h.entries (entry q r (length book)))) (laws.answers code (map exchange_of h.entries) a q r e f may on h.ran);
-        told = subst (λ y. ToldBy code.cells (length code.threads) (alone (serve (cells_of code.cells) k q book).book) k (h.entries ++ entry q y (length book) ∷ []) (stage_after h.stage q y)) (sym same)
-            (told_served code k book taken q lawful law h.entries h.stage known.0 h.told (subst IsExchanged same x));
+        ran = subst (λ ys. HasRun code ys (answered a r)) (sym (map_append h.entries (entry q r at))) (laws.answers code (map exchange_of h.entries) a q r e f may on h.ran);
+        told = subst (λ y. ToldBy code.cells (length code.threads) more k (h.entries ++ entry q y at ∷ []) (stage_after h.stage q y)) (sym same)
+            (law code.cells (length code.threads) books taken k q h.entries h.stage lawful known.0 h.told (subst IsExchanged same x));
         here = as_is (answered a r) (stage_after h.stage q r) (answered a r).outcome None refl free (in_after (answered a r) (stage_after h.stage q r) (answered a r).outcome (known.1 r may on));
-        asked = more_asked (code_of code k) h.entries (entry q r (length book)) a q r leaves
+        asked = more_asked (code_of code k) h.entries (entry q r at) a q r leaves
             (subst (λ n. HasAsked (code_of code n) (map exchange_of h.entries) a q) h.number
             (subst (λ o. HasCome (code_of code a.number) (map exchange_of h.entries) a o (Some q)) e (subst (λ y. HasCome (code_of code a.number) (map exchange_of h.entries) a a.outcome y) f h.ran))) h.asked;
-        full = λ x. absurd (subst Unfilled x (unfilled_of (answered a r).outcome (unstopped_if a e a.pending r on)));
+        full = λ y. absurd (subst Unfilled y (unfilled_of (answered a r).outcome (unstopped_if a e a.pending r on)));
       };
+      traced = placed ∙ ap (λ ps. ps ++ added code k books taken q lawful) w.traced ∙ sym (trace_grows code k books taken q lawful h.entries h.told.hold)
+          ∙ ap (λ y. trace_of code.cells more k (h.entries ++ entry q y at ∷ [])) (sym same);
       thread = w.thread;
       stands = w.stands;
-      stood = stood_as code k v.book more next (answered a r) (answered a r).outcome None refl free
-          (heard_stood code.cells (length code.threads) (code_of code k) k book h.entries h.stage a q (openings_known code mine) (code_known code k mine) w.stands below h.told stood w.lawful v r from.1 from.0 same more next may on x);
+      stood = stood_as code k more xs next (answered a r) (answered a r).outcome None refl free
+          (heard_stood code.cells (length code.threads) (code_of code k) k books h.entries h.stage a q (openings_known code mine) (code_known code k mine) w.stands below h.told stood w.lawful more r (λ i. refl) same xs next may on x);
       lawful =
-          heard_lawfully code.cells (length code.threads) (code_of code k) k book h.entries h.stage a q (openings_known code mine) (code_known code k mine) w.stands below h.told stood w.lawful v r from.1 from.0 same (length book) known.0;
+          heard_lawfully code.cells (length code.threads) (code_of code k) k books h.entries h.stage a q (openings_known code mine) (code_known code k mine) w.stands below h.told stood w.lawful more r (λ i. refl) same at known.0;
     }
 
--- an answer that stops the actor, and leaves the book as it was
-stopped_over : ActorsRun → (code : PlainCode) (k : ℕ) (book : List Event) (a : PlainActor) (q : Ask) (r : Reply)
-    → a.outcome ≡ None → unanswered a ≡ Some q → MayAnswer q r → Stops r → ((answered a r).outcome ≡ Some outcome.JournalFull → most_events ≤ length book) → RunLawfully code k book a → RunLawfully code k book (answered a r)
-stopped_over laws code k book a q r e f may stop filled w =
+-- an answer that stops the actor, and leaves the books as they were
+stopped_over : ActorsRun → (code : PlainCode) (k : ℕ) (books : ℕ → List Event) (tr : List Place) (a : PlainActor) (q : Ask) (r : Reply)
+    → a.outcome ≡ None → unanswered a ≡ Some q → MayAnswer q r → Stops r
+    → ((xs : List Exchange) → HasRun code xs a → (answered a r).outcome ≡ Some outcome.JournalFull → AtFullBook code.cells (code_of code k) books xs (answered a r)) → RunLawfully code k books tr a → RunLawfully code k books tr (answered a r)
+stopped_over laws code k books tr a q r e f may stop filled w =
     let h = w.over in
     let ends = stop_ends a q r f stop in
     let leaves = answer_leaves a q r f may in
@@ -544,13 +619,18 @@ stopped_over laws code k book a q r e f may stop filled w =
         told = h.told;
         here = as_is (answered a r) h.stage (Some ends.0) (unanswered (answered a r)) ends.1 refl tt;
         asked = λ before e rest s. answer_asked (code_of code k) before a r leaves (h.asked before e rest s);
-        full = filled;
+        full = filled (map exchange_of h.entries) h.ran;
       };
+      traced = w.traced;
       thread = w.thread;
       stands = w.stands;
-      stood = stood_as code k book (map exchange_of h.entries) h.stage (answered a r) (Some ends.0) (unanswered (answered a r)) ends.1 refl tt;
+      stood = stood_as code k books (map exchange_of h.entries) h.stage (answered a r) (Some ends.0) (unanswered (answered a r)) ends.1 refl tt;
       lawful = w.lawful;
     }
+
+-- want of memory fills no book
+memory_over : ActorsRun → (code : PlainCode) (k : ℕ) (books : ℕ → List Event) (tr : List Place) (a : PlainActor) (q : Ask) → a.outcome ≡ None → unanswered a ≡ Some q → MayAnswer q reply.Memory → RunLawfully code k books tr a → RunLawfully code k books tr (answered a reply.Memory)
+memory_over laws code k books tr a q e f may w = stopped_over laws code k books tr a q reply.Memory e f may tt (λ xs ran x. absurd (subst Unfilled x (subst Unfilled (sym (memory_stops a q f)) tt))) w
 
 -- a thread's ask isn't answered as an agent's that has nothing to do
 idle_never : (st : Stage) (q : Ask) → AsksIn st q → MayAnswer q reply.Idle → ⊥
@@ -570,103 +650,157 @@ idle_never st (ask.OpenAt c) ok may = may
 idle_never st (ask.CloseAt c p v) ok may = may
 idle_never st (ask.Broke c p) ok may = may
 
--- what the store answers the actor, and the actor after the answer
-served_from : ActorsRun → ServedIsTold → (code : PlainCode) (book : List Event) (taken : List Bool) (t : PlainStore) (k : ℕ) (a : PlainActor) (q : Ask) (r : Reply)
-    → NamesOwnCells code → is_lawful (store_with (cells_of code.cells) (length code.threads) book taken) k q ≡ true
-    → a.outcome ≡ None → unanswered a ≡ Some q → unanswered (answered a r) ≡ None → MayAnswer q r
-    → world.Answers (store_with (cells_of code.cells) (length code.threads) book taken) (serve (cells_of code.cells) k q book) (store_after (store_with (cells_of code.cells) (length code.threads) book taken) q (serve (cells_of code.cells) k q book)) r t
-    → RunLawfully code k book a → IsStoreOf code t × RunLawfully code k t.book (answered a r)
-served_from laws law code book taken t k a q (reply.At p) mine lawful e f free may g h =
-    (subst (IsStoreOf code) (sym g.1) (record { cells = refl; threads = refl }), subst (λ (x : PlainStore). RunLawfully code k x.book (answered a (reply.At p))) (sym g.1) (heard_over laws law code k book taken a q (reply.At p) mine lawful e f free may (λ x. x) tt g.0 h))
-served_from laws law code book taken t k a q (reply.Is v) mine lawful e f free may g h =
-    (subst (IsStoreOf code) (sym g.1) (record { cells = refl; threads = refl }), subst (λ (x : PlainStore). RunLawfully code k x.book (answered a (reply.Is v))) (sym g.1) (heard_over laws law code k book taken a q (reply.Is v) mine lawful e f free may (λ x. x) tt g.0 h))
-served_from laws law code book taken t k a q (reply.Views p vs) mine lawful e f free may g h =
-    (subst (IsStoreOf code) (sym g.1) (record { cells = refl; threads = refl }), subst (λ (x : PlainStore). RunLawfully code k x.book (answered a (reply.Views p vs))) (sym g.1) (heard_over laws law code k book taken a q (reply.Views p vs) mine lawful e f free may (λ x. x) tt g.0 h))
-served_from laws law code book taken t k a q reply.Done mine lawful e f free may g h =
-    (subst (IsStoreOf code) (sym g.1) (record { cells = refl; threads = refl }), subst (λ (x : PlainStore). RunLawfully code k x.book (answered a reply.Done)) (sym g.1) (heard_over laws law code k book taken a q reply.Done mine lawful e f free may (λ x. x) tt g.0 h))
-served_from laws law code book taken t k a q (reply.Retry d) mine lawful e f free may g h =
-    (subst (IsStoreOf code) (sym g.1) (record { cells = refl; threads = refl }), subst (λ (x : PlainStore). RunLawfully code k x.book (answered a (reply.Retry d))) (sym g.1) (heard_over laws law code k book taken a q (reply.Retry d) mine lawful e f free may (λ x. x) tt g.0 h))
-served_from laws law code book taken t k a q (reply.Changed d) mine lawful e f free may g h =
-    (subst (IsStoreOf code) (sym g.1) (record { cells = refl; threads = refl }), subst (λ (x : PlainStore). RunLawfully code k x.book (answered a (reply.Changed d))) (sym g.1) (heard_over laws law code k book taken a q (reply.Changed d) mine lawful e f free may (λ x. x) tt g.0 h))
-served_from laws law code book taken t k a q (reply.AgentIsFailed d) mine lawful e f free may g h =
-    (subst (IsStoreOf code) (sym g.1) (record { cells = refl; threads = refl }), subst (λ (x : PlainStore). RunLawfully code k x.book (answered a (reply.AgentIsFailed d))) (sym g.1) (heard_over laws law code k book taken a q (reply.AgentIsFailed d) mine lawful e f free may (λ x. x) tt g.0 h))
-served_from laws law code book taken t k a q (reply.Action i y v) mine lawful e f free may g h =
-    (subst (IsStoreOf code) (sym g.1) (record { cells = refl; threads = refl }), subst (λ (x : PlainStore). RunLawfully code k x.book (answered a (reply.Action i y v))) (sym g.1) (heard_over laws law code k book taken a q (reply.Action i y v) mine lawful e f free may (λ x. x) tt g.0 h))
-served_from laws law code book taken t k a q reply.Idle mine lawful e f free may g h = absurd (idle_never h.over.stage q (as_known a h.over.stage None (Some q) e f h.over.here).0 may)
-served_from laws law code book taken t k a q (reply.Opened p v) mine lawful e f free may g h =
-    (subst (IsStoreOf code) (sym g.1) (record { cells = refl; threads = refl }), subst (λ (x : PlainStore). RunLawfully code k x.book (answered a (reply.Opened p v))) (sym g.1) (heard_over laws law code k book taken a q (reply.Opened p v) mine lawful e f free may (λ x. x) tt g.0 h))
-served_from laws law code book taken t k a q reply.Full mine lawful e f free may g h = (
-  subst (IsStoreOf code) (sym g.1) (record { cells = refl; threads = refl }),
-  subst (λ (x : PlainStore). RunLawfully code k x.book (answered a reply.Full)) (sym g.1)
-      (subst (λ (es : List Event). RunLawfully code k es (answered a reply.Full)) (sym (full_keeps code k book taken q lawful (subst IsFull g.0 tt)))
-      (stopped_over laws code k book a q reply.Full e f may tt (λ x. full_past code k book taken q lawful (subst IsFull g.0 tt)) h)),
-)
-served_from laws law code book taken t k a q reply.Memory mine lawful e f free may g h =
-    (subst (IsStoreOf code) (sym g.1) (record { cells = refl; threads = refl }), subst (λ (x : PlainStore). RunLawfully code k x.book (answered a reply.Memory)) (sym g.1) (stopped_over laws code k book a q reply.Memory e f may tt (λ x. absurd (subst Unfilled x (subst Unfilled (sym (memory_stops a q f)) tt))) h))
+-- the state of the code's cells with these books
+abbrev state_with : PlainCode → List (List Event) → List Bool → PlainShared
+state_with code bs taken = record { cells = code.cells; threads = length code.threads; books = bs; taken = taken }
 
--- a store of the code's
-as_store : (code : PlainCode) (s : PlainStore) → IsStoreOf code s → s ≡ store_with (cells_of code.cells) (length code.threads) s.book s.taken
-as_store code s h = rw (h.cells, h.threads) refl
+-- what an answer leaves: the state of the same cells, the actor with what it has done, and its own events alone behind those before
+pub record Leads (code : PlainCode) (k : ℕ) (s t : PlainShared) (tr : List Place) (a : PlainActor) : Type 0 where
+  pub of : IsStateOf code t
+  pub over : RunLawfully code k (books_of t) tr a
+  pub grown : Grown k (books_of s) (books_of t)
 
--- its book is legal
-pub store_legal : (code : PlainCode) (s : PlainStore) → IsStoreOf code s → Legal s.cells s.threads s.book → Legal (cells_of code.cells) (length code.threads) s.book
-store_legal code s h l = subst (λ (x : PlainStore). Legal x.cells x.threads s.book) (as_store code s h) l
+module _ (laws : ActorsRun) (law : ServedIsTold) (code : PlainCode) (k : ℕ) (bs : List (List Event)) (taken : List Bool) (t : PlainShared) (a : PlainActor) (q : Ask) (tr new : List Place) (mine : NamesOwnCells code)
+    (lawful : may_ask code.cells (length code.threads) taken k q (get_or bs (book_for code.cells q) []) ≡ true) (e : a.outcome ≡ None) (f : unanswered a ≡ Some q) (h : RunLawfully code k (λ n. get_or bs n []) tr a) where
+  abbrev before : PlainShared
+  before = state_with code bs taken
 
-pub served_over : ActorsRun → ServedIsTold → (code : PlainCode) (s t : PlainStore) (k : ℕ) (a : PlainActor) (q : Ask) (r : Reply) → IsStoreOf code s → NamesOwnCells code → is_lawful s a.number q ≡ true
-    → a.outcome ≡ None → unanswered a ≡ Some q → unanswered (answered a r) ≡ None → MayAnswer q r
-    → world.Answers s (serve s.cells a.number q s.book) (store_after s q (serve s.cells a.number q s.book)) r t
-    → RunLawfully code k s.book a → IsStoreOf code t × RunLawfully code k t.book (answered a r)
-served_over laws law code s t k a q r of mine lawful e f free may g h =
-    served_from laws law code s.book s.taken t k a q r mine
-    (subst (λ n. is_lawful (store_with (cells_of code.cells) (length code.threads) s.book s.taken) n q ≡ true) h.over.number (subst (λ (x : PlainStore). is_lawful x a.number q ≡ true) (as_store code s of) lawful)) e f free may
-    (subst (λ n. world.Answers (store_with (cells_of code.cells) (length code.threads) s.book s.taken) (serve (cells_of code.cells) n q s.book) (store_after (store_with (cells_of code.cells) (length code.threads) s.book s.taken) q (serve (cells_of code.cells) n q s.book)) r t) h.over.number
-    (subst (λ (x : PlainStore). world.Answers x (serve x.cells a.number q x.book) (store_after x q (serve x.cells a.number q x.book)) r t) (as_store code s of) g)) h
+  abbrev books : ℕ → List Event
+  books n = get_or bs n []
 
--- an actor of a thread asks nothing that it may not ask of the store
-pub asks_lawfully : (code : PlainCode) (s : PlainStore) (k : ℕ) (a : PlainActor) (q : Ask) → NamesOwnCells code → RunsToday code → IsStoreOf code s → a.outcome ≡ None → unanswered a ≡ Some q → RunLawfully code k s.book a
-    → is_lawful s a.number q ≡ true
-asks_lawfully code s k a q mine today of e f h =
-    subst (λ n. is_lawful s n q ≡ true) (sym h.over.number)
-    (subst (λ (x : PlainStore). is_lawful x k q ≡ true) (sym (as_store code s of))
-    (ask_lawful code.cells (length code.threads) (code_of code k) k s.book h.over.entries h.over.stage a q (openings_known code mine) (code_known code k mine) h.stands (is_below k (length code.threads) h.thread) h.over.told
-    (stood_known code k s.book (map exchange_of h.over.entries) h.over.stage a None (Some q) e f h.stood) h.lawful s.taken today.cells))
+  abbrev answer : Served
+  answer = serve_on code.cells k q (get_or bs (book_for code.cells q) [])
 
-grown_from : (k : ℕ) (q : Ask) (s next t : PlainStore) (v : Served) (r : Reply) → IsGrownBy k s.book next.book → world.Answers s v next r t → IsGrownBy k s.book t.book
-grown_from k q s next t v (reply.At p) h g = subst (λ (x : PlainStore). IsGrownBy k s.book x.book) (sym g.1) h
-grown_from k q s next t v (reply.Is w) h g = subst (λ (x : PlainStore). IsGrownBy k s.book x.book) (sym g.1) h
-grown_from k q s next t v (reply.Views p vs) h g = subst (λ (x : PlainStore). IsGrownBy k s.book x.book) (sym g.1) h
-grown_from k q s next t v reply.Done h g = subst (λ (x : PlainStore). IsGrownBy k s.book x.book) (sym g.1) h
-grown_from k q s next t v (reply.Retry d) h g = subst (λ (x : PlainStore). IsGrownBy k s.book x.book) (sym g.1) h
-grown_from k q s next t v (reply.Changed d) h g = subst (λ (x : PlainStore). IsGrownBy k s.book x.book) (sym g.1) h
-grown_from k q s next t v (reply.AgentIsFailed d) h g = subst (λ (x : PlainStore). IsGrownBy k s.book x.book) (sym g.1) h
-grown_from k q s next t v (reply.Action i x w) h g = subst (λ (x : PlainStore). IsGrownBy k s.book x.book) (sym g.1) h
-grown_from k q s next t v reply.Idle h g = subst (λ (x : PlainStore). IsGrownBy k s.book x.book) (sym g.1) h
-grown_from k q s next t v (reply.Opened p w) h g = subst (λ (x : PlainStore). IsGrownBy k s.book x.book) (sym g.1) h
-grown_from k q s next t v reply.Full h g = subst (λ (x : PlainStore). IsGrownBy k s.book x.book) (sym g.1) h
-grown_from k q s next t v reply.Memory h g = subst (λ (x : PlainStore). IsGrownBy k s.book x.book) (sym g.1) (not_grown k s.book)
+  abbrev next : ℕ → List Event
+  next = with_book (book_for code.cells q) answer.book books
 
--- what the store serves an actor adds that actor's events alone
-pub served_grown : (code : PlainCode) (s t : PlainStore) (k : ℕ) (q : Ask) (r : Reply) → IsStoreOf code s → is_lawful s k q ≡ true
-    → world.Answers s (serve s.cells k q s.book) (store_after s q (serve s.cells k q s.book)) r t → IsGrownBy k s.book t.book
-served_grown code s t k q r of lawful g =
-    grown_from k q s (store_after s q (serve s.cells k q s.book)) t (serve s.cells k q s.book) r
-    (subst (λ (x : PlainStore). IsGrownBy k s.book (serve x.cells k q s.book).book) (sym (as_store code s of)) (served_grows code k s.book s.taken q (subst (λ (x : PlainStore). is_lawful x k q ≡ true) (as_store code s of) lawful))) g
+  abbrev Left : Reply → Type 0
+  Left r = Leads code k before t new (answered a r)
 
--- ---- the store's replies are those that an ask may have
+  -- the books after an answer that was given
+  books_are : IsAfter before q answer t → books_of t ≡ next
+  books_are g = ap (λ (sh : Shared). sh.books) g.shared
 
-one_of : (q : Ask) (v : Served) (s next t : PlainStore) (r : Reply) → MayAnswer q v.reply → (world.TakesMemory v.reply → MayAnswer q reply.Memory) → world.Answers s v next r t → MayAnswer q r
-one_of q v s next t (reply.At p) h m g = subst (MayAnswer q) (sym g.0) h
-one_of q v s next t (reply.Is w) h m g = subst (MayAnswer q) (sym g.0) h
-one_of q v s next t (reply.Views p vs) h m g = subst (MayAnswer q) (sym g.0) h
-one_of q v s next t reply.Done h m g = subst (MayAnswer q) (sym g.0) h
-one_of q v s next t (reply.Retry d) h m g = subst (MayAnswer q) (sym g.0) h
-one_of q v s next t (reply.Changed d) h m g = subst (MayAnswer q) (sym g.0) h
-one_of q v s next t (reply.AgentIsFailed d) h m g = subst (MayAnswer q) (sym g.0) h
-one_of q v s next t (reply.Action i x w) h m g = subst (MayAnswer q) (sym g.0) h
-one_of q v s next t reply.Idle h m g = subst (MayAnswer q) (sym g.0) h
-one_of q v s next t (reply.Opened p w) h m g = subst (MayAnswer q) (sym g.0) h
-one_of q v s next t reply.Full h m g = subst (MayAnswer q) (sym g.0) h
-one_of q v s next t reply.Memory h m g = m g.0
+  state_is : IsAfter before q answer t → IsStateOf code t
+  state_is g = record { cells = g.cells; threads = g.threads }
+
+  grows : IsAfter before q answer t → Grown k books (books_of t)
+  grows g = subst (λ b. Grown k books b) (sym (books_are g)) (served_grows code k books taken q lawful)
+
+  noted_so : (g : IsAfter before q answer t) (p : Place) → IsNext before q p → new ≡ with_place (nat_lt (length (books (book_for code.cells q))) (length (books_of t (book_for code.cells q)))) tr p
+      → places_of new ≡ places_of tr ++ added code k books taken q lawful
+  noted_so g p n placed =
+      ap places_of placed ∙ noted_places _ tr p (book_for code.cells q) (length (books (book_for code.cells q))) n.book n.at
+      ∙ ap (λ (l : List Event). places_of tr ++ (if nat_lt (length (books (book_for code.cells q))) (length l) then record { book = book_for code.cells q; at = length (books (book_for code.cells q)) } ∷ [] else []))
+      (ap (λ (b : ℕ → List Event). b (book_for code.cells q)) (books_are g) ∙ ap (λ b. if b then answer.book else books (book_for code.cells q)) (number-itself (book_for code.cells q)))
+
+  -- nothing was added
+  as_before : (g : IsAfter before q answer t) (p : Place) → answer.book ≡ books (book_for code.cells q) → new ≡ with_place (nat_lt (length (books (book_for code.cells q))) (length (books_of t (book_for code.cells q)))) tr p → new ≡ tr
+  as_before g p same placed =
+      placed ∙ ap (λ (l : List Event). with_place (nat_lt (length (books (book_for code.cells q))) (length l)) tr p)
+      (ap (λ (b : ℕ → List Event). b (book_for code.cells q)) (books_are g) ∙ left_as code k books taken q lawful same (book_for code.cells q))
+      ∙ ap (λ b. with_place b tr p) (not_less (length (books (book_for code.cells q))))
+    where
+      not_less : (n : ℕ) → nat_lt n n ≡ false
+      not_less n = grind (arith, nat_tests)
+
+  heard_leads : (r : Reply) → unanswered (answered a r) ≡ None → MayAnswer q r → (Stops r → ⊥) → IsExchanged r → r ≡ answer.reply → (g : IsAfter before q answer t) (p : Place) → IsNext before q p
+      → new ≡ with_place (nat_lt (length (books (book_for code.cells q))) (length (books_of t (book_for code.cells q)))) tr p → Left r
+  heard_leads r free may on ex same g p n placed = record {
+    of = state_is g;
+    over = subst (λ b. RunLawfully code k b new (answered a r)) (sym (books_are g)) (heard_over laws law code k books taken tr new a q r mine lawful e f free may on ex same (noted_so g p n placed) h);
+    grown = grows g;
+  }
+
+  -- a full book
+  filled : MayAnswer q reply.Full → reply.Full ≡ answer.reply → (g : IsAfter before q answer t) (p : Place) → new ≡ with_place (nat_lt (length (books (book_for code.cells q))) (length (books_of t (book_for code.cells q)))) tr p → Left reply.Full
+  filled may same g p placed =
+      let full : IsFull answer.reply = subst IsFull same tt in
+      let kept = full_keeps code k books taken q lawful full in
+      let past : most_events ≤ length (books (book_for code.cells q)) = (known code k books taken q lawful).full full in
+      record {
+        of = state_is g;
+        over = subst (λ b. RunLawfully code k b new (answered a reply.Full)) (sym (books_are g))
+            (over_same code k books next new (answered a reply.Full) (left_as code k books taken q lawful kept)
+            (subst (λ l. RunLawfully code k books l (answered a reply.Full)) (sym (as_before g p kept placed))
+            (stopped_over laws code k books tr a q reply.Full e f may tt (λ xs ran x. full_at laws code k books xs a q h.over.number e f may past ran) h)));
+        grown = grows g;
+      }
+
+  -- nothing was done
+  undone : MayAnswer q reply.Memory → t ≡ before → new ≡ tr → Left reply.Memory
+  undone may same placed =
+      subst (λ (s : PlainShared). Leads code k before s new (answered a reply.Memory)) (sym same)
+      (subst (λ l. Leads code k before before l (answered a reply.Memory)) (sym placed)
+      (record { of = record { cells = refl; threads = refl }; over = memory_over laws code k books tr a q e f may h; grown = not_grown k books }))
+
+  -- the same place goes on where nothing was done
+  unmoved : t ≡ before → (p : Place) → new ≡ with_place (nat_lt (length (books (book_for code.cells q))) (length (books_of t (book_for code.cells q)))) tr p → new ≡ tr
+  unmoved same p placed =
+      placed ∙ ap (λ (s : PlainShared). with_place (nat_lt (length (books (book_for code.cells q))) (length (books_of s (book_for code.cells q)))) tr p) same
+      ∙ ap (λ b. with_place b tr p) (not_less (length (books (book_for code.cells q))))
+    where
+      not_less : (n : ℕ) → nat_lt n n ≡ false
+      not_less n = grind (arith, nat_tests)
+
+  noted_leads : (r : Reply) → unanswered (answered a r) ≡ None → MayAnswer q r → shared.Answers before q answer r t → (p : Place) → IsNext before q p
+      → new ≡ with_place (nat_lt (length (books (book_for code.cells q))) (length (books_of t (book_for code.cells q)))) tr p → Left r
+  noted_leads (reply.At i) free may g p n placed = heard_leads (reply.At i) free may (λ x. x) tt g.0 g.1 p n placed
+  noted_leads (reply.Is x) free may g p n placed = heard_leads (reply.Is x) free may (λ x. x) tt g.0 g.1 p n placed
+  noted_leads (reply.Views i vs) free may g p n placed = heard_leads (reply.Views i vs) free may (λ x. x) tt g.0 g.1 p n placed
+  noted_leads reply.Done free may g p n placed = heard_leads reply.Done free may (λ x. x) tt g.0 g.1 p n placed
+  noted_leads (reply.Retry d) free may g p n placed = heard_leads (reply.Retry d) free may (λ x. x) tt g.0 g.1 p n placed
+  noted_leads (reply.Changed d) free may g p n placed = heard_leads (reply.Changed d) free may (λ x. x) tt g.0 g.1 p n placed
+  noted_leads (reply.AgentIsFailed d) free may g p n placed = heard_leads (reply.AgentIsFailed d) free may (λ x. x) tt g.0 g.1 p n placed
+  noted_leads (reply.Action i y x) free may g p n placed = heard_leads (reply.Action i y x) free may (λ x. x) tt g.0 g.1 p n placed
+  noted_leads (reply.Opened i x) free may g p n placed = heard_leads (reply.Opened i x) free may (λ x. x) tt g.0 g.1 p n placed
+  noted_leads reply.Idle free may g p n placed = absurd (idle_never h.over.stage q (as_known a h.over.stage None (Some q) e f h.over.here).0 may)
+  noted_leads reply.Full free may g p n placed = filled may g.0 g.1 p placed
+  noted_leads reply.Memory free may g p n placed = undone may g.1 (unmoved g.1 p placed)
+
+  served_leads : (r : Reply) → unanswered (answered a r) ≡ None → MayAnswer q r → IsServed before k q r t tr new → Left r
+  served_leads r free may (inl g) = noted_leads r free may g.answered g.next g.is_next g.noted
+  served_leads r free may (inr u) = subst Left (sym u.replied) (undone (subst (MayAnswer q) u.replied may) u.state u.places)
+
+-- a state of the code's
+as_state : (code : PlainCode) (s : PlainShared) → IsStateOf code s → s ≡ state_with code s.books s.taken
+as_state code s h = rw (h.cells, h.threads) refl
+
+-- its books stand
+pub state_stands : (code : PlainCode) (s : PlainShared) → IsStateOf code s → SharedStands s.cells s.threads (shared_of s) → SharedStands code.cells (length code.threads) (shared_of s)
+state_stands code s h l = subst (λ (x : PlainShared). SharedStands x.cells x.threads (shared_of s)) (as_state code s h) l
+
+pub served_over : ActorsRun → ServedIsTold → (code : PlainCode) (s t : PlainShared) (k : ℕ) (a : PlainActor) (q : Ask) (r : Reply) (tr new : List Place) → IsStateOf code s → NamesOwnCells code → is_lawful s k q ≡ true
+    → a.outcome ≡ None → unanswered a ≡ Some q → unanswered (answered a r) ≡ None → MayAnswer q r → IsServed s k q r t tr new
+    → RunLawfully code k (books_of s) tr a → Leads code k s t new (answered a r)
+served_over laws law code s t k a q r tr new of mine lawful e f free may g h =
+    subst (λ (x : PlainShared). Leads code k x t new (answered a r)) (sym (as_state code s of))
+    (served_leads laws law code k s.books s.taken t a q tr new mine (subst (λ (x : PlainShared). is_lawful x k q ≡ true) (as_state code s of) lawful) e f h r free may
+    (subst (λ (x : PlainShared). IsServed x k q r t tr new) (as_state code s of) g))
+
+-- an actor of a thread asks nothing that it may not ask
+pub asks_lawfully : (code : PlainCode) (s : PlainShared) (k : ℕ) (tr : List Place) (a : PlainActor) (q : Ask) → NamesOwnCells code → IsStateOf code s → a.outcome ≡ None → unanswered a ≡ Some q → RunLawfully code k (books_of s) tr a
+    → is_lawful s k q ≡ true
+asks_lawfully code s k tr a q mine of e f h =
+    subst (λ (x : PlainShared). is_lawful x k q ≡ true) (sym (as_state code s of))
+    (ask_lawful code.cells (length code.threads) (code_of code k) k (books_of s) h.over.entries h.over.stage a q (openings_known code mine) (code_known code k mine) h.stands (is_below k (length code.threads) h.thread) h.over.told
+    (stood_known code k (books_of s) (map exchange_of h.over.entries) h.over.stage a None (Some q) e f h.stood) h.lawful s.taken)
+
+-- ---- the replies are those that an ask may have
+
+one_of : (q : Ask) (w : Served) (s t : PlainShared) (r : Reply) → MayAnswer q w.reply → (TakesMemory w.reply → MayAnswer q reply.Memory) → shared.Answers s q w r t → MayAnswer q r
+one_of q w s t (reply.At p) h m g = subst (MayAnswer q) (sym g.0) h
+one_of q w s t (reply.Is x) h m g = subst (MayAnswer q) (sym g.0) h
+one_of q w s t (reply.Views p vs) h m g = subst (MayAnswer q) (sym g.0) h
+one_of q w s t reply.Done h m g = subst (MayAnswer q) (sym g.0) h
+one_of q w s t (reply.Retry d) h m g = subst (MayAnswer q) (sym g.0) h
+one_of q w s t (reply.Changed d) h m g = subst (MayAnswer q) (sym g.0) h
+one_of q w s t (reply.AgentIsFailed d) h m g = subst (MayAnswer q) (sym g.0) h
+one_of q w s t (reply.Action i x y) h m g = subst (MayAnswer q) (sym g.0) h
+one_of q w s t reply.Idle h m g = subst (MayAnswer q) (sym g.0) h
+one_of q w s t (reply.Opened p x) h m g = subst (MayAnswer q) (sym g.0) h
+one_of q w s t reply.Full h m g = subst (MayAnswer q) (sym g.0) h
+one_of q w s t reply.Memory h m g = m g.0
 
 added_may : (q : Ask) (a : ℕ) (kind : EventKind) (r : Reply) (book : List Event) (has : Bool) → MayAnswer q r → MayAnswer q reply.Full
     → MayAnswer q (if has then world.served r (book ++ world.event_of a kind ∷ []) else world.served reply.Full book).reply
@@ -687,29 +821,42 @@ sent_may : (a : ℕ) (x : Action) (book : List Event) (b : Bool) → MayAnswer (
 sent_may a x book true = added_may (ask.Send x) a _ (reply.AgentIsFailed x.agent) book (nat_lt (length book) most_events) tt tt
 sent_may a x book false = added_may (ask.Send x) a _ reply.Done book (nat_lt (length book) most_events) tt tt
 
-taken_may : (g : CellId) (n : ℕ) (v : Value) (o : Option Action) → MayAnswer (ask.Take g) (world.takes o n v)
-taken_may g n v None = tt
-taken_may g n v (Some x) = tt
+taken_may : (g : CellId) (n : ℕ) (x : Value) (o : Option Action) → MayAnswer (ask.Take g) (world.takes o n x)
+taken_may g n x None = tt
+taken_may g n x (Some y) = tt
+
+peeked_may : (cells : List CellDefinition) (a : ℕ) (c : CellId) (book : List Event) (b : Bool)
+    → MayAnswer (ask.Peek c) (if b then serve_atom (atom_of cells c book) a (ask.Peek c) else serve (cells_of cells) a (ask.Peek c) book).reply
+peeked_may cells a c book true = added_may (ask.Peek c) a _ (reply.Is _) book (nat_lt (length book) most_events) tt tt
+peeked_may cells a c book false = added_may (ask.Peek c) a _ (reply.Is _) book (nat_lt (length book) most_events) tt tt
+
+closed_may : (a : ℕ) (c : CellId) (p : Option ℕ) (x : Value) (book : List Event) → MayAnswer (ask.CloseAt c p x) (closes p a c x book).reply
+closed_may a c None x book = added_may (ask.CloseAt c None x) a _ reply.Done book (nat_lt (length book) most_events) tt tt
+closed_may a c (Some p) x book = go (swapped_since p book)
+  where
+    go : (b : Bool) → MayAnswer (ask.CloseAt c (Some p) x) (closes_at b a c x book).reply
+    go true = tt
+    go false = added_may (ask.CloseAt c (Some p) x) a _ reply.Done book (nat_lt (length book) most_events) tt tt
 
 length_map : {A B : Type 0} (f : A → B) (xs : List A) → length (map f xs) ≡ length xs
 length_map f [] = refl
 length_map f (x ∷ xs) = ap suc (length_map f xs)
 
--- what the store answers to what it may be asked
-serve_may : (s : PlainStore) (a : ℕ) (q : Ask) → is_lawful s a q ≡ true → MayAnswer q (serve s.cells a q s.book).reply
-serve_may s a ask.Begin h = tt
-serve_may s a (ask.Look c p) h = looked_may _ a c p s.book (written c.number p s.book)
-serve_may s a (ask.View cs) h = length_map (λ c. world_book.newest (world_book.opening s.cells) s.book c.number) cs
-serve_may s a (ask.Commit p sets ensured q commuted sends) h =
-    committed_may a p q sets commuted _ ensured sends s.book (least_written s.book p (cells_in sets ++ ensured)) (least_written s.book q (cells_in commuted)) (first_failed s.cells s.book sends)
-serve_may s a (ask.Fail p q) h = added_may (ask.Fail p q) a _ reply.Done s.book (nat_lt (length s.book) most_events) tt tt
-serve_may s a (ask.Peek c) h = added_may (ask.Peek c) a _ (reply.Is _) s.book (nat_lt (length s.book) most_events) tt tt
-serve_may s a (ask.Send x) h = sent_may a x s.book (is_failed s.cells s.book x.agent)
-serve_may s a (ask.Take g) h = taken_may g _ _ (world.next_action s.cells s.book g)
-serve_may s a (ask.Finish g new) h = added_may (ask.Finish g new) a _ reply.Done s.book (nat_lt (length s.book) most_events) tt tt
-serve_may s a (ask.OpenAt c) h = absurd (false≢true (and_both (nat_lt a s.threads) false h).1)
-serve_may s a (ask.CloseAt c p v) h = absurd (false≢true (and_both (nat_lt a s.threads) false h).1)
-serve_may s a (ask.Broke c p) h = absurd (false≢true (and_both (nat_lt a s.threads) false h).1)
+-- what is answered to an ask
+serve_may : (cells : List CellDefinition) (a : ℕ) (q : Ask) (book : List Event) → MayAnswer q (serve_on cells a q book).reply
+serve_may cells a ask.Begin book = tt
+serve_may cells a (ask.Look c p) book = looked_may _ a c p book (written c.number p book)
+serve_may cells a (ask.View cs) book = length_map (λ c. world_book.newest (world_book.opening (cells_of cells)) book c.number) cs
+serve_may cells a (ask.Commit p sets ensured q commuted sends) book =
+    committed_may a p q sets commuted _ ensured sends book (least_written book p (cells_in sets ++ ensured)) (least_written book q (cells_in commuted)) (first_failed (cells_of cells) book sends)
+serve_may cells a (ask.Fail p q) book = added_may (ask.Fail p q) a _ reply.Done book (nat_lt (length book) most_events) tt tt
+serve_may cells a (ask.Peek c) book = peeked_may cells a c book (is_atom c)
+serve_may cells a (ask.Send x) book = sent_may a x book (is_failed (cells_of cells) book x.agent)
+serve_may cells a (ask.Take g) book = taken_may g _ _ (world.next_action (cells_of cells) book g)
+serve_may cells a (ask.Finish g new) book = added_may (ask.Finish g new) a _ reply.Done book (nat_lt (length book) most_events) tt tt
+serve_may cells a (ask.OpenAt c) book = tt
+serve_may cells a (ask.CloseAt c p x) book = closed_may a c p x book
+serve_may cells a (ask.Broke c p) book = added_may (ask.Broke c p) a _ reply.Done book (nat_lt (length book) most_events) tt tt
 
 -- want of memory is told of what takes some
 memory_may : (q : Ask) (r : Reply) → MayAnswer q r → world.TakesMemory r → MayAnswer q reply.Memory
@@ -737,9 +884,105 @@ memory_may (ask.OpenAt c) r m t = tt
 memory_may (ask.CloseAt c p v) r m t = tt
 memory_may (ask.Broke c p) r m t = tt
 
-pub served_may : (s next t : PlainStore) (a : ℕ) (q : Ask) (r : Reply) → is_lawful s a q ≡ true → world.Answers s (serve s.cells a q s.book) next r t → MayAnswer q r
-served_may s next t a q r lawful g =
-    one_of q (serve s.cells a q s.book) s next t r (serve_may s a q lawful) (memory_may q (serve s.cells a q s.book).reply (serve_may s a q lawful)) g
+-- so is that of what may add an event
+adding_may : (q : Ask) → may_add q ≡ true → MayAnswer q reply.Memory
+adding_may ask.Begin h = absurd (false≢true h)
+adding_may (ask.Look c p) h = tt
+adding_may (ask.View cs) h = tt
+adding_may (ask.Commit p ws es q cs xs) h = tt
+adding_may (ask.Fail p q) h = tt
+adding_may (ask.Peek c) h = tt
+adding_may (ask.Send x) h = tt
+adding_may (ask.Take g) h = tt
+adding_may (ask.Finish g new) h = tt
+adding_may (ask.OpenAt c) h = tt
+adding_may (ask.CloseAt c p v) h = tt
+adding_may (ask.Broke c p) h = tt
+
+pub served_may : (s t : PlainShared) (a : ℕ) (q : Ask) (r : Reply) (tr new : List Place) → IsServed s a q r t tr new → MayAnswer q r
+served_may s t a q r tr new (inl g) =
+    let w = answer_to s a q in
+    one_of q w s t r (serve_may s.cells a q (numbered_book s (book_for s.cells q))) (memory_may q w.reply (serve_may s.cells a q (numbered_book s (book_for s.cells q)))) g.answered
+served_may s t a q r tr new (inr u) = subst (MayAnswer q) (sym u.replied) (adding_may q u.adds)
+
+-- an ask that adds nothing leaves its book, and no place is noted
+pub reads_alone : (s t : PlainShared) (a : ℕ) (q : Ask) (r : Reply) (tr : List Place) → may_add q ≡ false → shared.Answers s q (answer_to s a q) r t → IsServed s a q r t tr tr
+reads_alone s t a q r tr none g = inl (record {
+  answered = g;
+  next = place;
+  is_next = record { book = refl; at = refl };
+  noted = sym (ap (λ b. with_place b tr place) (quiet r g));
+})
+  where
+    place : Place
+    place = record { book = book_for s.cells q; at = length ((shared_of s).books (book_for s.cells q)) }
+
+    left : (x : Ask) (book : List Event) → may_add x ≡ false → (serve_on s.cells a x book).book ≡ book
+    left ask.Begin book e = refl
+    left (ask.View cs) book e = refl
+    left (ask.Take g) book e = refl
+    left (ask.OpenAt c) book e = refl
+    left (ask.Look c p) book e = absurd (false≢true (sym e))
+    left (ask.Commit p ws es y cs xs) book e = absurd (false≢true (sym e))
+    left (ask.Fail p y) book e = absurd (false≢true (sym e))
+    left (ask.Peek c) book e = absurd (false≢true (sym e))
+    left (ask.Send x) book e = absurd (false≢true (sym e))
+    left (ask.Finish g new) book e = absurd (false≢true (sym e))
+    left (ask.CloseAt c p v) book e = absurd (false≢true (sym e))
+    left (ask.Broke c p) book e = absurd (false≢true (sym e))
+
+    before : List Event
+    before = (shared_of s).books (book_for s.cells q)
+
+    not_less : (n : ℕ) → nat_lt n n ≡ false
+    not_less n = grind (arith, nat_tests)
+
+    unmoved : (u : PlainShared) → (shared_of u).books (book_for s.cells q) ≡ (shared_of s).books (book_for s.cells q) → nat_lt (length ((shared_of s).books (book_for s.cells q))) (length ((shared_of u).books (book_for s.cells q))) ≡ false
+    unmoved u e = ap (λ (l : List Event). nat_lt (length ((shared_of s).books (book_for s.cells q))) (length l)) e ∙ not_less (length ((shared_of s).books (book_for s.cells q)))
+
+    after : IsAfter s q (answer_to s a q) t → nat_lt (length ((shared_of s).books (book_for s.cells q))) (length ((shared_of t).books (book_for s.cells q))) ≡ false
+    after x =
+        unmoved t (ap (λ (sh : Shared). sh.books (book_for s.cells q)) x.shared
+        ∙ ap (λ b. if b then (answer_to s a q).book else (shared_of s).books (book_for s.cells q)) (number-itself (book_for s.cells q)) ∙ left q ((shared_of s).books (book_for s.cells q)) none)
+
+    quiet : (y : Reply) → shared.Answers s q (answer_to s a q) y t → nat_lt (length ((shared_of s).books (book_for s.cells q))) (length ((shared_of t).books (book_for s.cells q))) ≡ false
+    quiet (reply.At p) x = after x.1
+    quiet (reply.Is v) x = after x.1
+    quiet (reply.Views p vs) x = after x.1
+    quiet reply.Done x = after x.1
+    quiet (reply.Retry d) x = after x.1
+    quiet (reply.Changed d) x = after x.1
+    quiet (reply.AgentIsFailed g) x = after x.1
+    quiet (reply.Action i z v) x = after x.1
+    quiet reply.Idle x = after x.1
+    quiet (reply.Opened p v) x = after x.1
+    quiet reply.Full x = after x.1
+    quiet reply.Memory x = unmoved t (ap (λ (u : PlainShared). (shared_of u).books (book_for s.cells q)) x.1)
+
+-- the book for a lawful ask has no more events than it may have
+pub few_for : (s : PlainShared) (a : ℕ) (q : Ask) → is_lawful s a q ≡ true → SharedStands s.cells s.threads (shared_of s) → length (numbered_book s (book_for s.cells q)) ≤ most_events
+few_for s a ask.Begin h w = w.store.legal.few
+few_for s a (ask.Look c p) h w = w.store.legal.few
+few_for s a (ask.View cs) h w = w.store.legal.few
+few_for s a (ask.Commit p sets ensured q commuted sends) h w = w.store.legal.few
+few_for s a (ask.Fail p q) h w = w.store.legal.few
+few_for s a (ask.Send x) h w = w.store.legal.few
+few_for s a (ask.Take g) h w = w.store.legal.few
+few_for s a (ask.Finish g new) h w = w.store.legal.few
+few_for s a (ask.Peek c) h w = go (is_atom c) refl
+  where
+    go : (b : Bool) → is_atom c ≡ b → length (numbered_book s (if b then suc (atoms_below s.cells c.number) else 0)) ≤ most_events
+    go true e =
+        subst (λ t. length (numbered_book s (if t then suc (atoms_below s.cells c.number) else 0)) ≤ most_events) e
+        (w.atoms c (joined (is_atom c) (has_cell (cells_of s.cells) c) e (and_both (nat_lt a s.threads) (has_cell (cells_of s.cells) c) h).1)).few
+    go false e = w.store.legal.few
+few_for s a (ask.OpenAt c) h w = (w.atoms c (and_both (nat_lt a s.threads) (has_atom s.cells c) h).1).few
+few_for s a (ask.CloseAt c p v) h w =
+    let may = may_close (numbered_book s (book_for s.cells (ask.CloseAt c p v))) a p in
+    (w.atoms c (and_both (has_atom s.cells c) may (and_both (nat_lt a s.threads) (has_atom s.cells c && may) h).1).0).few
+few_for s a (ask.Broke c p) h w =
+    let may = world_book.may_name true (numbered_book s (book_for s.cells (ask.Broke c p))) a p in
+    (w.atoms c (and_both (has_atom s.cells c) may (and_both (nat_lt a s.threads) (has_atom s.cells c && may) h).1).0).few
 
 -- ---- the end
 
@@ -751,12 +994,17 @@ explained_as a outcome.JournalFull r h = h
 explained_as a outcome.Memory r h = h
 
 -- an ended actor is explained
-pub ended_explained : ActorsExplained → FittingToFits → ToldFits → AloneHistory → (code : PlainCode) (k : ℕ) (book : List Event) (a : PlainActor) (o : Outcome) → Legal (cells_of code.cells) (length code.threads) book → a.outcome ≡ Some o → RunOver code k book a
-    → IsExplained code k book o a.printed
-ended_explained law fit fits history code k book a o legal e h p same follows =
+pub ended_explained : ActorsExplained → FittingToFits → ToldFits → (code : PlainCode) (k : ℕ) (books : ℕ → List Event) (tr : List Place) (a : PlainActor) (o : Outcome) → a.outcome ≡ Some o → RunLawfully code k books tr a
+    → (p : ThreadSource) → p.cells ≡ code.cells → Follows (code_of code k) p → (m : ℕ) × ExplainsEnd o a.printed (thread_meaning p m (seen_of code.cells books (places_of tr)))
+ended_explained law fit fits code k books tr a o e w p same follows =
+    let h = w.over in
     let xs = map exchange_of h.entries in
-    let seen = history_of (world_book.opening (cells_of code.cells)) k book in
-    let past = history code.cells (length code.threads) book k h.entries h.stage legal h.told in
-    let fitted : RepliesFit code.cells Out xs seen = subst (RepliesFit code.cells Out xs) past (fit code.cells Out xs _ _ (fits code.cells (length code.threads) (alone book) k h.entries h.stage h.told)) in
+    let seen = seen_of code.cells books (places_of tr) in
+    let past : told_by.history_of code.cells books k h.entries ≡ seen = ap (seen_of code.cells books) (sym w.traced) in
+    let fitted : RepliesFit code.cells Out xs seen = subst (RepliesFit code.cells Out xs) past (fit code.cells Out xs _ _ (fits code.cells (length code.threads) books k h.entries h.stage h.told)) in
     let m = law code xs seen a p h.ran (subst (λ n. Follows (code_of code n) p) (sym h.number) follows) (subst (λ cs. RepliesFit cs Out xs seen) (sym same) fitted) in
     (m.0, explained_as a o (thread_meaning p m.0 seen) (subst (λ (x : Option Outcome). Explained (told a x (unanswered a)) (thread_meaning p m.0 seen)) e m.2))
+
+-- the trace names the actor's events of each book, and no others
+pub trace_holds : (code : PlainCode) (k : ℕ) (books : ℕ → List Event) (tr : List Place) (a : PlainActor) → RunLawfully code k books tr a → TraceHolds books k (places_of tr)
+trace_holds code k books tr a w = subst (TraceHolds books k) (sym w.traced) w.over.told.traced

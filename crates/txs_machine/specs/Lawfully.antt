@@ -10,45 +10,47 @@ use Rattle.txs_code.specs.Opening.{opening}
 use Rattle.txs_code.specs.PlainCode.{PlainCode}
 use Rattle.txs_actor.specs.PlainActor.{PlainActor, Awaits, unanswered, code_of, configuration_of}
 use Rattle.txs_runs.specs.Lawful.{OpeningIsKnown}
-use Rattle.txs_runs.specs.Laws.{alone}
 use Rattle.txs_runs.specs.Staged.{stage_of}
 use Rattle.txs_runs.specs.Stages.{Stage}
 use Rattle.txs_runs.specs.Standing.{StandingCode}
-use Rattle.txs_runs.specs.Told.{Entry, exchange_of}
+use Rattle.txs_runs.specs.Told.{Entry, exchange_of, trace_of}
 use Rattle.txs_runs.proofs.Naming.{MayName}
 use Rattle.txs_runs.proofs.OneActor.{MayView}
 use Rattle.txs_runs.proofs.ServedKnown.{BookKnown}
 use Rattle.txs_runs.proofs.Values.{TodoKnown}
-use Rattle.txs_machine.specs.RunOver.{RunOver}
+use Rattle.txs_machine.specs.RunOver.{RunOver, places_of}
+use Rattle.txs_machine.specs.declared.player.Place.{Place}
 
 -- On these exchanges the machine came to a place in this stage, whose instruction asks what the actor asks, and leads where the actor is after
 -- the answer.
-pub record AskedFrom (cells : List CellDefinition) (code : ThreadCode) (k : ℕ) (book : List Event) (xs : List Exchange) (a : PlainActor) (st : Stage) (q : Ask) : Type 0 where
+pub record AskedFrom (cells : List CellDefinition) (code : ThreadCode) (k : ℕ) (books : ℕ → List Event) (xs : List Exchange) (a : PlainActor) (st : Stage) (q : Ask) : Type 0 where
   pub turns : ℕ
   pub before : Configuration
   pub ran : run code turns (opening code xs) ≡ Unfinished before
   pub consumed : before.state.todo ≡ []
   pub here : stage_of before ≡ st
   pub awaits : Awaits code before a q
-  pub views : MayView cells code k (alone book) before
+  pub views : MayView cells code k books before
 
 -- so it did where the actor asks; one that asks nothing and goes on may view where it is
-abbrev pub HasStood : List CellDefinition → ThreadCode → ℕ → List Event → List Exchange → PlainActor → Stage → Option Outcome → Option Ask → Type 0
-HasStood cells code k book xs a st None None = MayView cells code k (alone book) (configuration_of a)
-HasStood cells code k book xs a st None (Some q) = AskedFrom cells code k book xs a st q
-HasStood cells code k book xs a st (Some o) q = Unit {0}
+abbrev pub HasStood : List CellDefinition → ThreadCode → ℕ → (ℕ → List Event) → List Exchange → PlainActor → Stage → Option Outcome → Option Ask → Type 0
+HasStood cells code k books xs a st None None = MayView cells code k books (configuration_of a)
+HasStood cells code k books xs a st None (Some q) = AskedFrom cells code k books xs a st q
+HasStood cells code k books xs a st (Some o) q = Unit {0}
 
--- What an actor was told, and all values of the store's book, name defined cells alone; and the actor may name the places of its stage: the
+-- What an actor was told, and all values of the books, name defined cells alone; and the actor may name the places of its stage: the
 -- read point of its try, and in a commute phase its view.
-pub record ToldLawfully (cells : List CellDefinition) (k : ℕ) (book : List Event) (es : List Entry) (st : Stage) : Type 0 where
+pub record ToldLawfully (cells : List CellDefinition) (k : ℕ) (books : ℕ → List Event) (es : List Entry) (st : Stage) : Type 0 where
   pub replies : TodoKnown cells (map exchange_of es)
-  pub values : (opened : OpeningIsKnown cells) → BookKnown cells opened book
-  pub places : MayName cells (alone book) k st
+  pub values : (opened : OpeningIsKnown cells) (n : ℕ) → BookKnown cells opened (books n)
+  pub places : MayName cells books k st
 
--- What the actor of a thread of the code has done over a store, and why its next ask is lawful: its code's instructions stand where they may.
-pub record RunLawfully (code : PlainCode) (k : ℕ) (book : List Event) (a : PlainActor) : Type 0 where
-  pub over : RunOver code k book a
+-- What the actor of a thread of the code has done over what is shared, that these are the places of its events, and why its next ask is lawful:
+-- its code's instructions stand where they may.
+pub record RunLawfully (code : PlainCode) (k : ℕ) (books : ℕ → List Event) (trace : List Place) (a : PlainActor) : Type 0 where
+  pub over : RunOver code k books a
+  pub traced : places_of trace ≡ trace_of code.cells books k over.entries
   pub thread : k < length code.threads
   pub stands : StandingCode (code_of code k)
-  pub stood : HasStood code.cells (code_of code k) k book (map exchange_of over.entries) a over.stage a.outcome (unanswered a)
-  pub lawful : ToldLawfully code.cells k book over.entries over.stage
+  pub stood : HasStood code.cells (code_of code k) k books (map exchange_of over.entries) a over.stage a.outcome (unanswered a)
+  pub lawful : ToldLawfully code.cells k books over.entries over.stage

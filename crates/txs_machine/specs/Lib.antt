@@ -3,3 +3,4 @@ pub mod Lawfully
 pub mod Playing
 pub mod RunOver
 pub mod Schedule
+pub mod Serving

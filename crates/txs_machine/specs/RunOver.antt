@@ -1,10 +1,12 @@
--- What an actor has done over a store, and what the source of its thread says of it.
+-- What an actor has done over what is shared, and what the source of its thread says of it.
 use Rattle.std.specs.Prelude.{◌≡◌, ◌≤◌, ℕ, List, [], ◌∷◌, ◌++◌, length, map, Option, Some, None}
+use Rattle.txs_asks.specs.Ask.{Exchange}
 use Rattle.txs_asks.specs.declared.ask.Ask.{Ask}
 use Rattle.txs_asks.specs.declared.ask.Reply.{Reply}
 use Rattle.txs_asks.specs.declared.event.Event.{Event}
 use Rattle.txs_asks.specs.declared.event.Outcome.{Outcome}
 use Rattle.txs_asks.specs.declared.event.Outcome.TheVariants.{StepsSpent, JournalFull}
+use Rattle.txs_value.specs.declared.cell.CellDefinition.{CellDefinition}
 use Rattle.txs_value.specs.declared.value.Value.{Value}
 use Rattle.txs_frame.specs.Frame.{no_work}
 use Rattle.txs_tree.specs.Meaning.{Completion}
@@ -16,20 +18,21 @@ use Rattle.txs_code.specs.Opening.{opening as opens}
 use Rattle.txs_code.specs.PlainCode.{PlainCode}
 use Rattle.txs_follows.specs.Follows.{Follows}
 use Rattle.txs_follows.specs.RepliesFit.{Explained}
-use Rattle.txs_actor.specs.PlainActor.{PlainActor, HasRun, MayAnswer, Stops, answered, unanswered, configuration_of, state_of, code_of, stating, standing, stands_at}
-use Rattle.txs_world.specs.Book.{opening}
+use Rattle.txs_actor.specs.PlainActor.{PlainActor, HasRun, AsksLast, MayAnswer, Stops, answered, unanswered, configuration_of, state_of, code_of, stating, standing, stands_at}
 use Rattle.txs_value.specs.Limits.{most_events}
-use Rattle.txs_world.specs.Store.{PlainStore, cells_of}
-use Rattle.txs_world.specs.History.{history_of}
-use Rattle.txs_runs.specs.Laws.{alone}
 use Rattle.txs_runs.specs.Printed.{Prints}
 use Rattle.txs_runs.specs.Stages.{Stage, AsksIn, stage_after}
 use Rattle.txs_runs.specs.Staged.{IsStaged, stage_of}
-use Rattle.txs_runs.specs.Told.{Entry, exchange_of, ToldBy}
+use Rattle.txs_runs.specs.Shared.{book_for}
+use Rattle.txs_runs.specs.Told as told_by
+use Rattle.txs_runs.specs.Told.{Entry, exchange_of, ToldBy, trace_of, TraceHolds, seen_of}
+use Rattle.txs_shared.specs.SharedState.{PlainShared, shared_of}
+use Rattle.txs_machine.specs.declared.player.Place.{Place}
+use Rattle.txs_machine.specs.declared.run.Ran.{Ran}
 
--- a store of the code's cells, for its threads
-pub record IsStoreOf (code : PlainCode) (s : PlainStore) : Type 0 where
-  pub cells : s.cells ≡ cells_of code.cells
+-- the state of the code's cells, for its threads
+pub record IsStateOf (code : PlainCode) (s : PlainShared) : Type 0 where
+  pub cells : s.cells ≡ code.cells
   pub threads : s.threads ≡ length code.threads
 
 -- an actor is in this stage; one that asks is in the next stage after each answer
@@ -43,11 +46,18 @@ abbrev pub IsOwn : ℕ → List Event → Type 0
 IsOwn k [] = Unit {0}
 IsOwn k (e ∷ es) = (e.actor ≡ k) × IsOwn k es
 
--- The book has what it had, and behind it events of this actor alone.
-pub record IsGrownBy (k : ℕ) (book later : List Event) : Type 0 where
-  pub more : List Event
-  pub grown : later ≡ book ++ more
-  pub own : IsOwn k more
+-- the books of the state, by number
+abbrev pub books_of : PlainShared → ℕ → List Event
+books_of s = (shared_of s).books
+
+-- every event of every book is this actor's
+abbrev pub AreOwn : ℕ → (ℕ → List Event) → Type 0
+AreOwn k books = (n : ℕ) → IsOwn k (books n)
+
+-- places as the laws of runs speak of them
+abbrev pub places_of : List Place → List told_by.Place
+places_of [] = []
+places_of (p ∷ ps) = record { book = p.book; at = p.at } ∷ places_of ps
 
 -- On these entries the code waits with an ask within as many instructions as the actor has made steps, and what it has printed there the
 -- actor has printed.
@@ -57,17 +67,23 @@ pub record AskedOn (code : ThreadCode) (before : List Entry) (a : PlainActor) : 
   pub consumed : waiting.todo ≡ []
   pub printed : Prints waiting.printed (state_of a)
 
--- The actor of the k-th thread has done what the machine does on what the store's book told it, whoever else has written in the
--- book; it asked for each of its entries on those before; and the book is full where the actor was stopped for that.
-pub record RunOver (code : PlainCode) (k : ℕ) (book : List Event) (a : PlainActor) : Type 0 where
+-- On these exchanges the code asked in its last step what adds an event to a book that is full.
+pub record AtFullBook (cells : List CellDefinition) (code : ThreadCode) (books : ℕ → List Event) (xs : List Exchange) (a : PlainActor) : Type 0 where
+  pub ask : Ask
+  pub asked : AsksLast code xs a ask
+  pub full : most_events ≤ length (books (book_for cells ask))
+
+-- The actor of the k-th thread has done what the machine does on what the books told it, whoever else has written in
+-- them; it asked for each of its entries on those before; and where it was stopped for a full book, the book for its ask is full.
+pub record RunOver (code : PlainCode) (k : ℕ) (books : ℕ → List Event) (a : PlainActor) : Type 0 where
   pub number : a.number ≡ k
   pub entries : List Entry
   pub stage : Stage
   pub ran : HasRun code (map exchange_of entries) a
-  pub told : ToldBy code.cells (length code.threads) (alone book) k entries stage
+  pub told : ToldBy code.cells (length code.threads) books k entries stage
   pub here : IsIn a stage a.outcome (unanswered a)
   pub asked : (before : List Entry) (e : Entry) (rest : List Entry) → entries ≡ before ++ e ∷ rest → AskedOn (code_of code k) before a
-  pub full : a.outcome ≡ Some JournalFull → most_events ≤ length book
+  pub full : a.outcome ≡ Some JournalFull → AtFullBook code.cells (code_of code k) books (map exchange_of entries) a
 
 -- an actor that asks nothing, or has ended so
 abbrev pub IsAfter : PlainActor → Option Outcome → Type 0
@@ -78,10 +94,12 @@ IsAfter a (Some o) = a.outcome ≡ Some o
 abbrev pub ExplainsEnd : Outcome → List ℕ → Completion ThreadState Value → Type 0
 ExplainsEnd o out r = Explained (standing (Some o) (stating out 0 0 no_work None) (stating out 0 0 no_work None)) r
 
--- each source of the code's cells that the thread's code follows means just what the actor did in the book, for some bound on its loops, with what it printed and how it ended
-abbrev pub IsExplained : PlainCode → ℕ → List Event → Outcome → List ℕ → Type 0
-IsExplained code k book o out =
-    (p : ThreadSource) → p.cells ≡ code.cells → Follows (code_of code k) p → (m : ℕ) × ExplainsEnd o out (thread_meaning p m (history_of (opening (cells_of code.cells)) k book))
+-- The trace of a thread that has ended so names of each book the thread's events, each once and in order, and no others; and each source of the
+-- code's cells that the thread's code follows means just these, each with its worlds in its book, for some bound on its loops, with what the
+-- thread printed and how it ended.
+pub record IsExplained (code : PlainCode) (k : ℕ) (books : ℕ → List Event) (ran : Ran) : Type 0 where
+  pub traced : TraceHolds books k (places_of ran.trace.items)
+  pub means : (p : ThreadSource) → p.cells ≡ code.cells → Follows (code_of code k) p → (m : ℕ) × ExplainsEnd ran.outcome ran.printed.items (thread_meaning p m (seen_of code.cells books (places_of ran.trace.items)))
 
 -- an actor that may make so many steps, has made no more, and has made them all where it was stopped for that
 pub record IsLimited (limit : ℕ) (a : PlainActor) : Type 0 where
@@ -89,14 +107,15 @@ pub record IsLimited (limit : ℕ) (a : PlainActor) : Type 0 where
   pub within : a.steps ≤ limit
   pub spent : a.outcome ≡ Some StepsSpent → limit ≤ a.steps
 
--- An actor of the k-th thread, whose events are all of the book, has made so many steps over it, and printed these bytes and ended so: with the last of
+-- An actor of the k-th thread, whose events are all of the books, has made so many steps over them, and printed these bytes and ended so: with the last of
 -- its steps where it is done or failed, with as many as it may make where they were spent, with an ask that adds an event
--- to a full book, or in the middle of a step for want of memory.
-pub record HasEnded (code : PlainCode) (k limit : ℕ) (book : List Event) (o : Outcome) (out : List ℕ) (steps : ℕ) : Type 0 where
+-- to a full book, or in the middle of a step for want of memory. The trace has the places of its events in their order.
+pub record HasEnded (code : PlainCode) (k limit : ℕ) (books : ℕ → List Event) (ran : Ran) : Type 0 where
   pub actor : PlainActor
-  pub over : RunOver code k book actor
-  pub own : IsOwn k book
+  pub over : RunOver code k books actor
+  pub own : AreOwn k books
   pub limited : IsLimited limit actor
-  pub ended : actor.outcome ≡ Some o
-  pub printed : actor.printed ≡ out
-  pub counted : actor.steps ≡ steps
+  pub ended : actor.outcome ≡ Some ran.outcome
+  pub printed : actor.printed ≡ ran.printed.items
+  pub counted : actor.steps ≡ ran.steps
+  pub traced : places_of ran.trace.items ≡ trace_of code.cells books k over.entries

@@ -1,4 +1,4 @@
--- Runs of all threads of a code over one store, by turns that a schedule names, and what a program's source says of them.
+-- Runs of all threads of a code over what they share, by turns that a schedule names, and what a program's source says of them.
 use Rattle.std.specs.Prelude.{◌≡◌, ◌≤◌, ℕ, suc, Bool, true, false, ◌&&◌, ◌==◌, nat_lt, List, [], ◌∷◌, ◌++◌, length, map, Option, Some, None, if◌then◌else◌}
 use Rattle.std.proofs.Common.{◌⊎◌}
 use Rattle.txs_asks.specs.SeenEvent.{SeenEvent}
@@ -14,14 +14,11 @@ use Rattle.txs_code.specs.PlainCode.{PlainCode, thread_code}
 use Rattle.txs_follows.specs.FollowsAll.{source_of, FollowsAll}
 use Rattle.txs_follows.specs.RepliesFit.{Explained, halted, HasEaten}
 use Rattle.txs_actor.specs.PlainActor.{PlainActor, unanswered, stating, standing}
-use Rattle.txs_world.specs.Book.{Legal, Undisturbed, opening}
-use Rattle.txs_world.specs.History.{history_of}
-use Rattle.txs_world.specs.Store.{PlainStore, cells_of}
-use Rattle.txs_runs.specs.Explains.{CommitsUndisturbed}
-use Rattle.txs_runs.specs.Laws.{alone}
-use Rattle.txs_runs.specs.Told.{places_by}
-use Rattle.txs_machine.specs.RunOver.{RunOver, IsLimited}
-use Rattle.txs_machine.specs.declared.schedule.Place.{Place}
+use Rattle.txs_shared.specs.SharedState.{PlainShared}
+use Rattle.txs_runs.specs.Explains.{BooksStand, CommitsUndisturbed}
+use Rattle.txs_runs.specs.Shared.{Shared}
+use Rattle.txs_runs.specs.Told.{TraceHolds, trace_of, seen_of}
+use Rattle.txs_machine.specs.RunOver.{RunOver, IsLimited, places_of}
 use Rattle.txs_machine.specs.declared.schedule.Play.{Play}
 use Rattle.txs_machine.specs.declared.schedule.Play.TheVariants as play
 use Rattle.txs_machine.specs.declared.schedule.ThreadReport.{ThreadReport}
@@ -47,29 +44,25 @@ all_named n (y ∷ ys) = nat_lt (player y) n && all_named n ys
 
 -- ---- what the actors did
 
--- the places of the store's book
-abbrev pub in_store : List ℕ → List Place
-in_store [] = []
-in_store (k ∷ ks) = record { book = 0; at = k } ∷ in_store ks
-
--- An entry of a report says what the actor of the k-th thread did over the book: after so many steps, of which it makes no more than its limit, and
--- all where they were spent, it is where the machine's meaning comes to on what the book told it; it has printed these bytes, and ended so if it
--- has; the trace names its events of the book and no others. What its transactions set or ensured wasn't written between read point and commit.
-pub record HasDone (code : PlainCode) (k limit : ℕ) (book : List Event) (ran : ThreadReport) : Type 0 where
+-- An entry of a report says what the actor of the k-th thread did over the books: after so many steps, of which it makes no more than its limit, and
+-- all where they were spent, it is where the machine's meaning comes to on what the books told it; it has printed these bytes, and ended so if it
+-- has; the trace has the places of its events in the order in which it added them, whatever book each stands in. What its transactions set or
+-- ensured wasn't written between read point and commit.
+pub record HasDone (code : PlainCode) (k limit : ℕ) (books : ℕ → List Event) (ran : ThreadReport) : Type 0 where
   pub actor : PlainActor
-  pub over : RunOver code k book actor
+  pub over : RunOver code k books actor
   pub waits : unanswered actor ≡ None
   pub limited : IsLimited limit actor
   pub ended : actor.outcome ≡ ran.outcome
   pub printed : actor.printed ≡ ran.printed.items
   pub counted : actor.steps ≡ ran.steps
-  pub traced : ran.trace.items ≡ in_store (places_by k 0 book)
-  pub undisturbed : CommitsUndisturbed (alone book) over.entries
+  pub traced : places_of ran.trace.items ≡ trace_of code.cells books k over.entries
+  pub undisturbed : CommitsUndisturbed books over.entries
 
 -- A report has one entry for each thread, which says what its actor did.
-pub record AreDone (code : PlainCode) (limit : ℕ) (book : List Event) (rans : List ThreadReport) : Type 0 where
+pub record AreDone (code : PlainCode) (limit : ℕ) (books : ℕ → List Event) (rans : List ThreadReport) : Type 0 where
   pub one_each : length rans ≡ length code.threads
-  pub each : (k : ℕ) (ran : ThreadReport) → nth rans k ≡ Some ran → HasDone code k limit book ran
+  pub each : (k : ℕ) (ran : ThreadReport) → nth rans k ≡ Some ran → HasDone code k limit books ran
 
 -- a thread that hasn't ended has made at least as many steps as there are plays of it
 abbrev pub ArePlayed : List Play → List ThreadReport → Type 0
@@ -92,26 +85,26 @@ abbrev pub HasPrintedLeast : PlainProgram → PlainThread → List SeenEvent →
 HasPrintedLeast p t did out =
     (did ≡ []) ⊎ ((hs : List SeenEvent) × (e : SeenEvent) × (did ≡ hs ++ e ∷ []) × (n : ℕ) × (least : List ℕ) × HasEaten least (halted (thread_meaning (source_of p t) n hs)) × (rest : List ℕ) × (out ≡ least ++ rest))
 
--- A program's thread explains an entry of a report: the trace names the thread's events in the book, each once and in order, and no others; and the source's
--- meaning on just these events, each with its worlds in the book, and for some bound on its loops, is what the thread printed and how it ended.
-pub record ExplainsThread (p : PlainProgram) (k : ℕ) (t : PlainThread) (book : List Event) (ran : ThreadReport) : Type 0 where
-  pub traced : ran.trace.items ≡ in_store (places_by k 0 book)
-  pub means : (n : ℕ) × ExplainsSo ran.outcome ran.printed.items (thread_meaning (source_of p t) n (history_of (opening (cells_of p.cells)) k book))
-  pub least : HasPrintedLeast p t (history_of (opening (cells_of p.cells)) k book) ran.printed.items
+-- A program's thread explains an entry of a report: the trace names of each book the thread's events, each once and in order, and no others; and the source's
+-- meaning on just these events, in the order of the trace, each with its worlds in its book, and for some bound on its loops, is what the thread
+-- printed and how it ended.
+pub record ExplainsThread (p : PlainProgram) (k : ℕ) (t : PlainThread) (books : ℕ → List Event) (ran : ThreadReport) : Type 0 where
+  pub traced : TraceHolds books k (places_of ran.trace.items)
+  pub means : (n : ℕ) × ExplainsSo ran.outcome ran.printed.items (thread_meaning (source_of p t) n (seen_of p.cells books (places_of ran.trace.items)))
+  pub least : HasPrintedLeast p t (seen_of p.cells books (places_of ran.trace.items)) ran.printed.items
 
--- A program explains a run: there is one entry for each of its threads, the book is legal, no ref that a commit wrote was written between its view
--- and its place, and each thread explains its entry.
-pub record Explains (p : PlainProgram) (book : List Event) (rans : List ThreadReport) : Type 0 where
+-- A program explains a run: there is one entry for each of its threads, the books are legal, the store's and each atom's, no ref that a commit wrote was
+-- written between its view and its place, and each thread explains its entry.
+pub record Explains (p : PlainProgram) (sh : Shared) (rans : List ThreadReport) : Type 0 where
   pub one_each : length rans ≡ length p.threads
-  pub legal : Legal (cells_of p.cells) (length p.threads) book
-  pub undisturbed : Undisturbed book
-  pub each : (k : ℕ) (t : PlainThread) (ran : ThreadReport) → nth p.threads k ≡ Some t → nth rans k ≡ Some ran → ExplainsThread p k t book ran
+  pub books : BooksStand p.cells (length p.threads) sh
+  pub each : (k : ℕ) (t : PlainThread) (ran : ThreadReport) → nth p.threads k ≡ Some t → nth rans k ≡ Some ran → ExplainsThread p k t sh.books ran
 
 -- each program of the code's cells that the code follows explains the run
-abbrev pub IsExplainedBy : PlainCode → List Event → List ThreadReport → Type 0
-IsExplainedBy code book rans = (p : PlainProgram) → p.cells ≡ code.cells → FollowsAll (map (thread_code code) code.threads) p → Explains p book rans
+abbrev pub IsExplainedBy : PlainCode → Shared → List ThreadReport → Type 0
+IsExplainedBy code sh rans = (p : PlainProgram) → p.cells ≡ code.cells → FollowsAll (map (thread_code code) code.threads) p → Explains p sh rans
 
 -- Why there is no report: a play names no thread, and nothing was run; or there was no memory.
-abbrev pub HasNoReport : PlainCode → List Play → PlainStore → PlainStore → ScheduleError → Type 0
+abbrev pub HasNoReport : PlainCode → List Play → PlainShared → PlainShared → ScheduleError → Type 0
 HasNoReport code ys before after NoActor = (all_named (length code.threads) ys ≡ false) × (after ≡ before)
 HasNoReport code ys before after Memory = all_named (length code.threads) ys ≡ true

@@ -1,25 +1,27 @@
-//! Runs of all threads over one store, by turns that a schedule names.
+//! Runs of all threads over what they share, by turns that a schedule names.
 
 ghost use Rattle.std.specs.Prelude.{◌≡◌, ◌<◌, ◌≤◌, ℕ, [], length, set, take, true, false, IsTrue, IfOk, IfErr, IfSome, OnOk, Some, None};
 ghost use Rattle.txs_actor.specs.PlainActor.{Runs, unanswered};
 ghost use Rattle.txs_machine.specs.declared.schedule.ScheduleError.TheVariants.{Memory};
-ghost use Rattle.txs_machine.specs.RunOver.{IsStoreOf, IsGrownBy};
-ghost use Rattle.txs_machine.specs.Playing.{IsBetween, AreBetween, IsPlayed, ArePlayedAt, AreLater, HaveSteps, AllEnded, IsUnended, IsReported, AreReported, noted};
-ghost use Rattle.txs_machine.specs.Schedule.{player, plays_of, all_named, in_store, AreDone, ArePlayed, HaveEnded, IsExplainedBy, HasNoReport};
-ghost use Rattle.txs_runs.specs.Told.{places_by};
-ghost use Rattle.txs_value.specs.Limits.{most_events};
+ghost use Rattle.txs_machine.specs.RunOver.{IsStateOf, books_of};
+ghost use Rattle.txs_machine.specs.Playing.{IsBetween, AreBetween, IsPlayed, ArePlayedAt, AreLater, HaveSteps, AllEnded, IsUnended, IsReported, AreReported};
+ghost use Rattle.txs_machine.specs.Schedule.{player, plays_of, all_named, AreDone, ArePlayed, HaveEnded, IsExplainedBy, HasNoReport};
+ghost use Rattle.txs_runs.proofs.Growing.{Grown};
+ghost use Rattle.txs_runs.specs.Shared.{untouched};
+ghost use Rattle.txs_shared.specs.SharedState.{shared_of};
 ghost use Rattle.txs_value.specs.Places.{nth};
 
 use crate::law::actors_explained;
+use crate::player::{Place, Player};
 use crate::run::round;
 use std::alloc::{AllocError, Global};
 use thiserror::Error;
 use txs_actor::{Actor, actors_run};
-use txs_asks::{Event, Outcome};
+use txs_asks::Outcome;
 use txs_code::Verified;
 use txs_follows::replies_fit;
-use txs_runs::law::{alone_history, told_fits, typed_stands};
-use txs_world::Store;
+use txs_runs::law::{told_fits, typed_stands};
+use txs_shared::SharedState;
 use txs_world::law::{done_is_undisturbed, unwritten_stays};
 
 /// One play of a schedule: the thread with this number, counted from 0, goes on.
@@ -31,15 +33,8 @@ pub enum Play {
     Ask(u16),
 }
 
-/// A place in a book: book 0 is the store's.
-#[derive(Clone, Copy)]
-pub struct Place {
-    pub book: u16,
-    pub at: u32,
-}
-
-/// What a thread did: how it ended, if it has, what it printed, which events of the book are its, and how many
-/// steps it made.
+/// What a thread did: how it ended, if it has, what it printed, the places of its events in the order in which it added them, and how
+/// many steps it made.
 #[derive(Drop)]
 pub struct ThreadReport {
     pub outcome: Option<Outcome>,
@@ -48,7 +43,7 @@ pub struct ThreadReport {
     pub steps: u64,
 }
 
-/// What all threads did, by their numbers. The events and the newest values are the store's.
+/// What all threads did, by their numbers. The events and the newest values are those of the state that they share.
 #[derive(Drop)]
 pub struct Report {
     pub threads: Vec<ThreadReport>,
@@ -112,60 +107,70 @@ fn open_actors(
     code: &Verified,
     threads: u16,
     max_steps: u64,
-) -> Result<Vec<Actor>, AllocError>
+) -> Result<Vec<Player>, AllocError>
     requires { threads ≡ length code.now.threads }
     ensures many { IfOk result (λ v. length v.items ≡ threads) }
-    ensures between { IfOk result (λ v. AreBetween code.now max_steps [] 0 v.items) }
+    ensures between { IfOk result (λ v. AreBetween code.now max_steps (λ n. []) 0 v.items) }
 {
     actors_run();
     typed_stands();
     let _rooms = code.rooms();
-    let mut actors = Vec::with_capacity(alloc, usize::from(threads))?;
+    let mut players = Vec::with_capacity(alloc, usize::from(threads))?;
     for k in 0..threads {
-        actors.push(Actor::thread(alloc, code, k, max_steps)?)?;
+        let actor = Actor::thread(alloc, code, k, max_steps)?;
+        players.push(Player {
+            actor,
+            trace: Vec::new(alloc),
+        })?;
     }
-    Ok(actors)
+    Ok(players)
 }
 
 /// A play of an actor: up to so many turns, up to its end or an ask, which is served. One that has ended stays as it is.
 fn play_actor(
-    actor: &mut Actor,
+    player: &mut Player,
     code: &Verified,
-    store: &mut Store,
+    shared: &mut SharedState,
     k: u16,
     budget: u64,
     max_steps: u64,
 )
     requires some { 0 < budget }
-    requires of { IsStoreOf code.now store.old }
-    requires between { IsBetween code.now k max_steps store.old.book actor.old }
-    ensures of { IsStoreOf code.now store.new }
-    ensures between { IsBetween code.now k max_steps store.new.book actor.new }
-    ensures grown { IsGrownBy k store.old.book store.new.book }
-    ensures played { IsPlayed actor.old actor.new }
+    requires of { IsStateOf code.now shared.old }
+    requires between { IsBetween code.now k max_steps (books_of shared.old) player.old }
+    ensures of { IsStateOf code.now shared.new }
+    ensures between { IsBetween code.now k max_steps (books_of shared.new) player.new }
+    ensures grown { Grown k (books_of shared.old) (books_of shared.new) }
+    ensures played { IsPlayed player.old.actor player.new.actor }
 {
-    if actor.outcome().is_some() {
+    if player.actor.outcome().is_some() {
         return;
     }
-    round(actor, code, store, k, budget);
+    round(player, code, shared, k, budget);
 }
 
 /// A play of one of the actors.
-fn play_one(actors: &mut Vec<Actor>, code: &Verified, store: &mut Store, play: Play, max_steps: u64)
-    requires there { player play < length actors.old.items }
-    requires of { IsStoreOf code.now store.old }
-    requires between { AreBetween code.now max_steps store.old.book 0 actors.old.items }
-    ensures of { IsStoreOf code.now store.new }
-    ensures between { AreBetween code.now max_steps store.new.book 0 actors.new.items }
-    ensures many { length actors.new.items ≡ length actors.old.items }
-    ensures played { ArePlayedAt (player play) actors.old.items actors.new.items }
+fn play_one(
+    players: &mut Vec<Player>,
+    code: &Verified,
+    shared: &mut SharedState,
+    play: Play,
+    max_steps: u64,
+)
+    requires there { player play < length players.old.items }
+    requires of { IsStateOf code.now shared.old }
+    requires between { AreBetween code.now max_steps (books_of shared.old) 0 players.old.items }
+    ensures of { IsStateOf code.now shared.new }
+    ensures between { AreBetween code.now max_steps (books_of shared.new) 0 players.new.items }
+    ensures many { length players.new.items ≡ length players.old.items }
+    ensures played { ArePlayedAt (player play) players.old.items players.new.items }
 {
     let k = play.player();
     let budget = play.most_turns();
     play_actor(
-        &mut actors[usize::from(k)],
+        &mut players[usize::from(k)],
         code,
-        store,
+        shared,
         k,
         budget,
         max_steps,
@@ -174,56 +179,56 @@ fn play_one(actors: &mut Vec<Actor>, code: &Verified, store: &mut Store, play: P
 
 /// These plays, one after the other.
 fn play_all(
-    actors: &mut Vec<Actor>,
+    players: &mut Vec<Player>,
     code: &Verified,
-    store: &mut Store,
+    shared: &mut SharedState,
     plays: &[Play],
     max_steps: u64,
 )
-    requires named { all_named (length actors.old.items) plays.now ≡ true }
-    requires of { IsStoreOf code.now store.old }
-    requires between { AreBetween code.now max_steps store.old.book 0 actors.old.items }
-    ensures of { IsStoreOf code.now store.new }
-    ensures between { AreBetween code.now max_steps store.new.book 0 actors.new.items }
-    ensures many { length actors.new.items ≡ length actors.old.items }
-    ensures steps { HaveSteps plays.now 0 actors.new.items }
+    requires named { all_named (length players.old.items) plays.now ≡ true }
+    requires of { IsStateOf code.now shared.old }
+    requires between { AreBetween code.now max_steps (books_of shared.old) 0 players.old.items }
+    ensures of { IsStateOf code.now shared.new }
+    ensures between { AreBetween code.now max_steps (books_of shared.new) 0 players.new.items }
+    ensures many { length players.new.items ≡ length players.old.items }
+    ensures steps { HaveSteps plays.now 0 players.new.items }
 {
     for play in plays {
-        play_one(actors, code, store, *play, max_steps);
+        play_one(players, code, shared, *play, max_steps);
     }
 }
 
 /// An ask of each of the actors from one on that hasn't ended.
 fn play_rest(
-    actors: &mut Vec<Actor>,
+    players: &mut Vec<Player>,
     code: &Verified,
-    store: &mut Store,
+    shared: &mut SharedState,
     from: u16,
     threads: u16,
     max_steps: u64,
 )
-    requires many { threads ≡ length actors.old.items }
-    requires of { IsStoreOf code.now store.old }
-    requires between { AreBetween code.now max_steps store.old.book 0 actors.old.items }
-    ensures of { IsStoreOf code.now store.new }
-    ensures between { AreBetween code.now max_steps store.new.book 0 actors.new.items }
-    ensures many { length actors.new.items ≡ length actors.old.items }
-    ensures later { AreLater actors.old.items actors.new.items }
+    requires many { threads ≡ length players.old.items }
+    requires of { IsStateOf code.now shared.old }
+    requires between { AreBetween code.now max_steps (books_of shared.old) 0 players.old.items }
+    ensures of { IsStateOf code.now shared.new }
+    ensures between { AreBetween code.now max_steps (books_of shared.new) 0 players.new.items }
+    ensures many { length players.new.items ≡ length players.old.items }
+    ensures later { AreLater players.old.items players.new.items }
 {
     for k in from..threads {
-        play_one(actors, code, store, Play::Ask(k), max_steps);
+        play_one(players, code, shared, Play::Ask(k), max_steps);
     }
 }
 
 /// The first actor that hasn't ended.
-fn first_unended(actors: &[Actor], threads: u16) -> Option<u16>
-    requires { threads ≡ length actors.now }
-    ensures there { IfSome result (λ k. k < length actors.now) }
-    ensures unended { IfSome result (λ k. IsUnended k actors.now) }
-    ensures ended { result ≡ None → AllEnded actors.now }
+fn first_unended(players: &[Player], threads: u16) -> Option<u16>
+    requires { threads ≡ length players.now }
+    ensures there { IfSome result (λ k. k < length players.now) }
+    ensures unended { IfSome result (λ k. IsUnended k players.now) }
+    ensures ended { result ≡ None → AllEnded players.now }
 {
     for k in 0..threads {
-        if actors[usize::from(k)].outcome().is_none() {
+        if players[usize::from(k)].actor.outcome().is_none() {
             return Some(k);
         }
     }
@@ -233,56 +238,34 @@ fn first_unended(actors: &[Actor], threads: u16) -> Option<u16>
 /// Rounds of one ask of each actor that hasn't ended, in ascending order, until all have. Each makes a step at least of the first of
 /// them, and none may make more than its limit.
 fn play_rounds(
-    actors: &mut Vec<Actor>,
+    players: &mut Vec<Player>,
     code: &Verified,
-    store: &mut Store,
+    shared: &mut SharedState,
     threads: u16,
     max_steps: u64,
 )
-    requires many { threads ≡ length actors.old.items }
-    requires of { IsStoreOf code.now store.old }
-    requires between { AreBetween code.now max_steps store.old.book 0 actors.old.items }
-    ensures of { IsStoreOf code.now store.new }
-    ensures between { AreBetween code.now max_steps store.new.book 0 actors.new.items }
-    ensures many { length actors.new.items ≡ length actors.old.items }
-    ensures later { AreLater actors.old.items actors.new.items }
-    ensures ended { AllEnded actors.new.items }
+    requires many { threads ≡ length players.old.items }
+    requires of { IsStateOf code.now shared.old }
+    requires between { AreBetween code.now max_steps (books_of shared.old) 0 players.old.items }
+    ensures of { IsStateOf code.now shared.new }
+    ensures between { AreBetween code.now max_steps (books_of shared.new) 0 players.new.items }
+    ensures many { length players.new.items ≡ length players.old.items }
+    ensures later { AreLater players.old.items players.new.items }
+    ensures ended { AllEnded players.new.items }
 {
-    while let Some(k) = first_unended(actors.as_slice(), threads) {
-        play_one(actors, code, store, Play::Ask(k), max_steps);
-        play_rest(actors, code, store, k + 1, threads, max_steps);
+    while let Some(k) = first_unended(players.as_slice(), threads) {
+        play_one(players, code, shared, Play::Ask(k), max_steps);
+        play_rest(players, code, shared, k + 1, threads, max_steps);
     }
-}
-
-/// Appends the place of an event of the store's book, where it is the actor's.
-fn note(trace: &mut Vec<Place>, event: &Event, at: u32, actor: u16) -> Result<(), AllocError>
-    ensures { OnOk result (trace.new.items ≡ noted trace.old.items (event.now.actor) at actor) }
-{
-    if event.actor == actor {
-        trace.push(Place { book: 0, at })?;
-    }
-    Ok(())
-}
-
-/// The places of an actor's events in the store's book.
-fn trace_of(alloc: Global, events: &[Event], actor: u16) -> Result<Vec<Place>, AllocError>
-    requires { length events.now ≤ most_events }
-    ensures { IfOk result (λ v. v.items ≡ in_store (places_by actor 0 events.now)) }
-{
-    let mut trace = Vec::new(alloc);
-    for at in 0..events.len() as u32 {
-        note(&mut trace, &events[at as usize], at, actor)?;
-    }
-    Ok(trace)
 }
 
 /// What an actor did, as a report tells it.
-fn report_of(alloc: Global, actor: &Actor, events: &[Event]) -> Result<ThreadReport, AllocError>
-    requires { length events.now ≤ most_events }
-    ensures { IfOk result (λ ran. IsReported events.now actor.now ran) }
+fn report_of(alloc: Global, player: &Player) -> Result<ThreadReport, AllocError>
+    ensures { IfOk result (λ ran. IsReported player.now ran) }
 {
+    let actor = &player.actor;
     let printed = Vec::from_slice(alloc, actor.printed())?;
-    let trace = trace_of(alloc, events, actor.number())?;
+    let trace = Vec::from_slice(alloc, player.trace.as_slice())?;
     Ok(ThreadReport {
         outcome: actor.outcome(),
         printed,
@@ -292,48 +275,43 @@ fn report_of(alloc: Global, actor: &Actor, events: &[Event]) -> Result<ThreadRep
 }
 
 /// What all actors did.
-fn report_all(
-    alloc: Global,
-    actors: &[Actor],
-    events: &[Event],
-) -> Result<Vec<ThreadReport>, AllocError>
-    requires { length events.now ≤ most_events }
-    ensures { IfOk result (λ v. AreReported events.now actors.now v.items) }
+fn report_all(alloc: Global, players: &[Player]) -> Result<Vec<ThreadReport>, AllocError>
+    ensures { IfOk result (λ v. AreReported players.now v.items) }
 {
-    let mut threads = Vec::with_capacity(alloc, actors.len())?;
-    for actor in actors {
-        threads.push(report_of(alloc, actor, events)?)?;
+    let mut threads = Vec::with_capacity(alloc, players.len())?;
+    for player in players {
+        threads.push(report_of(alloc, player)?)?;
     }
     Ok(threads)
 }
 
 /// Plays the schedule, and then rounds until all have ended, where they are wanted.
 fn play_schedule(
-    actors: &mut Vec<Actor>,
+    players: &mut Vec<Player>,
     code: &Verified,
-    store: &mut Store,
+    shared: &mut SharedState,
     plays: &[Play],
     threads: u16,
     max_steps: u64,
     rounds: bool,
 )
-    requires many { threads ≡ length actors.old.items }
-    requires named { all_named (length actors.old.items) plays.now ≡ true }
-    requires of { IsStoreOf code.now store.old }
-    requires between { AreBetween code.now max_steps store.old.book 0 actors.old.items }
-    ensures of { IsStoreOf code.now store.new }
-    ensures between { AreBetween code.now max_steps store.new.book 0 actors.new.items }
-    ensures many { length actors.new.items ≡ length actors.old.items }
-    ensures steps { HaveSteps plays.now 0 actors.new.items }
-    ensures ended { rounds ≡ true → AllEnded actors.new.items }
+    requires many { threads ≡ length players.old.items }
+    requires named { all_named (length players.old.items) plays.now ≡ true }
+    requires of { IsStateOf code.now shared.old }
+    requires between { AreBetween code.now max_steps (books_of shared.old) 0 players.old.items }
+    ensures of { IsStateOf code.now shared.new }
+    ensures between { AreBetween code.now max_steps (books_of shared.new) 0 players.new.items }
+    ensures many { length players.new.items ≡ length players.old.items }
+    ensures steps { HaveSteps plays.now 0 players.new.items }
+    ensures ended { rounds ≡ true → AllEnded players.new.items }
 {
-    play_all(actors, code, store, plays, max_steps);
+    play_all(players, code, shared, plays, max_steps);
     if rounds {
-        play_rounds(actors, code, store, threads, max_steps);
+        play_rounds(players, code, shared, threads, max_steps);
     }
 }
 
-/// Runs all threads of the code over a store that no one has used yet: the plays of a schedule in their order, and with `rounds` behind them one ask of
+/// Runs all threads of the code over a state in which nothing was done yet: the plays of a schedule in their order, and with `rounds` behind them one ask of
 /// each thread that hasn't ended, again and again, until all have. A play of a thread that has ended does nothing. No thread makes more
 /// than `max_steps` steps.
 ///
@@ -345,30 +323,38 @@ pub fn run_schedule(
     plays: &[Play],
     max_steps: u64,
     rounds: bool,
-    store: &mut Store,
+    shared: &mut SharedState,
 ) -> Result<Report, ScheduleError>
-    requires of { IsStoreOf code.now store.old }
-    requires unused { store.old.book ≡ [] }
-    ensures of { IsStoreOf code.now store.new }
+    requires of { IsStateOf code.now shared.old }
+    requires unused { shared_of shared.old ≡ untouched code.now.cells }
+    ensures of { IsStateOf code.now shared.new }
     ensures named { IfOk result (λ report. all_named (length code.now.threads) plays.now ≡ true) }
-    ensures done { IfOk result (λ report. AreDone code.now max_steps store.new.book report.threads.items) }
+    ensures done { IfOk result (λ report. AreDone code.now max_steps (books_of shared.new) report.threads.items) }
     ensures played { IfOk result (λ report. ArePlayed plays.now report.threads.items) }
     ensures ended { IfOk result (λ report. rounds ≡ true → HaveEnded report.threads.items) }
-    ensures explained { IfOk result (λ report. IsExplainedBy code.now store.new.book report.threads.items) }
-    ensures refused { IfErr result (λ e. HasNoReport code.now plays.now store.old store.new e) }
+    ensures explained { IfOk result (λ report. IsExplainedBy code.now (shared_of shared.new) report.threads.items) }
+    ensures refused { IfErr result (λ e. HasNoReport code.now plays.now shared.old shared.new e) }
 {
     actors_explained();
     replies_fit();
     told_fits();
-    alone_history();
     done_is_undisturbed();
     unwritten_stays();
-    let threads = store.threads();
+    let threads = shared.threads();
     if !are_named(plays, threads) {
         return Err(ScheduleError::NoActor);
     }
-    let mut actors = open_actors(alloc, code, threads, max_steps)?;
-    play_schedule(&mut actors, code, store, plays, threads, max_steps, rounds);
-    let reports = report_all(alloc, actors.as_slice(), store.events())?;
+    let mut players = open_actors(alloc, code, threads, max_steps)?;
+    play_schedule(
+        &mut players,
+        code,
+        shared,
+        plays,
+        threads,
+        max_steps,
+        rounds,
+    );
+    let _stands = shared.events();
+    let reports = report_all(alloc, players.as_slice())?;
     Ok(Report { threads: reports })
 }

@@ -117,7 +117,8 @@ impl SharedState {
 
     /// The number of the book that an ask is for.
     pub fn book_for(&self, ask: &Ask) -> usize
-        ensures { result ≡ book_for self.now.cells ask.now }
+        ensures number { result ≡ book_for self.now.cells ask.now }
+        ensures few { result ≤ 65536 }
     {
         match atom_named(ask) {
             Some(cell) => self.home(cell),
@@ -127,7 +128,8 @@ impl SharedState {
 
     /// The number of the book that a cell's events stand in.
     pub fn home(&self, cell: CellId) -> usize
-        ensures { result ≡ home self.now.cells cell }
+        ensures number { result ≡ home self.now.cells cell }
+        ensures few { result ≤ 65536 }
     {
         match cell.kind {
             CellKind::Atom => self.place(cell.number) + 1,

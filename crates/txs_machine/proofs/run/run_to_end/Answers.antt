@@ -1,5 +1,5 @@
 use Rattle.std.proofs.Common.{ℕ, subst}
-use Rattle.txs_machine.specs.RunOver.{IsLimited}
+use Rattle.txs_machine.specs.RunOver.{IsLimited, books_of}
 use Rattle.txs_machine.proofs.RunOver.{own_grown}
 use Rattle.txs_machine.proofs.run.run_to_end.Goals as goal
 
@@ -10,8 +10,8 @@ loop-ended-preserved c =
     record {
       runs = e.runs;
       after = e.after;
-      limited = subst (λ (n : ℕ). IsLimited n c.round-ended.new.actor) i.limited.limited e.limited;
+      limited = subst (λ (n : ℕ). IsLimited n c.round-ended.new.player.actor) i.limited.limited e.limited;
       of = e.of;
       over = e.over;
-      own = own_grown c.args.k c.loop-ended.store.book c.round-ended.new.store.book i.own e.grown;
+      own = own_grown c.args.k (books_of c.loop-ended.shared) (books_of c.round-ended.new.shared) i.own e.grown;
     }

@@ -1,6 +1,6 @@
 use Rattle.txs_actor.specs.PlainActor.{Runs}
 use Rattle.txs_machine.specs.Lawfully.{RunLawfully}
-use Rattle.txs_machine.specs.RunOver.{IsStoreOf, IsOwn, IsAfter, IsLimited}
+use Rattle.txs_machine.specs.RunOver.{IsStateOf, books_of, AreOwn, IsAfter, IsLimited}
 use Rattle.txs_machine.proofs.Limits.{rounds_left}
 use Rattle.txs_machine.proofs.run.run_to_end.Given as goal
 
@@ -8,13 +8,13 @@ use Rattle.txs_machine.proofs.run.run_to_end.Given as goal
 abbrev pub invariant-loop-ended : goal.invariant-loop-ended
 invariant-loop-ended l =
     record {
-      runs : Runs l.code l.actor;
-      after : IsAfter l.actor l.ended;
-      limited : IsLimited l.fn.actor.limit l.actor;
-      of : IsStoreOf l.code l.store;
-      over : RunLawfully l.code l.k l.store.book l.actor;
-      own : IsOwn l.k l.store.book;
+      runs : Runs l.code l.player.actor;
+      after : IsAfter l.player.actor l.ended;
+      limited : IsLimited l.fn.player.actor.limit l.player.actor;
+      of : IsStateOf l.code l.shared;
+      over : RunLawfully l.code l.k (books_of l.shared) l.player.trace.items l.player.actor;
+      own : AreOwn l.k (books_of l.shared);
     }
 
 abbrev pub decreases-loop-ended : goal.decreases-loop-ended
-decreases-loop-ended l = rounds_left l.ended l.actor
+decreases-loop-ended l = rounds_left l.ended l.player.actor

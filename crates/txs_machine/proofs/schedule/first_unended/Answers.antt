@@ -5,18 +5,18 @@ use Rattle.txs_machine.proofs.schedule.first_unended.Goals as goal
 
 pub returns-then-is_none-clause-unended : goal.returns-then-is_none-clause-unended
 returns-then-is_none-clause-unended c =
-    let xs = c.args.actors.now in
-    let a = c.index-actors-from.result in
+    let xs = c.args.players.now in
+    let a = c.index-players-from.result in
     let within : c.loop-k.k < length xs = search rules in
     let read : a ≡ get_or xs c.loop-k.k a = search rules in
-    let none : a.outcome ≡ None = search rules in
+    let none : a.actor.outcome ≡ None = search rules in
     unended_at xs c.loop-k.k a (nth_read xs c.loop-k.k a within read) none
 
 pub loop-k-preserved : goal.loop-k-preserved
 loop-k-preserved c =
-    let xs = c.args.actors.now in
-    let a = c.index-actors-from.result in
+    let xs = c.args.players.now in
+    let a = c.index-players-from.result in
     let within : c.loop-k.k < length xs = search rules in
     let read : a ≡ get_or xs c.loop-k.k a = search rules in
-    let some : a.outcome ≡ None → ⊥ = λ e. search (rules, e) in
+    let some : a.actor.outcome ≡ None → ⊥ = λ e. search (rules, e) in
     subst AllEnded (sym (taken_read xs c.loop-k.k a within read)) (ended_more _ a c.loop-k.invariant some)

@@ -3,7 +3,7 @@ use Rattle.txs_machine.proofs.Playing.{later_itself, later_than, played_later}
 use Rattle.txs_machine.proofs.schedule.play_rest.Goals as goal
 
 pub loop-k-init : goal.loop-k-init
-loop-k-init c = record { of = c.requires.of; between = c.requires.between; many = refl; later = later_itself c.args.actors.now.items }
+loop-k-init c = record { of = c.requires.of; between = c.requires.between; many = refl; later = later_itself c.args.players.now.items }
 
 pub loop-k-preserved : goal.loop-k-preserved
 loop-k-preserved c =
@@ -13,6 +13,6 @@ loop-k-preserved c =
       of = e.of;
       between = e.between;
       many = e.many ∙ i.many;
-      later = later_than c.args.actors.now.items c.loop-k.actors.items c.play_one.new.actors.items i.later
-          (played_later c.loop-k.k c.loop-k.actors.items c.play_one.new.actors.items e.played);
+      later = later_than c.args.players.now.items c.loop-k.players.items c.play_one.new.players.items i.later
+          (played_later c.loop-k.k c.loop-k.players.items c.play_one.new.players.items e.played);
     }

@@ -1,0 +1,17 @@
+//! An actor of a run, with the places of its events.
+
+use txs_actor::Actor;
+
+/// A place in a book: book 0 is the store's, n that of the n-th atom in the order of the cells.
+#[derive(Clone, Copy)]
+pub struct Place {
+    pub book: u32,
+    pub at: u32,
+}
+
+/// An actor, and the places of the events that it has added to the books, in order.
+#[derive(Drop)]
+pub struct Player {
+    pub actor: Actor,
+    pub trace: Vec<Place>,
+}
