@@ -32,6 +32,13 @@ pub enum Transaction {
         from: Origin,
         phase: Phase,
     },
+    /// The function of one of its commutes runs, in a stack of its own: that of the transaction is put aside.
+    Evaluating {
+        left: u16,
+        from: Origin,
+        phase: Phase,
+        aside: Stack,
+    },
 }
 
 /// What an actor's unanswered ask is for.

@@ -12,9 +12,9 @@ ghost use Rattle.txs_value.specs.declared.value.CellId.{CellId as ACell};
 ghost use Rattle.txs_value.specs.declared.value.Value.{Value as AValue};
 ghost use Rattle.txs_value.specs.declared.form.CellForm.TheVariants as form;
 ghost use Rattle.txs_value.specs.declared.form.UpdateForm.TheVariants as update;
-ghost use Rattle.txs_actor.specs.Effect.{Comes, CanMove, effect, reads, ensures, update_of, opens, sets, closes, begins, settles, applying, goes_through, ends, LeftApply, IsForRefs};
+ghost use Rattle.txs_actor.specs.Effect.{Comes, CanMove, effect, reads, ensures, update_of, opens, sets, closes, begins, settles, applying, goes_through, ends, Operates, LeftApply, IsForRefs};
 ghost use Rattle.txs_actor.specs.declared.state.Transaction.{Transaction as ATransaction};
-ghost use Rattle.txs_actor.specs.PlainActor.{is_running, depth_in, IsUnapplied, AllApply};
+ghost use Rattle.txs_actor.specs.PlainActor.{is_running, depth_in, IsUnapplied};
 ghost use Rattle.txs_stack.specs.PlainFrame.{PlainStack};
 ghost use Rattle.txs_stack.specs.Values.{topmost};
 
@@ -41,7 +41,7 @@ pub(crate) fn is_running(tx: &Transaction) -> bool
 {
     matches!(
         tx,
-        Transaction::Running { .. } | Transaction::Applying { .. }
+        Transaction::Running { .. } | Transaction::Applying { .. } | Transaction::Evaluating { .. }
     )
 }
 
@@ -267,7 +267,7 @@ fn begin(alloc: Global, span: Span, stack: &Stack, tx: &mut Transaction) -> Move
         }
         Transaction::Outside => RERUNS,
         Transaction::Restarting { left } => *left,
-        Transaction::Applying { .. } => unreachable!(),
+        Transaction::Applying { .. } | Transaction::Evaluating { .. } => unreachable!(),
     };
     match stack.copy(alloc) {
         Ok(stack) => Moved::Asks(Pending::Begin {
@@ -306,11 +306,11 @@ fn operate(alloc: Global, op: Op, phase: &Phase) -> Result<Value, Stop>
     apply_owned(alloc, op, args.as_mut_slice())
 }
 
-/// One stage of a commute phase: the next commute is applied, whose fault is one of the transaction's beginning, or the
-/// transaction commits.
+/// One stage of a commute phase: the next commute's operation is applied, whose fault is one of the transaction's beginning, or
+/// the transaction commits.
 #[inline(never)]
 fn go_through(alloc: Global, span: Span, phase: &mut Phase) -> Moved
-    requires { AllApply phase.old.work }
+    requires { Operates phase.old.work }
     ensures { (left : ℕ) (stack : PlainStack) (vs : List AValue) (w : Work) (k : Option ACommute) → Comes result vs (applying left (record { span = span; stack = stack }) phase.new.work phase.new.values) w k w k (goes_through left (record { span = span; stack = stack }) vs w k phase.old.work phase.old.values) }
 {
     match phase.callee() {
@@ -343,6 +343,7 @@ fn end(alloc: Global, tx: &mut Transaction, frame: &TxFrame) -> Moved
         }
         Transaction::Applying { from, phase, .. } => go_through(alloc, from.span, phase),
         Transaction::Outside | Transaction::Restarting { .. } => Moved::On,
+        Transaction::Evaluating { .. } => unreachable!(),
     }
 }
 
