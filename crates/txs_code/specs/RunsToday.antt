@@ -11,7 +11,7 @@ use Rattle.txs_code.specs.declared.instr.Instr.{Instr}
 use Rattle.txs_code.specs.declared.instr.Instr.TheVariants.{Const, Local, Store, Pop, Jump, JumpFalse, Core, Call, Return, Vector, Print, Look, Put, TxBegin, TxEnd, Open, Close, Send, Halt}
 use Rattle.txs_code.specs.declared.instr.OpenForm.TheVariants as open_form
 
--- today's actors run this instruction: of the forms on cells `deref`, `ensure`, `ref-set` and `alter` alone
+-- today's actors run this instruction: of the forms on cells `deref`, `ensure`, `ref-set`, `alter` and `commute` alone
 abbrev pub IsRunToday : Instr → Type 0
 IsRunToday (Const k) = Unit {0}
 IsRunToday (Local i) = Unit {0}
@@ -31,10 +31,10 @@ IsRunToday (Put Reset) = ⊥
 IsRunToday TxBegin = Unit {0}
 IsRunToday TxEnd = Unit {0}
 IsRunToday (Open open_form.Alter n) = Unit {0}
-IsRunToday (Open (open_form.Commute callee) n) = ⊥
+IsRunToday (Open (open_form.Commute callee) n) = Unit {0}
 IsRunToday (Open (open_form.Swap callee) n) = ⊥
 IsRunToday (Close update.Alter) = Unit {0}
-IsRunToday (Close update.Commute) = ⊥
+IsRunToday (Close update.Commute) = Unit {0}
 IsRunToday (Close update.Swap) = ⊥
 IsRunToday (Send callee n) = ⊥
 IsRunToday Halt = Unit {0}

@@ -8,7 +8,7 @@ use Rattle.txs_value.specs.declared.form.CellForm.{CellForm}
 use Rattle.txs_value.specs.declared.form.CellForm.TheVariants as on_cell
 use Rattle.txs_value.specs.declared.form.LookForm.TheVariants.{Deref, Ensure}
 use Rattle.txs_value.specs.declared.form.PutForm.TheVariants.{RefSet}
-use Rattle.txs_value.specs.declared.form.UpdateForm.TheVariants.{Alter}
+use Rattle.txs_value.specs.declared.form.UpdateForm.TheVariants.{Alter, Commute}
 use Rattle.txs_value.specs.declared.op.Op.{Op}
 use Rattle.txs_value.specs.declared.op.Callee.{Callee}
 use Rattle.txs_value.specs.declared.op.Callee.TheVariants.{Core as CoreOp, Function as TheFunction}
@@ -24,18 +24,18 @@ use Rattle.txs_names.specs.declared.names.FormName.TheVariants as kind
 use Rattle.txs_names.specs.declared.scope.Definition.TheVariants.{Constant, Cell as ACell, Function as AFunction}
 use Rattle.txs_names.specs.Scope.{Scope, Meaning, a_form, dotted, a_local, the_current, defined_as, operation, unknown, meaning, with_local}
 use Rattle.txs_resolve.specs.declared.definition.CellSort.{CellSort}
-use Rattle.txs_resolve.specs.declared.error.ResolveError.{ResolveError}
-use Rattle.txs_resolve.specs.declared.error.ResolveErrorKind.TheVariants.{BadForm, TooMany}
-use Rattle.txs_resolve.specs.declared.nodes.Change.TheVariants as change_by
-use Rattle.txs_resolve.specs.declared.nodes.Sequence.{Sequence}
-use Rattle.txs_resolve.specs.declared.nodes.Sequence.TheVariants as sequence
-use Rattle.txs_resolve.specs.declared.nodes.Single.TheVariants as single
-use Rattle.txs_resolve.specs.declared.nodes.Spot.{Spot}
-use Rattle.txs_resolve.specs.Answers.{◌>>=◌, refuse}
-use Rattle.txs_resolve.specs.Expansions.{alone, body, expand_once, expansion, expansion_by, form_at, hidden, is_alone, is_even, let_hidden, list, or_same, three}
-use Rattle.txs_resolve.specs.Expressions.{Answer, Bound, Special, row, one_part, putting, choice, binding, changing, Core as ACore, whole, parted, Resolver, spot_at, spot_mark, in_room, some_room, narrow, symbol_node, leaf_node, leaf_value, callee_of, flag, sequence_node, are_wanted, choice_node, single_node, is_wanted, change_node, binding_node, are_pairs, bound_in, of_family, special, is_chain, all_but_last, last_of, operands, applied, list_core, core_of, bound_name, named_all, named_bindings, put_together, made, resolved, named}
+use Rattle.txs_expand.specs.declared.error.ResolveError.{ResolveError}
+use Rattle.txs_expand.specs.declared.error.ResolveErrorKind.TheVariants.{BadForm, TooMany}
+use Rattle.txs_expand.specs.declared.shapes.Change.TheVariants as change_by
+use Rattle.txs_expand.specs.declared.shapes.Sequence.{Sequence}
+use Rattle.txs_expand.specs.declared.shapes.Sequence.TheVariants as sequence
+use Rattle.txs_expand.specs.declared.shapes.Single.TheVariants as single
+use Rattle.txs_expand.specs.declared.shapes.Spot.{Spot}
+use Rattle.txs_expand.specs.Answers.{◌>>=◌, refuse}
+use Rattle.txs_expand.specs.Expansions.{alone, body, expand_once, expansion, expansion_by, form_at, hidden, is_alone, is_even, let_hidden, list, or_same, three}
+use Rattle.txs_expand.specs.Expressions.{Answer, Bound, Special, row, one_part, putting, choice, binding, changing, Core as ACore, whole, parted, Resolver, spot_at, spot_mark, in_room, some_room, narrow, symbol_node, leaf_node, leaf_value, callee_of, flag, sequence_node, are_wanted, choice_node, single_node, is_wanted, change_node, binding_node, are_pairs, bound_in, of_family, special, is_chain, all_but_last, last_of, operands, applied, list_core, core_of, bound_name, named_all, named_bindings, put_together, made, resolved, named}
 use Rattle.txs_code.specs.RunsToday.{KindRunsToday, CellsRunToday}
-use Rattle.txs_resolve.specs.Literals.{is_literal, literal}
+use Rattle.txs_nodes.specs.Literals.{is_literal, literal}
 use Rattle.txs_resolve.specs.Names.{State, nothing, program, new_name, Defining, only_literal, mode_behind, opened, cell_of, kind_at, defining_of, new_cell, with_definition, defined_as_one, NamedForm, named_form, defined_at, parameters, Written, written_behind, untold, written, are_symbols, with_function, function, with_thread, future, top_level, step, steps, is_namespace, behind_namespace, Resolves}
 use Rattle.txs_resolve.proofs.Scoping.{Every, then_every, one_every, two_every, three_every, if_every}
 use Rattle.txs_gen.specs.Today.{LooksToday, PutsToday, UpdatesToday, TreeRunsToday, TreesRunToday, FunctionsRunToday, ThreadsRunToday, ProgramRunsToday}
@@ -244,7 +244,7 @@ special_kept kind.Dosync s forms e h = body_kept forms s.span h
 special_kept kind.Deref s args e h = family_kept (Some (on_cell.Look Deref)) s.span args tt h
 special_kept kind.RefSet s args e h = family_kept (Some (on_cell.Put RefSet)) s.span args tt h
 special_kept kind.Alter s args e h = family_kept (Some (on_cell.Update Alter)) s.span args tt h
-special_kept kind.Commute s args e h = absurd (later e)
+special_kept kind.Commute s args e h = family_kept (Some (on_cell.Update Commute)) s.span args tt h
 special_kept kind.Ensure s args e h = family_kept (Some (on_cell.Look Ensure)) s.span args tt h
 special_kept kind.Swap s args e h = absurd (later e)
 special_kept kind.Reset s args e h = absurd (later e)

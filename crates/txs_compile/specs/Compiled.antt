@@ -5,7 +5,7 @@ use Rattle.txs_reader.specs.Tree.{Tree as Form}
 use Rattle.txs_reader.specs.declared.error.ReadErrorKind.TheVariants.{Memory as Unread, LeftOut}
 use Rattle.txs_reader.specs.declared.error.ReadError.{ReadError}
 use Rattle.txs_resolve.specs.Names.{Resolves, ResolveStops}
-use Rattle.txs_resolve.specs.declared.error.ResolveError.{ResolveError}
+use Rattle.txs_expand.specs.declared.error.ResolveError.{ResolveError}
 use Rattle.txs_check.specs.Refused.{CheckStops}
 use Rattle.txs_check.specs.declared.error.CheckError.{CheckError}
 use Rattle.txs_tree.specs.Sound.{Sound}

@@ -7,7 +7,7 @@ use Rattle.txs_reader.specs.declared.form.Form.{Form as AForm}
 use Rattle.txs_reader.specs.Tree.{tree, Tree as Form, Trees as Forms, leaf, group, none, first, place}
 use Rattle.txs_names.specs.declared.names.FormName.{FormName}
 use Rattle.txs_names.specs.declared.names.FormName.TheVariants as kind
-use Rattle.txs_resolve.specs.Expansions.{form_at}
+use Rattle.txs_expand.specs.Expansions.{form_at}
 
 -- the first of two, if it is there
 abbrev pub or_else : Option Span → Option Span → Option Span
@@ -24,9 +24,8 @@ abbrev pub head_form : Form → Option FormName
 head_form (group Round (first head rest) span) = form_at head
 head_form _ = None
 
--- The table of the forms that don't run yet: of those on cells `deref`, `ensure`, `ref-set` and `alter` do.
+-- The table of the forms that don't run yet: of those on cells `deref`, `ensure`, `ref-set`, `alter` and `commute` do.
 abbrev pub runs_later : Option FormName → Bool
-runs_later (Some kind.Commute) = true
 runs_later (Some kind.Swap) = true
 runs_later (Some kind.Reset) = true
 runs_later (Some kind.Send) = true

@@ -21,13 +21,13 @@ fn head_form(form: &Form) -> Option<FormName>
     }
 }
 
-/// Whether the form is one on cells that doesn't run yet: `deref`, `ensure`, `ref-set` and `alter` do.
+/// Whether the form is one on cells that doesn't run yet: `deref`, `ensure`, `ref-set`, `alter` and `commute` do.
 fn runs_later(form: &Form) -> bool
     ensures { result ≡ runs_later (head_form (tree form.now)) }
 {
     matches!(
         head_form(form),
-        Some(FormName::Commute | FormName::Swap | FormName::Reset | FormName::Send)
+        Some(FormName::Swap | FormName::Reset | FormName::Send)
     )
 }
 
