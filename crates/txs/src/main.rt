@@ -36,7 +36,9 @@ fn file_of(words: &Words) -> Option<&str> {
         Words::Check { file, .. }
         | Words::Listing { file, .. }
         | Words::Build { file, .. }
-        | Words::Run { file, .. } => match file {
+        | Words::Run { file, .. }
+        | Words::ListCode { file }
+        | Words::RunCode { file, .. } => match file {
             Some(name) => Some(name.as_str()),
             None => None,
         },

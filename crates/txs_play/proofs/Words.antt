@@ -5,7 +5,8 @@ use Rattle.std.specs.Option.{IfSome}
 use Rattle.txs_tell.specs.Told.{Script, Told, ScheduleTells, front}
 use Rattle.txs_tell.proofs.Fronts.{some_maps}
 use Rattle.txs_words.specs.declared.words.Words.{Words}
-use Rattle.txs_words.specs.declared.words.Words.TheVariants.{Run}
+use Rattle.txs_words.specs.declared.words.Words.TheVariants.{Run, RunCode}
+use Rattle.txs_tell_code.specs.CodeTold.{BytesScheduleTell}
 use Rattle.txs_play.specs.Telling.{WordsTell, explained_as}
 
 abbrev script_named : List ℕ → Option (List ℕ) → Script
@@ -15,9 +16,18 @@ script_named text file = record { text = text; file = file }
 pub run_told : (known : Option (List ℕ)) (writes : Told → Type 0) (words : Words) (file : Option (String Global)) (turns : String Global) (steps : ℕ) (cells events explain : Bool) (name : Option (List ℕ)) (text : List ℕ)
     → words ≡ Run file turns steps cells events explain → name ≡ explained_as explain file → text ≡ string_bytes turns
     → IfSome known (λ input. (t : Told) × ScheduleTells (record { text = front input; file = name }) text steps cells events t × writes t)
-    → IfSome known (λ input. (t : Told) × WordsTell (front input) words t × writes t)
+    → IfSome known (λ input. (t : Told) × WordsTell input words t × writes t)
 run_told known writes words file turns steps cells events explain name text is named said h =
-    subst (λ (w : Words). IfSome known (λ input. (t : Told) × WordsTell (front input) w t × writes t)) (sym is)
+    subst (λ (w : Words). IfSome known (λ input. (t : Told) × WordsTell input w t × writes t)) (sym is)
     (some_maps known (λ input. (t : Told) × ScheduleTells (script_named (front input) name) text steps cells events t × writes t)
-    (λ input. (t : Told) × WordsTell (front input) (Run file turns steps cells events explain) t × writes t)
+    (λ input. (t : Told) × WordsTell input (Run file turns steps cells events explain) t × writes t)
     (λ input told. (told.0, subst₂ (λ (n : Option (List ℕ)) (l : List ℕ). ScheduleTells (script_named (front input) n) l steps cells events told.0) named said told.1, told.2)) h)
+
+-- what a schedule of code tells is what those words tell
+pub run_code_told : (known : Option (List ℕ)) (writes : Told → Type 0) (words : Words) (file : Option (String Global)) (turns : String Global) (steps : ℕ) (cells events : Bool) (text : List ℕ)
+    → words ≡ RunCode file turns steps cells events → text ≡ string_bytes turns
+    → IfSome known (λ input. (t : Told) × BytesScheduleTell input text steps cells events t × writes t)
+    → IfSome known (λ input. (t : Told) × WordsTell input words t × writes t)
+run_code_told known writes words file turns steps cells events text is said h =
+    subst (λ (w : Words). IfSome known (λ input. (t : Told) × WordsTell input w t × writes t)) (sym is)
+    (subst (λ (l : List ℕ). IfSome known (λ input. (t : Told) × BytesScheduleTell input l steps cells events t × writes t)) said h)

@@ -1,10 +1,11 @@
 -- What the program tells for its words.
 use Rattle.std.specs.Prelude.{◌≡◌, ℕ, Bool, true, false, List, [], codes, string_bytes, Option, Some, None}
 use Rattle.std.proofs.Common.{String, Global}
-use Rattle.txs_tell.specs.Told.{Told, Tells, ScheduleTells}
+use Rattle.txs_tell.specs.Told.{Told, Tells, ScheduleTells, front}
 use Rattle.txs_tell.specs.Told as wanted
+use Rattle.txs_tell_code.specs.CodeTold.{Listed, BytesTell, BytesScheduleTell}
 use Rattle.txs_words.specs.declared.words.Words.{Words}
-use Rattle.txs_words.specs.declared.words.Words.TheVariants.{Check, Listing, Build, Run, Shown, Faulty}
+use Rattle.txs_words.specs.declared.words.Words.TheVariants.{Check, Listing, Build, Run, ListCode, RunCode, Shown, Faulty}
 
 -- the name under which lines are explained, where they are: that of the file, or "-" for the standard input
 abbrev pub explained_as : Bool → Option (String Global) → Option (List ℕ)
@@ -12,13 +13,15 @@ explained_as false file = None
 explained_as true None = Some (codes "-")
 explained_as true (Some name) = Some (string_bytes name)
 
--- What is told for words, where the input begins so: what is told of that script (its byte form, where it is to be written, goes to the standard output here), or a text of the words themselves, which is
--- help (status 0) or a usage fault (status 2).
+-- What is told for words, where this is the input: what is told of the script that it begins with (its byte form, where it is to be written, goes to the standard output here), or of the code that it is the
+-- byte form of; or a text of the words themselves, which is help (status 0) or a usage fault (status 2).
 abbrev pub WordsTell : List ℕ → Words → Told → Type 0
-WordsTell input (Check file explain) t = Tells (record { text = input; file = explained_as explain file }) wanted.Check t
-WordsTell input (Listing file explain) t = Tells (record { text = input; file = explained_as explain file }) wanted.Listing t
-WordsTell input (Build file out explain) t = Tells (record { text = input; file = explained_as explain file }) wanted.Build t
-WordsTell input (Run file turns steps cells events explain) t = ScheduleTells (record { text = input; file = explained_as explain file }) (string_bytes turns) steps cells events t
+WordsTell input (Check file explain) t = Tells (record { text = front input; file = explained_as explain file }) wanted.Check t
+WordsTell input (Listing file explain) t = Tells (record { text = front input; file = explained_as explain file }) wanted.Listing t
+WordsTell input (Build file out explain) t = Tells (record { text = front input; file = explained_as explain file }) wanted.Build t
+WordsTell input (Run file turns steps cells events explain) t = ScheduleTells (record { text = front input; file = explained_as explain file }) (string_bytes turns) steps cells events t
+WordsTell input (ListCode file) t = BytesTell input Listed t
+WordsTell input (RunCode file turns steps cells events) t = BytesScheduleTell input (string_bytes turns) steps cells events t
 WordsTell input (Shown text) t = t ≡ record { output = string_bytes text; errors = []; status = 0 }
 WordsTell input (Faulty text) t = t ≡ record { output = []; errors = string_bytes text; status = 2 }
 

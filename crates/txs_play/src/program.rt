@@ -3,12 +3,13 @@
 ghost use Rattle.std.specs.Prelude.{◌≡◌, IfSome};
 ghost use Rattle.txs_play.specs.Telling.{ArgsTell, WordsTell, explained_as};
 ghost use Rattle.txs_tell.specs.Lent.{text_in};
-ghost use Rattle.txs_tell.specs.Told.{Told, Written, front};
+ghost use Rattle.txs_tell.specs.Told.{Told, Written};
 
 use std::alloc::Global;
 use std::io::{Read, Write};
 use txs_tell::told::{DONE, SPENT, UNUSABLE};
 use txs_tell::{Use, play_schedule, play_script, write_told};
+use txs_tell_code::{CodeUse, play_code, schedule_code};
 use txs_words::{Words, parse_words};
 
 /// The name under which lines are explained, where they are: that of the file, or `-` for standard input.
@@ -36,7 +37,7 @@ pub fn play_words<R: Read, W: Write, F: Write>(
     writer: &mut W,
     faults: &mut F,
 ) -> u8
-    ensures { IfSome (R.remaining reader.old) (λ input. (t : Told) × WordsTell (front input) words.now t
+    ensures { IfSome (R.remaining reader.old) (λ input. (t : Told) × WordsTell input words.now t
         × Written (W.contents writer.old) (W.contents writer.new) (F.contents faults.old) (F.contents faults.new) t result) }
 {
     match words {
@@ -73,6 +74,23 @@ pub fn play_words<R: Read, W: Write, F: Write>(
                 faults,
             )
         }
+        Words::ListCode { .. } => play_code(alloc, CodeUse::Listing, reader, writer, faults),
+        Words::RunCode {
+            turns,
+            steps,
+            cells,
+            events,
+            ..
+        } => schedule_code(
+            alloc,
+            turns.as_str(),
+            *steps,
+            *cells,
+            *events,
+            reader,
+            writer,
+            faults,
+        ),
         Words::Shown(text) => write_told(text.as_bytes(), &[], DONE, writer, faults),
         Words::Faulty(text) => write_told(&[], text.as_bytes(), UNUSABLE, writer, faults),
     }
@@ -87,7 +105,7 @@ pub fn play<R: Read, W: Write, F: Write>(
     writer: &mut W,
     faults: &mut F,
 ) -> u8
-    ensures { IfSome (R.remaining reader.old) (λ input. (t : Told) × ArgsTell (front input) t
+    ensures { IfSome (R.remaining reader.old) (λ input. (t : Told) × ArgsTell input t
         × Written (W.contents writer.old) (W.contents writer.new) (F.contents faults.old) (F.contents faults.new) t result) }
 {
     match parse_words(alloc, args) {

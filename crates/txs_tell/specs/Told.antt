@@ -12,7 +12,7 @@ use Rattle.txs_compile.specs.declared.compile_error.CompileError.TheVariants.{Re
 use Rattle.txs_bytes.specs.CodeForm.{HasForm, form}
 use Rattle.txs_disasm.specs.Listing.{listing}
 use Rattle.txs_follows.specs.FollowsAll.{FollowsAll}
-use Rattle.txs_machine.specs.RunOver.{IsStoreOf}
+use Rattle.txs_machine.specs.RunOver.{IsStateOf, books_of}
 use Rattle.txs_machine.specs.Schedule.{AreDone, HaveEnded, IsExplainedBy, all_named}
 use Rattle.txs_machine.specs.declared.schedule.Play.{Play}
 use Rattle.txs_machine.specs.declared.schedule.ThreadReport.{ThreadReport}
@@ -23,15 +23,14 @@ use Rattle.txs_schedule.specs.Plays.{plays_in}
 use Rattle.txs_schedule.specs.declared.plays.WrongPlay.{WrongPlay}
 use Rattle.std.specs.declared.result.Result.TheVariants.{Ok, Err}
 use Rattle.txs_reader.specs.Errors.{report_number as read_number, report_name as read_name}
-use Rattle.txs_resolve.specs.Reported.{report_number as resolve_number, report_name as resolve_name}
+use Rattle.txs_expand.specs.Reported.{report_number as resolve_number, report_name as resolve_name}
+use Rattle.txs_shared.specs.SharedState.{PlainShared, shared_of, numbered_book, newest_of}
 use Rattle.txs_tree.specs.Tree.{PlainProgram}
 use Rattle.txs_value.specs.Faults.{fault_name}
 use Rattle.txs_value.specs.Limits.{most_script}
 use Rattle.txs_value.specs.declared.cell.CellDefinition.{CellDefinition}
 use Rattle.txs_value.specs.declared.fault.Fault.{Fault}
 use Rattle.txs_value.specs.declared.fault.Span.{Span}
-use Rattle.txs_world.specs.Book.{opening, newest}
-use Rattle.txs_world.specs.Store.{PlainStore, cells_of}
 
 -- what is told: the bytes of both streams, and the status
 pub record Told : Type 0 where
@@ -145,28 +144,28 @@ AreLessons script k [] errors = errors ≡ []
 AreLessons script k (r ∷ rs) errors =
     (line : List ℕ) × (rest : List ℕ) × IsLesson script (end_line k (how_ended r.outcome)) (end_place (how_ended r.outcome)) line × AreLessons script (suc k) rs rest × (errors ≡ line ++ rest)
 
--- What a run of all threads of the code over a store tells, which it leaves so: what the threads printed and how each ended, with the
+-- What a run of all threads of the code over what they share tells, which it leaves so: what the threads printed and how each ended, with the
 -- highest status.
-pub record RunTells (code : PlainCode) (script : Script) (steps : ℕ) (s : PlainStore) (t : Told) : Type 0 where
+pub record RunTells (code : PlainCode) (script : Script) (steps : ℕ) (s : PlainShared) (t : Told) : Type 0 where
   pub rans : List ThreadReport
-  pub done : AreDone code steps s.book rans
+  pub done : AreDone code steps (books_of s) rans
   pub ended : HaveEnded rans
-  pub explained : IsExplainedBy code s.book rans
+  pub explained : IsExplainedBy code (shared_of s) rans
   pub output : t.output ≡ all_printed rans
   pub errors : AreLessons script 0 rans t.errors
   pub status : t.status ≡ status_from 0 rans
 
 -- what a run by these plays comes to: a play names no thread, or what the threads tell
-abbrev pub RunAnswers : PlainCode → Script → List Play → ℕ → PlainStore → Option Told → Type 0
+abbrev pub RunAnswers : PlainCode → Script → List Play → ℕ → PlainShared → Option Told → Type 0
 RunAnswers code script plays steps s None = all_named (length code.threads) plays ≡ false
 RunAnswers code script plays steps s (Some t) = (all_named (length code.threads) plays ≡ true) × RunTells code script steps s t
 
--- the lines of the cells behind a run, where they are wanted: their values after all events of the book
-abbrev pub cells_told : Bool → List CellDefinition → List Event → List ℕ
-cells_told false cells book = []
-cells_told true cells book = cell_lines (newest (opening (cells_of cells)) book) 0 cells
+-- the lines of the cells behind a run, where they are wanted: their values after all events of their books
+abbrev pub cells_told : Bool → List CellDefinition → PlainShared → List ℕ
+cells_told false cells s = []
+cells_told true cells s = cell_lines (newest_of s) 0 cells
 
--- the lines of the events behind a run, where they are wanted
+-- the lines of the events of the store's book behind a run, where they are wanted; those of the atoms' books are not listed
 abbrev pub events_told : Bool → List Event → List ℕ
 events_told false book = []
 events_told true book = event_lines 0 book
@@ -191,9 +190,9 @@ pub data ScriptTells (script : Script) (t : Told) : Wanted → Type 0 where
   of_built :
       (p : PlainProgram) (code : PlainCode) (program : IsProgramOf script.text p) (follows : FollowsAll (codes_of code) p) (same : code.cells ≡ p.cells) (told : FormTold code t) → ScriptTells script t Build
   of_run :
-      (plays : List Play) (steps : ℕ) (with_cells with_events : Bool) (ran : Told) (p : PlainProgram) (code : PlainCode) (s : PlainStore) (program : IsProgramOf script.text p)
-      (follows : FollowsAll (codes_of code) p) (same : code.cells ≡ p.cells) (of : IsStoreOf code s) (named : all_named (length code.threads) plays ≡ true) (told : RunTells code script steps s ran)
-      (output : t.output ≡ (ran.output ++ cells_told with_cells p.cells s.book) ++ events_told with_events s.book) (errors : t.errors ≡ ran.errors) (status : t.status ≡ ran.status)
+      (plays : List Play) (steps : ℕ) (with_cells with_events : Bool) (ran : Told) (p : PlainProgram) (code : PlainCode) (s : PlainShared) (program : IsProgramOf script.text p)
+      (follows : FollowsAll (codes_of code) p) (same : code.cells ≡ p.cells) (of : IsStateOf code s) (named : all_named (length code.threads) plays ≡ true) (told : RunTells code script steps s ran)
+      (output : t.output ≡ (ran.output ++ cells_told with_cells p.cells s) ++ events_told with_events (numbered_book s 0)) (errors : t.errors ≡ ran.errors) (status : t.status ≡ ran.status)
       → ScriptTells script t (Run plays steps with_cells with_events)
   of_no_thread :
       (plays : List Play) (steps : ℕ) (with_cells with_events : Bool) (p : PlainProgram) (code : PlainCode) (program : IsProgramOf script.text p)

@@ -23,7 +23,7 @@ fn list_name<'a>(file: Option<&str>) -> Option<&'a str>
 }
 
 /// Writes what is told of a list of plays that has an item which says none.
-fn refuse_list<W: Write, F: Write>(
+pub fn refuse_list<W: Write, F: Write>(
     alloc: Global,
     turns: &str,
     wrong: WrongPlay,

@@ -3,10 +3,11 @@
 ghost use Rattle.std.specs.Option.{option_map};
 ghost use Rattle.std.specs.Prelude.{◌≡◌, ◌++◌, ◌≤◌, length, [], codes, IfOk, OnOk};
 ghost use Rattle.txs_disasm.specs.Listing.{listing};
-ghost use Rattle.txs_machine.specs.RunOver.{IsStoreOf};
+ghost use Rattle.txs_machine.specs.RunOver.{IsStateOf};
+ghost use Rattle.txs_runs.specs.Shared.{untouched};
+ghost use Rattle.txs_shared.specs.SharedState.{shared_of, numbered_book};
 ghost use Rattle.txs_tell.specs.Lent.{script_of, told_of, wanted_of};
 ghost use Rattle.txs_tell.specs.Told.{RunAnswers, ScriptTells, FormTold, Check, Listing, Build, Run, cells_told, events_told};
-ghost use Rattle.txs_world.specs.Store.{cells_of};
 
 use crate::cells::write_cells;
 use crate::explain::Script;
@@ -18,26 +19,26 @@ use txs_compile::compile;
 use txs_disasm::write_listing;
 use txs_machine::{Play, ScheduleError, run_schedule};
 use txs_schedule::write_events;
+use txs_shared::SharedState;
 use txs_tree::Program;
-use txs_world::Store;
 
-/// What is told of the threads of the code, which run over the store by these plays and then in rounds, up to their ends; or
+/// What is told of the threads of the code, which run over the state by these plays and then in rounds, up to their ends; or
 /// nothing, where a play names no thread.
-fn run_code(
+pub fn run_code(
     alloc: Global,
     script: Script<'_>,
     code: &Verified,
     plays: &[Play],
     steps: u64,
-    store: &mut Store,
+    shared: &mut SharedState,
 ) -> Result<Option<Told>, AllocError>
     requires few { length code.now.threads ≤ 64 }
-    requires of { IsStoreOf code.now store.old }
-    requires unused { store.old.book ≡ [] }
-    ensures of { IsStoreOf code.now store.new }
-    ensures told { IfOk result (λ t. RunAnswers code.now (script_of script.entry) plays.now steps store.new (option_map told_of t)) }
+    requires of { IsStateOf code.now shared.old }
+    requires unused { shared_of shared.old ≡ untouched code.now.cells }
+    ensures of { IsStateOf code.now shared.new }
+    ensures told { IfOk result (λ t. RunAnswers code.now (script_of script.entry) plays.now steps shared.new (option_map told_of t)) }
 {
-    match run_schedule(alloc, code, plays, steps, true, store) {
+    match run_schedule(alloc, code, plays, steps, true, shared) {
         Ok(report) => {
             let told = of_threads(alloc, script, &report)?;
             Ok(Some(told))
@@ -47,14 +48,14 @@ fn run_code(
     }
 }
 
-/// A store of the code's cells for its threads, with an empty book.
-fn open_store(alloc: Global, code: &Verified) -> Result<Store, AllocError>
+/// The state of the code's cells for its threads, with empty books.
+pub fn open_state(alloc: Global, code: &Verified) -> Result<SharedState, AllocError>
     requires few { length code.now.threads ≤ 64 }
-    ensures of { IfOk result (λ s. IsStoreOf code.now s) }
-    ensures unused { IfOk result (λ s. s.book ≡ []) }
+    ensures of { IfOk result (λ s. IsStateOf code.now s) }
+    ensures unused { IfOk result (λ s. shared_of s ≡ untouched code.now.cells) }
 {
     let code = code.code();
-    Store::open(alloc, code.cells(), code.threads().len() as u16)
+    SharedState::open(alloc, code.cells(), code.threads().len() as u16)
 }
 
 /// Appends the lines of the program's cells, where they are wanted.
@@ -62,28 +63,28 @@ fn tell_cells(
     told: &mut Told,
     wanted: bool,
     program: &Program,
-    store: &Store,
+    shared: &SharedState,
 ) -> Result<(), AllocError>
-    requires made { store.now.cells ≡ cells_of program.now.cells }
-    ensures output { OnOk result (told.new.output.items ≡ told.old.output.items ++ cells_told wanted program.now.cells store.now.book) }
+    requires made { shared.now.cells ≡ program.now.cells }
+    ensures output { OnOk result (told.new.output.items ≡ told.old.output.items ++ cells_told wanted program.now.cells shared.now) }
     ensures errors { told.new.errors.items ≡ told.old.errors.items }
     ensures status { told.new.status ≡ told.old.status }
 {
     if wanted {
         program.is_sound();
-        write_cells(&mut told.output, program.cells(), store)?;
+        write_cells(&mut told.output, program.cells(), shared)?;
     }
     Ok(())
 }
 
-/// Appends the lines of the events of a run, where they are wanted.
-fn tell_events(told: &mut Told, wanted: bool, store: &Store) -> Result<(), AllocError>
-    ensures output { OnOk result (told.new.output.items ≡ told.old.output.items ++ events_told wanted store.now.book) }
+/// Appends the lines of the events of the store's book, where they are wanted.
+pub fn tell_events(told: &mut Told, wanted: bool, shared: &SharedState) -> Result<(), AllocError>
+    ensures output { OnOk result (told.new.output.items ≡ told.old.output.items ++ events_told wanted (numbered_book shared.now 0)) }
     ensures errors { told.new.errors.items ≡ told.old.errors.items }
     ensures status { told.new.status ≡ told.old.status }
 {
     if wanted {
-        write_events(&mut told.output, store.events())?;
+        write_events(&mut told.output, shared.events())?;
     }
     Ok(())
 }
@@ -94,15 +95,15 @@ fn tell_book(
     cells: bool,
     events: bool,
     program: &Program,
-    store: &Store,
+    shared: &SharedState,
 ) -> Result<(), AllocError>
-    requires made { store.now.cells ≡ cells_of program.now.cells }
-    ensures output { OnOk result (told.new.output.items ≡ (told.old.output.items ++ cells_told cells program.now.cells store.now.book) ++ events_told events store.now.book) }
+    requires made { shared.now.cells ≡ program.now.cells }
+    ensures output { OnOk result (told.new.output.items ≡ (told.old.output.items ++ cells_told cells program.now.cells shared.now) ++ events_told events (numbered_book shared.now 0)) }
     ensures errors { told.new.errors.items ≡ told.old.errors.items }
     ensures status { told.new.status ≡ told.old.status }
 {
-    tell_cells(told, cells, program, store)?;
-    tell_events(told, events, store)?;
+    tell_cells(told, cells, program, shared)?;
+    tell_events(told, events, shared)?;
     Ok(())
 }
 
@@ -124,12 +125,12 @@ fn run_script(
             return Ok(told);
         }
     };
-    let mut store = open_store(alloc, &code)?;
-    let Some(mut told) = run_code(alloc, script, &code, plays, steps, &mut store)? else {
+    let mut shared = open_state(alloc, &code)?;
+    let Some(mut told) = run_code(alloc, script, &code, plays, steps, &mut shared)? else {
         let told = complaint(alloc, UNUSABLE, "run failed: NoActor")?;
         return Ok(told);
     };
-    tell_book(&mut told, cells, events, &program, &store)?;
+    tell_book(&mut told, cells, events, &program, &shared)?;
     Ok(told)
 }
 

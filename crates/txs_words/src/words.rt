@@ -38,6 +38,18 @@ pub enum Words {
         events: bool,
         explain: bool,
     },
+    /// To list code: the file of its byte form, where it is named.
+    ListCode {
+        file: Option<String>,
+    },
+    /// To run code: the file of its byte form, where it is named, and the rest as for a script.
+    RunCode {
+        file: Option<String>,
+        turns: String,
+        steps: u64,
+        cells: bool,
+        events: bool,
+    },
     /// A text for the standard output.
     Shown(String),
     /// A text for the standard error, for a usage fault.
@@ -55,6 +67,15 @@ fn explain_arg<'a>(alloc: Global) -> Arg<'a> {
         .long("explain")
         .help("Shows the place of a refusal or a fault, and what to do")
         .action(ArgAction::SetTrue)
+}
+
+/// The flag by which a command takes code in place of a script.
+fn code_arg<'a>(alloc: Global) -> Result<Arg<'a>, AllocError> {
+    Arg::new(alloc, "code")
+        .long("code")
+        .help("Takes code in its byte form, as build writes it")
+        .action(ArgAction::SetTrue)
+        .conflicts_with("explain")
 }
 
 /// A command that compiles a script and runs nothing.
@@ -97,6 +118,7 @@ fn run_command<'a>(alloc: Global) -> Result<Command<'a>, AllocError> {
         .about("Runs a script")
         .arg(steps_arg(alloc))?;
     with_lines(alloc, command)?
+        .arg(code_arg(alloc)?)?
         .arg(explain_arg(alloc))?
         .arg(file_arg(alloc))
 }
@@ -112,6 +134,7 @@ fn schedule_command<'a>(alloc: Global) -> Result<Command<'a>, AllocError> {
         .arg(turns)?
         .arg(steps_arg(alloc))?;
     with_lines(alloc, command)?
+        .arg(code_arg(alloc)?)?
         .arg(explain_arg(alloc))?
         .arg(file_arg(alloc))
 }
@@ -127,22 +150,40 @@ fn build_command<'a>(alloc: Global) -> Result<Command<'a>, AllocError> {
     compiling_command(alloc, "build", "Writes the code of a script to a file")?.arg(out)
 }
 
+/// The command that lists code, of a script or in its byte form.
+fn listing_command<'a>(alloc: Global) -> Result<Command<'a>, AllocError> {
+    compiling_command(alloc, "dis", "Lists the code of a script")?.arg(code_arg(alloc)?)
+}
+
+/// A command with one more below it. Both are taken as they are handed in, so that no other is alive where memory runs out.
+fn with_command<'a>(
+    command: Command<'a>,
+    below: Result<Command<'a>, AllocError>,
+) -> Result<Command<'a>, AllocError> {
+    command.subcommand(below?)
+}
+
+/// A command that compiles a script and runs nothing, below another.
+fn with_compiling<'a>(
+    alloc: Global,
+    command: Command<'a>,
+    name: &'a str,
+    about: &'a str,
+) -> Result<Command<'a>, AllocError> {
+    with_command(command, compiling_command(alloc, name, about))
+}
+
 /// The commands and their options.
 fn command<'a>(alloc: Global) -> Result<Command<'a>, AllocError> {
-    let check = compiling_command(alloc, "check", "Checks a script without running it")?;
-    let listing = compiling_command(alloc, "dis", "Lists the code of a script")?;
-    let build = build_command(alloc)?;
-    let run = run_command(alloc)?;
-    let schedule = schedule_command(alloc)?;
-    Command::new(alloc, "txs")
+    let all = Command::new(alloc, "txs")
         .about("Compiles and runs transaction scripts")
         .subcommand_required(true)
-        .disable_help_subcommand(true)
-        .subcommand(check)?
-        .subcommand(listing)?
-        .subcommand(build)?
-        .subcommand(run)?
-        .subcommand(schedule)
+        .disable_help_subcommand(true);
+    let all = with_compiling(alloc, all, "check", "Checks a script without running it")?;
+    let all = with_command(all, listing_command(alloc))?;
+    let all = with_command(all, build_command(alloc))?;
+    let all = with_command(all, run_command(alloc))?;
+    with_command(all, schedule_command(alloc))
 }
 
 /// The file that a command's words name, if they name one.
@@ -161,6 +202,46 @@ fn given_turns(alloc: Global, name: &str, words: &ArgMatches<'_>) -> Result<Stri
     String::from_str(alloc, words.get_str("turns").unwrap_or(""))
 }
 
+/// What words ask for that are to list a script's code, or code.
+fn listing_words(file: Option<String>, code: bool, explain: bool) -> Words {
+    if code {
+        return Words::ListCode { file };
+    }
+    Words::Listing { file, explain }
+}
+
+/// What words ask for that are to run a script, or code.
+fn run_words(
+    alloc: Global,
+    name: &str,
+    words: &ArgMatches<'_>,
+    file: Option<String>,
+    code: bool,
+) -> Result<Words, AllocError> {
+    let steps = words.get_one::<u64>("steps").unwrap_or(DEFAULT_STEPS);
+    let cells = words.get_flag("cells");
+    let events = words.get_flag("events");
+    let explain = words.get_flag("explain");
+    let turns = given_turns(alloc, name, words)?;
+    if code {
+        return Ok(Words::RunCode {
+            file,
+            turns,
+            steps,
+            cells,
+            events,
+        });
+    }
+    Ok(Words::Run {
+        file,
+        turns,
+        steps,
+        cells,
+        events,
+        explain,
+    })
+}
+
 /// What the matched words ask for.
 fn asked(alloc: Global, matches: &ArgMatches<'_>) -> Result<Words, AllocError> {
     let Some((name, words)) = matches.subcommand() else {
@@ -171,25 +252,15 @@ fn asked(alloc: Global, matches: &ArgMatches<'_>) -> Result<Words, AllocError> {
     if name == "check" {
         return Ok(Words::Check { file, explain });
     }
-    if name == "dis" {
-        return Ok(Words::Listing { file, explain });
-    }
     if name == "build" {
         let out = String::from_str(alloc, words.get_str("out").unwrap_or(""))?;
         return Ok(Words::Build { file, out, explain });
     }
-    let steps = words.get_one::<u64>("steps").unwrap_or(DEFAULT_STEPS);
-    let cells = words.get_flag("cells");
-    let events = words.get_flag("events");
-    let turns = given_turns(alloc, name, words)?;
-    Ok(Words::Run {
-        file,
-        turns,
-        steps,
-        cells,
-        events,
-        explain,
-    })
+    let code = words.get_flag("code");
+    if name == "dis" {
+        return Ok(listing_words(file, code, explain));
+    }
+    run_words(alloc, name, words, file, code)
 }
 
 /// The text of what isn't run: help, or a usage fault.

@@ -1,5 +1,5 @@
 use Rattle.txs_play.specs.Telling.{ArgsTell, WordsTell, of_words}
-use Rattle.txs_tell.specs.Told.{Told, Written, front}
+use Rattle.txs_tell.specs.Told.{Told, Written}
 use Rattle.txs_tell.proofs.Fronts.{some_maps}
 use Rattle.txs_play.proofs.program.play.Goals as goal
 
@@ -7,6 +7,6 @@ pub returns-in-Ok : goal.returns-in-Ok
 returns-in-Ok g c =
     let known = g.R.Read.remaining c.args.reader.now in
     let writes : Told → Type 0 = λ t. Written (g.W.Write.contents c.args.writer.now) (g.W.Write.contents c.play_words.new.writer) (g.F.Write.contents c.args.faults.now) (g.F.Write.contents c.play_words.new.faults) t c.play_words.result in
-    some_maps known (λ input. (t : Told) × WordsTell (front input) c.in-Ok.words t × writes t)
-    (λ input. (t : Told) × ArgsTell (front input) t × writes t)
+    some_maps known (λ input. (t : Told) × WordsTell input c.in-Ok.words t × writes t)
+    (λ input. (t : Told) × ArgsTell input t × writes t)
     (λ input h. (h.0, of_words c.in-Ok.words h.1, h.2)) c.play_words.ensures

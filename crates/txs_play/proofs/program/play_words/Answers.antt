@@ -1,6 +1,6 @@
 use Rattle.txs_tell.specs.Lent.{text_in}
 use Rattle.txs_tell.specs.Told.{Told, Written}
-use Rattle.txs_play.proofs.Words.{run_told}
+use Rattle.txs_play.proofs.Words.{run_told, run_code_told}
 use Rattle.txs_play.proofs.program.play_words.Goals as goal
 
 pub returns-in-Run : goal.returns-in-Run
@@ -9,3 +9,10 @@ returns-in-Run g c =
     let writes : Told → Type 0 = λ t. Written (g.W.Write.contents c.args.writer.now) (g.W.Write.contents c.play_schedule.new.writer) (g.F.Write.contents c.args.faults.now) (g.F.Write.contents c.play_schedule.new.faults) t c.play_schedule.result in
     run_told (g.R.Read.remaining c.args.reader.now) writes c.args.words.now w.file w.turns w.steps w.cells w.events w.explain (text_in c.explained_as-name-in-Run.result) c.as_str.result.now w.is c.explained_as-name-in-Run.ensures c.as_str.ensures.value
     c.play_schedule.ensures
+
+pub returns-in-RunCode : goal.returns-in-RunCode
+returns-in-RunCode g c =
+    let w = c.in-RunCode in
+    let writes : Told → Type 0 = λ t. Written (g.W.Write.contents c.args.writer.now) (g.W.Write.contents c.schedule_code.new.writer) (g.F.Write.contents c.args.faults.now) (g.F.Write.contents c.schedule_code.new.faults) t c.schedule_code.result in
+    run_code_told (g.R.Read.remaining c.args.reader.now) writes c.args.words.now w.file w.turns w.steps w.cells w.events c.as_str-in-RunCode.result.now w.is c.as_str-in-RunCode.ensures.value
+    c.schedule_code.ensures

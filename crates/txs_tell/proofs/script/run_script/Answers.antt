@@ -15,7 +15,7 @@ pub returns-in_default : goal.returns-in_default
 returns-in_default c =
     let code = c.in-Ok.compiled.1 in
     let unnamed : all_named (length code.threads) c.args.plays.now ≡ false =
-    subst (λ (o : Option owned.Told). RunAnswers code (script_of c.args.script) c.args.plays.now c.args.steps c.run_code.new.store (option_map told_of o)) c.in_default.is c.in_ok-told.ensures.told
+    subst (λ (o : Option owned.Told). RunAnswers code (script_of c.args.script) c.args.plays.now c.args.steps c.run_code.new.shared (option_map told_of o)) c.in_default.is c.in_ok-told.ensures.told
     in
     let t = c.in_ok-told-2.ensures in
     of_no_thread c.args.plays.now c.args.steps c.args.cells c.args.events (program_of c.in-Ok.compiled.0) code c.in-Ok.ensures.program c.in-Ok.ensures.code unnamed t.output t.errors t.status
@@ -23,8 +23,8 @@ returns-in_default c =
 pub returns : goal.returns
 returns c =
     let code = c.in-Ok.compiled.1 in
-    let ran : (all_named (length code.threads) c.args.plays.now ≡ true) × RunTells code (script_of c.args.script) c.args.steps c.run_code.new.store (told_of c.in-Some.told) =
-    subst (λ (o : Option owned.Told). RunAnswers code (script_of c.args.script) c.args.plays.now c.args.steps c.run_code.new.store (option_map told_of o)) c.in-Some.is c.in_ok-told.ensures.told
+    let ran : (all_named (length code.threads) c.args.plays.now ≡ true) × RunTells code (script_of c.args.script) c.args.steps c.run_code.new.shared (told_of c.in-Some.told) =
+    subst (λ (o : Option owned.Told). RunAnswers code (script_of c.args.script) c.args.plays.now c.args.steps c.run_code.new.shared (option_map told_of o)) c.in-Some.is c.in_ok-told.ensures.told
     in
     let t = c.in_ok-tell_book.ensures in
-    of_run c.args.plays.now c.args.steps c.args.cells c.args.events (told_of c.in-Some.told) (program_of c.in-Ok.compiled.0) code c.run_code.new.store c.in-Ok.ensures.program c.in-Ok.ensures.code c.in-Ok.ensures.cells c.run_code.ensures.of ran.0 ran.1 t.output t.errors t.status
+    of_run c.args.plays.now c.args.steps c.args.cells c.args.events (told_of c.in-Some.told) (program_of c.in-Ok.compiled.0) code c.run_code.new.shared c.in-Ok.ensures.program c.in-Ok.ensures.code c.in-Ok.ensures.cells c.run_code.ensures.of ran.0 ran.1 t.output t.errors t.status

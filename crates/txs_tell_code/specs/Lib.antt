@@ -1,0 +1,2 @@
+pub mod CodeTold
+pub mod LentCode

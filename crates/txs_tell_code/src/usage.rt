@@ -1,0 +1,158 @@
+//! What is done with code in its byte form: it is listed, or run.
+
+ghost use Rattle.std.specs.Prelude.{◌≡◌, ◌≤◌, ◌++◌, length, [], IfOk, OnOk};
+ghost use Rattle.txs_disasm.specs.Listing.{listing};
+ghost use Rattle.txs_machine.specs.RunOver.{IsStateOf};
+ghost use Rattle.txs_shared.specs.SharedState.{numbered_book};
+ghost use Rattle.txs_tell.specs.Lent.{script_of, told_of};
+ghost use Rattle.txs_tell.specs.Told.{cells_told, events_told};
+ghost use Rattle.txs_tell_code.specs.CodeTold.{CodeTells, Listed, Ran, no_script};
+ghost use Rattle.txs_tell_code.specs.LentCode.{code_wanted_of};
+
+use crate::lines::refused;
+use std::alloc::{AllocError, Global};
+use txs_code::Code;
+use txs_disasm::write_listing;
+use txs_load::law::form_is_taken;
+use txs_load::load::{load, load_verified};
+use txs_machine::Play;
+use txs_shared::SharedState;
+use txs_tell::cells::write_cells;
+use txs_tell::explain::Script;
+use txs_tell::script::{open_state, run_code, tell_events};
+use txs_tell::told::{Told, UNUSABLE, answer, complaint};
+
+/// What is done with code.
+#[derive(Clone, Copy)]
+pub enum CodeUse<'a> {
+    /// It is listed.
+    Listing,
+    /// Its threads run by these plays and then in rounds, each for so many steps at most, with its cells and the events of the run told or
+    /// not.
+    Run {
+        plays: &'a [Play],
+        steps: u64,
+        cells: bool,
+        events: bool,
+    },
+}
+
+/// The listing of the code, on the standard output.
+fn listing_of(alloc: Global, code: &Code) -> Result<Told, AllocError>
+    ensures output { IfOk result (λ t. t.output.items ≡ listing code.now) }
+    ensures errors { IfOk result (λ t. t.errors.items ≡ []) }
+    ensures status { IfOk result (λ t. t.status ≡ 0) }
+{
+    let mut output = Vec::new(alloc);
+    match write_listing(alloc, code, &mut output) {
+        Ok(()) => Ok(answer(output, alloc)),
+        Err(_) => Err(AllocError),
+    }
+}
+
+/// Lists the code that the bytes are the form of, where it is well typed.
+fn list_code(alloc: Global, bytes: &[u8]) -> Result<Told, AllocError>
+    ensures { IfOk result (λ t. CodeTells bytes.now (told_of t) Listed) }
+{
+    let (code, _rooms) = match load(alloc, bytes) {
+        Ok(loaded) => loaded,
+        Err(error) => {
+            let told = refused(alloc, error)?;
+            return Ok(told);
+        }
+    };
+    let told = listing_of(alloc, &code)?;
+    Ok(told)
+}
+
+/// Appends the lines of the code's cells, where they are wanted.
+fn tell_cells(
+    told: &mut Told,
+    wanted: bool,
+    code: &Code,
+    shared: &SharedState,
+) -> Result<(), AllocError>
+    requires few { length code.now.cells ≤ 1000 }
+    requires of { IsStateOf code.now shared.now }
+    ensures output { OnOk result (told.new.output.items ≡ told.old.output.items ++ cells_told wanted code.now.cells shared.now) }
+    ensures errors { told.new.errors.items ≡ told.old.errors.items }
+    ensures status { told.new.status ≡ told.old.status }
+{
+    if wanted {
+        write_cells(&mut told.output, code.cells(), shared)?;
+    }
+    Ok(())
+}
+
+/// Appends what is told behind a run: the lines of the code's cells, and of the events, where they are wanted.
+fn tell_book(
+    told: &mut Told,
+    cells: bool,
+    events: bool,
+    code: &Code,
+    shared: &SharedState,
+) -> Result<(), AllocError>
+    requires few { length code.now.cells ≤ 1000 }
+    requires of { IsStateOf code.now shared.now }
+    ensures output { OnOk result (told.new.output.items ≡ (told.old.output.items ++ cells_told cells code.now.cells shared.now) ++ events_told events (numbered_book shared.now 0)) }
+    ensures errors { told.new.errors.items ≡ told.old.errors.items }
+    ensures status { told.new.status ≡ told.old.status }
+{
+    tell_cells(told, cells, code, shared)?;
+    tell_events(told, events, shared)?;
+    Ok(())
+}
+
+/// What stands in place of a script: nothing, and no line is explained.
+fn no_script<'a>() -> Script<'a>
+    ensures { script_of result ≡ no_script }
+{
+    Script {
+        text: &[],
+        file: None,
+    }
+}
+
+/// Runs the code that the bytes are the form of, and tells of its cells and events where they are wanted.
+fn run_bytes(
+    alloc: Global,
+    bytes: &[u8],
+    plays: &[Play],
+    steps: u64,
+    cells: bool,
+    events: bool,
+) -> Result<Told, AllocError>
+    ensures { IfOk result (λ t. CodeTells bytes.now (told_of t) (Ran plays.now steps cells events)) }
+{
+    let code = match load_verified(alloc, bytes) {
+        Ok(code) => code,
+        Err(error) => {
+            let told = refused(alloc, error)?;
+            return Ok(told);
+        }
+    };
+    form_is_taken(code.code());
+    let mut shared = open_state(alloc, &code)?;
+    let script = no_script();
+    let Some(mut told) = run_code(alloc, script, &code, plays, steps, &mut shared)? else {
+        let told = complaint(alloc, UNUSABLE, "run failed: NoActor")?;
+        return Ok(told);
+    };
+    tell_book(&mut told, cells, events, code.code(), &shared)?;
+    Ok(told)
+}
+
+/// Does with the code that the bytes are the form of what is wanted.
+pub fn use_code(alloc: Global, bytes: &[u8], wanted: CodeUse<'_>) -> Result<Told, AllocError>
+    ensures { IfOk result (λ t. CodeTells bytes.now (told_of t) (code_wanted_of wanted.entry)) }
+{
+    match wanted {
+        CodeUse::Listing => list_code(alloc, bytes),
+        CodeUse::Run {
+            plays,
+            steps,
+            cells,
+            events,
+        } => run_bytes(alloc, bytes, plays, steps, cells, events),
+    }
+}
