@@ -19,7 +19,7 @@ fn is_refused(alloc: Global, bytes: &[u8], kind: CodeErrorKind, at: usize) -> bo
 }
 
 // The form with other bytes from a place on.
-fn changed(at: usize, bytes: &[u8]) -> [u8; 62] {
+pub fn changed(at: usize, bytes: &[u8]) -> [u8; 62] {
     let mut form = FORM;
     for (i, byte) in bytes.iter().enumerate() {
         if let Some(place) = form.get_mut(at.saturating_add(i)) {

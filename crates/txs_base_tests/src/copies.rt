@@ -1,4 +1,5 @@
 // What no clause says: that copies of asks, replies, events and actions are made with ample memory.
+use crate::asks::{ask_of, one};
 use std::alloc::Global;
 use txs_asks::{Ask, Event, EventKind, Reply, copy_ask, copy_event, copy_reply, copy_writes};
 use txs_value::{
@@ -15,15 +16,19 @@ const AGENT: CellId = CellId {
     number: 0,
 };
 
+const FAULT: Fault = Fault {
+    kind: FaultKind::DivideByZero,
+    span: Span { from: 27, to: 42 },
+};
+
 // `(send g quot 0)`
-fn quotient(alloc: Global) -> Option<Action> {
-    let args = vec![in alloc; Value::Int(0)].ok()?;
-    Some(Action {
+fn quotient(alloc: Global) -> Action {
+    Action {
         agent: AGENT,
         callee: Callee::Core(Op::Quot),
-        args: Listed::from_vec(args),
-        span: Span { from: 27, to: 42 },
-    })
+        args: one(alloc, Value::Int(0)),
+        span: FAULT.span,
+    }
 }
 
 // Whether an action is that.
@@ -33,39 +38,24 @@ fn is_quotient(action: &Action) -> bool {
     };
     action.agent == AGENT
         && action.callee == Callee::Core(Op::Quot)
-        && action.span == Span { from: 27, to: 42 }
+        && action.span == FAULT.span
         && same(divisor, &Value::Int(0))
 }
 
-// Whether the copy of that action is it.
-fn copies_action(alloc: Global, action: &Action) -> bool {
+// Whether the copy of an action is that.
+fn copies_quotient(alloc: Global, action: &Action) -> bool {
     match copy_action(alloc, action) {
         Ok(copy) => is_quotient(&copy),
         Err(_) => false,
     }
 }
 
-// Whether the copy of an ask sends it.
-fn copies_send(alloc: Global, ask: &Ask) -> bool {
-    match copy_ask(alloc, ask) {
-        Ok(Ask::Send { action }) => is_quotient(&action),
+// Whether an ask sends it.
+fn is_send(ask: &Ask) -> bool {
+    match ask {
+        Ask::Send { action } => is_quotient(action),
         _ => false,
     }
-}
-
-// Whether it is copied, and an ask that sends it.
-fn are_sent(alloc: Global) -> bool {
-    match quotient(alloc) {
-        Some(action) => {
-            copies_action(alloc, &action) && copies_send(alloc, &Ask::Send { action })
-        }
-        None => false,
-    }
-}
-
-#[test]
-fn copies_actions(rt: HostRuntime) {
-    assert!(rt; are_sent(rt.alloc()));
 }
 
 // Whether a reply is that action as an agent's first, on the state 10.
@@ -80,49 +70,15 @@ fn is_first(reply: &Reply) -> bool {
     }
 }
 
-// Whether the copy of a reply is that one.
-fn copies_first(alloc: Global) -> bool {
-    let Some(action) = quotient(alloc) else {
-        return false;
-    };
-    let reply = Reply::Action {
-        number: 1,
-        action,
-        state: Value::Int(10),
-    };
-    match copy_reply(alloc, &reply) {
-        Ok(copy) => is_first(&copy),
-        Err(_) => false,
-    }
-}
-
-// Whether the copy of a reply with a value has it.
-fn copies_is(alloc: Global) -> bool {
-    match copy_reply(alloc, &Reply::Is(Value::Truth(true))) {
-        Ok(Reply::Is(value)) => same(&value, &Value::Truth(true)),
+// Whether a reply is a value, which is true.
+fn is_true(reply: &Reply) -> bool {
+    match reply {
+        Reply::Is(value) => same(value, &Value::Truth(true)),
         _ => false,
     }
 }
 
-#[test]
-fn copies_replies(rt: HostRuntime) {
-    assert!(rt; copies_first(rt.alloc()) && copies_is(rt.alloc()));
-}
-
-// A commit that sets a ref to 7.
-fn commit(alloc: Global) -> Option<Ask> {
-    let sets = vec![in alloc; (REF, Value::Int(7))].ok()?;
-    Some(Ask::Commit {
-        at: 5,
-        sets: Listed::from_vec(sets),
-        ensured: Listed::from_vec(Vec::new(alloc)),
-        view: 6,
-        commuted: Listed::from_vec(Vec::new(alloc)),
-        sends: Listed::from_vec(Vec::new(alloc)),
-    })
-}
-
-// Whether writes are those of that commit.
+// Whether writes set a ref to 7.
 fn set_seven(writes: &Listed<(CellId, Value)>) -> bool {
     match writes.as_slice() {
         [(cell, value)] => *cell == REF && same(value, &Value::Int(7)),
@@ -130,44 +86,22 @@ fn set_seven(writes: &Listed<(CellId, Value)>) -> bool {
     }
 }
 
-// What that commit sets, of a copy of it.
-fn sets_of(ask: &Ask) -> Option<&Listed<(CellId, Value)>> {
-    match ask {
-        Ask::Commit { at, sets, view, .. } if *at == 5 && *view == 6 => Some(sets),
-        _ => None,
-    }
-}
-
-// Whether the copy of what a commit sets is it.
+// Whether the copy of writes sets it to 7.
 fn copies_sets(alloc: Global, sets: &Listed<(CellId, Value)>) -> bool {
     match copy_writes(alloc, sets) {
-        Ok(copy) => set_seven(sets) && set_seven(&copy),
+        Ok(copy) => set_seven(&copy),
         Err(_) => false,
     }
 }
 
-// Whether the copy of that commit sets the same.
-fn copies_commit(alloc: Global, ask: &Ask) -> bool {
-    match copy_ask(alloc, ask) {
-        Ok(copy) => match sets_of(&copy) {
-            Some(sets) => copies_sets(alloc, sets),
-            None => false,
-        },
-        Err(_) => false,
+// Whether an ask is a commit that sets it to 7, and so does the copy of its writes.
+fn is_commit(alloc: Global, ask: &Ask) -> bool {
+    match ask {
+        Ask::Commit { at, sets, view, .. } => {
+            *at == 5 && *view == 6 && set_seven(sets) && copies_sets(alloc, sets)
+        }
+        _ => false,
     }
-}
-
-// Whether that commit is copied.
-fn is_committed(alloc: Global) -> bool {
-    match commit(alloc) {
-        Some(ask) => copies_commit(alloc, &ask),
-        None => false,
-    }
-}
-
-#[test]
-fn copies_commits(rt: HostRuntime) {
-    assert!(rt; is_committed(rt.alloc()));
 }
 
 // Whether it is told that a commute was done again, since the ref was written behind place 4.
@@ -182,11 +116,6 @@ fn is_retry(kind: &EventKind) -> bool {
     }
 }
 
-const FAULT: Fault = Fault {
-    kind: FaultKind::DivideByZero,
-    span: Span { from: 27, to: 42 },
-};
-
 // Whether it is told that the agent's first action came to that fault.
 fn is_faulty_act(kind: &EventKind) -> bool {
     match kind {
@@ -199,33 +128,79 @@ fn is_faulty_act(kind: &EventKind) -> bool {
     }
 }
 
-// Whether a retry is copied.
-fn copies_retry(alloc: Global) -> bool {
-    let kind = EventKind::Retry {
-        since: 4,
-        cell: REF,
-        commute: true,
-    };
-    match copy_event(alloc, &Event { actor: 2, kind }) {
-        Ok(copy) => copy.actor == 2 && is_retry(&copy.kind),
-        Err(_) => false,
-    }
+// The copy of an ask, or another.
+fn ask_again(alloc: Global, ask: Ask) -> Ask {
+    let copy = copy_ask(alloc, &ask);
+    drop(ask);
+    copy.unwrap_or(Ask::Begin)
 }
 
-// Whether an act that came to a fault is copied.
-fn copies_act(alloc: Global) -> bool {
-    let kind = EventKind::Act {
-        agent: AGENT,
-        number: 1,
-        new: Err(FAULT),
-    };
-    match copy_event(alloc, &Event { actor: 3, kind }) {
-        Ok(copy) => copy.actor == 3 && is_faulty_act(&copy.kind),
-        Err(_) => false,
+// The copy of a reply, or another.
+fn reply_again(alloc: Global, reply: Reply) -> Reply {
+    let copy = copy_reply(alloc, &reply);
+    drop(reply);
+    copy.unwrap_or(Reply::Idle)
+}
+
+// What the copy of an event tells, or another.
+fn kind_again(alloc: Global, kind: EventKind) -> EventKind {
+    let event = Event { actor: 2, kind };
+    let copy = copy_event(alloc, &event);
+    drop(event);
+    match copy {
+        Ok(Event { actor: 2, kind }) => kind,
+        _ => EventKind::Fail { at: 0, view: 0 },
     }
 }
 
 #[test]
+fn copies_actions(rt: HostRuntime) {
+    let alloc = rt.alloc();
+    let action = quotient(alloc);
+    let is = copies_quotient(alloc, &action);
+    let sent = ask_again(alloc, Ask::Send { action });
+    assert!(rt; is && is_send(&sent));
+    drop(sent);
+}
+
+#[test]
+fn copies_commits(rt: HostRuntime) {
+    let ask = ask_of(rt.alloc(), &mut "commit 5 6 3=7 - - -".split_whitespace());
+    let copy = ask_again(rt.alloc(), ask);
+    assert!(rt; is_commit(rt.alloc(), &copy));
+    drop(copy);
+}
+
+#[test]
+fn copies_replies(rt: HostRuntime) {
+    let alloc = rt.alloc();
+    let first = Reply::Action {
+        number: 1,
+        action: quotient(alloc),
+        state: Value::Int(10),
+    };
+    let first = reply_again(alloc, first);
+    let second = reply_again(alloc, Reply::Is(Value::Truth(true)));
+    assert!(rt; is_first(&first) && is_true(&second));
+    drop(first);
+    drop(second);
+}
+
+#[test]
 fn copies_events(rt: HostRuntime) {
-    assert!(rt; copies_retry(rt.alloc()) && copies_act(rt.alloc()));
+    let retry = EventKind::Retry {
+        since: 4,
+        cell: REF,
+        commute: true,
+    };
+    let act = EventKind::Act {
+        agent: AGENT,
+        number: 1,
+        new: Err(FAULT),
+    };
+    let retry = kind_again(rt.alloc(), retry);
+    let act = kind_again(rt.alloc(), act);
+    assert!(rt; is_retry(&retry) && is_faulty_act(&act));
+    drop(retry);
+    drop(act);
 }

@@ -4,6 +4,8 @@
 #![tactic(auto)]
 
 #[cfg(test)]
+mod asks;
+#[cfg(test)]
 mod atoms;
 #[cfg(test)]
 mod bytes;
@@ -27,3 +29,5 @@ mod shared;
 mod store;
 #[cfg(test)]
 mod values;
+#[cfg(test)]
+mod verifier;

@@ -78,6 +78,13 @@ pub fn is_reply(reply: &Reply, row: &str) -> bool {
     words.next() == Some(name_of(reply)) && tells_parts(&mut words, reply)
 }
 
+/// The same of a reply that is let go.
+pub fn is_told(reply: Reply, row: &str) -> bool {
+    let is = is_reply(&reply, row);
+    drop(reply);
+    is
+}
+
 // The name of an event.
 fn name_of_event(event: &Event) -> &'static str {
     match &event.kind {

@@ -2,7 +2,6 @@
 // other, and each of these ends is that of some list. So no increment is lost, no transfer is seen by half, and both commit who shouldn't only
 // where neither ensures what the other sets.
 ghost use Rattle.std.specs.Prelude.{◌≡◌, ◌≤◌, length};
-ghost use Rattle.txs_world.specs.Store.{cells_of};
 
 use std::alloc::{AllocError, Global};
 use std::test::Fail;
@@ -10,8 +9,8 @@ use txs_asks::Outcome;
 use txs_code::Verified;
 use txs_compile::compile;
 use txs_machine::{Play, ThreadReport, run_schedule};
+use txs_shared::SharedState;
 use txs_value::{CellDefinition, CellId, write_text};
-use txs_world::Store;
 
 /// The list of such plays with this number, where the empty list has 0, and each other one a number of its own, the shorter the smaller. It
 /// has at most eight plays.
@@ -41,9 +40,13 @@ fn write_printed(out: &mut Vec<u8>, threads: &[ThreadReport]) -> Result<(), Allo
 }
 
 /// Appends a line for each cell: its name, and its newest value.
-fn write_cells(out: &mut Vec<u8>, cells: &[CellDefinition], store: &Store) -> Result<(), AllocError>
+fn write_cells(
+    out: &mut Vec<u8>,
+    cells: &[CellDefinition],
+    shared: &SharedState,
+) -> Result<(), AllocError>
     requires few { length cells.now ≤ 1000 }
-    requires made { store.now.cells ≡ cells_of cells.now }
+    requires made { shared.now.cells ≡ cells.now }
 {
     for (i, cell) in cells.iter().enumerate() {
         let id = CellId {
@@ -52,7 +55,7 @@ fn write_cells(out: &mut Vec<u8>, cells: &[CellDefinition], store: &Store) -> Re
         };
         out.extend_from_slice(cell.name.as_bytes())?;
         out.push(b' ')?;
-        write_text(store.newest(id), out)?;
+        write_text(shared.newest(id), out)?;
         out.push(b'\n')?;
     }
     Ok(())
@@ -62,13 +65,13 @@ fn write_cells(out: &mut Vec<u8>, cells: &[CellDefinition], store: &Store) -> Re
 fn end_of(alloc: Global, code: &Verified, plays: &[Play]) -> Result<Vec<u8>, Fail> {
     let cells = code.code().cells();
     let threads = u16::try_from(code.code().threads().len())?;
-    let mut store = Store::open(alloc, cells, threads)?;
-    let report = run_schedule(alloc, code, plays, 10_000, true, &mut store)?;
-    if cells.len() > 1000 || !store.made_for(cells) {
+    let mut shared = SharedState::open(alloc, cells, threads)?;
+    let report = run_schedule(alloc, code, plays, 10_000, true, &mut shared)?;
+    if cells.len() > 1000 || !shared.made_for(cells) {
         return Err(Fail::from("other cells"));
     }
     let mut end = Vec::new(alloc);
-    write_cells(&mut end, cells, &store)?;
+    write_cells(&mut end, cells, &shared)?;
     write_printed(&mut end, report.threads.as_slice())?;
     Ok(end)
 }

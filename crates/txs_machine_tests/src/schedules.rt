@@ -5,8 +5,8 @@ use std::test::Fail;
 use txs_asks::{Event, EventKind, Outcome};
 use txs_compile::compile;
 use txs_machine::{Play, Report, ScheduleError, run_schedule};
+use txs_shared::SharedState;
 use txs_value::{Fault, FaultKind, Span, write_text};
-use txs_world::Store;
 
 /// Two threads that add to one ref.
 const COUNTERS: &str =
@@ -25,17 +25,17 @@ const SKEWED: &str = "(def a (ref 1)) (def b (ref 1))
 const HAMMERED: &str =
     "(def r (ref 0)) (future (dosync (alter r inc))) (future (loop [i 0] (when (< i 10000) (dosync (alter r inc)) (recur (inc i)))))";
 
-/// The script's run by these plays and rounds behind them, with its store.
+/// The script's run by these plays and rounds behind them, with what its threads shared.
 fn ran(
     alloc: Global,
     script: &str,
     plays: &[Play],
-) -> Result<(Store, Result<Report, ScheduleError>), Fail> {
+) -> Result<(SharedState, Result<Report, ScheduleError>), Fail> {
     let (_, code) = compile(alloc, script.as_bytes())?;
     let threads = u16::try_from(code.code().threads().len())?;
-    let mut store = Store::open(alloc, code.code().cells(), threads)?;
-    let report = run_schedule(alloc, &code, plays, 1_000_000, true, &mut store);
-    Ok((store, report))
+    let mut shared = SharedState::open(alloc, code.code().cells(), threads)?;
+    let report = run_schedule(alloc, &code, plays, 1_000_000, true, &mut shared);
+    Ok((shared, report))
 }
 
 /// Appends a line for an event: its actor, what it is, and the values that a commit wrote.
@@ -58,9 +58,9 @@ fn write_event(event: &Event, out: &mut Vec<u8>) -> Result<(), Fail> {
 
 /// What the script's run by these plays shows: a line for each event, and behind them what the threads printed.
 fn shown(alloc: Global, script: &str, plays: &[Play]) -> Result<Vec<u8>, Fail> {
-    let (store, report) = ran(alloc, script, plays)?;
+    let (shared, report) = ran(alloc, script, plays)?;
     let mut out = Vec::new(alloc);
-    for event in store.events() {
+    for event in shared.events() {
         write_event(event, &mut out)?;
     }
     for thread in report?.threads {
@@ -123,21 +123,21 @@ fn the_last_retry(rt: HostRuntime) -> Result<(), Fail> {
     for _ in 0..10_000 {
         plays.extend_from_slice(&[0, 0, 1, 1, 1, 0].map(Play::Ask))?;
     }
-    let (store, report) = ran(rt.alloc(), HAMMERED, plays.as_slice())?;
+    let (shared, report) = ran(rt.alloc(), HAMMERED, plays.as_slice())?;
     let fault = Fault {
         kind: FaultKind::RetryLimit,
         span: Span { from: 24, to: 46 },
     };
     let ended = report?.threads.iter().next().map(|thread| thread.outcome);
     assert_eq!(rt; ended == Some(Some(Outcome::Failed(fault))), true);
-    assert_eq!(rt; store.events().len(), 20_000);
+    assert_eq!(rt; shared.events().len(), 20_000);
     Ok(())
 }
 
 #[test]
 fn no_such_thread(rt: HostRuntime) -> Result<(), Fail> {
-    let (store, report) = ran(rt.alloc(), COUNTERS, &[Play::Ask(0), Play::Turn(5)])?;
+    let (shared, report) = ran(rt.alloc(), COUNTERS, &[Play::Ask(0), Play::Turn(5)])?;
     assert_eq!(rt; report.err(), Some(ScheduleError::NoActor));
-    assert_eq!(rt; store.events().len(), 0);
+    assert_eq!(rt; shared.events().len(), 0);
     Ok(())
 }

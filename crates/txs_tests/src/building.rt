@@ -5,7 +5,7 @@ use std::test::Fail;
 use txs_words::Words;
 
 /// The bytes of the code of `(future (println 7))`: the magic, no cells, one constant, no functions, and a thread of three instructions.
-const SEVEN: [u8; 62] = [
+pub const SEVEN: [u8; 62] = [
     0x54, 0x58, 0x53, 0x31, 0, 0, 0, 0, 0, 1, 3, 0, 0, 0, 0, 0, 0, 0, 7, 0, 0, 0, 1, 0, 0, 0, 0, 0,
     3, 0, 0, 0, 0, 0, 0, 0, 0, 17, 0, 0, 0, 18, 10, 0, 1, 0, 0, 0, 8, 0, 0, 0, 19, 24, 0, 0, 0, 0,
     0, 0, 0, 20,

@@ -5,6 +5,8 @@
 #[cfg(test)]
 mod building;
 #[cfg(test)]
+mod code;
+#[cfg(test)]
 mod limits;
 #[cfg(test)]
 mod meanings;

@@ -166,6 +166,8 @@ fn words_that_cannot_be_used(rt: HostRuntime) -> Result<(), Fail> {
         "run --steps 0",
         "run --steps 1000000000001",
         "run a b",
+        "dis --code --explain",
+        "check --code",
     ] {
         assert!(rt; are_unusable(rt.alloc(), words)?, "{words}");
     }

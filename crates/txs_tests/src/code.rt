@@ -1,0 +1,107 @@
+// Code in its byte form: listed, run, and refused.
+use crate::building::SEVEN;
+use crate::program::written;
+use std::alloc::Global;
+use txs_words::Words;
+
+/// The words that ask for the listing of code on standard input.
+fn list() -> Words {
+    Words::ListCode { file: None }
+}
+
+/// The words that ask to run it.
+fn run(alloc: Global) -> Words {
+    Words::RunCode {
+        file: None,
+        turns: String::new(alloc),
+        steps: 100_000_000,
+        cells: false,
+        events: false,
+    }
+}
+
+/// Whether this is told of code, on either stream, and with this status.
+fn is_told(
+    alloc: Global,
+    words: &Words,
+    code: &[u8],
+    output: &str,
+    errors: &str,
+    status: u8,
+) -> bool {
+    let told = written(alloc, words, code);
+    told.0.as_slice() == output.as_bytes()
+        && told.1.as_slice() == errors.as_bytes()
+        && told.2 == status
+}
+
+/// The listing of the code of `(future (println 7))`.
+const LISTED: &str = "const 0 7
+thread 0 locals 0
+  0 const 0 @17..18
+  1 print 1 @8..19
+  2 halt @0..20
+";
+
+#[test]
+fn is_listed_and_run(rt: HostRuntime) {
+    assert!(rt; is_told(rt.alloc(), &list(), &SEVEN, LISTED, "", 0));
+    assert!(rt; is_told(rt.alloc(), &run(rt.alloc()), &SEVEN, "7\n", "", 0));
+}
+
+/// Those bytes with another one at a place.
+fn changed(at: usize, byte: u8) -> [u8; 62] {
+    let mut form = SEVEN;
+    if let Some(place) = form.get_mut(at) {
+        *place = byte;
+    }
+    form
+}
+
+/// Places, a byte there, and the line that it brings about.
+const CHANGES: [(usize, u8, &str); 5] = [
+    (0, 0, "refused 31 BadMagic at 0\n"),
+    (33, 1, "refused 34 BadOperand at 30\n"),
+    (29, 5, "refused 42 StackLow in thread 0 at 0\n"),
+    (44, 0, "refused 43 StackDiffers in thread 0 at 2\n"),
+    (53, 8, "refused 48 FallsOff in thread 0 at 2\n"),
+];
+
+#[test]
+fn is_refused(rt: HostRuntime) {
+    for (at, byte, line) in CHANGES {
+        assert!(rt;
+            is_told(rt.alloc(), &list(), &changed(at, byte), "", line, 1),
+            "{at}"
+        );
+    }
+    for k in 0..62 {
+        let cut = SEVEN.get(..k).unwrap_or(&[]);
+        assert!(rt; written(rt.alloc(), &list(), cut).2 == 1, "{k}");
+    }
+}
+
+/// Well-typed code that isn't run yet: two constants of 7, and `reset!` of one to the other.
+const RESETS: &[u8] =
+    b"TXS1\x00\x00\x00\x00\x00\x01\x03\x00\x00\x00\x00\x00\x00\x00\x07\x00\x00\x00\x01\
+    \x00\x00\x00\x00\x00\x04\
+    \x00\x00\x00\x00\x00\x00\x00\x00\x00\x00\x00\x00\x00\
+    \x00\x00\x00\x00\x00\x00\x00\x00\x00\x00\x00\x00\x00\
+    \x16\x00\x00\x00\x00\x00\x00\x00\x00\
+    \x18\x00\x00\x00\x00\x00\x00\x00\x00";
+
+/// Its listing.
+const RESETS_LISTED: &str = "const 0 7
+thread 0 locals 0
+  0 const 0 @0..0
+  1 const 0 @0..0
+  2 reset @0..0
+  3 halt @0..0
+";
+
+#[test]
+fn is_left_out(rt: HostRuntime) {
+    let line = "refused 9 LeftOut in thread 0 at 2\n";
+    assert!(rt; is_told(rt.alloc(), &list(), RESETS, RESETS_LISTED, "", 0));
+    assert!(rt; is_told(rt.alloc(), &run(rt.alloc()), RESETS, "", line, 1));
+}
