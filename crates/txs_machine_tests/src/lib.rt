@@ -1,5 +1,4 @@
-//! What no contract says from trees and code up to the machine: that calls succeed with ample memory, evaluators, code,
-//! actors that run again, and schedules.
+//! What no contract says from trees up to the compiler: that calls succeed with ample memory, evaluators, and the room of stacks.
 #![tactic(auto)]
 
 #[cfg(test)]
@@ -8,11 +7,5 @@ mod checks;
 mod code;
 #[cfg(test)]
 mod events;
-#[cfg(test)]
-mod every_schedule;
-#[cfg(test)]
-mod rerun;
-#[cfg(test)]
-mod schedules;
 #[cfg(test)]
 mod trees;

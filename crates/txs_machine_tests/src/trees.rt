@@ -1,77 +1,96 @@
 // What no clause says: that evaluating succeeds with ample memory, and what it answers.
-use std::test::Fail;
+use std::alloc::Global;
 use txs_asks::Outcome;
 use txs_check::is_pure_callee;
 use txs_compile::compile;
 use txs_eval::{EvalStop, Needs, eval_pure, eval_thread};
+use txs_tree::Program;
 use txs_value::{Callee, Fault, FaultKind, Op, Span, Value, same};
 
 const SCRIPT: &[u8] =
     b"(defn swapped [a b] [b a]) (defn spin [] (recur)) (future (println (swapped 1 2)))";
 
-#[test]
-fn evaluates_a_call(rt: HostRuntime) -> Result<(), Fail> {
-    let alloc = rt.alloc();
-    let compiled = compile(alloc, SCRIPT);
-    let (program, _) = compiled?;
+// Whether the first thread of a program prints this within so many turns, needs this then, and has this outcome.
+fn means(
+    alloc: Global,
+    program: &Program,
+    turns: u32,
+    printed: &[u8],
+    end: (Needs, Option<Outcome>),
+) -> bool {
     if program.threads().is_empty() {
-        panic!(rt; "a thread");
+        return false;
     }
-    let meaning = eval_thread(alloc, &program, 0, &[], 1)?;
-    assert_eq!(rt; meaning.printed.as_slice(), b"[2 1]\n".as_slice());
-    assert!(rt; meaning.needs == Needs::Nothing);
-    assert!(rt; meaning.outcome == Some(Outcome::Done));
-    let short = eval_thread(alloc, &program, 0, &[], 0)?;
-    assert_eq!(rt; short.printed.as_slice(), b"".as_slice());
-    assert!(rt; short.needs == Needs::Turns);
-    assert!(rt; short.outcome == None);
-    Ok(())
+    match eval_thread(alloc, program, 0, &[], turns) {
+        Ok(meaning) => {
+            meaning.printed.as_slice() == printed
+                && meaning.needs == end.0
+                && meaning.outcome == end.1
+        }
+        Err(_) => false,
+    }
 }
 
-#[test]
-fn evaluates_pure_functions(rt: HostRuntime) -> Result<(), Fail> {
-    let alloc = rt.alloc();
-    let compiled = compile(alloc, SCRIPT);
-    let (program, _) = compiled?;
-    let swapped = Callee::Function(0);
-    let spin = Callee::Function(1);
-    if !is_pure_callee(alloc, &program, swapped, 2)? || !is_pure_callee(alloc, &program, spin, 0)? {
-        panic!(rt; "two pure functions");
+// What a callee gives on these values within so many turns; nothing where it isn't pure on so many values.
+fn given(
+    alloc: Global,
+    program: &Program,
+    callee: Callee,
+    values: &[Value],
+    turns: u32,
+) -> Option<Result<Value, EvalStop>> {
+    match is_pure_callee(alloc, program, callee, values.len()) {
+        Ok(true) => Some(eval_pure(alloc, program, callee, values, turns)),
+        _ => None,
     }
-    let answer = eval_pure(alloc, &program, swapped, &[Value::Int(1), Value::Int(2)], 1);
-    let Ok(Value::Vector(swapped)) = answer else {
-        panic!(rt; "a vector");
-    };
-    assert!(rt; swapped.len() == 2);
-    assert!(rt; same(swapped.get(0), &Value::Int(2)));
-    let endless = eval_pure(alloc, &program, spin, &[], 1_000);
-    assert!(rt; matches!(endless, Err(EvalStop::Turns)));
-    Ok(())
 }
 
-#[test]
-fn evaluates_pure_operations(rt: HostRuntime) -> Result<(), Fail> {
-    let alloc = rt.alloc();
-    let compiled = compile(alloc, SCRIPT);
-    let (program, _) = compiled?;
+// Whether `swapped` gives a vector of the second and the first of two numbers.
+fn swaps(alloc: Global, program: &Program) -> bool {
+    let values = [Value::Int(1), Value::Int(2)];
+    match given(alloc, program, Callee::Function(0), &values, 1) {
+        Some(Ok(Value::Vector(pair))) => {
+            pair.len() == 2 && same(pair.get(0), &values[1]) && same(pair.get(1), &values[0])
+        }
+        _ => false,
+    }
+}
+
+const NOWHERE: Fault = Fault {
+    kind: FaultKind::DivideByZero,
+    span: Span { from: 0, to: 0 },
+};
+
+// Whether an operation gives a value, one a fault at no place, and `spin` no end.
+fn gives(alloc: Global, program: &Program) -> bool {
     let values = [Value::Int(1), Value::Int(0)];
-    let quot = Callee::Core(Op::Quot);
-    let subtract = Callee::Core(Op::Subtract);
-    if !is_pure_callee(alloc, &program, quot, 2)?
-        || !is_pure_callee(alloc, &program, subtract, 2)?
-    {
-        panic!(rt; "two operations");
+    let difference = given(alloc, program, Callee::Core(Op::Subtract), &values, 0);
+    let quotient = given(alloc, program, Callee::Core(Op::Quot), &values, 0);
+    let endless = given(alloc, program, Callee::Function(1), &[], 1_000);
+    let is = matches!(&difference, Some(Ok(Value::Int(1))))
+        && matches!(&quotient, Some(Err(EvalStop::Fault(fault))) if *fault == NOWHERE)
+        && matches!(&endless, Some(Err(EvalStop::Turns)));
+    drop(difference);
+    drop(quotient);
+    drop(endless);
+    is
+}
+
+// Whether all of this holds of the script's program.
+fn is_evaluated(alloc: Global) -> bool {
+    match compile(alloc, SCRIPT) {
+        Ok((program, _)) => {
+            let done = (Needs::Nothing, Some(Outcome::Done));
+            means(alloc, &program, 1, b"[2 1]\n", done)
+                && means(alloc, &program, 0, b"", (Needs::Turns, None))
+                && swaps(alloc, &program)
+                && gives(alloc, &program)
+        }
+        Err(_) => false,
     }
-    let quotient = eval_pure(alloc, &program, quot, &values, 0);
-    let Err(EvalStop::Fault(fault)) = quotient else {
-        panic!(rt; "a fault");
-    };
-    let nowhere = Fault {
-        kind: FaultKind::DivideByZero,
-        span: Span { from: 0, to: 0 },
-    };
-    assert!(rt; fault == nowhere);
-    let difference = eval_pure(alloc, &program, subtract, &values, 0);
-    assert!(rt; matches!(difference, Ok(Value::Int(1))));
-    Ok(())
+}
+
+#[test]
+fn evaluates(rt: HostRuntime) {
+    assert!(rt; is_evaluated(rt.alloc()));
 }

@@ -1,7 +1,6 @@
-// The byte form that `build` writes, and what it tells where there is nothing to write.
+// The byte form that `build` writes. What it tells of a script that is refused stands in the rows of txs_examples (`code.rows`).
 use crate::program::written;
 use std::alloc::Global;
-use std::test::Fail;
 use txs_words::Words;
 
 /// The bytes of the code of `(future (println 7))`: the magic, no cells, one constant, no functions, and a thread of three instructions.
@@ -21,24 +20,9 @@ fn build(alloc: Global) -> Words {
 }
 
 #[test]
-fn writes_the_byte_form(rt: HostRuntime) -> Result<(), Fail> {
+fn writes_the_byte_form(rt: HostRuntime) {
     let script = b"(future (println 7))".as_slice();
     let (output, errors, status) = written(rt.alloc(), &build(rt.alloc()), script);
-    assert_eq!(rt; output.as_slice(), SEVEN.as_slice());
-    assert!(rt; errors.is_empty());
-    assert_eq!(rt; status, 0);
-    Ok(())
-}
-
-#[test]
-fn tells_a_refusal(rt: HostRuntime) -> Result<(), Fail> {
-    let script = b"(future [1 2)".as_slice();
-    let (output, errors, status) = written(rt.alloc(), &build(rt.alloc()), script);
-    assert!(rt; output.is_empty());
-    assert_eq!(rt;
-        errors.as_slice(),
-        b"refused 3 Unopened at 12..13\n".as_slice()
-    );
-    assert_eq!(rt; status, 1);
-    Ok(())
+    assert!(rt; output.as_slice() == SEVEN.as_slice());
+    assert!(rt; errors.is_empty() && status == 0);
 }

@@ -81,27 +81,25 @@ fn is_refused(rt: HostRuntime) {
     }
 }
 
-/// Well-typed code that isn't run yet: two constants of 7, and `reset!` of one to the other.
-const RESETS: &[u8] =
+/// Well-typed code that isn't run yet: a `send` to a constant of 7.
+const SENDS: &[u8] =
     b"TXS1\x00\x00\x00\x00\x00\x01\x03\x00\x00\x00\x00\x00\x00\x00\x07\x00\x00\x00\x01\
-    \x00\x00\x00\x00\x00\x04\
+    \x00\x00\x00\x00\x00\x03\
     \x00\x00\x00\x00\x00\x00\x00\x00\x00\x00\x00\x00\x00\
-    \x00\x00\x00\x00\x00\x00\x00\x00\x00\x00\x00\x00\x00\
-    \x16\x00\x00\x00\x00\x00\x00\x00\x00\
+    \x17\x00\x00\x03\x00\x00\x00\x00\x00\x00\x00\x00\x00\x00\
     \x18\x00\x00\x00\x00\x00\x00\x00\x00";
 
 /// Its listing.
-const RESETS_LISTED: &str = "const 0 7
+const SENDS_LISTED: &str = "const 0 7
 thread 0 locals 0
   0 const 0 @0..0
-  1 const 0 @0..0
-  2 reset @0..0
-  3 halt @0..0
+  1 send core inc 0 @0..0
+  2 halt @0..0
 ";
 
 #[test]
 fn is_left_out(rt: HostRuntime) {
-    let line = "refused 9 LeftOut in thread 0 at 2\n";
-    assert!(rt; is_told(rt.alloc(), &list(), RESETS, RESETS_LISTED, "", 0));
-    assert!(rt; is_told(rt.alloc(), &run(rt.alloc()), RESETS, "", line, 1));
+    let line = "refused 9 LeftOut in thread 0 at 1\n";
+    assert!(rt; is_told(rt.alloc(), &list(), SENDS, SENDS_LISTED, "", 0));
+    assert!(rt; is_told(rt.alloc(), &run(rt.alloc()), SENDS, "", line, 1));
 }

@@ -7,6 +7,8 @@ mod building;
 #[cfg(test)]
 mod code;
 #[cfg(test)]
+mod every_schedule;
+#[cfg(test)]
 mod limits;
 #[cfg(test)]
 mod meanings;

@@ -1,98 +1,71 @@
 // Scripts under every short list of plays, each with rounds behind it: each run ends as some order of the threads allows, one behind the
 // other, and each of these ends is that of some list. So no increment is lost, no transfer is seen by half, and both commit who shouldn't only
 // where neither ensures what the other sets.
-ghost use Rattle.std.specs.Prelude.{◌≡◌, ◌≤◌, length};
-
+use crate::program::written;
 use std::alloc::{AllocError, Global};
-use std::test::Fail;
-use txs_asks::Outcome;
-use txs_code::Verified;
-use txs_compile::compile;
-use txs_machine::{Play, ThreadReport, run_schedule};
-use txs_shared::SharedState;
-use txs_value::{CellDefinition, CellId, write_text};
+use txs_words::Words;
 
-/// The list of such plays with this number, where the empty list has 0, and each other one a number of its own, the shorter the smaller. It
-/// has at most eight plays.
-fn list_of(alloc: Global, such: &[Play], number: usize) -> Result<Vec<Play>, AllocError> {
-    let mut plays = Vec::new(alloc);
+/// The list of such plays with this number, as it stands behind `--turns`, where the empty list has 0, and each other one a number of its own,
+/// the shorter the smaller. It has at most eight plays.
+fn list_of(alloc: Global, such: &[&str], number: usize) -> Result<String, AllocError> {
+    let mut list = String::new(alloc);
     let mut rest = number;
     for _ in 0..8 {
         if rest == 0 || such.is_empty() {
             break;
         }
         rest -= 1;
-        plays.push(such[rest % such.len()])?;
+        list.push_str(such[rest % such.len()])?;
         rest /= such.len();
-    }
-    Ok(plays)
-}
-
-/// Appends what the threads printed, with a `!` behind what one printed that didn't end as done.
-fn write_printed(out: &mut Vec<u8>, threads: &[ThreadReport]) -> Result<(), AllocError> {
-    for thread in threads {
-        out.extend_from_slice(thread.printed.as_slice())?;
-        if thread.outcome != Some(Outcome::Done) {
-            out.push(b'!')?;
+        if rest > 0 {
+            list.push(',')?;
         }
     }
-    Ok(())
+    Ok(list)
 }
 
-/// Appends a line for each cell: its name, and its newest value.
-fn write_cells(
-    out: &mut Vec<u8>,
-    cells: &[CellDefinition],
-    shared: &SharedState,
-) -> Result<(), AllocError>
-    requires few { length cells.now ≤ 1000 }
-    requires made { shared.now.cells ≡ cells.now }
-{
-    for (i, cell) in cells.iter().enumerate() {
-        let id = CellId {
-            kind: cell.kind,
-            number: i as u16,
-        };
-        out.extend_from_slice(cell.name.as_bytes())?;
-        out.push(b' ')?;
-        write_text(shared.newest(id), out)?;
-        out.push(b'\n')?;
-    }
-    Ok(())
-}
-
-/// How a run by these plays and rounds behind them ends: a line for each cell, and behind them what the threads printed.
-fn end_of(alloc: Global, code: &Verified, plays: &[Play]) -> Result<Vec<u8>, Fail> {
-    let cells = code.code().cells();
-    let threads = u16::try_from(code.code().threads().len())?;
-    let mut shared = SharedState::open(alloc, cells, threads)?;
-    let report = run_schedule(alloc, code, plays, 10_000, true, &mut shared)?;
-    if cells.len() > 1000 || !shared.made_for(cells) {
-        return Err(Fail::from("other cells"));
-    }
-    let mut end = Vec::new(alloc);
-    write_cells(&mut end, cells, &shared)?;
-    write_printed(&mut end, report.threads.as_slice())?;
+/// How a run by this list and rounds behind it ends: what the threads print, a line for each cell, and a line for each fault.
+fn end_of(alloc: Global, script: &str, turns: String) -> Result<Vec<u8>, AllocError> {
+    let words = Words::Run {
+        file: None,
+        turns,
+        steps: 10_000,
+        cells: true,
+        events: false,
+        explain: false,
+    };
+    let (mut end, errors, _) = written(alloc, &words, script.as_bytes());
+    end.extend_from_slice(errors.as_slice())?;
     Ok(end)
+}
+
+/// The place among these texts of how the run by the list with this number ends.
+fn place_of(
+    alloc: Global,
+    script: &str,
+    such: &[&str],
+    number: usize,
+    ends: &[&str],
+) -> Result<Option<usize>, AllocError> {
+    let list = list_of(alloc, such, number)?;
+    let end = end_of(alloc, script, list)?;
+    Ok(
+        ends.iter()
+            .position(|text| text.as_bytes() == end.as_slice()),
+    )
 }
 
 /// Whether each of the first so many lists of such plays ends as one of these texts says, and each text is the end of one of them.
 fn end_so(
     alloc: Global,
     script: &str,
-    such: &[Play],
+    such: &[&str],
     lists: usize,
     ends: &[&str],
-) -> Result<bool, Fail> {
-    let (_, code) = compile(alloc, script.as_bytes())?;
+) -> Result<bool, AllocError> {
     let mut seen = Vec::new(alloc);
     for number in 0..lists {
-        let plays = list_of(alloc, such, number)?;
-        let end = end_of(alloc, &code, plays.as_slice())?;
-        let Some(place) = ends
-            .iter()
-            .position(|text| text.as_bytes() == end.as_slice())
-        else {
+        let Some(place) = place_of(alloc, script, such, number, ends)? else {
             return Ok(false);
         };
         if !seen.contains(&place) {
@@ -103,13 +76,13 @@ fn end_so(
 }
 
 /// Asks of two threads: 511 lists have at most eight of them.
-const TWO: &[Play] = &[Play::Ask(0), Play::Ask(1)];
+const TWO: &[&str] = &["0", "1"];
 
 /// Asks of three threads: 121 lists have at most four of them, which suffice for each order.
-const THREE: &[Play] = &[Play::Ask(0), Play::Ask(1), Play::Ask(2)];
+const THREE: &[&str] = &["0", "1", "2"];
 
 /// Asks and single turns of two threads: 341 lists have at most four of them.
-const TURNS: &[Play] = &[Play::Ask(0), Play::Ask(1), Play::Turn(0), Play::Turn(1)];
+const TURNS: &[&str] = &["0", "1", "t0", "t1"];
 
 /// Scripts of two threads, and all ends that their runs may have.
 const OF_TWO: [(&str, &[&str]); 11] = [
@@ -123,24 +96,24 @@ const OF_TWO: [(&str, &[&str]); 11] = [
     ),
     (
         "(def r (ref 0)) (future (println (dosync @r))) (future (dosync (ref-set r 7)))",
-        &["r 7\n0\n", "r 7\n7\n"],
+        &["0\nr 7\n", "7\nr 7\n"],
     ),
     // reads of one transaction are of one moment, those outside of transactions each of its own
     (
         "(def r (ref 0)) (future (println (dosync [@r @r]))) (future (dosync (ref-set r 7)))",
-        &["r 7\n[0 0]\n", "r 7\n[7 7]\n"],
+        &["[0 0]\nr 7\n", "[7 7]\nr 7\n"],
     ),
     (
         "(def r (ref 0)) (future (println @r @r)) (future (dosync (ref-set r 7)))",
-        &["r 7\n0 0\n", "r 7\n0 7\n", "r 7\n7 7\n"],
+        &["0 0\nr 7\n", "0 7\nr 7\n", "7 7\nr 7\n"],
     ),
     (
         "(def a (ref 0)) (def b (ref 0)) (future (println (dosync [@a @b]))) (future (dosync (ref-set a 7) (ref-set b 7)))",
-        &["a 7\nb 7\n[0 0]\n", "a 7\nb 7\n[7 7]\n"],
+        &["[0 0]\na 7\nb 7\n", "[7 7]\na 7\nb 7\n"],
     ),
     (
         "(def a (ref 0)) (def b (ref 0)) (future (println @a @b)) (future (dosync (ref-set a 7) (ref-set b 7)))",
-        &["a 7\nb 7\n0 0\n", "a 7\nb 7\n0 7\n", "a 7\nb 7\n7 7\n"],
+        &["0 0\na 7\nb 7\n", "0 7\na 7\nb 7\n", "7 7\na 7\nb 7\n"],
     ),
     // who ensures runs again, who only reads doesn't
     (
@@ -158,7 +131,10 @@ const OF_TWO: [(&str, &[&str]); 11] = [
     // one fails where the other comes first, and leaves nothing
     (
         "(def r (ref 1)) (def s (ref 0)) (future (dosync (alter r dec))) (future (dosync (ref-set s 5) (alter r + (quot 6 @r))))",
-        &["r 6\ns 5\n", "r 0\ns 0\n!"],
+        &[
+            "r 6\ns 5\n",
+            "r 0\ns 0\nthread 1 failed: DivideByZero at 105..116\n",
+        ],
     ),
 ];
 
@@ -177,12 +153,12 @@ const OF_THREE: [(&str, &[&str]); 2] = [
     ),
     (
         "(def a (ref 10)) (def b (ref 0)) (future (dosync (alter a - 3) (alter b + 3))) (future (dosync (alter b - 1) (alter a + 1))) (future (println (dosync (+ @a @b))))",
-        &["a 8\nb 2\n10\n"],
+        &["10\na 8\nb 2\n"],
     ),
 ];
 
 #[test]
-fn two_threads(rt: HostRuntime) -> Result<(), Fail> {
+fn two_threads(rt: HostRuntime) -> Result<(), AllocError> {
     for (script, ends) in OF_TWO {
         assert!(rt; end_so(rt.alloc(), script, TWO, 511, ends)?, "{script}");
     }
@@ -190,14 +166,14 @@ fn two_threads(rt: HostRuntime) -> Result<(), Fail> {
 }
 
 #[test]
-fn single_turns(rt: HostRuntime) -> Result<(), Fail> {
+fn single_turns(rt: HostRuntime) -> Result<(), AllocError> {
     let (script, ends) = OF_TWO[2];
     assert!(rt; end_so(rt.alloc(), script, TURNS, 341, ends)?);
     Ok(())
 }
 
 #[test]
-fn three_threads(rt: HostRuntime) -> Result<(), Fail> {
+fn three_threads(rt: HostRuntime) -> Result<(), AllocError> {
     for (script, ends) in OF_THREE {
         assert!(rt; end_so(rt.alloc(), script, THREE, 121, ends)?, "{script}");
     }
