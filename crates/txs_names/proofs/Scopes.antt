@@ -1,6 +1,6 @@
 -- The names in scope as a list whose nearest is first.
-use Rattle.std.proofs.Common.{◌≡◌, ◌<◌, ◌+◌, ◌-◌, ℕ, List, [], ◌∷◌, ◌++◌, Option, None, Some, length, take, drop, get_or, map, reverse, cond, bytes_eq, refl, sym, ap, ◌∙◌, arith, length-drop}
-use Rattle.std.proofs.lemmas.List.{reverse-append, length-reverse, take-append-drop, take-map, map_more, length-map, length-take-le}
+use Rattle.std.proofs.Common.{◌≡◌, ◌<◌, ◌≤◌, ◌+◌, ◌-◌, ℕ, List, [], ◌∷◌, ◌++◌, Option, None, Some, length, take, drop, get_or, map, min, reverse, cond, bytes_eq, refl, sym, ap, ◌∙◌, arith, length-drop}
+use Rattle.std.proofs.lemmas.List.{reverse-append, length-reverse, take-append-drop, take-map, take-take, take_min, map_more, length-map, length-take-le}
 use Rattle.std.proofs.lemmas.Cmp.{nat_list_eq_equiv}
 use Rattle.std.specs.Borrow.{Bor}
 use Rattle.std.specs.Map.{lookup}
@@ -43,3 +43,12 @@ looked_up name (e ∷ es) =
 pub lent_copied : (o : Option (Bor Definition)) → lent o ≡ option_copied o
 lent_copied None = refl
 lent_copied (Some d) = refl
+
+-- the outermost of the first names
+pub outermost : {X : Type 0} (f : X → List ℕ) (count len : ℕ) (xs : List X) → count ≤ length xs → reverse (map f (take (min count len) xs)) ≡ drop (length (reverse (map f (take count xs))) - len) (reverse (map f (take count xs)))
+outermost f count len xs le =
+    let names = map f (take count xs) in
+    let least : min count len ≡ min len (length (take count xs)) = omega (arith, length-take-le count xs le) in
+    let both : take (min count len) xs ≡ take len (take count xs) =
+    sym (take-take (min count len) count xs (omega arith)) ∙ ap (λ (k : ℕ). take k (take count xs)) least ∙ take_min len (take count xs) in
+    ap (λ l. reverse (map f l)) both ∙ ap reverse (sym (take-map f len (take count xs))) ∙ reverse_take len names

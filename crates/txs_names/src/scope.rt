@@ -1,6 +1,6 @@
 //! The names in scope, and what a name stands for.
 
-ghost use Rattle.std.specs.Prelude.{◌≡◌, [], ◌∷◌, ◌<◌, ◌-◌, ◌+◌, ◌++◌, drop, length, map, reverse, Some, None, MatchResult, IfSome};
+ghost use Rattle.std.specs.Prelude.{◌≡◌, [], ◌∷◌, ◌<◌, ◌≤◌, ◌-◌, ◌+◌, ◌++◌, drop, length, map, reverse, take, Some, None, MatchResult, IfSome};
 ghost use Rattle.txs_names.specs.Scope.{Scope as AScope, with_local, with_locals, number_in, local_number, definition_of, is_current, meaning};
 ghost use Rattle.txs_names.specs.Viewed.{entries_of, lent, meant};
 ghost use Rattle.txs_value.specs.Limits.{most_locals};
@@ -9,6 +9,7 @@ use crate::names::{FormName, form_of, has_dot, operation_of};
 use indexmap::IndexMap;
 use std::alloc::{AllocError, Global};
 use std::marker::Model;
+use txs_value::limits::MOST_LOCALS;
 use txs_value::{CellId, Name, Op, Value};
 
 /// What a name is defined as.
@@ -43,16 +44,18 @@ pub enum Found<'s> {
 
 /// The names in scope: of at most 200 locals, of what is defined, and of the function that is being defined.
 /// Contracts see the names of the locals with the nearest first, and the definitions with the first first. A
-/// local that a form hides has an empty name, which no symbol has.
+/// local that a form hides has an empty name, which no symbol has. There is room for all locals from the
+/// start, so that binding one wants no memory.
 #[derive(Drop)]
 pub struct Scope<'a> {
-    locals: Vec<&'a [u8]>,
+    locals: [&'a [u8]; MOST_LOCALS],
+    count: usize,
     defined: IndexMap<&'a [u8], Definition>,
     current: Option<&'a Name>,
 }
 
 impl<'a> Model for Scope<'a> {
-    ghost use Rattle.std.specs.Prelude.{◌≤◌, length, map, reverse};
+    ghost use Rattle.std.specs.Prelude.{◌≡◌, ◌≤◌, length, map, reverse, take};
     ghost use Rattle.std.specs.Coded.{codes};
     ghost use Rattle.txs_names.specs.Scope.{Scope as AScope};
     ghost use Rattle.txs_names.specs.Viewed.{entries_of, name_of};
@@ -63,9 +66,9 @@ impl<'a> Model for Scope<'a> {
 
     ghost coded = { Prim.hlevel (codes, value.the_row.coded) };
 
-    ghost view = { λ s. record { locals = reverse (map (λ n. n.now) s.locals.items); defined = entries_of s.defined.entries; current = name_of s.current } };
+    ghost view = { λ s. record { locals = reverse (map (λ n. n.now) (take s.count s.locals)); defined = entries_of s.defined.entries; current = name_of s.current } };
 
-    ghost invariant = { λ s. length s.locals.items ≤ most_locals };
+    ghost invariant = { λ s. (s.count ≤ most_locals) × (length s.locals ≡ most_locals) };
 }
 
 /// The number of the last of these names that is this one: they are numbered from 0.
@@ -90,7 +93,8 @@ impl<'a> Scope<'a> {
         ensures { result ≡ record { locals = []; defined = []; current = None } }
     {
         Scope {
-            locals: Vec::new(alloc),
+            locals: [b"".as_slice(); MOST_LOCALS],
+            count: 0,
             defined: IndexMap::new(alloc),
             current: None,
         }
@@ -100,26 +104,24 @@ impl<'a> Scope<'a> {
     pub fn len(&self) -> usize
         ensures { result ≡ length self.now.locals }
     {
-        self.locals.len()
+        let Scope { count, .. } = self;
+        *count
     }
 
     /// Binds the name of a local, which is nearer than the others.
-    ///
-    /// # Errors
-    /// Where there was no memory for it: the scope is as before.
-    pub fn push(&mut self, name: &'a [u8]) -> Result<(), AllocError>
+    pub fn push(&mut self, name: &'a [u8])
         requires { length self.old.locals < most_locals }
-        ensures { MatchResult result (λ _. self.new ≡ with_local name.now self.old) (λ _. self.new ≡ self.old) }
+        ensures { self.new ≡ with_local name.now self.old }
     {
-        self.locals.push(name)?;
-        Ok(())
+        self.locals[self.count] = name;
+        self.count += 1;
     }
 
     /// Leaves the outermost `len` locals in scope.
     pub fn truncate(&mut self, len: usize)
         ensures { self.new ≡ with_locals (drop (length self.old.locals - len) self.old.locals) self.old }
     {
-        self.locals.truncate(len);
+        self.count = self.count.min(len);
     }
 
     /// The function of this name is being defined.
@@ -133,7 +135,7 @@ impl<'a> Scope<'a> {
     pub fn end(&mut self)
         ensures { self.new ≡ record { locals = []; defined = self.old.defined; current = None } }
     {
-        self.locals.clear();
+        self.count = 0;
         self.current = None;
     }
 
@@ -153,7 +155,7 @@ impl<'a> Scope<'a> {
     fn find(&self, name: &Name) -> Option<u8>
         ensures { result ≡ local_number name.now self.now }
     {
-        match number_in(self.locals.as_slice(), name) {
+        match number_in(&self.locals[..self.count], name) {
             Some(i) => Some(i as u8),
             None => None,
         }

@@ -3,3 +3,4 @@ pub mod LevelLists
 pub mod Literals
 pub mod NodeTrees
 pub mod Stops
+pub mod TreeRows

@@ -1,5 +1,5 @@
 -- The values of literals that a loop has built, and those of a vector.
-use Rattle.std.proofs.Common.{◌≡◌, ◌≢◌, ◌<◌, ◌≤◌, ◌+◌, ◌-◌, ◌==◌, ℕ, Bool, true, false, ◌||◌, nat_lt, List, [], ◌∷◌, ◌++◌, Ok, Err, length, drop, get_or, cond, refl, ap, ◌∙◌, arith, Vec, Global}
+use Rattle.std.proofs.Common.{◌≡◌, ◌≢◌, ◌<◌, ◌≤◌, ◌+◌, ◌-◌, ◌==◌, ℕ, Bool, true, false, ◌||◌, nat_lt, List, [], ◌∷◌, ◌++◌, None, Some, Ok, Err, length, drop, get_or, cond, refl, ap, ◌∙◌, arith, Vec, Global}
 use Rattle.std.proofs.lemmas.Bool.Decides.{nat_tests}
 use Rattle.txs_value.specs.declared.fault.Span.{Span}
 use Rattle.txs_value.specs.declared.value.Value.{Value}
@@ -12,6 +12,8 @@ use Rattle.txs_reader.proofs.Trees.{tree-Group}
 use Rattle.txs_reader.specs.Tree.{tree}
 use Rattle.txs_expand.specs.declared.error.ResolveErrorKind.TheVariants.{TooMany}
 use Rattle.txs_expand.specs.Expressions.{Answer}
+use Rattle.txs_expand.specs.declared.error.ResolveError.{ResolveError}
+use Rattle.txs_nodes.specs.Given.{refusal_of}
 use Rattle.txs_nodes.specs.Literals.{literal, literals}
 use Rattle.txs_expand.specs.Answers.{◌>>=◌, refuse}
 use Rattle.txs_expand.specs.Parts.{plain}
@@ -77,3 +79,29 @@ module _ (room : ℕ) (form : Form) (v : Vec Form Global) (at : Span) (is : form
       square
       ∙ ap (λ b. vector_of at (b || nat_lt 65535 (length v.items)) (literals (room - 1) (plain v.items))) (not_zero room some)
       ∙ ap (λ b. vector_of at b (literals (room - 1) (plain v.items))) (not_more 65535 (length v.items) few)
+
+-- ---- what is refused of literals
+
+pub all_fitting : (room : ℕ) (fs : List Form) (i : ℕ) (d : Form) → i < length fs → refusal_of (literal room (tree (get_or fs i d))) ≡ None
+    → refusal_of (literals room (plain (drop i fs))) ≡ refusal_of (literals room (plain (drop (i + 1) fs)))
+all_fitting room fs i d lt h =
+    ap (λ l. refusal_of (literals room l)) (plain_at fs i d lt) ∙ passed (literal room (tree (get_or fs i d))) (literals room (plain (drop (i + 1) fs))) h where
+      last : (v : Value) (b : Answer (List Value)) → refusal_of (b >>= λ vs. Ok (v ∷ vs)) ≡ refusal_of b
+      last v (Ok vs) = refl
+      last v (Err e) = refl
+
+      passed : (a : Answer Value) (b : Answer (List Value)) → refusal_of a ≡ None → refusal_of (a >>= λ v. b >>= λ vs. Ok (v ∷ vs)) ≡ refusal_of b
+      passed (Ok v) b h = last v b
+      passed (Err e) b h = absurd cc
+
+pub one_unfit : (room : ℕ) (fs : List Form) (i : ℕ) (d : Form) (e : ResolveError) → i < length fs → refusal_of (literal room (tree (get_or fs i d))) ≡ Some e
+    → refusal_of (literals room (plain (drop i fs))) ≡ Some e
+one_unfit room fs i d e lt h =
+    ap (λ l. refusal_of (literals room l)) (plain_at fs i d lt) ∙ stopped (literal room (tree (get_or fs i d))) (literals room (plain (drop (i + 1) fs))) h where
+      stopped : (a : Answer Value) (b : Answer (List Value)) → refusal_of a ≡ Some e → refusal_of (a >>= λ v. b >>= λ vs. Ok (v ∷ vs)) ≡ Some e
+      stopped (Ok v) b h = absurd cc
+      stopped (Err x) b h = h
+
+pub fitting_whole : (a : Answer (List Value)) → refusal_of (a >>= λ vs. Ok (Vector (plains_of vs))) ≡ refusal_of a
+fitting_whole (Ok vs) = refl
+fitting_whole (Err e) = refl

@@ -1,12 +1,13 @@
 -- What nodes are put together to.
 use Rattle.std.specs.Prelude.{◌≡◌, true, false, List, [], ◌∷◌, ◌++◌, Ok}
-use Rattle.txs_reader.specs.Tree.{Tree as Form, leaf, group, symbol, tree, trees_of}
+use Rattle.txs_reader.specs.Tree.{Tree as Form, leaf, group, symbol, tree}
 use Rattle.txs_value.specs.declared.value.Value.{Value}
 use Rattle.txs_value.specs.declared.value.Value.TheVariants.{Nil, Truth, Cell}
 use Rattle.txs_tree.specs.Tree.{Tree, Mark, Const, Local, Core as CoreNode, Put, more, none}
 use Rattle.txs_tree.specs.declared.node.Node.{Node}
 use Rattle.txs_tree.specs.View.{tree_of}
 use Rattle.txs_tree.specs.View as view
+use Rattle.txs_nodes.specs.Given.{row}
 use Rattle.txs_expand.specs.declared.error.ResolveErrorKind.TheVariants.{BadForm}
 use Rattle.txs_expand.specs.declared.shapes.Couple.{Couple}
 use Rattle.txs_expand.specs.declared.shapes.Couple.TheVariants as couple
@@ -15,7 +16,6 @@ use Rattle.txs_nodes.specs.declared.nodes.Simple.TheVariants as simple
 use Rattle.txs_expand.specs.declared.shapes.Spot.{Spot}
 use Rattle.txs_expand.specs.declared.parts.Special.{Special}
 use Rattle.txs_expand.specs.declared.parts.Special.TheVariants as special
-use Rattle.txs_expand.specs.declared.parts.Core.{Core}
 use Rattle.txs_expand.specs.Answers.{refuse}
 use Rattle.txs_expand.specs.Expressions.{Answer, binding_node, choice_node, sequence_node, single_node}
 use Rattle.txs_expand.specs.Expressions as spec
@@ -61,3 +61,12 @@ IsMade (special.Binding is_loop pairs fs) ns m t =
     (vs : List Node) × (n : Node) × (ns ≡ vs ++ n ∷ []) × (t ≡ binding_node is_loop (view.trees_of vs) (tree_of n) m)
 IsMade (special.Hidden is_or f rest) ns m t =
     (vs : List Node) × (n : Node) × (ns ≡ vs ++ n ∷ []) × (t ≡ binding_node false (view.trees_of vs) (tree_of n) m)
+
+-- the trees of parts, put together to this tree
+abbrev pub Makes : Special → List Tree → Mark → Tree → Type 0
+Makes (special.Row k fs) ts m t = t ≡ sequence_node k (row ts) m
+Makes (special.Single k p) ts m t = (x : Tree) × (ts ≡ x ∷ []) × (t ≡ single_node k x m)
+Makes (special.Pair k p f) ts m t = (x : Tree) × (y : Tree) × (ts ≡ x ∷ y ∷ []) × (t ≡ couple_node k x y m)
+Makes (special.Choice turned c a b) ts m t = (x : Tree) × (y : Tree) × (z : Tree) × (ts ≡ x ∷ y ∷ z ∷ []) × (t ≡ choice_node turned x y z m)
+Makes (special.Binding is_loop pairs fs) ts m t = (vs : List Tree) × (x : Tree) × (ts ≡ vs ++ x ∷ []) × (t ≡ binding_node is_loop (row vs) x m)
+Makes (special.Hidden is_or f rest) ts m t = (vs : List Tree) × (x : Tree) × (ts ≡ vs ++ x ∷ []) × (t ≡ binding_node false (row vs) x m)

@@ -8,6 +8,6 @@ mod stop;
 mod values;
 
 pub use depth::levels;
-pub use nodes::{build, build_change, push_whole};
+pub use nodes::{Nodes, build, build_change, push_whole};
 pub use stop::{Stop, refused};
-pub use values::literal;
+pub use values::{fits, literal};

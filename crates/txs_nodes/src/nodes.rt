@@ -1,17 +1,16 @@
 //! Nodes of what is resolved: of forms without parts, and of special forms by the nodes of their parts.
 
-ghost use Rattle.std.specs.Prelude.{◌≡◌, ◌<◌, ◌≤◌, ◌+◌, ◌-◌, [], ◌∷◌, ◌++◌, List, length, Ok, IfOk, IfErr, IsOk};
+ghost use Rattle.std.specs.Prelude.{◌≡◌, ◌<◌, ◌≤◌, ◌+◌, ◌-◌, [], ◌∷◌, ◌++◌, List, false, length, map, Ok, IfOk, IfSome, OnOk};
 ghost use Rattle.txs_expand.specs.Expressions.{change_node, choice_node, single_node, leaf_node, binding_node, sequence_node, spot_mark, symbol_node};
-ghost use Rattle.txs_nodes.specs.Given.{Pushes};
-ghost use Rattle.txs_nodes.specs.Made.{couple_node, simple_tree, with_room, IsMade, IsSimple};
+ghost use Rattle.txs_nodes.specs.Given.{row, IsBehind, Pushes, Puts, Shows};
+ghost use Rattle.txs_nodes.specs.Made.{couple_node, simple_tree, with_room, IsMade, IsSimple, Makes};
 ghost use Rattle.txs_expand.specs.Parts.{seen, whole_leaf, WholeFits};
-ghost use Rattle.txs_nodes.specs.declared.stop.Stop.TheVariants.{Memory};
 ghost use Rattle.txs_names.specs.Scope.{meaning};
 ghost use Rattle.txs_tree.specs.Tree.{Tree, Mark};
 ghost use Rattle.txs_tree.specs.declared.node.Node.{Node as ANode};
 ghost use Rattle.txs_tree.specs.View.{kind_tree, tree_of, trees_of as nodes_tree};
 
-use crate::stop::{Stop, refused};
+use crate::stop::Stop;
 use crate::values::scalar;
 use std::alloc::{AllocError, Global};
 use txs_expand::{
@@ -21,6 +20,38 @@ use txs_names::{Definition, Found, Scope};
 use txs_reader::Form;
 use txs_tree::{Node, NodeKind};
 use txs_value::{Callee, CellId, Name, Value, copy_value};
+
+/// Nodes in a row. Where memory was wanted for one of them they are lost, and no more is made of them. The walk over the
+/// forms goes on all the same to what may be refused: so a form that is refused is never answered by want of memory.
+#[derive(Drop)]
+pub struct Nodes {
+    pub items: Vec<Node>,
+    pub lost: bool,
+}
+
+impl Nodes {
+    /// There is none.
+    pub fn new(alloc: Global) -> Nodes
+        ensures none { result.items.items ≡ [] }
+        ensures kept { result.lost ≡ false }
+    {
+        Nodes {
+            items: Vec::new(alloc),
+            lost: false,
+        }
+    }
+
+    /// The only node, unless it is lost.
+    pub fn into_one(self) -> Option<Node>
+        ensures { IfSome result (λ n. (t : Tree) → Shows self (t ∷ []) → tree_of n ≡ t) }
+    {
+        if self.lost {
+            return None;
+        }
+        let mut items = self.items;
+        items.pop()
+    }
+}
 
 /// What a form without parts is: a local, or a value.
 #[derive(Clone, Copy)]
@@ -84,11 +115,10 @@ fn as_simple<'s>(
     }
 }
 
-/// The kind of the node of what has no parts. Nothing is refused here.
+/// The kind of the node of what has no parts.
 fn simple_kind(simple: Simple<'_>) -> Result<NodeKind, Stop>
     requires { IsSimple simple }
-    ensures kind { IfOk result (λ k. (m : Mark) → kind_tree k m ≡ simple_tree simple.entry m) }
-    ensures memory { IfErr result (λ e. e ≡ Memory) }
+    ensures { IfOk result (λ k. (m : Mark) → kind_tree k m ≡ simple_tree simple.entry m) }
 {
     match simple {
         Simple::Local(number) => Ok(NodeKind::Local(number)),
@@ -100,23 +130,34 @@ fn simple_kind(simple: Simple<'_>) -> Result<NodeKind, Stop>
     }
 }
 
+/// The node of what has no parts, behind these nodes.
+fn push_simple(nodes: &mut Vec<Node>, spot: Spot, simple: Simple<'_>) -> Result<(), Stop>
+    requires { IsSimple simple }
+    ensures { OnOk result (IsBehind nodes.old.items nodes.new.items (simple_tree simple.entry (spot_mark spot))) }
+{
+    let kind = simple_kind(simple)?;
+    nodes.push(node(spot, kind))?;
+    Ok(())
+}
+
 /// The node of a form without parts, behind these nodes.
 pub fn push_whole(
     scope: &Scope<'_>,
-    nodes: &mut Vec<Node>,
+    nodes: &mut Nodes,
     spot: Spot,
     whole: Whole<'_>,
-) -> Result<(), Stop>
+) -> Result<(), ResolveError>
     requires { WholeFits scope.now whole }
-    ensures node { Pushes result nodes.old.items nodes.new.items (leaf_node scope.now (whole_leaf whole.entry) spot) }
-    ensures memory { IfErr result (λ e. e ≡ Memory → IsOk (leaf_node scope.now (whole_leaf whole.entry) spot)) }
+    ensures { Pushes result nodes.old nodes.new (leaf_node scope.now (whole_leaf whole.entry) spot) }
 {
     let simple = as_simple(scope, spot, whole)?;
     if spot.room == 0 {
-        return Err(refused(ResolveErrorKind::TooMany, spot.span));
+        return Err(refusal(ResolveErrorKind::TooMany, spot.span));
     }
-    let kind = simple_kind(simple)?;
-    nodes.push(node(spot, kind))?;
+    if push_simple(&mut nodes.items, spot, simple).is_ok() {
+        return Ok(());
+    }
+    nodes.lost = true;
     Ok(())
 }
 
@@ -257,34 +298,74 @@ fn kind_of(alloc: Global, special: Special<'_>, parts: Vec<Node>) -> Result<Node
 }
 
 /// The node of a special form, of the nodes of its parts, behind these nodes.
-pub fn build(
+fn push_built(
     alloc: Global,
     nodes: &mut Vec<Node>,
     spot: Spot,
     special: Special<'_>,
     parts: Vec<Node>,
-) -> Result<(), Stop>
+) -> Result<(), AllocError>
     requires { (m : Mark) → (t : Tree) × IsMade special parts.items m t }
-    ensures { (t : Tree) → IsMade special.entry parts.items (spot_mark spot) t → Pushes result nodes.old.items nodes.new.items (Ok t) }
+    ensures { (t : Tree) → IsMade special.entry parts.items (spot_mark spot) t → OnOk result (IsBehind nodes.old.items nodes.new.items t) }
 {
     let kind = kind_of(alloc, special, parts)?;
     nodes.push(node(spot, kind))?;
     Ok(())
 }
 
+/// The node of a special form, of the nodes of its parts, behind these nodes, which are lost where those are.
+pub fn build(alloc: Global, nodes: &mut Nodes, spot: Spot, special: Special<'_>, parts: Nodes)
+    requires { parts.lost ≡ false → (m : Mark) → (t : Tree) × Makes special (map tree_of parts.items.items) m t }
+    ensures { (t : Tree) → (parts.lost ≡ false → Makes special.entry (map tree_of parts.items.items) (spot_mark spot) t) → Puts nodes.old nodes.new (t ∷ []) }
+{
+    if parts.lost {
+        drop(parts);
+        nodes.lost = true;
+        return;
+    }
+    if push_built(alloc, &mut nodes.items, spot, special, parts.items).is_ok() {
+        return;
+    }
+    nodes.lost = true;
+}
+
 /// The node of a form that calls something, of the nodes of its cell and its arguments, behind these nodes.
-pub fn build_change(
+fn push_change(
     alloc: Global,
     nodes: &mut Vec<Node>,
     spot: Spot,
     change: Change,
     callee: Callee,
     parts: Vec<Node>,
-) -> Result<(), Stop>
+) -> Result<(), AllocError>
     requires { 0 < length parts.items }
-    ensures { (n : ANode) (vs : List ANode) → parts.items ≡ n ∷ vs → Pushes result nodes.old.items nodes.new.items (Ok (change_node change (tree_of n) callee (nodes_tree vs) (spot_mark spot))) }
+    ensures { (n : ANode) (vs : List ANode) → parts.items ≡ n ∷ vs → OnOk result (IsBehind nodes.old.items nodes.new.items (change_node change (tree_of n) callee (nodes_tree vs) (spot_mark spot))) }
 {
     let kind = change_kind(alloc, change, callee, parts)?;
     nodes.push(node(spot, kind))?;
     Ok(())
+}
+
+/// The node of a form that calls something, of the nodes of its cell and its arguments, behind these nodes, which are
+/// lost where those are.
+pub fn build_change(
+    alloc: Global,
+    nodes: &mut Nodes,
+    spot: Spot,
+    change: Change,
+    callee: Callee,
+    parts: Nodes,
+)
+    requires { parts.lost ≡ false → 0 < length parts.items.items }
+    ensures { (t : Tree) (ts : List Tree) → Shows parts (t ∷ ts) → Puts nodes.old nodes.new (change_node change t callee (row ts) (spot_mark spot) ∷ []) }
+{
+    if parts.lost {
+        drop(parts);
+        nodes.lost = true;
+        return;
+    }
+    if push_change(alloc, &mut nodes.items, spot, change, callee, parts.items).is_ok() {
+        return;
+    }
+    nodes.lost = true;
 }

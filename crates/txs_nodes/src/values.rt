@@ -1,7 +1,7 @@
 //! Literals: forms to values.
 
 ghost use Rattle.std.specs.Prelude.{◌≡◌, ◌≤◌, length, IfOk};
-ghost use Rattle.txs_nodes.specs.Given.{Gives};
+ghost use Rattle.txs_nodes.specs.Given.{Gives, refusal_of};
 ghost use Rattle.txs_nodes.specs.Made.{scalar};
 ghost use Rattle.txs_nodes.specs.Literals.{literal, literals};
 ghost use Rattle.txs_reader.specs.Tree.{tree, trees, trees_of};
@@ -11,7 +11,7 @@ ghost use Rattle.txs_value.specs.View.{plain_of, plains_of};
 
 use crate::stop::{Stop, refused};
 use std::alloc::Global;
-use txs_expand::ResolveErrorKind;
+use txs_expand::{ResolveError, ResolveErrorKind, refusal};
 use txs_reader::{Bracket, Form};
 use txs_value::limits::MOST_ITEMS;
 use txs_value::{Items, Value};
@@ -29,6 +29,43 @@ pub fn scalar(form: &Form) -> Result<Value, Stop>
         Form::Keyword(name, _) => Ok(Value::Key(name.share()?)),
         _ => Err(refused(ResolveErrorKind::BadForm, form.span())),
     }
+}
+
+/// Whether the vectors of a literal have no more than so many levels and find place: it wants no memory.
+///
+/// # Errors
+/// The refusal of the first vector that has too many levels or parts.
+#[cycle(fits)]
+pub fn fits(room: usize, form: &Form) -> Result<(), ResolveError>
+    requires { room ≤ most_depth }
+    ensures { refusal_of result ≡ refusal_of (literal room (tree form.now)) }
+{
+    match form {
+        Form::Group(Bracket::Square, forms, span) => {
+            if forms.len() > MOST_ITEMS {
+                return Err(refusal(ResolveErrorKind::TooMany, *span));
+            }
+            if room == 0 {
+                return Err(refusal(ResolveErrorKind::TooMany, *span));
+            }
+            all_fit(room - 1, forms)
+        }
+        Form::Group(Bracket::Round, _, span) => Err(refusal(ResolveErrorKind::BadForm, *span)),
+        Form::Symbol(_, span) => Err(refusal(ResolveErrorKind::BadForm, *span)),
+        _ => Ok(()),
+    }
+}
+
+/// The same of all of these.
+#[cycle(fits)]
+fn all_fit(room: usize, forms: &[Form]) -> Result<(), ResolveError>
+    requires { room ≤ 31 }
+    ensures { refusal_of result ≡ refusal_of (literals room (trees_of (trees forms.now))) }
+{
+    for form in forms {
+        fits(room, form)?;
+    }
+    Ok(())
 }
 
 /// The value of a literal whose vectors may have so many levels.

@@ -1,10 +1,7 @@
-pub mod Building
 pub mod Defining
-pub mod Fillings
 pub mod Laws
 pub mod ScopedScripts
 pub mod Scoping
-pub mod Stops
 pub mod Symbols
 pub mod TopLevel
 pub mod Tops

@@ -4,9 +4,7 @@
 //! or one refusal; `resolve` answers the same.
 #![tactic(auto)]
 
-mod below;
 mod definition;
-mod expression;
 pub mod law;
 pub mod resolver;
 mod script;

@@ -1,7 +1,7 @@
 //! A script's forms to the program that they are.
 
 ghost use Rattle.std.specs.Prelude.{◌≡◌, ◌≢◌, ◌⊎◌, IfOk, IfErr, OnOk};
-ghost use Rattle.txs_resolve.specs.Given.{Leaves};
+ghost use Rattle.txs_resolve.specs.Given.{Ends};
 ghost use Rattle.txs_resolve.specs.Names.{Resolves, ResolveStops, no_memory, nothing, behind_namespace, steps};
 ghost use Rattle.txs_resolve.specs.Memory.{OneWants};
 ghost use Rattle.txs_resolve.specs.Scripts.{state_of, IsScript};
@@ -31,7 +31,7 @@ fn behind_namespace(forms: &[Form]) -> &[Form]
 /// Defines what all top-level forms define.
 fn steps<'a>(alloc: Global, script: &mut Script<'a>, forms: &'a [Form]) -> Result<(), Stop>
     requires { IsScript script.old }
-    ensures state { Leaves result (state_of script.new) (steps (state_of script.old) (trees forms.now)) }
+    ensures state { Ends result (state_of script.new) (steps (state_of script.old) (trees forms.now)) }
     ensures next { OnOk result (IsScript script.new) }
     ensures memory { IfErr result (λ e. e ≡ stop.Memory → OneWants (state_of script.old) (trees forms.now)) }
 {
@@ -50,7 +50,7 @@ fn steps<'a>(alloc: Global, script: &mut Script<'a>, forms: &'a [Form]) -> Resul
 ///
 /// # Errors
 /// The first refusal met, with the span of the symbol or form that is refused; `Memory` at 0..0 where the
-/// program didn't fit into memory.
+/// program didn't fit into memory, which is said only at a top-level form that isn't refused, nor any before it.
 pub fn resolve(alloc: Global, forms: &[Form]) -> Result<Raw, ResolveError>
     ensures ok { IfOk result (λ raw. Resolves (trees forms.now) (program_of raw)) }
     ensures err { IfErr result (λ e. e.kind ≢ Memory → ResolveStops (trees forms.now) e) }

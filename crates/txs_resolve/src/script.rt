@@ -1,11 +1,8 @@
 //! Top-level forms: definitions, functions and threads.
 
-ghost use Rattle.std.specs.Prelude.{◌≡◌, ◌<◌, ◌≤◌, [], ◌∷◌, ◌++◌, length, Some, None, OnOk, Ok, IfOk, IfErr};
-ghost use Rattle.txs_nodes.specs.Given.{Gives};
+ghost use Rattle.std.specs.Prelude.{◌≡◌, ◌<◌, ◌≤◌, [], ◌∷◌, ◌++◌, length, Some, None, OnOk, Ok, IfOk};
 ghost use Rattle.txs_resolve.specs.Given.{GivesLocals, Leaves};
 ghost use Rattle.txs_expand.specs.Parts.{seen};
-ghost use Rattle.txs_resolve.specs.Memory.{DefinitionWants, FormWants, FunctionWants};
-ghost use Rattle.txs_nodes.specs.declared.stop.Stop.TheVariants.{Memory};
 ghost use Rattle.txs_expand.specs.Expansions.{body, form_at};
 ghost use Rattle.txs_resolve.specs.Names.{nothing, entered, new_cell, new_name, named_form, define, untold, written, function, future, parameter, parameters, are_symbols, step, with_cell, with_constant, with_definition, with_function, names_space, is_namespace};
 ghost use Rattle.txs_expand.specs.Expressions.{is_symbol, named};
@@ -21,11 +18,11 @@ ghost use Rattle.txs_tree.specs.View.{functions_of, threads_of, tree_of};
 ghost use Rattle.txs_value.specs.Limits.{most_definitions, most_levels, most_parameters, most_threads};
 
 use crate::definition::{CellSort, Opening, defining_of};
-use crate::expression::expression;
 use std::alloc::{AllocError, Global};
-use txs_expand::{Part, ResolveError, ResolveErrorKind, Spot, form_at, is_symbol, refusal};
+use txs_expand::{ResolveError, ResolveErrorKind, Spot, form_at, is_symbol, refusal};
+use txs_expression::body;
 use txs_names::{Definition, FormName, Scope, may_bind, operation_of};
-use txs_nodes::{Stop, levels, literal, refused};
+use txs_nodes::{Stop, fits, levels, literal, refused};
 use txs_reader::{Bracket, Form};
 use txs_tree::{Function, Node, Thread};
 use txs_value::limits::{MOST_DEFINITIONS, MOST_DEPTH, MOST_LEVELS, MOST_PARAMETERS, MOST_THREADS};
@@ -180,14 +177,11 @@ fn enter<'a>(
     ensures state { Leaves result (state_of script.new) (entered (state_of script.old) name.now at (opened_as opening.entry)) }
     ensures next { OnOk result (IsScript script.new) }
 {
+    // Both are looked at before memory is wanted.
+    fits(usize::from(MOST_DEPTH), opening.value)?;
+    let name = new_name(&script.scope, name, at)?;
     let value = literal(alloc, usize::from(MOST_DEPTH), opening.value)?;
-    match new_name(&script.scope, name, at) {
-        Ok(name) => with_definition(opening.sort, script, name, value),
-        Err(error) => {
-            drop(value);
-            Err(Stop::Refused(error))
-        }
-    }
+    with_definition(opening.sort, script, name, value)
 }
 
 /// What the script has defined behind a `def` with these parts.
@@ -200,7 +194,6 @@ fn define<'a>(
     requires { IsScript script.old }
     ensures state { Leaves result (state_of script.new) (define (state_of script.old) span (trees_of (trees parts.now))) }
     ensures next { OnOk result (IsScript script.new) }
-    ensures memory { IfErr result (λ e. e ≡ Memory → DefinitionWants (state_of script.old) (named_form (trees_of (trees parts.now)))) }
 {
     let Some((name, at, what)) = named_form(parts) else {
         return Err(refused(ResolveErrorKind::BadForm, span));
@@ -279,7 +272,7 @@ fn parameter(count: usize, form: &Form) -> Result<&Name, ResolveError>
 }
 
 /// Binds the parameters.
-fn bind_parameters<'a>(scope: &mut Scope<'a>, forms: &'a [Form]) -> Result<(), Stop>
+fn bind_parameters<'a>(scope: &mut Scope<'a>, forms: &'a [Form]) -> Result<(), ResolveError>
     requires { scope.old.locals ≡ [] }
     ensures names { GivesLocals result scope.new.locals (parameters [] (trees_of (trees forms.now))) }
     ensures kept { OnOk result (scope.new ≡ with_locals scope.new.locals scope.old) }
@@ -287,33 +280,9 @@ fn bind_parameters<'a>(scope: &mut Scope<'a>, forms: &'a [Form]) -> Result<(), S
 {
     for form in forms {
         let name = parameter(scope.len(), form)?;
-        scope.push(name.as_bytes())?;
+        scope.push(name.as_bytes());
     }
     Ok(())
-}
-
-/// The node of a body.
-fn body<'a>(
-    alloc: Global,
-    scope: &mut Scope<'a>,
-    spot: Spot,
-    forms: &'a [Form],
-) -> Result<Node, Stop>
-    ensures node { Gives tree_of result (named spot.room scope.old spot.wanted (body (trees_of (trees forms.now)) spot.span)) }
-    ensures kept { OnOk result (scope.new ≡ scope.old) }
-{
-    let mut nodes = Vec::new(alloc);
-    expression(
-        alloc,
-        scope,
-        &mut nodes,
-        spot,
-        Part::List(FormName::Do, forms),
-    )?;
-    match nodes.pop() {
-        Some(node) => Ok(node),
-        None => unreachable!(),
-    }
 }
 
 /// The name of the function of this number is defined, and its levels are behind those of the functions before it.
@@ -398,7 +367,6 @@ fn function_as<'a>(
     requires { IsScript script.old }
     ensures state { Leaves result (state_of script.new) (function (state_of script.old) span (written_in (Some written.entry))) }
     ensures next { OnOk result (IsScript script.new) }
-    ensures memory { IfErr result (λ e. e ≡ Memory → FunctionWants (state_of script.old) (written_in (Some written.entry))) }
 {
     if script.functions.len() >= MOST_DEFINITIONS {
         return Err(refused(ResolveErrorKind::TooMany, span));
@@ -418,7 +386,6 @@ fn function<'a>(
     requires { IsScript script.old }
     ensures state { Leaves result (state_of script.new) (function (state_of script.old) span (written (trees_of (trees parts.now)))) }
     ensures next { OnOk result (IsScript script.new) }
-    ensures memory { IfErr result (λ e. e ≡ Memory → FunctionWants (state_of script.old) (written (trees_of (trees parts.now)))) }
 {
     match signature_of(parts) {
         Some(written) => function_as(alloc, script, span, written),
@@ -436,7 +403,6 @@ fn future<'a>(
     requires { IsScript script.old }
     ensures state { Leaves result (state_of script.new) (future (state_of script.old) span (trees_of (trees forms.now))) }
     ensures next { OnOk result (IsScript script.new) }
-    ensures memory { IfErr result (λ e. e ≡ Memory → length (threads_of script.old.threads.items) < most_threads) }
 {
     if script.threads.len() >= MOST_THREADS {
         return Err(refused(ResolveErrorKind::TooMany, span));
@@ -461,7 +427,6 @@ fn list_step<'a>(
     requires { IsScript script.old }
     ensures state { Leaves result (state_of script.new) (step (state_of script.old) (group Round (trees_of (trees forms.now)) span)) }
     ensures next { OnOk result (IsScript script.new) }
-    ensures memory { IfErr result (λ e. e ≡ Memory → FormWants (state_of script.old) (group Round (trees_of (trees forms.now)) span)) }
 {
     let Some((head, parts)) = forms.split_first() else {
         return Err(refused(ResolveErrorKind::BadForm, span));
@@ -479,7 +444,6 @@ pub fn step<'a>(alloc: Global, script: &mut Script<'a>, form: &'a Form) -> Resul
     requires { IsScript script.old }
     ensures state { Leaves result (state_of script.new) (step (state_of script.old) (tree form.now)) }
     ensures next { OnOk result (IsScript script.new) }
-    ensures memory { IfErr result (λ e. e ≡ Memory → FormWants (state_of script.old) (tree form.now)) }
 {
     match form {
         Form::Group(Bracket::Round, forms, span) => list_step(alloc, script, *span, forms),

@@ -7,6 +7,7 @@ use Rattle.txs_expand.specs.Expressions.{Answer}
 use Rattle.txs_resolve.specs.Memory.{OneWants}
 use Rattle.txs_resolve.specs.Names.{State, step, steps}
 use Rattle.txs_resolve.specs.Scripts.{state_of}
+use Rattle.txs_resolve.proofs.TopLevel.{failed_step, wanted_at}
 use Rattle.txs_resolve.proofs.resolver.steps.Goals as goal
 
 trees_at : (fs : List Form) (i : ℕ) (d : Form) → i < length fs → trees (drop i fs) ≡ tree (get_or fs i d) ∷ trees (drop (i + 1) fs)
@@ -26,6 +27,18 @@ loop-form-preserved c =
       wants = λ w. c.loop-form.invariant.wants (subst (OneWants s) (sym there) (inr (state_of c.step.new.script, c.in_ok-step.ensures.state, w)));
     }
 
+pub returns-in_err-step-clause-state : goal.returns-in_err-step-clause-state
+returns-in_err-step-clause-state c =
+    let fs = c.args.forms.now in
+    let i = c.loop-form.form-index in
+    let f = c.form-item.result in
+    let s = state_of c.loop-form.script in
+    let rest = trees (drop (i + 1) fs) in
+    let there = trees_at fs i f c.loop-form-test.true ∙ ap (λ (x : Form). tree x ∷ rest) (sym c.form-item.is) in
+    let p = err_from_is_err_and c.from_residual.result c.from_residual.ensures.1 in
+    rw (p.1, p.2) (failed_step c.in_err-step.field-0.0 _ _ (step s (tree f)) (steps (state_of c.args.script.now) (trees fs)) c.in_err-step.ensures.state
+    (λ e no. c.loop-form.invariant.state ∙ ap (steps s) there ∙ ap (λ (a : Answer State). a >>= λ t. steps t rest) no))
+
 pub returns-in_err-step-clause-memory : goal.returns-in_err-step-clause-memory
 returns-in_err-step-clause-memory c =
     let fs = c.args.forms.now in
@@ -35,4 +48,4 @@ returns-in_err-step-clause-memory c =
     let rest = trees (drop (i + 1) fs) in
     let there = trees_at fs i f c.loop-form-test.true ∙ ap (λ (x : Form). tree x ∷ rest) (sym c.form-item.is) in
     let p = err_from_is_err_and c.from_residual.result c.from_residual.ensures.1 in
-    rw (p.1, p.2) (λ e. c.loop-form.invariant.wants (subst (OneWants s) (sym there) (inl (c.in_err-step.ensures.memory e))))
+    rw (p.1, p.2) (λ e. c.loop-form.invariant.wants (subst (OneWants s) (sym there) (inl (wanted_at c.in_err-step.field-0.0 _ (step s (tree f)) c.in_err-step.ensures.state e))))

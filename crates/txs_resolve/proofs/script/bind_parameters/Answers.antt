@@ -39,7 +39,7 @@ loop-form-preserved c =
     let named : parameter (length ls) (tree c.form-item.result) ≡ Ok c.in_ok-name.name.now = ap (λ (k : ℕ). parameter k (tree c.form-item.result)) (sym c.len.ensures) ∙ sym c.in_ok-name.ensures.name in
     let found = ap (λ f. after (parameter (length ls) (tree f))) (sym c.form-item.is) ∙ ap after named in
     let bytes = ap (λ (n : List ℕ). parameters (n ∷ ls) rest) (sym c.as_bytes.ensures.value) in
-    let pushed = c.in_ok-push.ensures in
+    let pushed = c.push.ensures in
     record {
       names = c.loop-form.invariant.names ∙ here ∙ found ∙ bytes ∙ ap (λ (s : Scope). parameters s.locals rest) (sym pushed);
       kept = subst (λ (s : Scope). s ≡ with_locals s.locals c.args.scope.now) (sym pushed) (ap (with_local c.as_bytes.result.now) c.loop-form.invariant.kept);

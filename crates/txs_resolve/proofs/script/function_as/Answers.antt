@@ -1,16 +1,12 @@
-use Rattle.std.proofs.Common.{[], IsOk, refl, sym, ap, subst, arith, Some, Ok, Err, ◌∙◌}
+use Rattle.std.proofs.Common.{sym, ap, subst, arith, Some, Ok, Err, ◌∙◌}
 use Rattle.std.proofs.lemmas.Result.{err_from_is_err_and}
 use Rattle.txs_resolve.specs.Given.{Leaves}
-use Rattle.txs_resolve.specs.Memory.{FunctionWants}
-use Rattle.txs_resolve.specs.Names.{State, Written, parameters, function}
+use Rattle.txs_resolve.specs.Names.{State, Written, function}
 use Rattle.txs_names.specs.Scope.{Scope}
 use Rattle.txs_tree.specs.View.{functions_of, threads_of}
-use Rattle.txs_tree.proofs.Callable.{length-functions_of}
 use Rattle.txs_resolve.specs.Scripts.{function_with, state_of}
 use Rattle.txs_nodes.specs.declared.stop.Stop.{Stop}
 use Rattle.txs_expand.specs.Parts.{plain}
-use Rattle.txs_nodes.proofs.Stops.{wanting}
-use Rattle.txs_resolve.proofs.TopLevel.{failed_binding}
 use Rattle.txs_resolve.proofs.Tops.{function_full, function_named, function_bound}
 use Rattle.txs_resolve.proofs.script.function_as.Goals as goal
 
@@ -35,15 +31,7 @@ returns-in_err-bind_parameters-clause-state c =
     let f = c.args.written in
     let w : Written = record { name = f.name.now; at = f.at; parameters = plain f.parameters.now; body = plain f.body.now } in
     let p = err_from_is_err_and c.from_residual-in_err-bind_parameters.result c.from_residual-in_err-bind_parameters.ensures.1 in
-    rw (p.1, p.2) (failed_binding c.in_err-bind_parameters.field-0.0 c.bind_parameters.new.scope.locals _ (parameters [] (plain f.parameters.now)) (function (state_of s) c.args.span (Some w)) c.in_err-bind_parameters.ensures.names
-    (λ e stops. function_bound s w c.args.span (omega (arith, c.if-len-ge-MOST_DEFINITIONS.false, c.len.ensures)) c.in_ok-name.name.now (sym c.in_ok-name.ensures.name) (Err e) stops))
-
-pub returns-in_err-bind_parameters-clause-memory : goal.returns-in_err-bind_parameters-clause-memory
-returns-in_err-bind_parameters-clause-memory c =
-    let s = c.args.script.now in
-    let f = c.args.written in
-    let w : Written = record { name = f.name.now; at = f.at; parameters = plain f.parameters.now; body = plain f.body.now } in
-    wanting c.from_residual-in_err-bind_parameters.result (FunctionWants (state_of s) (Some w)) (omega (arith, c.if-len-ge-MOST_DEFINITIONS.false, c.len.ensures, length-functions_of s.functions.items), subst (λ o. IsOk o) c.in_ok-name.ensures.name refl)
+    rw (p.1, p.2) (function_bound s w c.args.span (omega (arith, c.if-len-ge-MOST_DEFINITIONS.false, c.len.ensures)) c.in_ok-name.name.now (sym c.in_ok-name.ensures.name) _ c.in_err-bind_parameters.ensures.names)
 
 pub returns-clause-state : goal.returns-clause-state
 returns-clause-state c =
@@ -57,10 +45,3 @@ returns-clause-state c =
     (ap (λ (x : Scope). function_with locals (state x) c.in_ok-name.name.now c.args.span (plain f.body.now)) bound.kept
     ∙ sym (function_bound s w c.args.span (omega (arith, c.if-len-ge-MOST_DEFINITIONS.false, c.len.ensures)) c.in_ok-name.name.now (sym c.in_ok-name.ensures.name) (Ok locals) bound.names))
     c.named_function.ensures.state
-
-pub returns-clause-memory : goal.returns-clause-memory
-returns-clause-memory c =
-    let s = c.args.script.now in
-    let f = c.args.written in
-    let w : Written = record { name = f.name.now; at = f.at; parameters = plain f.parameters.now; body = plain f.body.now } in
-    wanting c.named_function.result (FunctionWants (state_of s) (Some w)) (omega (arith, c.if-len-ge-MOST_DEFINITIONS.false, c.len.ensures, length-functions_of s.functions.items), subst (λ o. IsOk o) c.in_ok-name.ensures.name refl)

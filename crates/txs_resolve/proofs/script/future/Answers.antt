@@ -1,18 +1,18 @@
-use Rattle.std.proofs.Common.{◌<◌, length, sym, ap, ◌∙◌, subst, arith, false, Ok, Err}
+use Rattle.std.proofs.Common.{sym, ap, ◌∙◌, subst, arith, false, refl, Ok, Err, IsOk}
 use Rattle.std.proofs.lemmas.Result.{err_from_is_err_and}
-use Rattle.txs_tree.specs.View.{threads_of, tree_of}
+use Rattle.txs_tree.specs.Tree.{Tree}
+use Rattle.txs_tree.specs.View.{tree_of}
 use Rattle.txs_expand.specs.Expansions.{body}
-use Rattle.txs_expand.specs.Expressions.{named}
+use Rattle.txs_expand.specs.Expressions.{Answer, named}
 use Rattle.txs_resolve.specs.Given.{Leaves}
-use Rattle.txs_resolve.specs.Names.{State, future}
+use Rattle.txs_resolve.specs.Names.{State, future, with_thread}
 use Rattle.txs_resolve.specs.Scripts.{ScopedState, state_of}
 use Rattle.txs_nodes.specs.declared.stop.Stop.{Stop}
 use Rattle.txs_expand.specs.Parts.{plain}
-use Rattle.txs_nodes.proofs.Stops.{wanting}
-use Rattle.txs_resolve.proofs.TopLevel.{failed_leaves}
+use Rattle.txs_resolve.proofs.TopLevel.{failed_body}
 use Rattle.txs_resolve.proofs.Scoping.{Every}
 use Rattle.txs_resolve.proofs.ScopedScripts.{future_scoped}
-use Rattle.txs_resolve.proofs.Tops.{length-threads_of, future_full, future_as, new_thread}
+use Rattle.txs_resolve.proofs.Tops.{future_full, future_as, new_thread}
 use Rattle.txs_resolve.proofs.script.future.Goals as goal
 
 pub returns-then-len-ge-MOST_THREADS-clause-state : goal.returns-then-len-ge-MOST_THREADS-clause-state
@@ -26,8 +26,8 @@ returns-in_err-body-clause-state c =
     let s = c.args.script.now in
     let fs = c.args.forms.now in
     let p = err_from_is_err_and c.from_residual.result c.from_residual.ensures.1 in
-    rw (p.1, p.2) (failed_leaves tree_of c.in_err-body.field-0.0 _ (named 1000 s.scope false (body (plain fs) c.args.span)) (future (state_of s) c.args.span (plain fs)) c.in_err-body.ensures.node
-    (λ e stops. future_as s c.args.span fs c.requires (omega (arith, c.if-len-ge-MOST_THREADS.false, c.len.ensures)) (Err e) stops))
+    rw (p.1, p.2) (failed_body c.in_err-body.field-0.0 _ (named 1000 s.scope false (body (plain fs) c.args.span)) (λ (t : Tree). with_thread (state_of s) t c.args.span) (future (state_of s) c.args.span (plain fs)) c.in_err-body.ensures.node
+    (future_as s c.args.span fs c.requires (omega (arith, c.if-len-ge-MOST_THREADS.false, c.len.ensures)) (named 1000 s.scope false (body (plain fs) c.args.span)) refl))
 
 pub returns-clause-state : goal.returns-clause-state
 returns-clause-state c =
@@ -47,8 +47,9 @@ returns-clause-next c =
       scoped = subst (Every ScopedState) (returns-clause-state c) (future_scoped (state_of c.args.script.now) c.args.span (plain c.args.forms.now) c.requires.scoped);
     }
 
-pub returns-in_err-body-clause-memory : goal.returns-in_err-body-clause-memory
-returns-in_err-body-clause-memory c = wanting c.from_residual.result (length (threads_of c.args.script.now.threads.items) < 64) (omega (arith, c.if-len-ge-MOST_THREADS.false, c.len.ensures, length-threads_of c.args.script.now.threads.items))
-
-pub returns-in_err-push-clause-memory : goal.returns-in_err-push-clause-memory
-returns-in_err-push-clause-memory c = wanting c.from_residual-in_err-push.result (length (threads_of c.args.script.now.threads.items) < 64) (omega (arith, c.if-len-ge-MOST_THREADS.false, c.len.ensures, length-threads_of c.args.script.now.threads.items))
+-- the body isn't refused
+pub returns-in_err-push-clause-state : goal.returns-in_err-push-clause-state
+returns-in_err-push-clause-state c =
+    let s = c.args.script.now in
+    let p = err_from_is_err_and c.from_residual-in_err-push.result c.from_residual-in_err-push.ensures.1 in
+    rw (p.1, p.2) (subst (λ (a : Answer State). IsOk a) (sym (future_as s c.args.span c.args.forms.now c.requires (omega (arith, c.if-len-ge-MOST_THREADS.false, c.len.ensures)) (Ok (tree_of c.in_ok-body.body)) c.in_ok-body.ensures.node)) refl)

@@ -6,12 +6,12 @@ use Rattle.txs_tree.specs.Tree.{Tree}
 use Rattle.txs_tree.specs.View.{tree_of}
 use Rattle.txs_expand.specs.Answers.{◌>>=◌}
 use Rattle.txs_expand.specs.Expansions.{body}
-use Rattle.txs_expand.specs.Expressions.{Answer, named}
+use Rattle.txs_expand.specs.Expressions.{named}
 use Rattle.txs_resolve.specs.Names.{Written, with_function}
 use Rattle.txs_names.specs.Scope.{Scope}
 use Rattle.txs_resolve.specs.Scripts.{at_top, function_with, state_of}
 use Rattle.txs_expand.specs.Parts.{plain}
-use Rattle.txs_resolve.proofs.TopLevel.{failed_leaves}
+use Rattle.txs_resolve.proofs.TopLevel.{failed_body}
 use Rattle.txs_resolve.proofs.Tops.{known_in, body_placed}
 use Rattle.txs_resolve.proofs.script.named_function.Goals as goal
 
@@ -21,9 +21,9 @@ returns-in_err-body-clause-state c =
     let locals = s.scope.locals in
     let forms = plain c.args.forms.now in
     let p = err_from_is_err_and c.from_residual.result c.from_residual.ensures.1 in
-    rw (p.1, p.2) (failed_leaves tree_of c.in_err-body.field-0.0 _ (named 1000 c.begin.new.self true (body forms c.args.span)) (function_with locals (state_of s) c.args.name.now c.args.span forms) c.in_err-body.ensures.node
-    (λ e stops. ap (λ (a : Answer Tree). a >>= λ node. Ok (with_function (state_of s) c.args.name.now (length locals) node c.args.span))
-    (ap (λ (x : Scope). named 1000 x true (body forms c.args.span)) (sym c.begin.ensures) ∙ stops)))
+    rw (p.1, p.2) (failed_body c.in_err-body.field-0.0 _ (named 1000 c.begin.new.self true (body forms c.args.span)) (λ (t : Tree). with_function (state_of s) c.args.name.now (length locals) t c.args.span)
+    (function_with locals (state_of s) c.args.name.now c.args.span forms) c.in_err-body.ensures.node
+    (ap (λ (x : Scope). named 1000 x true (body forms c.args.span) >>= λ node. Ok (with_function (state_of s) c.args.name.now (length locals) node c.args.span)) (sym c.begin.ensures)))
 
 pub with_function-requires-clause-scoped : goal.with_function-requires-clause-scoped
 with_function-requires-clause-scoped c =

@@ -1,4 +1,4 @@
-use Rattle.std.proofs.Common.{◌≡◌, ◌++◌, ◌∷◌, [], List, None, bytes_eq, map, reverse, ap, ◌∙◌}
+use Rattle.std.proofs.Common.{◌≡◌, ◌++◌, ◌∷◌, [], List, None, bytes_eq, map, reverse, take, ap, ◌∙◌}
 use Rattle.std.specs.Map.{lookup}
 use Rattle.indexmap.specs.IndexMap.{get}
 use Rattle.indexmap.proofs.CallerLemmas.{insert_entry-new}
@@ -13,7 +13,7 @@ returns c =
     let name = c.args.name.now in
     let key = c.as_bytes.result in
     let entries = inside.defined.entries in
-    let with : List Entry → Scope = λ es. record { locals = reverse (map (λ n. n.now) inside.locals.items); defined = es; current = name_of inside.current } in
+    let with : List Entry → Scope = λ es. record { locals = reverse (map (λ n. n.now) (take inside.count inside.locals)); defined = es; current = name_of inside.current } in
     let new : get (λ x y. bytes_eq x.now y.now) inside.defined key ≡ None =
     ap (λ n. lookup (λ k. bytes_eq n k.now) entries) c.as_bytes.ensures.value
     ∙ looked_up name entries

@@ -1,5 +1,5 @@
 -- What the nodes of a form's parts are put together to.
-use Rattle.std.proofs.Common.{◌≡◌, ◌<◌, ◌≤◌, ◌+◌, ◌-◌, ◌||◌, ℕ, zero, suc, Bool, true, false, List, [], ◌∷◌, ◌++◌, Result, Ok, Err, if◌then◌else◌, cond, length, nat_lt, refl, sym, ap, ◌∙◌, subst, arith, Bor}
+use Rattle.std.proofs.Common.{◌≡◌, ◌<◌, ◌≤◌, ◌+◌, ◌-◌, ◌||◌, ℕ, zero, suc, Bool, true, false, List, [], ◌∷◌, ◌++◌, Result, Ok, Err, if◌then◌else◌, cond, length, map, nat_lt, refl, sym, ap, ◌∙◌, subst, arith, Bor}
 use Rattle.std.proofs.lemmas.Bool.Decides.{nat_tests}
 use Rattle.txs_value.specs.declared.fault.Span.{Span}
 use Rattle.txs_value.specs.declared.op.Callee.{Callee}
@@ -7,14 +7,13 @@ use Rattle.txs_reader.specs.declared.form.Form.{Form}
 use Rattle.txs_reader.specs.Tree.{Tree as FormTree, first, place, tree, parts}
 use Rattle.txs_reader.specs.Tree.{none as no_forms}
 use Rattle.txs_tree.specs.Tree.{Tree, Trees, Mark, Let, Put, more, none, Core as CoreNode}
-use Rattle.txs_tree.specs.View.{tree_of, trees_of}
+use Rattle.txs_tree.specs.View.{tree_of}
 use Rattle.txs_tree.specs.declared.node.Node.{Node}
 use Rattle.txs_names.specs.declared.names.FormName.TheVariants as kind
 use Rattle.txs_names.specs.Scope.{Scope, may_bind, with_local}
 use Rattle.txs_expand.specs.declared.error.ResolveError.{ResolveError}
 use Rattle.txs_expand.specs.declared.error.ResolveErrorKind.TheVariants.{TooMany}
-use Rattle.txs_nodes.specs.declared.stop.Stop.{Stop}
-use Rattle.txs_nodes.specs.declared.stop.Stop.TheVariants.{Refused, Memory}
+use Rattle.txs_nodes.specs.declared.nodes.Nodes.{Nodes}
 use Rattle.txs_expand.specs.declared.shapes.Change.{Change}
 use Rattle.txs_expand.specs.declared.shapes.Couple.{Couple}
 use Rattle.txs_expand.specs.declared.shapes.Couple.TheVariants as couple
@@ -28,9 +27,10 @@ use Rattle.txs_expand.specs.declared.parts.Special.TheVariants as special
 use Rattle.txs_expand.specs.Answers.{◌>>=◌, refuse}
 use Rattle.txs_expand.specs.Expansions.{alone, body, expand_once, hidden}
 use Rattle.txs_expand.specs.Expressions.{Answer, Bound, Core, whole, parted, Resolver, are_wanted, bound_name, binding_node, callee_of, change_node, changing, choice_node, core_of, is_wanted, made, named, named_all, named_bindings, narrow, put_together, resolved, sequence_node, single_node, spot_at, spot_mark}
-use Rattle.txs_resolve.specs.Given.{Fills, PushesAll, PushesBound, Wants, WantsNode}
-use Rattle.txs_nodes.specs.Given.{Pushes}
-use Rattle.txs_nodes.specs.Made.{IsMade, couple_node}
+use Rattle.txs_expression.specs.Given.{Fills, PushesAll}
+use Rattle.txs_nodes.specs.Given.{row, Pushes, Puts, Shows}
+use Rattle.txs_nodes.specs.Made.{Makes, couple_node}
+use Rattle.txs_expression.proofs.Building.{puts_more}
 use Rattle.txs_expand.specs.Parts.{core_at, own_spot, hidden_choice, part_form, plain, special_form}
 use Rattle.txs_expand.proofs.Rows.{parts_plain, roomy}
 
@@ -71,85 +71,57 @@ pub named_stop : (here : Spot) (scope : Scope) (form : FormTree) (e : ResolveErr
 named_stop here scope form e core =
     named_is here.room scope here.wanted form ∙ ap (λ (o : Answer Core). o >>= made (named (here.room - 1)) scope (own_spot here form)) (sym core)
 
--- a form that is not refused itself
-pub wants_core : (here : Spot) (scope : Scope) (form : FormTree) (s : Spot) (k : Core) → s ≡ own_spot here form → Ok k ≡ core_at scope here form
-    → WantsNode scope s (Ok k) → Wants scope here (alone form)
-wants_core here scope form s k is core w =
-    subst (λ (z : Spot). WantsNode scope z (core_at scope here form)) is (subst (WantsNode scope s) core w)
-
 -- the node of a part, where its spot is told
 pub at_spot : (i : Spot) (room : ℕ) (at : Span) (wanted : Bool) (scope : Scope) (p : Part) → i ≡ spot_at room at wanted → named i.room scope i.wanted (part_form i.span p) ≡ named room scope wanted (part_form at p)
 at_spot i room at wanted scope p is = ap (λ (s : Spot). named s.room scope s.wanted (part_form s.span p)) is
 
--- ---- stops that were handed on
+-- ---- trees in a row
 
-pub passed_node : (s : Stop) (a b : Answer Tree) (before now : List Node) → ((e : ResolveError) → s ≡ Refused e → b ≡ Err e) → Pushes (Err s) before now b
-passed_node (Refused e) a b before now h = h e refl
-passed_node Memory a b before now h = tt
+-- what stands behind no nodes is all there is
+pub shown : (new now : Nodes) (ts : List Tree) → new.items.items ≡ [] → Puts new now ts → Shows now ts
+shown new now ts empty put = λ kept. (put kept).1 ∙ ap (λ (l : List Node). map tree_of l ++ ts) empty
 
-pub passed_bound : (s : Stop) (before mid after now : List Node) (scope : Scope) (a : Answer Tree) (b : Answer Bound) → Pushes (Err s) before mid a → ((e : ResolveError) → a ≡ Err e → b ≡ Err e) → PushesBound (Err s) after now scope b
-passed_bound (Refused e) before mid after now scope a b h go = go e h
-passed_bound Memory before mid after now scope a b h go = tt
-
-pub passed_filling : (s : Stop) (form : Special) (before mid now : List Node) (m : Mark) (a b : Answer Tree) → Pushes (Err s) before mid a → ((e : ResolveError) → a ≡ Err e → b ≡ Err e) → Fills (Err s) form now m b
-passed_filling (Refused e) form before mid now m a b h go = go e h
-passed_filling Memory form before mid now m a b h go = tt
-
-pub passed_items : (s : Stop) (before mid now after : List Node) (a : Answer Trees) (b : Answer Tree) → PushesAll (Err s) before mid a → ((e : ResolveError) → a ≡ Err e → b ≡ Err e) → Pushes (Err s) now after b
-passed_items (Refused e) before mid now after a b h go = go e h
-passed_items Memory before mid now after a b h go = tt
-
--- ---- nodes in a row
-
-started : (before now ns : List Node) → before ≡ [] → now ≡ before ++ ns → now ≡ ns
-started before now ns empty is = is ∙ ap (λ (b : List Node). b ++ ns) empty
-
-pub remade : (form : Special) (ns : List Node) (m n : Mark) (t : Tree) → IsMade form ns m t → (u : Tree) × IsMade form ns n u
-remade (special.Row k fs) ns m n t h = (sequence_node k (trees_of ns) n, refl)
-remade (special.Single k p) ns m n t h = (single_node k (tree_of h.0) n, (h.0, h.1, refl))
-remade (special.Pair k p f) ns m n t h = (couple_node k (tree_of h.0) (tree_of h.1) n, (h.0, h.1, h.2, refl))
-remade (special.Choice turned a b c) ns m n t h = (choice_node turned (tree_of h.0) (tree_of h.1) (tree_of h.2) n, (h.0, h.1, h.2, h.3, refl))
-remade (special.Binding is_loop pairs fs) ns m n t h = (binding_node is_loop (trees_of h.0) (tree_of h.1) n, (h.0, h.1, h.2, refl))
-remade (special.Hidden is_or f rest) ns m n t h = (binding_node false (trees_of h.0) (tree_of h.1) n, (h.0, h.1, h.2, refl))
+pub remade : (form : Special) (ts : List Tree) (m n : Mark) (t : Tree) → Makes form ts m t → (u : Tree) × Makes form ts n u
+remade (special.Row k fs) ts m n t h = (sequence_node k (row ts) n, refl)
+remade (special.Single k p) ts m n t h = (single_node k h.0 n, (h.0, h.1, refl))
+remade (special.Pair k p f) ts m n t h = (couple_node k h.0 h.1 n, (h.0, h.1, h.2, refl))
+remade (special.Choice turned a b c) ts m n t h = (choice_node turned h.0 h.1 h.2 n, (h.0, h.1, h.2, h.3, refl))
+remade (special.Binding is_loop pairs fs) ts m n t h = (binding_node is_loop (row h.0) h.1 n, (h.0, h.1, h.2, refl))
+remade (special.Hidden is_or f rest) ts m n t h = (binding_node false (row h.0) h.1 n, (h.0, h.1, h.2, refl))
 
 -- ---- one form after the other, put together
 
-row_by : (r : Result (Unit {0}) Stop) (k : Sequence) (fs : Bor (List Form)) (before now : List Node) (m : Mark) (a : Answer Trees) → before ≡ [] → PushesAll r before now a
-    → Fills r (special.Row k fs) now m (a >>= λ nodes. Ok (sequence_node k nodes m))
-row_by (Ok u) k fs before now m a empty h =
-    (sequence_node k (trees_of now) m, refl, ap (λ (o : Answer Trees). o >>= λ nodes. Ok (sequence_node k nodes m)) h.2 ∙ ap (λ (l : List Node). Ok (sequence_node k (trees_of l) m)) (sym (started before now h.0 empty h.1)))
-row_by (Err (Refused e)) k fs before now m a empty h = ap (λ (o : Answer Trees). o >>= λ nodes. Ok (sequence_node k nodes m)) h
-row_by (Err Memory) k fs before now m a empty h = tt
-
-count_from : (before : List Node) (n k : ℕ) → before ≡ [] → n ≡ k → length before + n ≡ k
-count_from before n k empty is = omega (arith, is, ap (λ (l : List Node). length l) empty)
+row_by : (r : Result (Unit {0}) ResolveError) (k : Sequence) (fs : Bor (List Form)) (before now : Nodes) (m : Mark) (a : Answer Trees) → PushesAll r before now a
+    → Fills r (special.Row k fs) before now m (a >>= λ nodes. Ok (sequence_node k nodes m))
+row_by (Ok u) k fs before now m a h = (h.0, sequence_node k (row h.0) m, refl, ap (λ (o : Answer Trees). o >>= λ nodes. Ok (sequence_node k nodes m)) h.1, h.2)
+row_by (Err e) k fs before now m a h = ap (λ (o : Answer Trees). o >>= λ nodes. Ok (sequence_node k nodes m)) h
 
 module _ (s : Spot) (scope : Scope) where
   abbrev by : Resolver
   by = named (s.room - 1)
 
-  pub row_filled : (r : Result (Unit {0}) Stop) (k : Sequence) (fs : Bor (List Form)) (before now : List Node) (w l : Bool) → w ≡ are_wanted k → l ≡ (are_wanted k || s.wanted) → before ≡ []
-      → PushesAll r before now (narrow (length before + length fs.now) s (named_all by scope w l (plain fs.now)))
-      → Fills r (special.Row k fs) now (spot_mark s) (put_together by scope s (special_form s.span (special.Row k fs)))
-  row_filled r k fs before now w l w_is l_is empty h =
-      row_by r k fs before now (spot_mark s) (narrow (parts (plain fs.now)) s (named_all by scope (are_wanted k) (are_wanted k || s.wanted) (plain fs.now))) empty
+  pub row_filled : (r : Result (Unit {0}) ResolveError) (k : Sequence) (fs : Bor (List Form)) (before now : Nodes) (w l : Bool) → w ≡ are_wanted k → l ≡ (are_wanted k || s.wanted)
+      → PushesAll r before now (narrow (0 + length fs.now) s (named_all by scope w l (plain fs.now)))
+      → Fills r (special.Row k fs) before now (spot_mark s) (put_together by scope s (special_form s.span (special.Row k fs)))
+  row_filled r k fs before now w l w_is l_is h =
+      let count : 0 + length fs.now ≡ parts (plain fs.now) = omega (arith, parts_plain fs.now) in
+      row_by r k fs before now (spot_mark s) (narrow (parts (plain fs.now)) s (named_all by scope (are_wanted k) (are_wanted k || s.wanted) (plain fs.now)))
       (subst (PushesAll r before now)
-      (ap (λ (n : ℕ). narrow n s (named_all by scope w l (plain fs.now))) (count_from before (length fs.now) (parts (plain fs.now)) empty (sym (parts_plain fs.now)))
+      (ap (λ (n : ℕ). narrow n s (named_all by scope w l (plain fs.now))) count
       ∙ ap (λ (b : Bool). narrow (parts (plain fs.now)) s (named_all by scope b l (plain fs.now))) w_is
       ∙ ap (λ (b : Bool). narrow (parts (plain fs.now)) s (named_all by scope (are_wanted k) b (plain fs.now))) l_is) h)
 
-  single_by : (r : Result (Unit {0}) Stop) (k : Single) (p : Part) (before now : List Node) (m : Mark) (a : Answer Tree) → before ≡ [] → Pushes r before now a
-      → Fills r (special.Single k p) now m (a >>= λ node. Ok (single_node k node m))
-  single_by (Ok u) k p before now m a empty h =
-      (single_node k (tree_of h.0) m, (h.0, started before now (h.0 ∷ []) empty h.1, refl), ap (λ (o : Answer Tree). o >>= λ node. Ok (single_node k node m)) h.2)
-  single_by (Err (Refused e)) k p before now m a empty h = ap (λ (o : Answer Tree). o >>= λ node. Ok (single_node k node m)) h
-  single_by (Err Memory) k p before now m a empty h = tt
+  single_by : (r : Result (Unit {0}) ResolveError) (k : Single) (p : Part) (before now : Nodes) (m : Mark) (a : Answer Tree) → Pushes r before now a
+      → Fills r (special.Single k p) before now m (a >>= λ node. Ok (single_node k node m))
+  single_by (Ok u) k p before now m a h =
+      (h.0 ∷ [], single_node k h.0 m, (h.0, refl, refl), ap (λ (o : Answer Tree). o >>= λ node. Ok (single_node k node m)) h.1, h.2)
+  single_by (Err e) k p before now m a h = ap (λ (o : Answer Tree). o >>= λ node. Ok (single_node k node m)) h
 
-  pub single_filled : (r : Result (Unit {0}) Stop) (k : Single) (p : Part) (before now : List Node) (i : Spot) (w : Bool) → w ≡ (is_wanted k || s.wanted) → i ≡ spot_at (s.room - 1) s.span w → before ≡ []
+  pub single_filled : (r : Result (Unit {0}) ResolveError) (k : Single) (p : Part) (before now : Nodes) (i : Spot) (w : Bool) → w ≡ (is_wanted k || s.wanted) → i ≡ spot_at (s.room - 1) s.span w
       → Pushes r before now (named i.room scope i.wanted (part_form i.span p))
-      → Fills r (special.Single k p) now (spot_mark s) (put_together by scope s (special_form s.span (special.Single k p)))
-  single_filled r k p before now i w w_is is empty h =
-      single_by r k p before now (spot_mark s) (by scope (is_wanted k || s.wanted) (part_form s.span p)) empty
+      → Fills r (special.Single k p) before now (spot_mark s) (put_together by scope s (special_form s.span (special.Single k p)))
+  single_filled r k p before now i w w_is is h =
+      single_by r k p before now (spot_mark s) (by scope (is_wanted k || s.wanted) (part_form s.span p))
       (subst (Pushes r before now) (at_spot i (s.room - 1) s.span w scope p is ∙ ap (λ (b : Bool). by scope b (part_form s.span p)) w_is) h)
 
   -- two parts
@@ -178,57 +150,57 @@ module _ (s : Spot) (scope : Scope) where
   pair_stops k p f i e is h =
       pair_whole k p f ∙ ap (λ (z : Answer Tree). pair_by k z (by scope true (tree f.now))) (sym (at_spot i (s.room - 1) s.span true scope p is) ∙ h) ∙ pair_stop k (by scope true (tree f.now)) e
 
-  pair_last : (r : Result (Unit {0}) Stop) (k : Couple) (p : Part) (f : Bor Form) (before now : List Node) (x : Node) (b : Answer Tree) → before ≡ x ∷ [] → Pushes r before now b
-      → Fills r (special.Pair k p f) now (spot_mark s) (pair_by k (Ok (tree_of x)) b)
-  pair_last (Ok u) k p f before now x b is h = (
-    couple_node k (tree_of x) (tree_of h.0) (spot_mark s),
-    (x, h.0, h.1 ∙ ap (λ (l : List Node). l ++ h.0 ∷ []) is, refl),
-    ap (pair_by k (Ok (tree_of x))) h.2 ∙ pair_ok k (tree_of x) (tree_of h.0),
+  pair_last : (r : Result (Unit {0}) ResolveError) (k : Couple) (p : Part) (f : Bor Form) (p0 p1 p2 : Nodes) (x : Tree) (b : Answer Tree) → Puts p0 p1 (x ∷ []) → Pushes r p1 p2 b
+      → Fills r (special.Pair k p f) p0 p2 (spot_mark s) (pair_by k (Ok x) b)
+  pair_last (Ok u) k p f p0 p1 p2 x b put h = (
+    x ∷ h.0 ∷ [],
+    couple_node k x h.0 (spot_mark s),
+    (x, h.0, refl, refl),
+    ap (pair_by k (Ok x)) h.1 ∙ pair_ok k x h.0,
+    puts_more p0 p1 p2 (x ∷ []) (h.0 ∷ []) put h.2,
   )
-  pair_last (Err (Refused e)) k p f before now x b is h = ap (pair_by k (Ok (tree_of x))) h ∙ pair_err k (tree_of x) e
-  pair_last (Err Memory) k p f before now x b is h = tt
+  pair_last (Err e) k p f p0 p1 p2 x b put h = ap (pair_by k (Ok x)) h ∙ pair_err k x e
 
-  pub pair_filled : (r : Result (Unit {0}) Stop) (k : Couple) (p : Part) (f : Bor Form) (one : Scope) (p0 p1 p2 : List Node) (i : Spot) (x : Node)
-      → i ≡ spot_at (s.room - 1) s.span true → one ≡ scope → p0 ≡ [] → p1 ≡ p0 ++ x ∷ []
-      → named i.room scope i.wanted (part_form i.span p) ≡ Ok (tree_of x)
+  pub pair_filled : (r : Result (Unit {0}) ResolveError) (k : Couple) (p : Part) (f : Bor Form) (one : Scope) (p0 p1 p2 : Nodes) (i : Spot) (x : Tree)
+      → i ≡ spot_at (s.room - 1) s.span true → one ≡ scope
+      → named i.room scope i.wanted (part_form i.span p) ≡ Ok x → Puts p0 p1 (x ∷ [])
       → Pushes r p1 p2 (named i.room one i.wanted (part_form i.span (part.Written f)))
-      → Fills r (special.Pair k p f) p2 (spot_mark s) (put_together by scope s (special_form s.span (special.Pair k p f)))
-  pair_filled r k p f one p0 p1 p2 i x i_is kept empty is1 a h =
+      → Fills r (special.Pair k p f) p0 p2 (spot_mark s) (put_together by scope s (special_form s.span (special.Pair k p f)))
+  pair_filled r k p f one p0 p1 p2 i x i_is kept a put h =
       let second = subst (Pushes r p1 p2) (at_spot i (s.room - 1) s.span true one (part.Written f) i_is ∙ ap (λ z. by z true (tree f.now)) kept) h in
-      subst (Fills r (special.Pair k p f) p2 (spot_mark s))
+      subst (Fills r (special.Pair k p f) p0 p2 (spot_mark s))
       (sym (pair_whole k p f ∙ ap (λ (z : Answer Tree). pair_by k z (by scope true (tree f.now))) (sym (at_spot i (s.room - 1) s.span true scope p i_is) ∙ a)))
-      (pair_last r k p f p1 p2 x (by scope true (tree f.now)) (started p0 p1 (x ∷ []) empty is1) second)
+      (pair_last r k p f p0 p1 p2 x (by scope true (tree f.now)) put second)
 
   -- the two branches of a choice behind its test
   abbrev choice_by : Bool → Answer Tree → Answer Tree → Answer Tree → Answer Tree
   choice_by turned a b c = a >>= λ test. b >>= λ one. c >>= λ other. Ok (choice_node turned test one other (spot_mark s))
 
-  choice_last : (r : Result (Unit {0}) Stop) (turned : Bool) (p q o : Part) (before now : List Node) (x y : Node) (c : Answer Tree) → before ≡ x ∷ y ∷ [] → Pushes r before now c
-      → Fills r (special.Choice turned p q o) now (spot_mark s) (choice_by turned (Ok (tree_of x)) (Ok (tree_of y)) c)
-  choice_last (Ok u) turned p q o before now x y c is h = (
-    choice_node turned (tree_of x) (tree_of y) (tree_of h.0) (spot_mark s),
-    (x, y, h.0, h.1 ∙ ap (λ (l : List Node). l ++ h.0 ∷ []) is, refl),
-    ap (choice_by turned (Ok (tree_of x)) (Ok (tree_of y))) h.2,
+  choice_last : (r : Result (Unit {0}) ResolveError) (turned : Bool) (p q o : Part) (p0 p2 p3 : Nodes) (x y : Tree) (c : Answer Tree) → Puts p0 p2 (x ∷ y ∷ []) → Pushes r p2 p3 c
+      → Fills r (special.Choice turned p q o) p0 p3 (spot_mark s) (choice_by turned (Ok x) (Ok y) c)
+  choice_last (Ok u) turned p q o p0 p2 p3 x y c put h = (
+    x ∷ y ∷ h.0 ∷ [],
+    choice_node turned x y h.0 (spot_mark s),
+    (x, y, h.0, refl, refl),
+    ap (choice_by turned (Ok x) (Ok y)) h.1,
+    puts_more p0 p2 p3 (x ∷ y ∷ []) (h.0 ∷ []) put h.2,
   )
-  choice_last (Err (Refused e)) turned p q o before now x y c is h = ap (choice_by turned (Ok (tree_of x)) (Ok (tree_of y))) h
-  choice_last (Err Memory) turned p q o before now x y c is h = tt
+  choice_last (Err e) turned p q o p0 p2 p3 x y c put h = ap (choice_by turned (Ok x) (Ok y)) h
 
-  pub choice_filled : (r : Result (Unit {0}) Stop) (turned : Bool) (p q o : Part) (one later : Scope) (p0 p1 p2 p3 : List Node) (i j : Spot) (x y : Node)
+  pub choice_filled : (r : Result (Unit {0}) ResolveError) (turned : Bool) (p q o : Part) (one later : Scope) (p0 p1 p2 p3 : Nodes) (i j : Spot) (x y : Tree)
       → i ≡ spot_at (s.room - 1) s.span true → j ≡ spot_at (s.room - 1) s.span s.wanted → one ≡ scope → later ≡ one
-      → p0 ≡ [] → p1 ≡ p0 ++ x ∷ [] → p2 ≡ p1 ++ y ∷ []
-      → named i.room scope i.wanted (part_form i.span p) ≡ Ok (tree_of x)
-      → named j.room one j.wanted (part_form j.span q) ≡ Ok (tree_of y)
+      → named i.room scope i.wanted (part_form i.span p) ≡ Ok x → Puts p0 p1 (x ∷ [])
+      → named j.room one j.wanted (part_form j.span q) ≡ Ok y → Puts p1 p2 (y ∷ [])
       → Pushes r p2 p3 (named j.room later j.wanted (part_form j.span o))
-      → Fills r (special.Choice turned p q o) p3 (spot_mark s) (put_together by scope s (special_form s.span (special.Choice turned p q o)))
-  choice_filled r turned p q o one later p0 p1 p2 p3 i j x y i_is j_is kept kept2 empty is1 is2 a b h =
+      → Fills r (special.Choice turned p q o) p0 p3 (spot_mark s) (put_together by scope s (special_form s.span (special.Choice turned p q o)))
+  choice_filled r turned p q o one later p0 p1 p2 p3 i j x y i_is j_is kept kept2 a put1 b put2 h =
       let first_is = sym (at_spot i (s.room - 1) s.span true scope p i_is) ∙ a in
       let second_is = ap (λ z. by z s.wanted (part_form s.span q)) (sym kept) ∙ sym (at_spot j (s.room - 1) s.span s.wanted one q j_is) ∙ b in
       let third = subst (Pushes r p2 p3) (at_spot j (s.room - 1) s.span s.wanted later o j_is ∙ ap (λ z. by z s.wanted (part_form s.span o)) (kept2 ∙ kept)) h in
-      let row = is2 ∙ ap (λ (l : List Node). l ++ y ∷ []) (started p0 p1 (x ∷ []) empty is1) in
-      subst (Fills r (special.Choice turned p q o) p3 (spot_mark s))
+      subst (Fills r (special.Choice turned p q o) p0 p3 (spot_mark s))
       (sym (ap (λ (z : Answer Tree). choice_by turned z (by scope s.wanted (part_form s.span q)) (by scope s.wanted (part_form s.span o))) first_is
-      ∙ ap (λ (z : Answer Tree). choice_by turned (Ok (tree_of x)) z (by scope s.wanted (part_form s.span o))) second_is))
-      (choice_last r turned p q o p2 p3 x y (by scope s.wanted (part_form s.span o)) row third)
+      ∙ ap (λ (z : Answer Tree). choice_by turned (Ok x) z (by scope s.wanted (part_form s.span o))) second_is))
+      (choice_last r turned p q o p0 p2 p3 x y (by scope s.wanted (part_form s.span o)) (puts_more p0 p1 p2 (x ∷ []) (y ∷ []) put1 put2) third)
 
   -- a form that calls something
   abbrev change_by : Change → Answer Tree → Answer Callee → Answer Trees → Answer Tree
@@ -248,18 +220,18 @@ module _ (s : Spot) (scope : Scope) where
       cell_is : (o : Answer Tree) → named i.room scope i.wanted (part_form i.span (part.Written r)) ≡ o → by scope true (tree r.now) ≡ o
       cell_is o h = sym (at_spot i (s.room - 1) s.span true scope (part.Written r) i_is) ∙ h
 
-      module _ (x : Node) (a : named i.room scope i.wanted (part_form i.span (part.Written r)) ≡ Ok (tree_of x)) (one : Scope) (kept : one ≡ scope) where
-        called_is : (o : Answer Callee) → callee_of one s (tree f.now) ≡ o → changed_whole ≡ change_by k (Ok (tree_of x)) o (row_of scope (suc (parts (plain args.now))))
+      module _ (x : Tree) (a : named i.room scope i.wanted (part_form i.span (part.Written r)) ≡ Ok x) (one : Scope) (kept : one ≡ scope) where
+        called_is : (o : Answer Callee) → callee_of one s (tree f.now) ≡ o → changed_whole ≡ change_by k (Ok x) o (row_of scope (suc (parts (plain args.now))))
         called_is o h =
             changed_is
-            ∙ ap (λ (z : Answer Tree). change_by k z (callee_of scope s (tree f.now)) (row_of scope (suc (parts (plain args.now))))) (cell_is (Ok (tree_of x)) a)
-            ∙ ap (λ (z : Answer Callee). change_by k (Ok (tree_of x)) z (row_of scope (suc (parts (plain args.now))))) (ap (λ z. callee_of z s (tree f.now)) (sym kept) ∙ h)
+            ∙ ap (λ (z : Answer Tree). change_by k z (callee_of scope s (tree f.now)) (row_of scope (suc (parts (plain args.now))))) (cell_is (Ok x) a)
+            ∙ ap (λ (z : Answer Callee). change_by k (Ok x) z (row_of scope (suc (parts (plain args.now))))) (ap (λ z. callee_of z s (tree f.now)) (sym kept) ∙ h)
 
         pub args_then : (callee : Callee) (o : Answer Trees) (n : ℕ) → callee_of one s (tree f.now) ≡ Ok callee → n ≡ suc (length args.now) → row_of one n ≡ o
-            → changed_whole ≡ (o >>= λ nodes. Ok (change_node k (tree_of x) callee nodes (spot_mark s)))
+            → changed_whole ≡ (o >>= λ nodes. Ok (change_node k x callee nodes (spot_mark s)))
         args_then callee o n called count h =
             called_is (Ok callee) called
-            ∙ ap (change_by k (Ok (tree_of x)) (Ok callee))
+            ∙ ap (change_by k (Ok x) (Ok callee))
             (ap (row_of scope) (ap suc (parts_plain args.now) ∙ sym count) ∙ ap (λ z. row_of z n) (sym kept) ∙ h)
 
   abbrev binding_by : Bool → FormTree → Answer Bound → Answer Tree
@@ -268,16 +240,18 @@ module _ (s : Spot) (scope : Scope) where
   abbrev let_by : Bool → Trees → Answer Tree → Answer Tree
   let_by is_loop values a = a >>= λ node. Ok (binding_node is_loop values node (spot_mark s))
 
-  pub bound_filled : (is_loop : Bool) (pairs fs : Bor (List Form)) (one : Scope) (p0 p1 p2 ns : List Node) (i : Spot) (x : Node)
-      → i ≡ spot_at (s.room - 1) s.span s.wanted → p0 ≡ [] → p1 ≡ p0 ++ ns → p2 ≡ p1 ++ x ∷ []
-      → named_bindings by scope (plain pairs.now) ≡ Ok (record { values = trees_of ns; scope = one })
-      → named i.room one i.wanted (part_form i.span (part.List kind.Do fs)) ≡ Ok (tree_of x)
-      → Fills (Ok tt) (special.Binding is_loop pairs fs) p2 (spot_mark s) (put_together by scope s (special_form s.span (special.Binding is_loop pairs fs)))
-  bound_filled is_loop pairs fs one p0 p1 p2 ns i x i_is empty is1 is2 a b = (
-    binding_node is_loop (trees_of ns) (tree_of x) (spot_mark s),
-    (ns, x, is2 ∙ ap (λ (l : List Node). l ++ x ∷ []) (started p0 p1 ns empty is1), refl),
+  pub bound_filled : (is_loop : Bool) (pairs fs : Bor (List Form)) (one : Scope) (p0 p1 p2 : Nodes) (ts : List Tree) (i : Spot) (x : Tree)
+      → i ≡ spot_at (s.room - 1) s.span s.wanted
+      → named_bindings by scope (plain pairs.now) ≡ Ok (record { values = row ts; scope = one }) → Puts p0 p1 ts
+      → named i.room one i.wanted (part_form i.span (part.List kind.Do fs)) ≡ Ok x → Puts p1 p2 (x ∷ [])
+      → Fills (Ok tt) (special.Binding is_loop pairs fs) p0 p2 (spot_mark s) (put_together by scope s (special_form s.span (special.Binding is_loop pairs fs)))
+  bound_filled is_loop pairs fs one p0 p1 p2 ts i x i_is a put1 b put2 = (
+    ts ++ x ∷ [],
+    binding_node is_loop (row ts) x (spot_mark s),
+    (ts, x, refl, refl),
     ap (binding_by is_loop (body (plain fs.now) s.span)) a
-        ∙ ap (let_by is_loop (trees_of ns)) (sym (at_spot i (s.room - 1) s.span s.wanted one (part.List kind.Do fs) i_is) ∙ b),
+        ∙ ap (let_by is_loop (row ts)) (sym (at_spot i (s.room - 1) s.span s.wanted one (part.List kind.Do fs) i_is) ∙ b),
+    puts_more p0 p1 p2 ts (x ∷ []) put1 put2,
   )
 
   -- ---- hidden locals
@@ -297,17 +271,17 @@ module _ (s : Spot) (scope : Scope) where
   value_by forms a =
       (a >>= λ value. bound_name scope (hidden s.span) >>= λ name. Ok (one_bound value name)) >>= λ bound. by bound.scope s.wanted forms >>= λ node. Ok (binding_node false bound.values node (spot_mark s))
 
-  module _ (is_or : Bool) (f : Bor Form) (rest : Bor (List Form)) (i : Spot) (x : Node) (i_is : i ≡ spot_at (s.room - 1) s.span true) (a : named i.room scope i.wanted (part_form i.span (part.Written f)) ≡ Ok (tree_of x)) where
+  module _ (is_or : Bool) (f : Bor Form) (rest : Bor (List Form)) (i : Spot) (x : Tree) (i_is : i ≡ spot_at (s.room - 1) s.span true) (a : named i.room scope i.wanted (part_form i.span (part.Written f)) ≡ Ok x) where
     abbrev pub hidden_whole : Answer Tree
     hidden_whole = put_together by scope s (special_form s.span (special.Hidden is_or f rest))
 
     abbrev choice_form : FormTree
     choice_form = hidden_choice is_or (plain rest.now) s.span
 
-    hidden_named : hidden_whole ≡ name_by (body (first choice_form no_forms) s.span) (tree_of x) (if nat_lt (length scope.locals) 200 then Ok [] else refuse TooMany s.span)
+    hidden_named : hidden_whole ≡ name_by (body (first choice_form no_forms) s.span) x (if nat_lt (length scope.locals) 200 then Ok [] else refuse TooMany s.span)
     hidden_named =
         ap (value_by (body (first choice_form no_forms) s.span)) (sym (at_spot i (s.room - 1) s.span true scope (part.Written f) i_is) ∙ a)
-        ∙ ap (name_by (body (first choice_form no_forms) s.span) (tree_of x)) hidden_bound
+        ∙ ap (name_by (body (first choice_form no_forms) s.span) x) hidden_bound
 
     many : (n : ℕ) → 200 ≤ n → nat_lt n 200 ≡ false
     many n le = grind (arith, nat_tests)
@@ -316,13 +290,13 @@ module _ (s : Spot) (scope : Scope) where
     few n lt = grind (arith, nat_tests)
 
     pub hidden_full : 200 ≤ length scope.locals → hidden_whole ≡ refuse TooMany s.span
-    hidden_full le = hidden_named ∙ ap (λ (b : Bool). name_by (body (first choice_form no_forms) s.span) (tree_of x) (if b then Ok [] else refuse TooMany s.span)) (many (length scope.locals) le)
+    hidden_full le = hidden_named ∙ ap (λ (b : Bool). name_by (body (first choice_form no_forms) s.span) x (if b then Ok [] else refuse TooMany s.span)) (many (length scope.locals) le)
 
     module _ (j : Spot) (inner : Scope) (n : ℕ) (j_is : j ≡ spot_at (s.room - 1) s.span s.wanted) (inner_is : inner ≡ with_local [] scope) (lt : length scope.locals < 200) where
-      hidden_then : (o : Answer Tree) → named j.room inner j.wanted (part_form j.span (part.Choice n is_or rest)) ≡ o → hidden_whole ≡ let_by false (more (tree_of x) none) o
+      hidden_then : (o : Answer Tree) → named j.room inner j.wanted (part_form j.span (part.Choice n is_or rest)) ≡ o → hidden_whole ≡ let_by false (more x none) o
       hidden_then o b =
-          hidden_named ∙ ap (λ (b : Bool). name_by (body (first choice_form no_forms) s.span) (tree_of x) (if b then Ok [] else refuse TooMany s.span)) (few (length scope.locals) lt)
-          ∙ ap (let_by false (more (tree_of x) none))
+          hidden_named ∙ ap (λ (b : Bool). name_by (body (first choice_form no_forms) s.span) x (if b then Ok [] else refuse TooMany s.span)) (few (length scope.locals) lt)
+          ∙ ap (let_by false (more x none))
           (named_alone (s.room - 1) (with_local [] scope) s.wanted choice_form s.span
           ∙ ap (λ z. by z s.wanted choice_form) (sym inner_is)
           ∙ sym (at_spot j (s.room - 1) s.span s.wanted inner (part.Choice n is_or rest) j_is) ∙ b)
@@ -330,11 +304,10 @@ module _ (s : Spot) (scope : Scope) where
       pub hidden_stops : (e : ResolveError) → named j.room inner j.wanted (part_form j.span (part.Choice n is_or rest)) ≡ Err e → hidden_whole ≡ Err e
       hidden_stops e b = hidden_then (Err e) b
 
-      pub hidden_filled : (p0 p1 p2 : List Node) (y : Node) → p0 ≡ [] → p1 ≡ p0 ++ x ∷ [] → p2 ≡ p1 ++ y ∷ []
-          → named j.room inner j.wanted (part_form j.span (part.Choice n is_or rest)) ≡ Ok (tree_of y)
-          → Fills (Ok tt) (special.Hidden is_or f rest) p2 (spot_mark s) hidden_whole
-      hidden_filled p0 p1 p2 y empty is1 is2 b =
-          (Let (more (tree_of x) none) (tree_of y) (spot_mark s), (x ∷ [], y, is2 ∙ ap (λ (l : List Node). l ++ y ∷ []) (started p0 p1 (x ∷ []) empty is1), refl), hidden_then (Ok (tree_of y)) b)
+      pub hidden_filled : (p0 p1 p2 : Nodes) (y : Tree) → Puts p0 p1 (x ∷ []) → named j.room inner j.wanted (part_form j.span (part.Choice n is_or rest)) ≡ Ok y → Puts p1 p2 (y ∷ [])
+          → Fills (Ok tt) (special.Hidden is_or f rest) p0 p2 (spot_mark s) hidden_whole
+      hidden_filled p0 p1 p2 y put1 b put2 =
+          (x ∷ y ∷ [], Let (more x none) y (spot_mark s), (x ∷ [], y, refl, refl), hidden_then (Ok y) b, puts_more p0 p1 p2 (x ∷ []) (y ∷ []) put1 put2)
 
 pub narrow_ok : (n : ℕ) (s : Spot) (a : Answer Trees) → n ≤ 65535 → narrow n s a ≡ a
 narrow_ok n s a le = ap (λ b. cond b (refuse TooMany s.span) a) (small n le) where

@@ -1,14 +1,15 @@
-use Rattle.std.proofs.Common.{◌≡◌, ◌≤◌, ◌-◌, ◌+◌, ◌*◌, ◌++◌, List, drop, length}
-use Rattle.txs_tree.specs.declared.node.Node.{Node}
+use Rattle.std.proofs.Common.{◌≡◌, ◌≤◌, ◌-◌, ◌+◌, ◌*◌, List, drop, length}
+use Rattle.txs_tree.specs.Tree.{Tree}
+use Rattle.txs_nodes.specs.Given.{Puts}
 use Rattle.txs_expand.specs.Expressions.{named, named_all, named_bindings}
-use Rattle.txs_resolve.specs.Given.{IsWithin}
+use Rattle.txs_expression.specs.Given.{IsWithin}
 use Rattle.txs_expand.specs.Parts.{plain}
-use Rattle.txs_resolve.proofs.Building.{all_after, bound_after}
-use Rattle.txs_resolve.proofs.expression.+resolve.Given as goal
+use Rattle.txs_expression.proofs.Building.{all_after, bound_after}
+use Rattle.txs_expression.proofs.expression.+resolve.Given as goal
 
 abbrev pub invariant-items-loop-i : goal.invariant-items-loop-i
 invariant-items-loop-i l = record {
-  built : (ns : List Node) × (l.nodes.items ≡ l.fn.nodes.items ++ ns)
+  built : (ns : List Tree) × Puts l.fn.nodes l.nodes ns
       × (named_all (named (l.spot.room - 1)) l.fn.scope l.wanted l.last (plain l.forms)
       ≡ all_after ns (named_all (named (l.spot.room - 1)) l.fn.scope l.wanted l.last (plain (drop l.i l.forms))));
   kept : l.scope ≡ l.fn.scope;
@@ -16,7 +17,7 @@ invariant-items-loop-i l = record {
 
 abbrev pub invariant-bindings-loop-at : goal.invariant-bindings-loop-at
 invariant-bindings-loop-at l = record {
-  built : (ns : List Node) × (l.values.items ≡ l.fn.values.items ++ ns)
+  built : (ns : List Tree) × Puts l.fn.values l.values ns
       × (named_bindings (named (l.spot.room - 1)) l.fn.scope (plain l.pairs) ≡ bound_after ns (named_bindings (named (l.spot.room - 1)) l.scope (plain (drop l.at l.pairs))));
   within : IsWithin l.fn.scope l.scope;
   inside : l.at ≤ length l.pairs;

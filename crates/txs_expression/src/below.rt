@@ -4,12 +4,11 @@ ghost use Rattle.std.specs.Prelude.{◌≡◌, ◌<◌, ◌≤◌, ◌+◌, ◌-
 ghost use Rattle.txs_expand.specs.Expressions.{are_wanted, bound_name, flag, is_wanted, spot_at};
 ghost use Rattle.txs_expand.specs.Parts.{seen};
 ghost use Rattle.txs_reader.specs.Tree.{tree, trees, trees_of};
-ghost use Rattle.txs_resolve.specs.Given.{Hides};
+ghost use Rattle.txs_expression.specs.Given.{Hides};
 ghost use Rattle.txs_value.specs.Limits.{most_locals};
 
 use txs_expand::{ResolveError, ResolveErrorKind, Sequence, Single, Spot, refusal};
 use txs_names::{Scope, may_bind};
-use txs_nodes::{Stop, refused};
 use txs_reader::Form;
 use txs_value::Name;
 use txs_value::limits::MOST_LOCALS;
@@ -81,13 +80,13 @@ pub fn bindable<'f>(scope: &Scope<'_>, form: &'f Form) -> Result<&'f Name, Resol
 }
 
 /// Binds a hidden local, and gives its number.
-pub fn hide(scope: &mut Scope<'_>, spot: Spot) -> Result<u8, Stop>
+pub fn hide(scope: &mut Scope<'_>, spot: Spot) -> Result<u8, ResolveError>
     ensures { Hides result spot scope.old scope.new }
 {
     let local = scope.len();
     if local >= MOST_LOCALS {
-        return Err(refused(ResolveErrorKind::TooMany, spot.span));
+        return Err(refusal(ResolveErrorKind::TooMany, spot.span));
     }
-    scope.push(&[])?;
+    scope.push(&[]);
     Ok(local as u8)
 }

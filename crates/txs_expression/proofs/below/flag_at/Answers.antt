@@ -2,7 +2,7 @@ use Rattle.std.proofs.Common.{◌≡◌, ◌≢◌, ◌+◌, Bool, List, [], ◌
 use Rattle.txs_reader.specs.declared.form.Form.{Form}
 use Rattle.txs_reader.specs.Tree.{trees, trees_of}
 use Rattle.txs_expand.specs.Expressions.{flag}
-use Rattle.txs_resolve.proofs.below.flag_at.Goals as goal
+use Rattle.txs_expression.proofs.below.flag_at.Goals as goal
 
 -- a form that others stand behind
 inner_flag : (inner last : Bool) (forms : List Form) → length forms ≢ 0 → inner ≡ flag inner last (trees_of (trees forms))

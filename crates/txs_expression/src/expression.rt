@@ -1,37 +1,38 @@
 //! Expressions: forms to nodes.
 
-ghost use Rattle.std.specs.Prelude.{◌≡◌, ◌≤◌, ◌+◌, ◌-◌, [], length, IfErr, OnOk};
-ghost use Rattle.txs_reader.specs.Tree.{tree};
+ghost use Rattle.std.specs.Prelude.{◌≡◌, ◌≤◌, ◌+◌, ◌-◌, length, OnOk};
+ghost use Rattle.txs_reader.specs.Tree.{tree, trees, trees_of};
+ghost use Rattle.txs_expand.specs.Expansions.{body as the_body};
 ghost use Rattle.txs_expand.specs.Expressions.{changing, made, named, named_all, named_bindings, narrow, parted, put_together, spot_mark};
-ghost use Rattle.txs_expand.specs.Expansions.{alone};
-ghost use Rattle.txs_resolve.specs.Given.{Fills, IsWithin, PushesAll, PushesBound, Wants};
+ghost use Rattle.txs_expression.specs.Given.{Becomes, Fills, IsWithin, PushesAll, PushesBound};
 ghost use Rattle.txs_nodes.specs.Given.{Pushes};
 ghost use Rattle.txs_expand.specs.Parts.{part_form, plain, special_form, PartFits, SpecialFits};
-ghost use Rattle.txs_nodes.specs.declared.stop.Stop.TheVariants.{Memory};
 ghost use Rattle.txs_expand.specs.declared.parts.Special.TheVariants as special;
 
 use crate::below::{are_wanted, bindable, flag_at, hide, inner, last_wanted, part_wanted};
 use std::alloc::Global;
-use txs_expand::{Change, Core, Couple, Part, ResolveErrorKind, Special, Spot, callee, core_at};
+use txs_expand::{
+    Change, Core, Couple, Part, ResolveError, ResolveErrorKind, Special, Spot, callee, core_at,
+    refusal,
+};
 use txs_names::{FormName, Scope};
-use txs_nodes::{Stop, build, build_change, push_whole, refused};
+use txs_nodes::{Nodes, Stop, build, build_change, push_whole};
 use txs_reader::Form;
 use txs_tree::Node;
 use txs_value::limits::MOST_ITEMS;
 
 /// The node of a part, behind these nodes.
 #[cycle(resolve)]
-pub fn expression<'a>(
+fn expression<'a>(
     alloc: Global,
     scope: &mut Scope<'a>,
-    nodes: &mut Vec<Node>,
+    nodes: &mut Nodes,
     spot: Spot,
     part: Part<'a>,
-) -> Result<(), Stop>
+) -> Result<(), ResolveError>
     requires { PartFits scope.old part }
-    ensures node { Pushes result nodes.old.items nodes.new.items (named spot.room scope.old spot.wanted (part_form spot.span part.entry)) }
+    ensures node { Pushes result nodes.old nodes.new (named spot.room scope.old spot.wanted (part_form spot.span part.entry)) }
     ensures kept { OnOk result (scope.new ≡ scope.old) }
-    ensures memory { IfErr result (λ e. e ≡ Memory → Wants scope.old spot (alone (part_form spot.span part.entry))) }
 {
     let (spot, core) = core_at(scope, spot, part)?;
     match core {
@@ -48,21 +49,21 @@ pub fn expression<'a>(
 fn parted<'a>(
     alloc: Global,
     scope: &mut Scope<'a>,
-    nodes: &mut Vec<Node>,
+    nodes: &mut Nodes,
     spot: Spot,
     special: Special<'a>,
-) -> Result<(), Stop>
+) -> Result<(), ResolveError>
     requires { SpecialFits scope.old special }
-    ensures node { Pushes result nodes.old.items nodes.new.items (made (named (spot.room - 1)) scope.old spot (parted (special_form spot.span special.entry))) }
+    ensures node { Pushes result nodes.old nodes.new (made (named (spot.room - 1)) scope.old spot (parted (special_form spot.span special.entry))) }
     ensures kept { OnOk result (scope.new ≡ scope.old) }
-    ensures memory { IfErr result (λ e. e ≡ Memory → 1 ≤ spot.room) }
 {
     if spot.room == 0 {
-        return Err(refused(ResolveErrorKind::TooMany, spot.span));
+        return Err(refusal(ResolveErrorKind::TooMany, spot.span));
     }
-    let mut parts = Vec::new(alloc);
+    let mut parts = Nodes::new(alloc);
     children(alloc, scope, &mut parts, spot, special)?;
-    build(alloc, nodes, spot, special, parts)
+    build(alloc, nodes, spot, special, parts);
+    Ok(())
 }
 
 /// The node of a form on a cell that calls something, behind these nodes.
@@ -70,21 +71,20 @@ fn parted<'a>(
 fn changed<'a>(
     alloc: Global,
     scope: &mut Scope<'a>,
-    nodes: &mut Vec<Node>,
+    nodes: &mut Nodes,
     spot: Spot,
     change: Change,
     cell: &'a Form,
     function: &'a Form,
     args: &'a [Form],
-) -> Result<(), Stop>
-    ensures node { Pushes result nodes.old.items nodes.new.items (made (named (spot.room - 1)) scope.old spot (parted (changing change (tree cell.now) (tree function.now) (plain args.now)))) }
+) -> Result<(), ResolveError>
+    ensures node { Pushes result nodes.old nodes.new (made (named (spot.room - 1)) scope.old spot (parted (changing change (tree cell.now) (tree function.now) (plain args.now)))) }
     ensures kept { OnOk result (scope.new ≡ scope.old) }
-    ensures memory { IfErr result (λ e. e ≡ Memory → 1 ≤ spot.room) }
 {
     if spot.room == 0 {
-        return Err(refused(ResolveErrorKind::TooMany, spot.span));
+        return Err(refusal(ResolveErrorKind::TooMany, spot.span));
     }
-    let mut parts = Vec::new(alloc);
+    let mut parts = Nodes::new(alloc);
     expression(
         alloc,
         scope,
@@ -93,8 +93,9 @@ fn changed<'a>(
         Part::Written(cell),
     )?;
     let callee = callee(scope, spot, function)?;
-    items(alloc, scope, &mut parts, spot, true, true, args)?;
-    build_change(alloc, nodes, spot, change, callee, parts)
+    items(alloc, scope, &mut parts, spot, 1, true, true, args)?;
+    build_change(alloc, nodes, spot, change, callee, parts);
+    Ok(())
 }
 
 /// The nodes of a special form's parts.
@@ -102,20 +103,19 @@ fn changed<'a>(
 fn children<'a>(
     alloc: Global,
     scope: &mut Scope<'a>,
-    parts: &mut Vec<Node>,
+    parts: &mut Nodes,
     spot: Spot,
     special: Special<'a>,
-) -> Result<(), Stop>
+) -> Result<(), ResolveError>
     requires room { 1 ≤ spot.room }
-    requires empty { parts.old.items ≡ [] }
     requires fits { SpecialFits scope.old special }
-    ensures nodes { Fills result special.entry parts.new.items (spot_mark spot) (put_together (named (spot.room - 1)) scope.old spot (special_form spot.span special.entry)) }
+    ensures nodes { Fills result special.entry parts.old parts.new (spot_mark spot) (put_together (named (spot.room - 1)) scope.old spot (special_form spot.span special.entry)) }
     ensures kept { OnOk result (scope.new ≡ scope.old) }
 {
     match special {
         Special::Row(kind, forms) => {
             let (wanted, last) = (are_wanted(kind), last_wanted(kind, spot.wanted));
-            items(alloc, scope, parts, spot, wanted, last, forms)
+            items(alloc, scope, parts, spot, 0, wanted, last, forms)
         },
         Special::Single(single, part) => {
             let inner = inner(spot, part_wanted(single, spot.wanted));
@@ -141,16 +141,15 @@ fn children<'a>(
 fn pair<'a>(
     alloc: Global,
     scope: &mut Scope<'a>,
-    parts: &mut Vec<Node>,
+    parts: &mut Nodes,
     spot: Spot,
     couple: Couple,
     first: Part<'a>,
     second: &'a Form,
-) -> Result<(), Stop>
+) -> Result<(), ResolveError>
     requires room { 1 ≤ spot.room }
-    requires empty { parts.old.items ≡ [] }
     requires fits { PartFits scope.old first }
-    ensures nodes { Fills result (special.Pair couple first.entry second.entry) parts.new.items (spot_mark spot) (put_together (named (spot.room - 1)) scope.old spot (special_form spot.span (special.Pair couple first.entry second.entry))) }
+    ensures nodes { Fills result (special.Pair couple first.entry second.entry) parts.old parts.new (spot_mark spot) (put_together (named (spot.room - 1)) scope.old spot (special_form spot.span (special.Pair couple first.entry second.entry))) }
     ensures kept { OnOk result (scope.new ≡ scope.old) }
 {
     let inner = inner(spot, true);
@@ -163,17 +162,16 @@ fn pair<'a>(
 fn choice<'a>(
     alloc: Global,
     scope: &mut Scope<'a>,
-    parts: &mut Vec<Node>,
+    parts: &mut Nodes,
     spot: Spot,
     turned: bool,
     test: Part<'a>,
     one: Part<'a>,
     other: Part<'a>,
-) -> Result<(), Stop>
+) -> Result<(), ResolveError>
     requires room { 1 ≤ spot.room }
-    requires empty { parts.old.items ≡ [] }
     requires fits { SpecialFits scope.old (special.Choice turned test one other) }
-    ensures nodes { Fills result (special.Choice turned test.entry one.entry other.entry) parts.new.items (spot_mark spot) (put_together (named (spot.room - 1)) scope.old spot (special_form spot.span (special.Choice turned test.entry one.entry other.entry))) }
+    ensures nodes { Fills result (special.Choice turned test.entry one.entry other.entry) parts.old parts.new (spot_mark spot) (put_together (named (spot.room - 1)) scope.old spot (special_form spot.span (special.Choice turned test.entry one.entry other.entry))) }
     ensures kept { OnOk result (scope.new ≡ scope.old) }
 {
     let branch = inner(spot, spot.wanted);
@@ -187,15 +185,14 @@ fn choice<'a>(
 fn bound<'a>(
     alloc: Global,
     scope: &mut Scope<'a>,
-    parts: &mut Vec<Node>,
+    parts: &mut Nodes,
     spot: Spot,
     is_loop: bool,
     pairs: &'a [Form],
     forms: &'a [Form],
-) -> Result<(), Stop>
+) -> Result<(), ResolveError>
     requires room { 1 ≤ spot.room }
-    requires empty { parts.old.items ≡ [] }
-    ensures nodes { Fills result (special.Binding is_loop pairs.entry forms.entry) parts.new.items (spot_mark spot) (put_together (named (spot.room - 1)) scope.old spot (special_form spot.span (special.Binding is_loop pairs.entry forms.entry))) }
+    ensures nodes { Fills result (special.Binding is_loop pairs.entry forms.entry) parts.old parts.new (spot_mark spot) (put_together (named (spot.room - 1)) scope.old spot (special_form spot.span (special.Binding is_loop pairs.entry forms.entry))) }
     ensures kept { OnOk result (scope.new ≡ scope.old) }
 {
     let outer = scope.len();
@@ -216,15 +213,14 @@ fn bound<'a>(
 fn hidden<'a>(
     alloc: Global,
     scope: &mut Scope<'a>,
-    parts: &mut Vec<Node>,
+    parts: &mut Nodes,
     spot: Spot,
     is_or: bool,
     first: &'a Form,
     rest: &'a [Form],
-) -> Result<(), Stop>
+) -> Result<(), ResolveError>
     requires room { 1 ≤ spot.room }
-    requires empty { parts.old.items ≡ [] }
-    ensures nodes { Fills result (special.Hidden is_or first.entry rest.entry) parts.new.items (spot_mark spot) (put_together (named (spot.room - 1)) scope.old spot (special_form spot.span (special.Hidden is_or first.entry rest.entry))) }
+    ensures nodes { Fills result (special.Hidden is_or first.entry rest.entry) parts.old parts.new (spot_mark spot) (put_together (named (spot.room - 1)) scope.old spot (special_form spot.span (special.Hidden is_or first.entry rest.entry))) }
     ensures kept { OnOk result (scope.new ≡ scope.old) }
 {
     expression(alloc, scope, parts, inner(spot, true), Part::Written(first))?;
@@ -245,12 +241,12 @@ fn hidden<'a>(
 fn bindings<'a>(
     alloc: Global,
     scope: &mut Scope<'a>,
-    values: &mut Vec<Node>,
+    values: &mut Nodes,
     spot: Spot,
     pairs: &'a [Form],
-) -> Result<(), Stop>
+) -> Result<(), ResolveError>
     requires { 1 ≤ spot.room }
-    ensures values { PushesBound result values.old.items values.new.items scope.new (named_bindings (named (spot.room - 1)) scope.old (plain pairs.now)) }
+    ensures values { PushesBound result values.old values.new scope.new (named_bindings (named (spot.room - 1)) scope.old (plain pairs.now)) }
     ensures outer { OnOk result (IsWithin scope.old scope.new) }
 {
     let mut at = 0;
@@ -263,32 +259,35 @@ fn bindings<'a>(
             Part::Written(&pairs[at + 1]),
         )?;
         let name = bindable(scope, &pairs[at])?;
-        scope.push(name.as_bytes())?;
+        scope.push(name.as_bytes());
         at += 2;
     }
     if at < pairs.len() {
-        return Err(refused(ResolveErrorKind::BadForm, pairs[at].span()));
+        return Err(refusal(ResolveErrorKind::BadForm, pairs[at].span()));
     }
     Ok(())
 }
 
-/// The nodes of forms, one level below this spot, of which the last has a flag of its own.
+/// The nodes of forms, one level below this spot, of which the last has a flag of its own. So many parts stand
+/// before them.
 #[cycle(resolve)]
 fn items<'a>(
     alloc: Global,
     scope: &mut Scope<'a>,
-    nodes: &mut Vec<Node>,
+    nodes: &mut Nodes,
     spot: Spot,
+    ahead: usize,
     wanted: bool,
     last: bool,
     forms: &'a [Form],
-) -> Result<(), Stop>
-    requires { 1 ≤ spot.room }
-    ensures nodes { PushesAll result nodes.old.items nodes.new.items (narrow (length nodes.old.items + length forms.now) spot (named_all (named (spot.room - 1)) scope.old wanted last (plain forms.now))) }
+) -> Result<(), ResolveError>
+    requires room { 1 ≤ spot.room }
+    requires few { ahead ≤ 1 }
+    ensures nodes { PushesAll result nodes.old nodes.new (narrow (ahead + length forms.now) spot (named_all (named (spot.room - 1)) scope.old wanted last (plain forms.now))) }
     ensures kept { OnOk result (scope.new ≡ scope.old) }
 {
-    if nodes.len() + forms.len() > MOST_ITEMS {
-        return Err(refused(ResolveErrorKind::TooMany, spot.span));
+    if forms.len() > MOST_ITEMS - ahead {
+        return Err(refusal(ResolveErrorKind::TooMany, spot.span));
     }
     for (i, form) in forms.iter().enumerate() {
         let wanted = flag_at(wanted, last, forms, i);
@@ -301,4 +300,32 @@ fn items<'a>(
         )?;
     }
     Ok(())
+}
+
+/// The node of a body: of its expressions in order, the last of which may be wanted, and where there is none of nil. It
+/// may have as many levels as there is room at the spot, whose span is that of the form that the body is of.
+///
+/// # Errors
+/// The first refusal met in source order; want of memory only where nothing is refused.
+pub fn body<'a>(
+    alloc: Global,
+    scope: &mut Scope<'a>,
+    spot: Spot,
+    forms: &'a [Form],
+) -> Result<Node, Stop>
+    ensures node { Becomes result (named spot.room scope.old spot.wanted (the_body (trees_of (trees forms.now)) spot.span)) }
+    ensures kept { OnOk result (scope.new ≡ scope.old) }
+{
+    let mut nodes = Nodes::new(alloc);
+    expression(
+        alloc,
+        scope,
+        &mut nodes,
+        spot,
+        Part::List(FormName::Do, forms),
+    )?;
+    match nodes.into_one() {
+        Some(node) => Ok(node),
+        None => Err(Stop::Memory),
+    }
 }

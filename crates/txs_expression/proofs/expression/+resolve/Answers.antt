@@ -1,0 +1,251 @@
+use Rattle.std.proofs.Common.{◌≡◌, ◌<◌, ◌≤◌, ◌+◌, ◌-◌, ◌∷◌, [], ◌++◌, ℕ, Bool, true, List, Ok, Err, length, drop, sym, ap, ◌∙◌, subst, arith}
+use Rattle.std.proofs.lemmas.List.{length-map}
+use Rattle.std.proofs.lemmas.Result.{err_from_is_err_and}
+use Rattle.txs_reader.specs.declared.form.Form.{Form}
+use Rattle.txs_reader.specs.Tree.{tree}
+use Rattle.txs_tree.specs.Tree.{Tree}
+use Rattle.txs_tree.specs.View.{tree_of}
+use Rattle.txs_names.specs.Scope.{Scope, with_local, with_locals}
+use Rattle.txs_expand.specs.declared.error.ResolveError.{ResolveError}
+use Rattle.txs_expand.specs.declared.shapes.Spot.{Spot}
+use Rattle.txs_expand.specs.declared.parts.Core.TheVariants as core
+use Rattle.txs_expand.specs.Expressions.{bound_name, change_node, flag, named, named_all, named_bindings, put_together, spot_mark}
+use Rattle.txs_expression.specs.Given.{Fills, IsWithin}
+use Rattle.txs_nodes.specs.Given.{row, Pushes}
+use Rattle.txs_nodes.specs.Made.{Makes}
+use Rattle.txs_expand.specs.Parts.{core_form, part_form, plain, special_form}
+use Rattle.txs_expand.proofs.Rows.{roomy}
+use Rattle.txs_expression.proofs.Building.{all_end, all_step, bindings_end, bindings_step, bindings_unvalued, bound_after, puts_more, puts_none, within_push}
+use Rattle.txs_expression.proofs.Fillings.{args_then, bound_filled, choice_filled, hidden_filled, hidden_full, hidden_stops, named_core, named_stop, narrow_ok, pair_filled, pair_stops, remade, row_filled, shown, single_filled}
+use Rattle.txs_expression.proofs.Stops.{bound_nil}
+use Rattle.txs_expression.proofs.expression.+resolve.Goals as goal
+
+-- ---- forms
+
+pub expression-returns-in_err-spot-clause-node : goal.expression-returns-in_err-spot-clause-node
+expression-returns-in_err-spot-clause-node t c =
+    let p = err_from_is_err_and c.from_residual.result c.from_residual.ensures.1 in
+    let here = c.args.spot in
+    rw (p.1, p.2) (named_stop here c.args.scope.now (part_form here.span c.args.part) _ c.in_err-spot.ensures.core)
+
+pub expression-returns-in-Whole-clause-node : goal.expression-returns-in-Whole-clause-node
+expression-returns-in-Whole-clause-node t c =
+    let here = c.args.spot in
+    let s = c.in_ok-spot.spot in
+    let found = c.in_ok-spot.ensures in
+    subst (Pushes c.push_whole.result c.args.nodes.now c.push_whole.new.nodes)
+    (sym (named_core here c.args.scope.now (part_form here.span c.args.part) s (core_form s.span (core.Whole c.in-Whole.whole)) found.spot (ap (λ k. Ok (core_form s.span k)) (sym c.in-Whole.is) ∙ found.core)))
+    c.push_whole.ensures
+
+pub expression-returns-in-Parted-clause-node : goal.expression-returns-in-Parted-clause-node
+expression-returns-in-Parted-clause-node t c =
+    let here = c.args.spot in
+    let s = c.in_ok-spot.spot in
+    let found = c.in_ok-spot.ensures in
+    subst (Pushes c.parted.result c.args.nodes.now c.parted.new.nodes)
+    (sym (named_core here c.args.scope.now (part_form here.span c.args.part) s (core_form s.span (core.Parted c.in-Parted.special)) found.spot (ap (λ k. Ok (core_form s.span k)) (sym c.in-Parted.is) ∙ found.core)))
+    c.parted.ensures.node
+
+pub expression-returns-in-Changing-clause-node : goal.expression-returns-in-Changing-clause-node
+expression-returns-in-Changing-clause-node t c =
+    let here = c.args.spot in
+    let s = c.in_ok-spot.spot in
+    let found = c.in_ok-spot.ensures in
+    subst (Pushes c.changed.result c.args.nodes.now c.changed.new.nodes)
+    (sym (named_core here c.args.scope.now (part_form here.span c.args.part) s (core_form s.span (core.Changing c.in-Changing.change c.in-Changing.cell c.in-Changing.function c.in-Changing.args)) found.spot (ap (λ k. Ok (core_form s.span k)) (sym c.in-Changing.is) ∙ found.core)))
+    c.changed.ensures.node
+
+pub parted-build-requires : goal.parted-build-requires
+parted-build-requires t c kept m =
+    let f = c.in_ok-children.ensures.nodes in
+    let u = remade c.args.special f.0 (spot_mark c.args.spot) m f.1 f.2 in
+    (u.0, subst (λ (l : List Tree). Makes c.args.special l m u.0) (sym (shown c.new-parts.result c.children.new.parts f.0 c.new-parts.ensures.none f.4 kept)) u.1)
+
+pub parted-returns-clause-node : goal.parted-returns-clause-node
+parted-returns-clause-node t c =
+    let s = c.args.spot in
+    let f = c.in_ok-children.ensures.nodes in (
+      f.1,
+      roomy s (put_together (named (s.room - 1)) c.args.scope.now s (special_form s.span c.args.special)) c.if-spot-eq0.false ∙ f.3,
+      c.build.ensures f.1 (λ kept. subst (λ (l : List Tree). Makes c.args.special l (spot_mark s) f.1) (sym (shown c.new-parts.result c.children.new.parts f.0 c.new-parts.ensures.none f.4 kept)) f.2),
+    )
+
+pub changed-build_change-requires : goal.changed-build_change-requires
+changed-build_change-requires t c kept =
+    let n = c.in_ok-expression.ensures.node in
+    let all = c.in_ok-items.ensures.nodes in
+    let put = puts_more c.new-parts.result c.expression.new.nodes c.items.new.nodes (n.0 ∷ []) all.0 n.2 all.2 in
+    omega (arith, length-map c.items.new.nodes.items.items tree_of, ap (λ (l : List Tree). length l) (shown c.new-parts.result c.items.new.nodes (n.0 ∷ all.0) c.new-parts.ensures.none put kept))
+
+pub changed-returns-in_err-items-clause-node : goal.changed-returns-in_err-items-clause-node
+changed-returns-in_err-items-clause-node t c =
+    let p = err_from_is_err_and c.from_residual-in_err-items.result c.from_residual-in_err-items.ensures.1 in
+    let s = c.args.spot in
+    let n = c.in_ok-expression.ensures.node in
+    rw (p.1, p.2) (args_then s c.args.scope.now c.if-spot-eq0.false c.args.change c.args.cell c.args.function c.args.args c.inner.result c.inner.ensures n.0 n.1 c.expression.new.scope c.in_ok-expression.ensures.kept
+    c.in_ok-callee.callee _ (1 + length c.args.args.now) (sym c.in_ok-callee.ensures) (omega arith) c.in_err-items.ensures.nodes)
+
+pub changed-returns-clause-node : goal.changed-returns-clause-node
+changed-returns-clause-node t c =
+    let s = c.args.spot in
+    let n = c.in_ok-expression.ensures.node in
+    let all = c.in_ok-items.ensures.nodes in
+    let put = puts_more c.new-parts.result c.expression.new.nodes c.items.new.nodes (n.0 ∷ []) all.0 n.2 all.2 in (
+      change_node c.args.change n.0 c.in_ok-callee.callee (row all.0) (spot_mark s),
+      args_then s c.args.scope.now c.if-spot-eq0.false c.args.change c.args.cell c.args.function c.args.args c.inner.result c.inner.ensures n.0 n.1 c.expression.new.scope c.in_ok-expression.ensures.kept
+          c.in_ok-callee.callee (Ok (row all.0)) (1 + length c.args.args.now) (sym c.in_ok-callee.ensures) (omega arith) all.1,
+      c.build_change.ensures n.0 all.0 (shown c.new-parts.result c.items.new.nodes (n.0 ∷ all.0) c.new-parts.ensures.none put),
+    )
+
+-- ---- the parts of special forms
+
+pub children-returns-in-Row-clause-nodes : goal.children-returns-in-Row-clause-nodes
+children-returns-in-Row-clause-nodes t c =
+    let s = c.args.spot in
+    subst (λ f. Fills c.items.result f c.args.parts.now c.items.new.nodes (spot_mark s) (put_together (named (s.room - 1)) c.args.scope.now s (special_form s.span f))) (sym c.in-Row.is)
+    (row_filled s c.args.scope.now c.items.result c.in-Row.kind c.in-Row.forms c.args.parts.now c.items.new.nodes c.are_wanted-wanted.result c.last_wanted-last.result c.are_wanted-wanted.ensures c.last_wanted-last.ensures c.items.ensures.nodes)
+
+pub children-returns-in-Single-clause-nodes : goal.children-returns-in-Single-clause-nodes
+children-returns-in-Single-clause-nodes t c =
+    let s = c.args.spot in
+    let e = c.expression in
+    subst (λ f. Fills e.result f c.args.parts.now e.new.nodes (spot_mark s) (put_together (named (s.room - 1)) c.args.scope.now s (special_form s.span f))) (sym c.in-Single.is)
+    (single_filled s c.args.scope.now e.result c.in-Single.single c.in-Single.part c.args.parts.now e.new.nodes c.inner-inner.result c.part_wanted.result c.part_wanted.ensures c.inner-inner.ensures e.ensures.node)
+
+pub pair-returns-in_err-expression-clause-nodes : goal.pair-returns-in_err-expression-clause-nodes
+pair-returns-in_err-expression-clause-nodes t c =
+    let p = err_from_is_err_and c.from_residual.result c.from_residual.ensures.1 in
+    rw (p.1, p.2) (pair_stops c.args.spot c.args.scope.now c.args.couple c.args.first c.args.second c.inner-inner.result _ c.inner-inner.ensures c.in_err-expression.ensures.node)
+
+pub pair-returns-clause-nodes : goal.pair-returns-clause-nodes
+pair-returns-clause-nodes t c =
+    let a = c.in_ok-expression.ensures in
+    let e = c.expression-2 in
+    pair_filled c.args.spot c.args.scope.now e.result c.args.couple c.args.first c.args.second c.expression.new.scope c.args.parts.now c.expression.new.nodes e.new.nodes c.inner-inner.result a.node.0
+    c.inner-inner.ensures a.kept a.node.1 a.node.2 e.ensures.node
+
+pub choice-returns-clause-nodes : goal.choice-returns-clause-nodes
+choice-returns-clause-nodes t c =
+    let a = c.in_ok-expression.ensures in
+    let b = c.in_ok-expression-2.ensures in
+    let e = c.expression-3 in
+    choice_filled c.args.spot c.args.scope.now e.result c.args.turned c.args.test c.args.one c.args.other c.expression.new.scope c.expression-2.new.scope c.args.parts.now c.expression.new.nodes c.expression-2.new.nodes e.new.nodes
+    c.inner.result c.inner-branch.result a.node.0 b.node.0 c.inner.ensures c.inner-branch.ensures a.kept b.kept a.node.1 a.node.2 b.node.1 b.node.2 e.ensures.node
+
+pub bound-returns-clause-nodes : goal.bound-returns-clause-nodes
+bound-returns-clause-nodes t c =
+    let v = c.in_ok-bindings.ensures.values in
+    let n = c.in_ok-expression.ensures.node in
+    bound_filled c.args.spot c.args.scope.now c.args.is_loop c.args.pairs c.args.forms c.bindings.new.scope c.args.parts.now c.bindings.new.values c.expression.new.nodes v.0 c.inner.result n.0
+    c.inner.ensures v.1 v.2 n.1 n.2
+
+-- ---- hidden locals
+
+pub hidden-returns-in_err-local-clause-nodes : goal.hidden-returns-in_err-local-clause-nodes
+hidden-returns-in_err-local-clause-nodes t c =
+    let p = err_from_is_err_and c.from_residual-in_err-local.result c.from_residual-in_err-local.ensures.1 in
+    let s = c.args.spot in
+    let a = c.in_ok-expression.ensures in
+    let h = c.in_err-local.ensures in
+    rw (p.1, p.2) (hidden_full s c.args.scope.now c.args.is_or c.args.first c.args.rest c.inner.result a.node.0 c.inner.ensures a.node.1 (subst (λ (z : Scope). 200 ≤ length z.locals) a.kept h.0) ∙ ap (λ (x : ResolveError). Err x) (sym h.1))
+
+pub hidden-returns-in_err-expression-2-clause-nodes : goal.hidden-returns-in_err-expression-2-clause-nodes
+hidden-returns-in_err-expression-2-clause-nodes t c =
+    let p = err_from_is_err_and c.from_residual-in_err-expression-2.result c.from_residual-in_err-expression-2.ensures.1 in
+    let a = c.in_ok-expression.ensures in
+    let h = c.in_ok-local.ensures in
+    rw (p.1, p.2) (hidden_stops c.args.spot c.args.scope.now c.args.is_or c.args.first c.args.rest c.inner.result a.node.0 c.inner.ensures a.node.1 c.inner-2.result c.hide.new.scope c.in_ok-local.local c.inner-2.ensures
+    (h.2 ∙ ap (with_local []) a.kept) (subst (λ (z : Scope). length z.locals < 200) a.kept h.1) _ c.in_err-expression-2.ensures.node)
+
+pub hidden-returns-clause-nodes : goal.hidden-returns-clause-nodes
+hidden-returns-clause-nodes t c =
+    let a = c.in_ok-expression.ensures in
+    let b = c.in_ok-expression-2.ensures in
+    let h = c.in_ok-local.ensures in
+    hidden_filled c.args.spot c.args.scope.now c.args.is_or c.args.first c.args.rest c.inner.result a.node.0 c.inner.ensures a.node.1 c.inner-2.result c.hide.new.scope c.in_ok-local.local c.inner-2.ensures
+    (h.2 ∙ ap (with_local []) a.kept) (subst (λ (z : Scope). length z.locals < 200) a.kept h.1)
+    c.args.parts.now c.expression.new.nodes c.expression-2.new.nodes b.node.0 a.node.2 b.node.1 b.node.2
+
+-- ---- bindings
+
+pub bindings-loop-at-init : goal.bindings-loop-at-init
+bindings-loop-at-init t c =
+    let locals = c.args.scope.now.locals in
+    let nothing : length locals - length locals ≡ 0 = omega arith in
+    record {
+      built = ([], puts_none c.args.values.now, bound_nil (named_bindings (named (c.args.spot.room - 1)) c.args.scope.now (plain c.args.pairs.now)));
+      within = (omega arith, ap (λ (k : ℕ). with_locals (drop k locals) c.args.scope.now) nothing);
+      inside = omega arith;
+    }
+
+pub bindings-returns-in_err-expression-clause-values : goal.bindings-returns-in_err-expression-clause-values
+bindings-returns-in_err-expression-clause-values t c =
+    let p = err_from_is_err_and c.from_residual.result c.from_residual.ensures.1 in
+    let by = named (c.args.spot.room - 1) in
+    let d = c.index-pairs-at.result in
+    let b = c.loop-at.invariant.built in
+    rw (p.1, p.2) (b.2 ∙ bindings_unvalued by c.loop-at.scope c.args.pairs.now c.loop-at.at b.0 d d _ c.loop-at-test.true
+    (ap (λ (f : Form). by c.loop-at.scope true (tree f)) (sym c.index-pairs-at.is) ∙ ap (λ (s : Spot). named s.room c.loop-at.scope s.wanted (tree d)) (sym c.inner.ensures) ∙ c.in_err-expression.ensures.node))
+
+pub bindings-loop-at-preserved : goal.bindings-loop-at-preserved
+bindings-loop-at-preserved t c =
+    let by = named (c.args.spot.room - 1) in
+    let d = c.index-pairs-at.result in
+    let b = c.loop-at.invariant.built in
+    let n = c.in_ok-expression.ensures.node in
+    let kept = c.in_ok-expression.ensures.kept in
+    let name = c.in_ok-name.name.now in
+    let scope : c.push.new.self ≡ with_local name c.loop-at.scope = c.push.ensures ∙ ap (λ l. with_local l c.expression.new.scope) c.as_bytes.ensures.value ∙ ap (λ (s : Scope). with_local name s) kept in
+    record {
+      built = (
+        b.0 ++ n.0 ∷ [],
+        puts_more c.args.values.now c.loop-at.values c.expression.new.nodes b.0 (n.0 ∷ []) b.1 n.2,
+        b.2 ∙ bindings_step by c.loop-at.scope c.args.pairs.now c.loop-at.at b.0 c.index-pairs-at-in-loop-at.result d name n.0 c.loop-at-test.true
+            (ap (λ (f : Form). by c.loop-at.scope true (tree f)) (sym c.index-pairs-at.is) ∙ ap (λ (s : Spot). named s.room c.loop-at.scope s.wanted (tree d)) (sym c.inner.ensures) ∙ n.1)
+            (ap (λ f. bound_name c.loop-at.scope (tree f)) (sym c.index-pairs-at-in-loop-at.is) ∙ ap (λ (s : Scope). bound_name s (tree c.index-pairs-at-in-loop-at.result)) (sym kept) ∙ sym c.in_ok-name.ensures.name)
+            ∙ ap (λ (s : Scope). bound_after (b.0 ++ n.0 ∷ []) (named_bindings by s (plain (drop (c.loop-at.at + 2) c.args.pairs.now)))) (sym scope),
+      );
+      within = subst (λ s. IsWithin c.args.scope.now s) (sym scope) (within_push c.args.scope.now c.loop-at.scope name c.loop-at.invariant.within);
+      inside = omega (arith, c.loop-at-test.true);
+    }
+
+pub bindings-returns-clause-values : goal.bindings-returns-clause-values
+bindings-returns-clause-values t c =
+    let b = c.loop-at.invariant.built in
+    (b.0, b.2 ∙ bindings_end (named (c.args.spot.room - 1)) c.loop-at.scope c.args.pairs.now c.loop-at.at b.0 c.if-at-pairs.false, b.1)
+
+-- ---- forms one after the other
+
+pub items-loop-i-preserved : goal.items-loop-i-preserved
+items-loop-i-preserved t c =
+    let by = named (c.args.spot.room - 1) in
+    let scope = c.args.scope.now in
+    let fs = c.args.forms.now in
+    let i = c.loop-i.i in
+    let d = c.index-forms-i.result in
+    let w = flag c.args.wanted c.args.last (plain (drop (i + 1) fs)) in
+    let b = c.loop-i.invariant.built in
+    let n = c.in_ok-expression.ensures.node in
+    record {
+      built = (
+        b.0 ++ n.0 ∷ [],
+        puts_more c.args.nodes.now c.loop-i.nodes c.expression.new.nodes b.0 (n.0 ∷ []) b.1 n.2,
+        b.2 ∙ all_step by scope c.args.wanted c.args.last fs i d n.0 b.0 c.loop-i-test.true
+            (ap (λ (f : Form). by scope w (tree f)) (sym c.index-forms-i.is)
+            ∙ ap (λ (f : Bool). by scope f (tree d)) (sym c.flag_at-wanted.ensures)
+            ∙ ap (λ (s : Scope). by s c.flag_at-wanted.result (tree d)) (sym c.loop-i.invariant.kept)
+            ∙ ap (λ (s : Spot). named s.room c.loop-i.scope s.wanted (tree d)) (sym c.inner.ensures)
+            ∙ n.1),
+      );
+      kept = c.in_ok-expression.ensures.kept ∙ c.loop-i.invariant.kept;
+    }
+
+pub items-returns-clause-nodes : goal.items-returns-clause-nodes
+items-returns-clause-nodes t c =
+    let by = named (c.args.spot.room - 1) in
+    let b = c.loop-i.invariant.built in (
+      b.0,
+      narrow_ok (c.args.ahead + length c.args.forms.now) c.args.spot (named_all by c.args.scope.now c.args.wanted c.args.last (plain c.args.forms.now)) (omega (arith, c.if-forms-ahead.false, c.requires.few))
+          ∙ b.2 ∙ all_end by c.args.scope.now c.args.wanted c.args.last c.args.forms.now c.loop-i.i b.0 c.loop-i-test.false,
+      b.1,
+    )
