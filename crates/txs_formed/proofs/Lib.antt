@@ -1,0 +1,9 @@
+pub mod Counts
+pub mod HasForm
+pub mod Instrs
+pub mod ReadForms
+pub mod ReadProgram
+pub mod Utf8
+pub mod Values
+pub mod Words
+pub mod Written
