@@ -15,15 +15,15 @@ use Rattle.txs_value.specs.declared.value.Value.{Value}
 use Rattle.txs_code.specs.PlainCode.{PlainCode, CodeBody}
 use Rattle.txs_code.specs.WellTyped.{Functions, FunctionKind, CalleeTakes, IsPureCallee, IsImpure}
 use Rattle.txs_code.specs.declared.instr.Instr.{Instr}
-use Rattle.txs_code.specs.declared.instr.Instr.TheVariants.{TxEnd}
+use Rattle.txs_code.specs.declared.instr.Instr.TheVariants.{TxBegin, TxEnd}
 use Rattle.txs_actor.specs.Effect.{stays, waits, falls, applying, applies_as, applies, goes_through, IsOperation, Operates, LeftApply}
-use Rattle.txs_actor.specs.PlainActor.{owner_of, functions_of, Callers, IsFirst, IsPureBody, first_in, BeganBy, depth_in, IsUnapplied, NoneAside, CanApply, AllApply, AppliesWell}
+use Rattle.txs_actor.specs.PlainActor.{owner_of, functions_of, added, Callers, IsFirst, IsPureBody, first_in, BeganBy, depth_in, swaps_in, IsSwapping, IsUnapplied, NoneAside, CanApply, AllApply, AppliesWell}
 use Rattle.txs_actor.specs.Turns.{function_of, next_function}
 use Rattle.txs_stack.specs.PlainFrame.{PlainFrame}
 use Rattle.txs_actor.specs.declared.state.Origin.{Origin}
 use Rattle.txs_actor.specs.declared.state.Pending.TheVariants as pending
 use Rattle.txs_actor.specs.declared.state.Transaction.{Transaction}
-use Rattle.txs_actor.specs.declared.state.Transaction.TheVariants.{Outside, Restarting, Running, Applying, Evaluating}
+use Rattle.txs_actor.specs.declared.state.Transaction.TheVariants.{Outside, Restarting, Running, Applying, Evaluating, Swapping}
 
 -- ---- many commutes
 
@@ -78,21 +78,32 @@ pure_impure kinds zero p i = absurd p
 pure_impure kinds (suc f) p i = let x = sym p ∙ i in cc
 
 module _ (d : PlainCode) (kinds : List FunctionKind) (n : ℕ) where
-  -- commutes are applied at no other instruction of an impure body than a transaction's end
-  pub unapplied : (b : CodeBody) (at : ℕ) (t : Transaction) (fs : List PlainFrame) (bn : ℕ) (i : Instr) → AppliesWell d kinds n b at t → BeganBy kinds t fs bn → nth b.instrs at ≡ Some i → (i ≡ TxEnd → ⊥) → IsImpure (owner_of kinds bn) → IsUnapplied t
-  unapplied b at Outside fs bn i w p e other im = tt
-  unapplied b at (Restarting left) fs bn i w p e other im = tt
-  unapplied b at (Running left inner from) fs bn i w p e other im = tt
-  unapplied b at (Applying left from phase) fs bn i w p e other im = absurd (other (some (sym e ∙ w.0)))
-  unapplied b at (Evaluating left from phase aside) fs bn i w p e other im = absurd (pure_impure kinds bn p.1 im)
+  -- commutes are applied at no other instruction of an impure body than a transaction's end, where no swap is in hand
+  pub unapplied : (b : CodeBody) (at : ℕ) (t : Transaction) (fs : List PlainFrame) (bn : ℕ) (i : Instr) → AppliesWell d kinds n b at t → BeganBy kinds t fs bn → nth b.instrs at ≡ Some i → (i ≡ TxEnd → ⊥) → IsImpure (owner_of kinds bn) → (IsSwapping t → ⊥) → IsUnapplied t
+  unapplied b at Outside fs bn i w p e other im none = tt
+  unapplied b at (Restarting left) fs bn i w p e other im none = tt
+  unapplied b at (Running left inner from) fs bn i w p e other im none = tt
+  unapplied b at (Applying left from phase) fs bn i w p e other im none = absurd (other (some (sym e ∙ w.0)))
+  unapplied b at (Evaluating left from phase aside) fs bn i w p e other im none = absurd (pure_impure kinds bn p.1 im)
+  unapplied b at (Swapping c p1 from) fs bn i w p e other im none = absurd (none tt)
 
-  -- behind another instruction they are applied in turns of a function alone, wherever that is
-  pub well_behind : (b b1 : CodeBody) (at to : ℕ) (t : Transaction) (i : Instr) → AppliesWell d kinds n b at t → nth b.instrs at ≡ Some i → (i ≡ TxEnd → ⊥) → AppliesWell d kinds n b1 to t
-  well_behind b b1 at to Outside i w e other = tt
-  well_behind b b1 at to (Restarting left) i w e other = tt
-  well_behind b b1 at to (Running left inner from) i w e other = tt
-  well_behind b b1 at to (Applying left from phase) i w e other = absurd (other (some (sym e ∙ w.0)))
-  well_behind b b1 at to (Evaluating left from phase aside) i w e other = w
+  -- outside transactions, and with no swap in hand, an actor is plainly outside, where no transaction begins anew
+  pub plainly_outside : (b : CodeBody) (at : ℕ) (t : Transaction) (i : Instr) → AppliesWell d kinds n b at t → nth b.instrs at ≡ Some i → (i ≡ TxBegin → ⊥) → IsUnapplied t → depth_in t ≡ 0 → t ≡ Outside
+  plainly_outside b at Outside i w e begins u k = refl
+  plainly_outside b at (Restarting left) i w e begins u k = absurd (begins (some (sym e ∙ w)))
+  plainly_outside b at (Running left inner from) i w e begins u k = cc
+  plainly_outside b at (Applying left from phase) i w e begins u k = absurd u
+  plainly_outside b at (Evaluating left from phase aside) i w e begins u k = absurd u
+  plainly_outside b at (Swapping c p from) i w e begins u k = absurd u
+
+  -- behind an instruction that is no transaction's end and no beginning they are applied in turns of a function alone, wherever that is
+  pub well_behind : (b b1 : CodeBody) (at to : ℕ) (t : Transaction) (i : Instr) → AppliesWell d kinds n b at t → nth b.instrs at ≡ Some i → (i ≡ TxEnd → ⊥) → (i ≡ TxBegin → ⊥) → AppliesWell d kinds n b1 to t
+  well_behind b b1 at to Outside i w e other begins = tt
+  well_behind b b1 at to (Restarting left) i w e other begins = absurd (begins (some (sym e ∙ w)))
+  well_behind b b1 at to (Running left inner from) i w e other begins = tt
+  well_behind b b1 at to (Applying left from phase) i w e other begins = absurd (other (some (sym e ∙ w.0)))
+  well_behind b b1 at to (Evaluating left from phase aside) i w e other begins = w
+  well_behind b b1 at to (Swapping c p from) i w e other begins = tt
 
   -- at a transaction's end the next commute is of an operation, where it is of no function
   pub left_apply : (b : CodeBody) (at : ℕ) (t : Transaction) → AppliesWell d kinds n b at t → NoneAside t → next_function t ≡ None → LeftApply t
@@ -101,29 +112,32 @@ module _ (d : PlainCode) (kinds : List FunctionKind) (n : ℕ) where
   left_apply b at (Running left inner from) w u e = tt
   left_apply b at (Applying left from phase) w u e = all_operate (functions_of d kinds) phase.work w.1 e
   left_apply b at (Evaluating left from phase aside) w u e = absurd u
+  left_apply b at (Swapping c p from) w u e = tt
 
   -- a body is called in as many transactions as what was called first, or more
-  pub callers_from : (fs : List PlainFrame) (first base : ℕ) → Callers d kinds n fs first base → first ≤ base
-  callers_from [] first base c = omega (arith, c)
-  callers_from (f ∷ fs) first base c = let le = callers_from fs (first + c.0) base c.2 in omega (arith, le)
+  pub callers_from : (fs : List PlainFrame) (first base : ℕ × ℕ) → Callers d kinds n fs first base → first.0 ≤ base.0
+  callers_from [] first base c = let e : first.0 ≡ base.0 = ap (λ (x : ℕ × ℕ). x.0) c in omega (arith, e)
+  callers_from (f ∷ fs) first base c = let le : first.0 + c.0.0 ≤ base.0 = callers_from fs (added first c.0) base c.2 in omega (arith, le)
 
   -- no stack is put aside in a body's own transaction
-  pub none_in_own : (t : Transaction) (fs : List PlainFrame) (own base : ℕ) → Callers d kinds n fs (first_in t) base → base + own ≡ depth_in t → 0 < own → NoneAside t
+  pub none_in_own : (t : Transaction) (fs : List PlainFrame) (own base : ℕ × ℕ) → Callers d kinds n fs (first_in t) base → base.0 + own.0 ≡ depth_in t → 0 < own.0 → NoneAside t
   none_in_own Outside fs own base c e lt = tt
   none_in_own (Restarting left) fs own base c e lt = tt
   none_in_own (Running left inner from) fs own base c e lt = tt
   none_in_own (Applying left from phase) fs own base c e lt = tt
-  none_in_own (Evaluating left from phase aside) fs own base c e lt = let le = callers_from fs 1 base c in absurd (omega (arith, le, e, lt))
+  none_in_own (Evaluating left from phase aside) fs own base c e lt = let le : 1 ≤ base.0 = callers_from fs (1, 0) base c in absurd (omega (arith, le, e, lt))
+  none_in_own (Swapping x p from) fs own base c e lt = tt
 
-  first_none : (t : Transaction) → NoneAside t → first_in t ≡ 0
+  first_none : (t : Transaction) → NoneAside t → first_in t ≡ (0, 0)
   first_none Outside u = refl
   first_none (Restarting left) u = refl
   first_none (Running left inner from) u = refl
   first_none (Applying left from phase) u = refl
   first_none (Evaluating left from phase aside) u = absurd u
+  first_none (Swapping c p from) u = refl
 
-  pub callers_none : (t : Transaction) (fs : List PlainFrame) (base : ℕ) → NoneAside t → Callers d kinds n fs (first_in t) base → Callers d kinds n fs 0 base
-  callers_none t fs base u c = subst (λ (x : ℕ). Callers d kinds n fs x base) (first_none t u) c
+  pub callers_none : (t : Transaction) (fs : List PlainFrame) (base : ℕ × ℕ) → NoneAside t → Callers d kinds n fs (first_in t) base → Callers d kinds n fs (0, 0) base
+  callers_none t fs base u c = subst (λ (x : ℕ × ℕ). Callers d kinds n fs x base) (first_none t u) c
 
 pub began_none : (kinds : List FunctionKind) (t : Transaction) (fs : List PlainFrame) (bn : ℕ) → NoneAside t → BeganBy kinds t fs bn → IsFirst fs bn
 began_none kinds Outside fs bn u p = p
@@ -131,6 +145,7 @@ began_none kinds (Restarting left) fs bn u p = p
 began_none kinds (Running left inner from) fs bn u p = p
 began_none kinds (Applying left from phase) fs bn u p = p
 began_none kinds (Evaluating left from phase aside) fs bn u p = absurd u
+began_none kinds (Swapping c at from) fs bn u p = p
 
 pub none_unapplied : (t : Transaction) → IsUnapplied t → NoneAside t
 none_unapplied Outside u = tt
@@ -138,6 +153,7 @@ none_unapplied (Restarting left) u = tt
 none_unapplied (Running left inner from) u = tt
 none_unapplied (Applying left from phase) u = tt
 none_unapplied (Evaluating left from phase aside) u = absurd u
+none_unapplied (Swapping c p from) u = absurd u
 
 pub none_outside : (t : Transaction) → depth_in t ≡ 0 → NoneAside t
 none_outside Outside e = tt
@@ -145,6 +161,34 @@ none_outside (Restarting left) e = tt
 none_outside (Running left inner from) e = tt
 none_outside (Applying left from phase) e = tt
 none_outside (Evaluating left from phase aside) e = cc
+none_outside (Swapping c p from) e = tt
+
+-- a swap is in hand in no transaction, and no stack is put aside then
+pub swap_none : (t : Transaction) → IsSwapping t → NoneAside t × (depth_in t ≡ 0) × (swaps_in t ≡ 1)
+swap_none Outside s = absurd s
+swap_none (Restarting left) s = absurd s
+swap_none (Running left inner from) s = absurd s
+swap_none (Applying left from phase) s = absurd s
+swap_none (Evaluating left from phase aside) s = absurd s
+swap_none (Swapping c p from) s = (tt, refl, refl)
+
+-- no swap is in hand in a transaction
+pub swapless : (t : Transaction) → 0 < depth_in t → swaps_in t ≡ 0
+swapless Outside lt = refl
+swapless (Restarting left) lt = refl
+swapless (Running left inner from) lt = refl
+swapless (Applying left from phase) lt = refl
+swapless (Evaluating left from phase aside) lt = refl
+swapless (Swapping c p from) lt = absurd (omega (arith, lt))
+
+-- where there is a swap, it is in hand
+pub swap_in_hand : (t : Transaction) → 0 < swaps_in t → IsSwapping t
+swap_in_hand Outside lt = absurd (omega (arith, lt))
+swap_in_hand (Restarting left) lt = absurd (omega (arith, lt))
+swap_in_hand (Running left inner from) lt = absurd (omega (arith, lt))
+swap_in_hand (Applying left from phase) lt = absurd (omega (arith, lt))
+swap_in_hand (Evaluating left from phase aside) lt = absurd (omega (arith, lt))
+swap_in_hand (Swapping c p from) lt = tt
 
 -- ---- one stage of a commute phase
 

@@ -1,5 +1,5 @@
 -- The replies that asks may have, one by one.
-use Rattle.std.proofs.Common.{◌≡◌, ℕ, Bool, true, false, List, length, Option}
+use Rattle.std.proofs.Common.{◌≡◌, ℕ, Bool, true, false, List, length, Option, Some, None}
 use Rattle.txs_asks.specs.Ask.{Writes}
 use Rattle.txs_asks.specs.declared.ask.Ask.TheVariants as ask
 use Rattle.txs_asks.specs.declared.ask.Reply.{Reply}
@@ -102,6 +102,76 @@ module _ (P : Reply → Type 0) where
   fail_replies p q done full memory Idle m = absurd m
   fail_replies p q done full memory (Opened n v) m = absurd m
 
+  pub reset_replies : (c : CellId) (v : Value) → P Done → P Full → P Memory → (r : Reply) → MayAnswer (ask.CloseAt c None v) r → P r
+  reset_replies c v done full memory (At n) m = absurd m
+  reset_replies c v done full memory (Is w) m = absurd m
+  reset_replies c v done full memory (Views n vs) m = absurd m
+  reset_replies c v done full memory Done m = done
+  reset_replies c v done full memory (Retry d) m = absurd m
+  reset_replies c v done full memory (Changed d) m = absurd m
+  reset_replies c v done full memory (AgentIsFailed g) m = absurd m
+  reset_replies c v done full memory (Action n x w) m = absurd m
+  reset_replies c v done full memory Idle m = absurd m
+  reset_replies c v done full memory (Opened n w) m = absurd m
+  reset_replies c v done full memory Full m = full
+  reset_replies c v done full memory Memory m = memory
+
+  pub send_replies : (a : AnAction) → P Done → ((g : CellId) → P (AgentIsFailed g)) → P Full → P Memory → (r : Reply) → MayAnswer (ask.Send a) r → P r
+  send_replies a done denied full memory (At n) m = absurd m
+  send_replies a done denied full memory (Is w) m = absurd m
+  send_replies a done denied full memory (Views n vs) m = absurd m
+  send_replies a done denied full memory Done m = done
+  send_replies a done denied full memory (Retry d) m = absurd m
+  send_replies a done denied full memory (Changed d) m = absurd m
+  send_replies a done denied full memory (AgentIsFailed g) m = denied g
+  send_replies a done denied full memory (Action n x w) m = absurd m
+  send_replies a done denied full memory Idle m = absurd m
+  send_replies a done denied full memory (Opened n w) m = absurd m
+  send_replies a done denied full memory Full m = full
+  send_replies a done denied full memory Memory m = memory
+
+  pub open_replies : (c : CellId) → ((p : ℕ) (v : Value) → P (Opened p v)) → P Memory → (r : Reply) → MayAnswer (ask.OpenAt c) r → P r
+  open_replies c opened memory (At n) m = absurd m
+  open_replies c opened memory (Is w) m = absurd m
+  open_replies c opened memory (Views n vs) m = absurd m
+  open_replies c opened memory Done m = absurd m
+  open_replies c opened memory (Retry d) m = absurd m
+  open_replies c opened memory (Changed d) m = absurd m
+  open_replies c opened memory (AgentIsFailed g) m = absurd m
+  open_replies c opened memory (Action n x w) m = absurd m
+  open_replies c opened memory Idle m = absurd m
+  open_replies c opened memory (Opened n w) m = opened n w
+  open_replies c opened memory Full m = absurd m
+  open_replies c opened memory Memory m = memory
+
+  pub close_replies : (c : CellId) (p : ℕ) (v : Value) → P Done → ((d : CellId) → P (Changed d)) → P Full → P Memory → (r : Reply) → MayAnswer (ask.CloseAt c (Some p) v) r → P r
+  close_replies c p v done changed full memory (At n) m = absurd m
+  close_replies c p v done changed full memory (Is w) m = absurd m
+  close_replies c p v done changed full memory (Views n vs) m = absurd m
+  close_replies c p v done changed full memory Done m = done
+  close_replies c p v done changed full memory (Retry d) m = absurd m
+  close_replies c p v done changed full memory (Changed d) m = changed d
+  close_replies c p v done changed full memory (AgentIsFailed g) m = absurd m
+  close_replies c p v done changed full memory (Action n x w) m = absurd m
+  close_replies c p v done changed full memory Idle m = absurd m
+  close_replies c p v done changed full memory (Opened n w) m = absurd m
+  close_replies c p v done changed full memory Full m = full
+  close_replies c p v done changed full memory Memory m = memory
+
+  pub broke_replies : (c : CellId) (p : ℕ) → P Done → P Full → P Memory → (r : Reply) → MayAnswer (ask.Broke c p) r → P r
+  broke_replies c p done full memory (At n) m = absurd m
+  broke_replies c p done full memory (Is w) m = absurd m
+  broke_replies c p done full memory (Views n vs) m = absurd m
+  broke_replies c p done full memory Done m = done
+  broke_replies c p done full memory (Retry d) m = absurd m
+  broke_replies c p done full memory (Changed d) m = absurd m
+  broke_replies c p done full memory (AgentIsFailed g) m = absurd m
+  broke_replies c p done full memory (Action n x w) m = absurd m
+  broke_replies c p done full memory Idle m = absurd m
+  broke_replies c p done full memory (Opened n w) m = absurd m
+  broke_replies c p done full memory Full m = full
+  broke_replies c p done full memory Memory m = memory
+
 -- each reply that an actor's ask may have, by what it is for
 pub record Cases (P : Pending → Bool → Reply → Type 0) (w : Work) : Type 0 where
   pub begins : (left : ℕ) (from : Origin) (i : Bool) (p : ℕ) → P (pending.Begin left from) i (At p)
@@ -112,11 +182,18 @@ pub record Cases (P : Pending → Bool → Reply → Type 0) (w : Work) : Type 0
   pub opens : (c : CellId) (n : ℕ) (kept : Option Commute) (i : Bool) (v : Value) → P (pending.Open c n kept) i (Is v)
   pub opens_again : (c : CellId) (n : ℕ) (kept : Option Commute) (i : Bool) (d : CellId) → P (pending.Open c n kept) i (Retry d)
   pub views : (phase : PlainPhase) (i : Bool) (q : ℕ) (vs : List Value) → length vs ≡ length (commuted w) → P (pending.View phase) i (Views q vs)
+  pub resets : (c : CellId) (v : Value) (i : Bool) → P (pending.Reset c v) i Done
+  pub sends : (x : AnAction) (n : ℕ) (i : Bool) → P (pending.Send x n) i Done
+  pub refused : (x : AnAction) (n : ℕ) (i : Bool) (g : CellId) → P (pending.Send x n) i (AgentIsFailed g)
+  pub opens_atom : (c : CellId) (n : ℕ) (from : Origin) (i : Bool) (p : ℕ) (v : Value) → P (pending.Swap c n from) i (Opened p v)
+  pub closes_atom : (c : CellId) (p : ℕ) (v : Value) (i : Bool) → P (pending.Close c p v) i Done
+  pub swaps_again : (c : CellId) (p : ℕ) (v : Value) (i : Bool) (d : CellId) → P (pending.Close c p v) i (Changed d)
   pub commits : (i : Bool) → P pending.Commit i Done
   pub commits_again : (i : Bool) (d : CellId) → P pending.Commit i (Retry d)
   pub changed : (i : Bool) (d : CellId) → P pending.Commit i (Changed d)
   pub denied : (i : Bool) (g : CellId) → P pending.Commit i (AgentIsFailed g)
   pub fails : (f : Fault) (i : Bool) → P (pending.Fail f) i Done
+  pub breaks : (c : CellId) (p : ℕ) (f : Fault) (i : Bool) → P (pending.Broke c p f) i Done
   pub full : (p : Pending) (i : Bool) → P p i Full
   pub memory : (p : Pending) (i : Bool) → P p i Memory
 
@@ -127,5 +204,10 @@ by_reply P w k (pending.Read c) false at view ws r m = peek_replies (P (pending.
 by_reply P w k (pending.Ensure c es) i at view ws r m = look_replies (P (pending.Ensure c es) i) c at (k.ensures c es i) (k.ensures_again c es i) (k.full (pending.Ensure c es) i) (k.memory (pending.Ensure c es) i) r m
 by_reply P w k (pending.Open c n kept) i at view ws r m = look_replies (P (pending.Open c n kept) i) c at (k.opens c n kept i) (k.opens_again c n kept i) (k.full (pending.Open c n kept) i) (k.memory (pending.Open c n kept) i) r m
 by_reply P w k (pending.View phase) i at view ws r m = view_replies (P (pending.View phase) i) (commuted w) (k.views phase i) (k.memory (pending.View phase) i) r m
+by_reply P w k (pending.Reset c v) i at view ws r m = reset_replies (P (pending.Reset c v) i) c v (k.resets c v i) (k.full (pending.Reset c v) i) (k.memory (pending.Reset c v) i) r m
+by_reply P w k (pending.Send x n) i at view ws r m = send_replies (P (pending.Send x n) i) x (k.sends x n i) (k.refused x n i) (k.full (pending.Send x n) i) (k.memory (pending.Send x n) i) r m
+by_reply P w k (pending.Swap c n from) i at view ws r m = open_replies (P (pending.Swap c n from) i) c (k.opens_atom c n from i) (k.memory (pending.Swap c n from) i) r m
+by_reply P w k (pending.Close c p v) i at view ws r m = close_replies (P (pending.Close c p v) i) c p v (k.closes_atom c p v i) (k.swaps_again c p v i) (k.full (pending.Close c p v) i) (k.memory (pending.Close c p v) i) r m
 by_reply P w k pending.Commit i at view ws r m = commit_replies (P pending.Commit i) at (set_writes w) w.ensures view ws w.sends (k.commits i) (k.commits_again i) (k.changed i) (k.denied i) (k.full pending.Commit i) (k.memory pending.Commit i) r m
 by_reply P w k (pending.Fail f) i at view ws r m = fail_replies (P (pending.Fail f) i) at view (k.fails f i) (k.full (pending.Fail f) i) (k.memory (pending.Fail f) i) r m
+by_reply P w k (pending.Broke c p f) i at view ws r m = broke_replies (P (pending.Broke c p f) i) c p (k.breaks c p f i) (k.full (pending.Broke c p f) i) (k.memory (pending.Broke c p f) i) r m

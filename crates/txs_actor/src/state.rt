@@ -2,16 +2,16 @@
 
 use txs_frame::{Commute, Phase};
 use txs_stack::Stack;
-use txs_value::{CellId, Fault, Listed, Span};
+use txs_value::{Action, CellId, Fault, Listed, Span, Value};
 
-/// Where a transaction began: its span, and the stack there, whose body goes on at its first instruction.
+/// Where a transaction or a swap began: its span, and the stack there, whose body goes on at its first instruction.
 #[derive(Drop)]
 pub struct Origin {
     pub span: Span,
     pub stack: Stack,
 }
 
-/// The transaction of an actor.
+/// The transaction of an actor, or the swap that it has in hand.
 #[derive(Drop)]
 pub enum Transaction {
     /// None.
@@ -39,6 +39,13 @@ pub enum Transaction {
         phase: Phase,
         aside: Stack,
     },
+    /// There is none, and the callee of a swap is applied, whose atom was opened at this place of its book. It goes again from
+    /// where it began.
+    Swapping {
+        cell: CellId,
+        at: u32,
+        from: Origin,
+    },
 }
 
 /// What an actor's unanswered ask is for.
@@ -54,8 +61,19 @@ pub enum Pending {
     Open(CellId, u16, Option<Commute>),
     /// The refs that were commuted and not set are viewed, for this commute phase.
     View(Phase),
+    /// An atom gets this value, which stands at the top of the stack and takes the atom's place, too.
+    Reset(CellId, Value),
+    /// An action is sent, and its agent takes the place of itself and so many arguments at the top of the stack.
+    Send(Action, u16),
+    /// An atom's value goes between the atom and so many arguments, and a swap is in hand then, which goes again from here.
+    Swap(CellId, u16, Origin),
+    /// A swap ends: its atom, which was opened at this place, gets this value, which stands at the top of the stack and takes the
+    /// atom's place, too.
+    Close(CellId, u32, Value),
     /// A transaction ends.
     Commit,
     /// A transaction has ended with a fault.
     Fail(Fault),
+    /// A swap of this atom, which was opened at this place, has ended with a fault.
+    Broke(CellId, u32, Fault),
 }

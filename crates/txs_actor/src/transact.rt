@@ -1,6 +1,6 @@
 //! Instructions on cells and the transaction of an actor.
 
-ghost use Rattle.std.specs.Prelude.{ℕ, List, ◌≡◌, ◌<◌, ◌≤◌, ◌^◌, length, true, Ok, Some, Option, IfOk};
+ghost use Rattle.std.specs.Prelude.{ℕ, ◌+◌, ◌++◌, ◌∷◌, [], List, ◌≡◌, ◌<◌, ◌≤◌, ◌^◌, length, true, Ok, Some, Option, IfOk};
 ghost use Rattle.txs_asks.specs.Ask.{buffered};
 ghost use Rattle.txs_code.specs.ActorState.{kept_open};
 ghost use Rattle.txs_frame.specs.Frame.{Work, commuted};
@@ -12,11 +12,11 @@ ghost use Rattle.txs_value.specs.declared.value.CellId.{CellId as ACell};
 ghost use Rattle.txs_value.specs.declared.value.Value.{Value as AValue};
 ghost use Rattle.txs_value.specs.declared.form.CellForm.TheVariants as form;
 ghost use Rattle.txs_value.specs.declared.form.UpdateForm.TheVariants as update;
-ghost use Rattle.txs_actor.specs.Effect.{Comes, CanMove, effect, reads, ensures, update_of, opens, sets, closes, begins, settles, applying, goes_through, ends, Operates, LeftApply, IsForRefs};
+ghost use Rattle.txs_actor.specs.Effect.{Comes, CanMove, effect, reads, ensures, update_of, opens, sets, resets, sends, swaps, swapped, closes, begins, settles, applying, goes_through, ends, Operates, LeftApply, IsForRefs};
 ghost use Rattle.txs_actor.specs.declared.state.Transaction.{Transaction as ATransaction};
-ghost use Rattle.txs_actor.specs.PlainActor.{is_running, depth_in, IsUnapplied};
+ghost use Rattle.txs_actor.specs.PlainActor.{is_running, depth_in, IsUnapplied, IsSwapping};
 ghost use Rattle.txs_stack.specs.PlainFrame.{PlainStack};
-ghost use Rattle.txs_stack.specs.Values.{topmost};
+ghost use Rattle.txs_stack.specs.Values.{below, topmost};
 
 use crate::outcome::Moved;
 use crate::state::{Origin, Pending, Transaction};
@@ -27,7 +27,7 @@ use txs_frame::{Commute, Phase, SetError, TxFrame};
 use txs_operations::apply_owned;
 use txs_stack::Stack;
 use txs_value::{
-    Callee, CellForm, CellId, Fault, FaultKind, Listed, LookForm, Op, PutForm, Span, Stop,
+    Action, Callee, CellForm, CellId, Fault, FaultKind, Listed, LookForm, Op, PutForm, Span, Stop,
     UpdateForm, Value, copy_value, copy_values,
 };
 
@@ -196,6 +196,74 @@ fn set(form: CellForm, stack: &mut Stack, tx: &Transaction, frame: &mut TxFrame)
     }
 }
 
+/// An atom gets the last value, outside transactions: the store is asked for it.
+#[inline(never)]
+fn reset(stack: &Stack) -> Moved
+    requires room { 1 < length stack.now.values }
+    ensures comes { (tx : ATransaction) (w : Work) (k : Option ACommute) → Comes result stack.now.values tx w k w k (resets stack.now.values tx w k) }
+{
+    let cell = match CellForm::Put(PutForm::Reset).cell_of(false, stack.under(1)) {
+        Err(kind) => return Moved::Faults(kind),
+        Ok(cell) => cell,
+    };
+    match copy_value(stack.last()) {
+        Ok(value) => Moved::Asks(Pending::Reset(cell, value)),
+        Err(_) => Moved::Memory,
+    }
+}
+
+/// A value in the place of the n at the top and of the one below them.
+pub(crate) fn replace_over(stack: &mut Stack, n: usize, value: Value)
+    requires { (n < length stack.old.values) × (length stack.old.values ≤ stack.old.room) }
+    ensures { stack.new ≡ record stack.old { values = below (n + 1) stack.old.values ++ value ∷ [] } }
+{
+    for taken in 0..n {
+        drop(stack.take_last());
+    }
+    stack.replace_last(value);
+}
+
+/// An action for the agent below the n arguments is held in a transaction, and sent outside.
+#[inline(never)]
+fn send(
+    alloc: Global,
+    callee: Callee,
+    n: u16,
+    span: Span,
+    stack: &mut Stack,
+    tx: &Transaction,
+    frame: &mut TxFrame,
+) -> Moved
+    requires room { (n < length stack.old.values) × (length stack.old.values ≤ stack.old.room) }
+    ensures comes { (k : Option ACommute) → Comes result stack.new.values tx.now frame.new k frame.old k (sends (is_running tx.now) callee n span stack.old.values tx.now frame.old k) }
+    ensures rest { stack.new ≡ record stack.old { values = stack.new.values } }
+{
+    let inside = is_running(tx);
+    let agent = match CellForm::Send.cell_of(inside, stack.under(n as usize)) {
+        Err(kind) => return Moved::Faults(kind),
+        Ok(agent) => agent,
+    };
+    let Ok(args) = copy_topmost(alloc, stack, n as usize) else {
+        return Moved::Memory;
+    };
+    let action = Action {
+        agent,
+        callee,
+        args,
+        span,
+    };
+    if !inside {
+        return Moved::Asks(Pending::Send(action, n));
+    }
+    match frame.hold_send(action) {
+        Err(_) => Moved::Memory,
+        Ok(()) => {
+            replace_over(stack, n as usize, Value::Cell(agent));
+            Moved::On
+        }
+    }
+}
+
 /// The commute that is open is kept, with copies of its arguments, and with the last value as that of the ref below it.
 #[inline(never)]
 fn keep(
@@ -252,6 +320,38 @@ fn close(
     set(CellForm::Update(UpdateForm::Alter), stack, tx, frame)
 }
 
+/// The atom below n arguments is asked for its value, outside transactions: a swap goes again from here.
+#[inline(never)]
+fn open_swap(alloc: Global, n: u16, span: Span, stack: &Stack) -> Moved
+    requires room { n < length stack.now.values }
+    ensures comes { (tx : ATransaction) (w : Work) (k : Option ACommute) → Comes result stack.now.values tx w k w k (swaps n (record { span = span; stack = stack.now }) stack.now.values tx w k) }
+{
+    let cell = match CellForm::Update(UpdateForm::Swap).cell_of(false, stack.under(n as usize)) {
+        Err(kind) => return Moved::Faults(kind),
+        Ok(cell) => cell,
+    };
+    match stack.copy(alloc) {
+        Ok(stack) => Moved::Asks(Pending::Swap(cell, n, Origin { span, stack })),
+        Err(_) => Moved::Memory,
+    }
+}
+
+/// The atom of the swap in hand is asked to get the last value, unless it has changed.
+#[inline(never)]
+fn close_swap(stack: &Stack, tx: &Transaction) -> Moved
+    requires value { 0 < length stack.now.values }
+    requires swapping { IsSwapping tx.now }
+    ensures comes { (w : Work) (k : Option ACommute) → Comes result stack.now.values tx.now w k w k (swapped stack.now.values w k tx.now) }
+{
+    let Transaction::Swapping { cell, at, .. } = tx else {
+        unreachable!();
+    };
+    match copy_value(stack.last()) {
+        Ok(value) => Moved::Asks(Pending::Close(*cell, *at, value)),
+        Err(_) => Moved::Memory,
+    }
+}
+
 /// A transaction begins, or joins the one that runs.
 #[inline(always)]
 #[tactic(auto, unfolding(txs_value::specs::Limits::reruns))]
@@ -267,7 +367,9 @@ fn begin(alloc: Global, span: Span, stack: &Stack, tx: &mut Transaction) -> Move
         }
         Transaction::Outside => RERUNS,
         Transaction::Restarting { left } => *left,
-        Transaction::Applying { .. } | Transaction::Evaluating { .. } => unreachable!(),
+        Transaction::Applying { .. }
+        | Transaction::Evaluating { .. }
+        | Transaction::Swapping { .. } => unreachable!(),
     };
     match stack.copy(alloc) {
         Ok(stack) => Moved::Asks(Pending::Begin {
@@ -342,7 +444,9 @@ fn end(alloc: Global, tx: &mut Transaction, frame: &TxFrame) -> Moved
             Moved::On
         }
         Transaction::Applying { from, phase, .. } => go_through(alloc, from.span, phase),
-        Transaction::Outside | Transaction::Restarting { .. } => Moved::On,
+        Transaction::Outside | Transaction::Restarting { .. } | Transaction::Swapping { .. } => {
+            Moved::On
+        }
         Transaction::Evaluating { .. } => unreachable!(),
     }
 }
@@ -366,15 +470,19 @@ pub(crate) fn transact(
         Instr::Look(LookForm::Deref) => deref(stack, tx, frame),
         Instr::Look(LookForm::Ensure) => ensure(stack, tx, frame),
         Instr::Put(PutForm::RefSet) => set(CellForm::Put(PutForm::RefSet), stack, tx, frame),
+        Instr::Put(PutForm::Reset) => reset(stack),
+        Instr::Send(callee, n) => send(alloc, callee, n, span, stack, tx, frame),
         Instr::TxBegin => begin(alloc, span, stack, tx),
         Instr::TxEnd => end(alloc, tx, frame),
         Instr::Open(OpenForm::Alter, n) => open(alloc, None, n, stack, tx, frame, commuting),
         Instr::Open(OpenForm::Commute(callee), n) => {
             open(alloc, Some(callee), n, stack, tx, frame, commuting)
         }
+        Instr::Open(OpenForm::Swap(_), n) => open_swap(alloc, n, span, stack),
         Instr::Close(UpdateForm::Alter | UpdateForm::Commute) => {
             close(alloc, stack, tx, frame, commuting)
         }
+        Instr::Close(UpdateForm::Swap) => close_swap(stack, tx),
         _ => unreachable!(),
     }
 }
