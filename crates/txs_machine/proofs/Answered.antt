@@ -9,9 +9,9 @@ use Rattle.txs_frame.specs.Phase.{PlainPhase}
 use Rattle.txs_value.specs.declared.value.Value.{Value}
 use Rattle.txs_actor.specs.PlainActor.{PlainActor, MayAnswer, Stops, answered, answered_for, answered_if, asked_for, applied_in, run_again, end_again, refuse, views, unanswered, is_running}
 use Rattle.txs_actor.specs.declared.state.Pending.{Pending}
-use Rattle.txs_actor.specs.declared.state.Pending.TheVariants.{Begin, Read, Ensure, Open, View, Commit, Fail}
+use Rattle.txs_actor.specs.declared.state.Pending.TheVariants.{Begin, Read, Ensure, Open, View, Reset, Send, Swap, Close, Commit, Fail, Broke}
 use Rattle.txs_actor.specs.declared.state.Transaction.{Transaction}
-use Rattle.txs_actor.specs.declared.state.Transaction.TheVariants.{Outside, Restarting, Running, Applying, Evaluating}
+use Rattle.txs_actor.specs.declared.state.Transaction.TheVariants.{Outside, Restarting, Running, Applying, Evaluating, Swapping}
 use Rattle.txs_actor.proofs.Replies.{by_reply}
 
 -- an outcome that isn't want of steps
@@ -47,6 +47,7 @@ again_leaves a (Running (suc left) inner from) = goes a _ refl refl refl refl re
 again_leaves a (Applying zero from phase) = ends a _ (outcome.Failed _) refl refl refl refl refl tt
 again_leaves a (Applying (suc left) from phase) = goes a _ refl refl refl refl refl
 again_leaves a (Evaluating left from phase aside) = goes a _ refl refl refl refl refl
+again_leaves a (Swapping c p from) = goes a _ refl refl refl refl refl
 
 end_leaves : (a : PlainActor) (tx : Transaction) → Leaves a (end_again a tx)
 end_leaves a Outside = goes a _ refl refl refl refl refl
@@ -56,6 +57,7 @@ end_leaves a (Running (suc left) inner from) = goes a _ refl refl refl refl refl
 end_leaves a (Applying zero from phase) = ends a _ (outcome.Failed _) refl refl refl refl refl tt
 end_leaves a (Applying (suc left) from phase) = goes a _ refl refl refl refl refl
 end_leaves a (Evaluating left from phase aside) = goes a _ refl refl refl refl refl
+end_leaves a (Swapping c p from) = goes a _ refl refl refl refl refl
 
 refuse_leaves : (a : PlainActor) (tx : Transaction) → Leaves a (refuse a tx)
 refuse_leaves a Outside = goes a _ refl refl refl refl refl
@@ -63,6 +65,7 @@ refuse_leaves a (Restarting left) = goes a _ refl refl refl refl refl
 refuse_leaves a (Running left inner from) = ends a _ (outcome.Failed _) refl refl refl refl refl tt
 refuse_leaves a (Applying left from phase) = ends a _ (outcome.Failed _) refl refl refl refl refl tt
 refuse_leaves a (Evaluating left from phase aside) = goes a _ refl refl refl refl refl
+refuse_leaves a (Swapping c p from) = goes a _ refl refl refl refl refl
 
 views_leaves : (a : PlainActor) (phase : PlainPhase) (q : ℕ) (vs : List Value) (tx : Transaction) → Leaves a (views a phase q vs tx)
 views_leaves a phase q vs Outside = goes a _ refl refl refl refl refl
@@ -70,6 +73,7 @@ views_leaves a phase q vs (Restarting left) = goes a _ refl refl refl refl refl
 views_leaves a phase q vs (Running left inner from) = goes a _ refl refl refl refl refl
 views_leaves a phase q vs (Applying left from before) = goes a _ refl refl refl refl refl
 views_leaves a phase q vs (Evaluating left from before aside) = goes a _ refl refl refl refl refl
+views_leaves a phase q vs (Swapping c p from) = goes a _ refl refl refl refl refl
 
 full_leaves : (a : PlainActor) (p : Pending) → Leaves a (answered_for a p reply.Full)
 full_leaves a (Begin left from) = ends a _ outcome.JournalFull refl refl refl refl refl tt
@@ -77,8 +81,13 @@ full_leaves a (Read c) = ends a _ outcome.JournalFull refl refl refl refl refl t
 full_leaves a (Ensure c es) = ends a _ outcome.JournalFull refl refl refl refl refl tt
 full_leaves a (Open c n kept) = ends a _ outcome.JournalFull refl refl refl refl refl tt
 full_leaves a (View phase) = ends a _ outcome.JournalFull refl refl refl refl refl tt
+full_leaves a (Reset c v) = ends a _ outcome.JournalFull refl refl refl refl refl tt
+full_leaves a (Send x n) = ends a _ outcome.JournalFull refl refl refl refl refl tt
+full_leaves a (Swap c n from) = ends a _ outcome.JournalFull refl refl refl refl refl tt
+full_leaves a (Close c p v) = ends a _ outcome.JournalFull refl refl refl refl refl tt
 full_leaves a Commit = ends a _ outcome.JournalFull refl refl refl refl refl tt
 full_leaves a (Fail f) = ends a _ outcome.JournalFull refl refl refl refl refl tt
+full_leaves a (Broke c p f) = ends a _ outcome.JournalFull refl refl refl refl refl tt
 
 memory_leaves : (a : PlainActor) (p : Pending) → Leaves a (answered_for a p reply.Memory)
 memory_leaves a (Begin left from) = ends a _ outcome.Memory refl refl refl refl refl tt
@@ -86,8 +95,13 @@ memory_leaves a (Read c) = ends a _ outcome.Memory refl refl refl refl refl tt
 memory_leaves a (Ensure c es) = ends a _ outcome.Memory refl refl refl refl refl tt
 memory_leaves a (Open c n kept) = ends a _ outcome.Memory refl refl refl refl refl tt
 memory_leaves a (View phase) = ends a _ outcome.Memory refl refl refl refl refl tt
+memory_leaves a (Reset c v) = ends a _ outcome.Memory refl refl refl refl refl tt
+memory_leaves a (Send x n) = ends a _ outcome.Memory refl refl refl refl refl tt
+memory_leaves a (Swap c n from) = ends a _ outcome.Memory refl refl refl refl refl tt
+memory_leaves a (Close c p v) = ends a _ outcome.Memory refl refl refl refl refl tt
 memory_leaves a Commit = ends a _ outcome.Memory refl refl refl refl refl tt
 memory_leaves a (Fail f) = ends a _ outcome.Memory refl refl refl refl refl tt
+memory_leaves a (Broke c p f) = ends a _ outcome.Memory refl refl refl refl refl tt
 
 some : {A : Type 0} {x y : A} → Some x ≡ Some y → x ≡ y
 some e = cc
@@ -109,11 +123,18 @@ answer_leaves a q r e m = go a.pending e
           opens = λ c n kept i v. goes a _ refl refl refl refl refl;
           opens_again = λ c n kept i d. again_leaves a a.tx;
           views = λ phase i q vs m. views_leaves a phase q vs a.tx;
+          resets = λ c v i. goes a _ refl refl refl refl refl;
+          sends = λ x n i. goes a _ refl refl refl refl refl;
+          refused = λ x n i g. ends a _ (outcome.Failed _) refl refl refl refl refl tt;
+          opens_atom = λ c n from i k v. goes a _ refl refl refl refl refl;
+          closes_atom = λ c k v i. goes a _ refl refl refl refl refl;
+          swaps_again = λ c k v i d. end_leaves a a.tx;
           commits = λ i. goes a _ refl refl refl refl refl;
           commits_again = λ i d. again_leaves a a.tx;
           changed = λ i d. end_leaves a a.tx;
           denied = λ i g. refuse_leaves a a.tx;
           fails = λ f i. ends a _ (outcome.Failed f) refl refl refl refl refl tt;
+          breaks = λ c k f i. ends a _ (outcome.Failed f) refl refl refl refl refl tt;
           full = λ y i. full_leaves a y;
           memory = λ y i. memory_leaves a y;
         }) p (is_running a.tx) a.at a.view (applied_in a.tx) r (subst (λ x. MayAnswer x r) (sym (some e)) m)
@@ -126,8 +147,13 @@ full_ends a (Read c) = refl
 full_ends a (Ensure c es) = refl
 full_ends a (Open c n kept) = refl
 full_ends a (View phase) = refl
+full_ends a (Reset c v) = refl
+full_ends a (Send x n) = refl
+full_ends a (Swap c n from) = refl
+full_ends a (Close c p v) = refl
 full_ends a Commit = refl
 full_ends a (Fail f) = refl
+full_ends a (Broke c p f) = refl
 
 memory_ends : (a : PlainActor) (p : Pending) → (answered_for a p reply.Memory).outcome ≡ Some outcome.Memory
 memory_ends a (Begin left from) = refl
@@ -135,8 +161,13 @@ memory_ends a (Read c) = refl
 memory_ends a (Ensure c es) = refl
 memory_ends a (Open c n kept) = refl
 memory_ends a (View phase) = refl
+memory_ends a (Reset c v) = refl
+memory_ends a (Send x n) = refl
+memory_ends a (Swap c n from) = refl
+memory_ends a (Close c p v) = refl
 memory_ends a Commit = refl
 memory_ends a (Fail f) = refl
+memory_ends a (Broke c p f) = refl
 
 -- the end of an actor that is stopped so
 abbrev end_by : Reply → Option Outcome → Type 0

@@ -112,7 +112,7 @@ all_ended xs rs h p k r e n = let x = reported_at xs rs k r p e in ended_at xs k
 
 -- ---- what sources say
 
-so_explained : (a : PlainActor) (o : Option Outcome) (r : Completion ThreadState Value) → Explained (told a o None) r → ExplainsSo o a.printed r
+pub so_explained : (a : PlainActor) (o : Option Outcome) (r : Completion ThreadState Value) → Explained (told a o None) r → ExplainsSo o a.printed r
 so_explained a None r h = h
 so_explained a (Some outcome.Done) r h = h
 so_explained a (Some (outcome.Failed f)) r h = h
@@ -156,7 +156,7 @@ module _ (by : Known) (code : PlainCode) (k : ℕ) (books : ℕ → List Event) 
   past = ap (seen_of code.cells books) (sym traced)
 
   -- the source means what the actor printed, and how it ended
-  part_explained : (n : ℕ) × ExplainsSo a.outcome a.printed (thread_meaning p n seen)
+  pub part_explained : (n : ℕ) × ExplainsSo a.outcome a.printed (thread_meaning p n seen)
   part_explained =
       let xs = map exchange_of h.entries in
       let fitted : RepliesFit code.cells Out xs seen = subst (RepliesFit code.cells Out xs) past (by.fit code.cells Out xs _ _ (by.fits code.cells (length code.threads) books k h.entries h.stage h.told)) in
@@ -172,7 +172,7 @@ module _ (by : Known) (code : PlainCode) (k : ℕ) (books : ℕ → List Event) 
       record { waiting = w.waiting; asking = w.asking; consumed = w.consumed; printed = prints_there w.waiting.printed a a.outcome w.printed }
 
   -- the actor has printed what the source means on all that the actor did but the last
-  part_printed : (seen ≡ []) ⊎ ((hs : List SeenEvent) × (e : SeenEvent) × (seen ≡ hs ++ e ∷ []) × (n : ℕ) × (least : List ℕ) × HasEaten least (halted (thread_meaning p n hs)) × (rest : List ℕ) × (a.printed ≡ least ++ rest))
+  pub part_printed : (seen ≡ []) ⊎ ((hs : List SeenEvent) × (e : SeenEvent) × (seen ≡ hs ++ e ∷ []) × (n : ℕ) × (least : List ℕ) × HasEaten least (halted (thread_meaning p n hs)) × (rest : List ℕ) × (a.printed ≡ least ++ rest))
   part_printed = go (printed_before code.cells (length code.threads) books k (record { stays = by.stays; done = by.done; fit = by.fit }) (code_of code k) x h.stage h.told each_waits)
     where
       go : PrintedBeforeLast code.cells (code_of code k) books k x
@@ -184,7 +184,7 @@ module _ (by : Known) (code : PlainCode) (k : ℕ) (books : ℕ → List Event) 
           inr (d.0, d.1, sym past ∙ d.2, a.steps, on.0, on.1, prints.0, prints.1)
 
 -- the code of a program's thread
-code_at : (code : PlainCode) (bs : List CodeBody) (ts : List PlainThread) (k : ℕ) (t : PlainThread) → length (map (thread_code code) bs) ≡ length ts → nth ts k ≡ Some t
+pub code_at : (code : PlainCode) (bs : List CodeBody) (ts : List PlainThread) (k : ℕ) (t : PlainThread) → length (map (thread_code code) bs) ≡ length ts → nth ts k ≡ Some t
     → nth (map (thread_code code) bs) k ≡ Some (thread_code code (body_or_none (nth bs k)))
 code_at code [] [] k t e h = absurd (subst is_some (sym h) tt)
 code_at code [] (u ∷ ts) k t e h = absurd (omega (arith, e))
@@ -192,7 +192,7 @@ code_at code (b ∷ bs) [] k t e h = absurd (omega (arith, e))
 code_at code (b ∷ bs) (u ∷ ts) zero t e h = refl
 code_at code (b ∷ bs) (u ∷ ts) (suc k) t e h = code_at code bs ts k t (omega (arith, e)) h
 
-length_map : {A B : Type 0} (f : A → B) (xs : List A) → length (map f xs) ≡ length xs
+pub length_map : {A B : Type 0} (f : A → B) (xs : List A) → length (map f xs) ≡ length xs
 length_map f [] = refl
 length_map f (x ∷ xs) = ap suc (length_map f xs)
 
@@ -220,7 +220,7 @@ thread_explained by code k limit books x r h rep p t same follows e =
     }
 
 -- what is shared stands: so do its books
-books_stand : (cells : List CellDefinition) (threads : ℕ) (sh : Shared) → SharedStands cells threads sh → BooksStand cells threads sh
+pub books_stand : (cells : List CellDefinition) (threads : ℕ) (sh : Shared) → SharedStands cells threads sh → BooksStand cells threads sh
 books_stand cells threads sh h = record { legal = h.store.legal; undisturbed = h.store.undisturbed; atoms = h.atoms }
 
 -- each program that the code follows explains the run

@@ -38,7 +38,7 @@ move_limited code limit a b r true e t h = step_limited code limit a b r e t h
 move_limited code limit a b r false e t h =
     subst (IsLimited limit) (sym t.1) (record { limited = h.limited; within = h.within; spent = λ s. spent_at limit a.steps a.limit e h.limited })
 
-turn_limited : (code : PlainCode) (limit : ℕ) (a b : PlainActor) (r : Turn) (o : Option Outcome) → TurnsFrom code a o r b → IsLimited limit a → IsLimited limit b
+pub turn_limited : (code : PlainCode) (limit : ℕ) (a b : PlainActor) (r : Turn) (o : Option Outcome) → TurnsFrom code a o r b → IsLimited limit a → IsLimited limit b
 turn_limited code limit a b r None t h = move_limited code limit a b r (nat_lt a.steps a.limit) refl t h
 turn_limited code limit a b r (Some o) t h = subst (IsLimited limit) (sym t.1) h
 

@@ -32,7 +32,7 @@ use Rattle.txs_tree.specs.Meaning.{Completion}
 use Rattle.txs_tree.specs.Thread.{ThreadState, thread_meaning}
 use Rattle.txs_tree.specs.Tree.{ThreadSource}
 use Rattle.txs_actor.specs.Laws.{ActorsRun}
-use Rattle.txs_actor.specs.PlainActor.{PlainActor, MayAnswer, Stops, answered, unanswered, configuration_of, state_of, body_or_none, code_of, stands_at, standing, Awaits, HasAsked, HasRun, HasCome, HasEndedSo}
+use Rattle.txs_actor.specs.PlainActor.{PlainActor, MayAnswer, Stops, answered, unanswered, configuration_of, state_of, body_or_none, code_of, stands_at, standing, Awaits, AsksLast, HasAsked, HasRun, HasCome, HasEndedSo}
 use Rattle.txs_actor.specs.Turns.{IsNew, OneStep, Answers, Moves, TurnsFrom, Turns, GoesOnAfter, TurnsOf}
 use Rattle.txs_actor.specs.declared.outcome.Turn.{Turn}
 use Rattle.txs_actor.specs.declared.outcome.Turn.TheVariants as turned
@@ -81,11 +81,11 @@ append_nil [] = refl
 append_nil (x ∷ xs) = ap (λ l. x ∷ l) (append_nil xs)
 
 -- what holds of an actor's outcome and ask as they are
-as_is : (b : PlainActor) (st : Stage) (o : Option Outcome) (q : Option Ask) → b.outcome ≡ o → unanswered b ≡ q → IsIn b st o q → IsIn b st b.outcome (unanswered b)
+pub as_is : (b : PlainActor) (st : Stage) (o : Option Outcome) (q : Option Ask) → b.outcome ≡ o → unanswered b ≡ q → IsIn b st o q → IsIn b st b.outcome (unanswered b)
 as_is b st o q e f h = subst (λ x. IsIn b st x (unanswered b)) (sym e) (subst (λ y. IsIn b st o y) (sym f) h)
 
 -- and the other way round
-as_known : (b : PlainActor) (st : Stage) (o : Option Outcome) (q : Option Ask) → b.outcome ≡ o → unanswered b ≡ q → IsIn b st b.outcome (unanswered b) → IsIn b st o q
+pub as_known : (b : PlainActor) (st : Stage) (o : Option Outcome) (q : Option Ask) → b.outcome ≡ o → unanswered b ≡ q → IsIn b st b.outcome (unanswered b) → IsIn b st o q
 as_known b st o q e f h = subst (λ y. IsIn b st o y) f (subst (λ x. IsIn b st x (unanswered b)) e h)
 
 abbrev is_some : {A : Type 0} → Option A → Type 0
@@ -99,7 +99,7 @@ ask_in d (Some q) = q
 -- ---- turns
 
 -- where a turn leaves an actor that was in a stage
-abbrev Keeps : PlainActor → PlainActor → Stage → Type 0
+abbrev pub Keeps : PlainActor → PlainActor → Stage → Type 0
 Keeps a b st = (b.number ≡ a.number) × IsIn b st b.outcome (unanswered b)
 
 ended_keeps : (a b : PlainActor) (st : Stage) (o : Outcome) (q : Option Ask) → OneStep a (Some o) q b → Keeps a b st
@@ -138,12 +138,12 @@ move_keeps : (code : PlainCode) (a b : PlainActor) (r : Turn) (st : Stage) (may 
 move_keeps code a b r st true law t here = step_keeps code a b r st law t here
 move_keeps code a b r st false law t here = subst (λ x. Keeps a x st) (sym t.1) (refl, tt)
 
-turn_keeps : (code : PlainCode) (a b : PlainActor) (r : Turn) (st : Stage) (o : Option Outcome) → (a.outcome ≡ None → TurnIsStaged (code_of code a.number) (configuration_of a)) → a.outcome ≡ o → unanswered a ≡ None → TurnsFrom code a o r b → IsIn a st o None → Keeps a b st
+pub turn_keeps : (code : PlainCode) (a b : PlainActor) (r : Turn) (st : Stage) (o : Option Outcome) → (a.outcome ≡ None → TurnIsStaged (code_of code a.number) (configuration_of a)) → a.outcome ≡ o → unanswered a ≡ None → TurnsFrom code a o r b → IsIn a st o None → Keeps a b st
 turn_keeps code a b r st None law e f t here = move_keeps code a b r st (nat_lt a.steps a.limit) (law e) t here
 turn_keeps code a b r st (Some o) law e f t here = subst (λ x. Keeps a x st) (sym t.1) (refl, as_is a st (Some o) None e f tt)
 
 -- an outcome that isn't a full book
-abbrev Unfilled : Option Outcome → Type 0
+abbrev pub Unfilled : Option Outcome → Type 0
 Unfilled None = Unit {0}
 Unfilled (Some outcome.Done) = Unit {0}
 Unfilled (Some (outcome.Failed f)) = Unit {0}
@@ -161,7 +161,7 @@ step_unfilled code a b (turned.Ended outcome.StepsSpent) t = absurd t
 step_unfilled code a b (turned.Ended outcome.JournalFull) t = absurd t
 step_unfilled code a b (turned.Ended outcome.Memory) t = subst Unfilled (sym t.1.outcome) tt
 
-move_unfilled : (code : PlainCode) (a b : PlainActor) (r : Turn) (may : Bool) → Moves code a may r b → Unfilled b.outcome
+pub move_unfilled : (code : PlainCode) (a b : PlainActor) (r : Turn) (may : Bool) → Moves code a may r b → Unfilled b.outcome
 move_unfilled code a b r true t = step_unfilled code a b r t
 move_unfilled code a b r false t = subst (λ (x : PlainActor). Unfilled x.outcome) (sym t.1) tt
 
@@ -226,7 +226,7 @@ standing_of law code function_rooms thread_rooms k well below =
     let b = body_there code.threads k below in subst (λ o. StandingCode (thread_code code (body_or_none o))) (sym b.1) (law code function_rooms thread_rooms k b.0 well b.1)
 
 -- an actor that goes on stands where its next instruction asks in its stage
-stands_staged : (code : PlainCode) (xs : List Exchange) (a : PlainActor) → StagedCode (code_of code a.number) → unanswered a ≡ None → HasRun code xs a → a.outcome ≡ None → TurnIsStaged (code_of code a.number) (configuration_of a)
+pub stands_staged : (code : PlainCode) (xs : List Exchange) (a : PlainActor) → StagedCode (code_of code a.number) → unanswered a ≡ None → HasRun code xs a → a.outcome ≡ None → TurnIsStaged (code_of code a.number) (configuration_of a)
 stands_staged code xs a known f ran e =
     known a.steps xs (configuration_of a) (subst (λ q. HasCome (code_of code a.number) xs a None q) f (subst (λ o. HasCome (code_of code a.number) xs a o (unanswered a)) e ran)) refl
 
@@ -265,7 +265,7 @@ move_asked : (code : PlainCode) (before : List Entry) (a b : PlainActor) (r : Tu
 move_asked code before a b r true t w = step_asked code before a b r t w
 move_asked code before a b r false t w = subst (λ (x : PlainActor). AskedOn (code_of code a.number) before x) (sym t.1) (record { waiting = w.waiting; asking = w.asking; consumed = w.consumed; printed = w.printed })
 
-turn_asked : (code : PlainCode) (before : List Entry) (a b : PlainActor) (r : Turn) (o : Option Outcome) → TurnsFrom code a o r b → AskedOn (code_of code a.number) before a → AskedOn (code_of code a.number) before b
+pub turn_asked : (code : PlainCode) (before : List Entry) (a b : PlainActor) (r : Turn) (o : Option Outcome) → TurnsFrom code a o r b → AskedOn (code_of code a.number) before a → AskedOn (code_of code a.number) before b
 turn_asked code before a b r None t w = move_asked code before a b r (nat_lt a.steps a.limit) t w
 turn_asked code before a b r (Some o) t w = subst (λ (x : PlainActor). AskedOn (code_of code a.number) before x) (sym t.1) w
 
@@ -314,7 +314,7 @@ abbrev is_nil : {A : Type 0} → List A → Type 0
 is_nil [] = Unit {0}
 is_nil (x ∷ xs) = ⊥
 
-no_entry : (before : List Entry) (e : Entry) (rest : List Entry) → [] ≡ before ++ e ∷ rest → ⊥
+pub no_entry : (before : List Entry) (e : Entry) (rest : List Entry) → [] ≡ before ++ e ∷ rest → ⊥
 no_entry [] e rest h = subst is_nil h tt
 no_entry (b ∷ bs) e rest h = subst is_nil h tt
 
@@ -339,12 +339,12 @@ new_over laws code k limit tr a e there stands n = record {
 
 -- ---- answers
 
-in_after : (b : PlainActor) (st : Stage) (o : Option Outcome) → IsStaged st (standing o (configuration_of b) (state_of b)) → IsIn b st o None
+pub in_after : (b : PlainActor) (st : Stage) (o : Option Outcome) → IsStaged st (standing o (configuration_of b) (state_of b)) → IsIn b st o None
 in_after b st None h = h.1
 in_after b st (Some o) h = tt
 
 -- an answer after which the actor isn't stopped is no full book
-unfilled_of : (o : Option Outcome) → Unstopped o → Unfilled o
+pub unfilled_of : (o : Option Outcome) → Unstopped o → Unfilled o
 unfilled_of None u = tt
 unfilled_of (Some outcome.Done) u = tt
 unfilled_of (Some (outcome.Failed f)) u = tt
@@ -407,12 +407,12 @@ not_grown k books = nothing_grown k books
 
 -- ---- what is served
 
-map_append : (xs : List Entry) (e : Entry) → map exchange_of (xs ++ e ∷ []) ≡ map exchange_of xs ++ exchange_of e ∷ []
+pub map_append : (xs : List Entry) (e : Entry) → map exchange_of (xs ++ e ∷ []) ≡ map exchange_of xs ++ exchange_of e ∷ []
 map_append [] e = refl
 map_append (x ∷ xs) e = ap (λ l. exchange_of x ∷ l) (map_append xs e)
 
 -- an answer prints nothing, and makes no step
-answer_asked : (code : ThreadCode) (before : List Entry) (a : PlainActor) (r : Reply) → Leaves a (answered a r) → AskedOn code before a → AskedOn code before (answered a r)
+pub answer_asked : (code : ThreadCode) (before : List Entry) (a : PlainActor) (r : Reply) → Leaves a (answered a r) → AskedOn code before a → AskedOn code before (answered a r)
 answer_asked code before a r same w = record {
   waiting = w.waiting;
   asking = ap (λ m. run code m (opening code (map exchange_of before))) same.steps ∙ w.asking;
@@ -430,7 +430,7 @@ own_asked code es a q r same h = record {
 }
 
 -- so it is on the entries before each, with one more
-more_asked : (code : ThreadCode) (es : List Entry) (y : Entry) (a : PlainActor) (q : Ask) (r : Reply) → Leaves a (answered a r) → HasAsked code (map exchange_of es) a q
+pub more_asked : (code : ThreadCode) (es : List Entry) (y : Entry) (a : PlainActor) (q : Ask) (r : Reply) → Leaves a (answered a r) → HasAsked code (map exchange_of es) a q
     → ((before : List Entry) (e : Entry) (rest : List Entry) → es ≡ before ++ e ∷ rest → AskedOn code before a)
     → (before : List Entry) (e : Entry) (rest : List Entry) → es ++ y ∷ [] ≡ before ++ e ∷ rest → AskedOn code before (answered a r)
 more_asked code es y a q r same h asked before e rest s = go (apart es y before e rest s)
@@ -529,25 +529,23 @@ noted_places : (b : Bool) (ps : List Place) (p : Place) (book at : ℕ) → p.bo
 noted_places true ps p book at e f = places_append ps (p ∷ []) ∙ ap (λ l. places_of ps ++ l) (place_is book at p e f)
 noted_places false ps p book at e f = sym (append_nil (places_of ps))
 
--- the ask at which an actor was stopped for a full book
-full_at : ActorsRun → (code : PlainCode) (k : ℕ) (books : ℕ → List Event) (xs : List Exchange) (a : PlainActor) (q : Ask) → a.number ≡ k → a.outcome ≡ None → unanswered a ≡ Some q → MayAnswer q reply.Full → most_events ≤ length (books (book_for code.cells q))
-    → HasRun code xs a → AtFullBook code.cells (code_of code k) books xs (answered a reply.Full)
-full_at laws code k books xs a q n e f may full ran =
+-- an actor that was stopped for a full book asked this with its last step
+pub asked_last : ActorsRun → (code : PlainCode) (xs : List Exchange) (a : PlainActor) (q : Ask) → a.outcome ≡ None → unanswered a ≡ Some q → MayAnswer q reply.Full → HasRun code xs a → AsksLast (code_of code a.number) xs (answered a reply.Full) q
+asked_last laws code xs a q e f may ran =
     let b = answered a reply.Full in
+    let c = code_of code a.number in
     let leaves = answer_leaves a q reply.Full f may in
-    let asked : HasAsked (code_of code k) xs a q =
-    subst (λ i. HasAsked (code_of code i) xs a q) n (subst (λ o. HasCome (code_of code a.number) xs a o (Some q)) e (subst (λ y. HasCome (code_of code a.number) xs a a.outcome y) f ran))
-    in
-    let ends : HasEndedSo (code_of code k) xs b outcome.JournalFull =
-    subst (λ i. HasEndedSo (code_of code i) xs b outcome.JournalFull) (leaves.number ∙ n)
+    let asked : HasAsked c xs a q = subst (λ o. HasCome c xs a o (Some q)) e (subst (λ y. HasCome c xs a a.outcome y) f ran) in
+    let ends : HasEndedSo c xs b outcome.JournalFull =
+    subst (λ i. HasEndedSo (code_of code i) xs b outcome.JournalFull) leaves.number
     (subst (λ o. HasCome (code_of code b.number) xs b o (unanswered b)) (full_stops a q f) (laws.stops code xs a q reply.Full e f may tt ran))
     in
     let last = ends.2 in
     let began = last.1 in
     let count : asked.0 ≡ began.others = omega (arith, asked.2, leaves.steps, began.counted) in
-    let place : asked.1 ≡ last.0 = ap (place_or asked.1) (sym asked.3 ∙ ap (λ m. run (code_of code k) m (opening (code_of code k) xs)) count ∙ began.came) in
-    let same : Some q ≡ Some ends.0 = ap wanted (sym asked.4.asks ∙ ap (turn (code_of code k)) place ∙ last.3) in
-    record { ask = ends.0; asked = last; full = subst (λ (o : Option Ask). most_events ≤ length (books (book_for code.cells (ask_in q o)))) same full }
+    let place : asked.1 ≡ last.0 = ap (place_or asked.1) (sym asked.3 ∙ ap (λ m. run c m (opening c xs)) count ∙ began.came) in
+    let same : Some q ≡ Some ends.0 = ap wanted (sym asked.4.asks ∙ ap (turn c) place ∙ last.3) in
+    subst (AsksLast c xs b) (sym (ap (ask_in q) same)) last
   where
     place_or : Configuration → Turned Configuration → Configuration
     place_or c (Unfinished d) = d
@@ -562,6 +560,12 @@ full_at laws code k books xs a q n e f may full ran =
     wanted (Ended s) = None
     wanted (Failed f s) = None
     wanted Stuck = None
+
+-- the ask at which an actor was stopped for a full book
+full_at : ActorsRun → (code : PlainCode) (k : ℕ) (books : ℕ → List Event) (xs : List Exchange) (a : PlainActor) (q : Ask) → a.number ≡ k → a.outcome ≡ None → unanswered a ≡ Some q → MayAnswer q reply.Full → most_events ≤ length (books (book_for code.cells q))
+    → HasRun code xs a → AtFullBook code.cells (code_of code k) books xs (answered a reply.Full)
+full_at laws code k books xs a q n e f may full ran =
+    record { ask = q; asked = subst (λ i. AsksLast (code_of code i) xs (answered a reply.Full) q) n (asked_last laws code xs a q e f may ran); full = full }
 
 -- an answer that the actor goes on after
 heard_over : ActorsRun → ServedIsTold → (code : PlainCode) (k : ℕ) (books : ℕ → List Event) (taken : List Bool) (tr new : List Place) (a : PlainActor) (q : Ask) (r : Reply)
@@ -633,7 +637,7 @@ memory_over : ActorsRun → (code : PlainCode) (k : ℕ) (books : ℕ → List E
 memory_over laws code k books tr a q e f may w = stopped_over laws code k books tr a q reply.Memory e f may tt (λ xs ran x. absurd (subst Unfilled x (subst Unfilled (sym (memory_stops a q f)) tt))) w
 
 -- a thread's ask isn't answered as an agent's that has nothing to do
-idle_never : (st : Stage) (q : Ask) → AsksIn st q → MayAnswer q reply.Idle → ⊥
+pub idle_never : (st : Stage) (q : Ask) → AsksIn st q → MayAnswer q reply.Idle → ⊥
 idle_never stages.Idle (ask.Take g) ok may = ok
 idle_never (stages.Open at) (ask.Take g) ok may = ok
 idle_never (stages.Viewing at view) (ask.Take g) ok may = ok

@@ -6,10 +6,12 @@
 pub mod law;
 mod player;
 pub mod run;
+pub mod runner;
 pub mod schedule;
 
 pub use law::{actors_explained, actors_follow};
 pub use player::Place;
 pub use run::{Ran, run_thread};
+pub use runner::{RunError, Runner};
 pub use schedule::{Play, Report, ScheduleError, ThreadReport, run_schedule};
 pub use txs_actor::{Actor, Turn, actors_run, may_answer};

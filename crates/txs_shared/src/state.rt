@@ -1,6 +1,6 @@
 //! The state that all actors share.
 
-ghost use Rattle.std.specs.Prelude.{◌≡◌, ◌≤◌, ◌<◌, ◌↔◌, length, true, IfOk, IsTrue};
+ghost use Rattle.std.specs.Prelude.{◌≡◌, ◌≤◌, ◌<◌, ◌↔◌, ℕ, [], length, true, IfOk, IsTrue};
 ghost use Rattle.txs_asks.specs.SeenEvent.{home, atoms_below};
 ghost use Rattle.txs_runs.specs.Invariant.{SharedStands};
 ghost use Rattle.txs_runs.specs.Shared.{untouched, has_atom, atom_of, book_for};
@@ -113,6 +113,13 @@ impl SharedState {
         } else {
             &[]
         }
+    }
+
+    /// How many books there are: the store's, and one of each atom. One with a number from there on has no events.
+    pub fn books(&self) -> usize
+        ensures { (n : ℕ) → result ≤ n → numbered_book self.now n ≡ [] }
+    {
+        self.atoms.len() + 1
     }
 
     /// The number of the book that an ask is for.
