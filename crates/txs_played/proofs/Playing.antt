@@ -1,0 +1,174 @@
+-- What a turn and an answer leave of an actor that keeps its asks.
+use Rattle.std.proofs.Common.{◌≡◌, ◌<◌, ℕ, List, [], ◌∷◌, ◌++◌, length, map, Option, Some, None, refl, sym, ap, subst, ◌∙◌}
+use Rattle.txs_asks.specs.declared.ask.Ask.{Ask}
+use Rattle.txs_asks.specs.declared.ask.Reply.{Reply}
+use Rattle.txs_asks.specs.declared.ask.Reply.TheVariants as reply
+use Rattle.txs_asks.specs.declared.event.Outcome.{Outcome}
+use Rattle.txs_asks.specs.declared.event.Outcome.TheVariants as outcome
+use Rattle.txs_code.specs.Machine.{ThreadCode}
+use Rattle.txs_code.specs.Opening.{opening}
+use Rattle.txs_code.specs.PlainCode.{PlainCode}
+use Rattle.txs_code.specs.WellTyped.{WellTyped}
+use Rattle.txs_actor.specs.Laws.{ActorsRun}
+use Rattle.txs_actor.specs.PlainActor.{PlainActor, Runs, CanGoOn, MayAnswer, Stops, answered, unanswered, asked_for, is_running, applied_in, configuration_of, code_of, HasAsked, HasRun, HasCome}
+use Rattle.txs_actor.specs.Turns.{IsNew, TurnsFrom, Turns}
+use Rattle.txs_actor.specs.declared.outcome.Turn.{Turn}
+use Rattle.txs_actor.specs.declared.state.Pending.{Pending}
+use Rattle.txs_actor.proofs.Following.{Unstopped, unstopped_if}
+use Rattle.txs_runs.specs.Lawful.{TypedStands}
+use Rattle.txs_runs.specs.Standing.{StandingCode}
+use Rattle.txs_runs.specs.Staged.{StagedCode, stage_of}
+use Rattle.txs_runs.specs.Stages.{Stage, Idle, stage_after}
+use Rattle.txs_runs.specs.Told.{Entry, exchange_of, AreStaged}
+use Rattle.txs_runs.proofs.Known.{standing_staged}
+use Rattle.txs_replay.specs.Replay.{entry_of}
+use Rattle.txs_replay.specs.declared.kept.Kept.{Kept}
+use Rattle.txs_machine.specs.RunOver.{IsLimited, AskedOn}
+use Rattle.txs_machine.proofs.Answered.{answer_leaves, full_stops, memory_stops, stop_ends}
+use Rattle.txs_machine.proofs.Limits.{new_limited, turn_limited, answered_limited}
+use Rattle.txs_machine.proofs.RunOver.{Unfilled, as_is, as_known, turn_keeps, move_unfilled, standing_of, stands_staged, turn_asked, no_entry, in_after, unfilled_of, map_append, answer_asked, more_asked, asked_last, idle_never}
+use Rattle.txs_played.specs.Played.{WasStoppedAt, HasPlayed, kept_after, stopped_after, kept_of}
+
+-- ---- an actor that keeps its asks
+
+-- a new one has kept nothing
+pub new_played : ActorsRun → TypedStands → (code : PlainCode) (function_rooms thread_rooms : List ℕ) (k limit : ℕ) (a : PlainActor) → WellTyped code function_rooms thread_rooms → k < length code.threads → IsNew code k limit a → HasPlayed code [] None a
+new_played laws law code function_rooms thread_rooms k limit a well below n = record {
+  stands = subst (λ i. StandingCode (code_of code i)) (sym n.number) (standing_of law code function_rooms thread_rooms k well below);
+  stage = Idle;
+  ran = laws.begins code k limit a n;
+  staged = refl;
+  here = as_is a Idle None None n.unended n.unasking (ap stage_of n.opens);
+  asked = λ before e rest s. absurd (no_entry before e rest s);
+  limited = new_limited a.limit a refl n.unended n.unused;
+  full = λ x. absurd (subst Unfilled x (subst Unfilled (sym n.unended) tt));
+}
+
+-- a turn stops no actor for a full book
+turn_stops : (P : PlainActor → Type 0) (code : PlainCode) (a b : PlainActor) (r : Turn) (o : Option Outcome) → TurnsFrom code a o r b → (a.outcome ≡ Some outcome.JournalFull → P a) → b.outcome ≡ Some outcome.JournalFull → P b
+turn_stops P code a b r None u h x = absurd (subst Unfilled x (move_unfilled code a b r _ u))
+turn_stops P code a b r (Some o) u h x = subst (λ (y : PlainActor). y.outcome ≡ Some outcome.JournalFull → P y) (sym u.1) h x
+
+-- a turn keeps what it is
+pub turn_played : ActorsRun → (code : PlainCode) (es : List Entry) (o : Option Ask) (a b : PlainActor) (r : Turn) → unanswered a ≡ None → Turns code a r b → HasPlayed code es o a → (b.number ≡ a.number) × HasPlayed code es o b
+turn_played laws code es o a b r f t h =
+    let known : StagedCode (code_of code a.number) = standing_staged (code_of code a.number) h.stands in
+    let staged = stands_staged code (map exchange_of es) a known f h.ran in
+    let kept = turn_keeps code a b r h.stage a.outcome staged refl f t (as_known a h.stage a.outcome None refl f h.here) in
+    let limited : IsLimited a.limit b = turn_limited code a.limit a b r a.outcome t h.limited in (
+      kept.0,
+      record {
+        stands = subst (λ n. StandingCode (code_of code n)) (sym kept.0) h.stands;
+        stage = h.stage;
+        ran = laws.turns code (map exchange_of es) a b r f h.ran t;
+        staged = h.staged;
+        here = kept.1;
+        asked = λ before e rest s. subst (λ n. AskedOn (code_of code n) before b) (sym kept.0) (turn_asked code before a b r a.outcome t (h.asked before e rest s));
+        limited = subst (λ n. IsLimited n b) (sym limited.limited) limited;
+        full = λ x. subst (λ n. WasStoppedAt (code_of code n) (map exchange_of es) b o) (sym kept.0)
+            (turn_stops (λ y. WasStoppedAt (code_of code a.number) (map exchange_of es) y o) code a b r a.outcome t h.full x);
+      },
+    )
+
+staged_append : (st mid end : Stage) (es fs : List Entry) → AreStaged st es mid → AreStaged mid fs end → AreStaged st (es ++ fs) end
+staged_append st mid end [] fs e h = subst (λ i. AreStaged i fs end) (sym e) h
+staged_append st mid end (x ∷ es) fs g h = (g.0, staged_append (stage_after st x.ask x.reply) mid end es fs g.1 h)
+
+-- so does a reply that the actor goes on with, where its entry is kept
+heard_played : ActorsRun → (code : PlainCode) (es : List Entry) (o : Option Ask) (a : PlainActor) (q : Ask) (r : Reply) (at : ℕ) → a.outcome ≡ None → unanswered a ≡ Some q → unanswered (answered a r) ≡ None → MayAnswer q r → (Stops r → ⊥) → HasPlayed code es o a
+    → HasPlayed code (es ++ record { ask = q; reply = r; at = at } ∷ []) o (answered a r)
+heard_played laws code es o a q r at e f free may on h =
+    let known = as_known a h.stage None (Some q) e f h.here in
+    let leaves = answer_leaves a q r f may in
+    let own : Entry = record { ask = q; reply = r; at = at } in
+    let limited = answered_limited a.limit a r e leaves h.limited in
+    record {
+      stands = subst (λ n. StandingCode (code_of code n)) (sym leaves.number) h.stands;
+      stage = stage_after h.stage q r;
+      ran = subst (λ xs. HasRun code xs (answered a r)) (sym (map_append es own)) (laws.answers code (map exchange_of es) a q r e f may on h.ran);
+      staged = staged_append Idle h.stage (stage_after h.stage q r) es (own ∷ []) h.staged (known.0, refl);
+      here = as_is (answered a r) (stage_after h.stage q r) (answered a r).outcome None refl free (in_after (answered a r) (stage_after h.stage q r) (answered a r).outcome (known.1 r may on));
+      asked = λ before x rest s. subst (λ n. AskedOn (code_of code n) before (answered a r)) (sym leaves.number)
+          (more_asked (code_of code a.number) es own a q r leaves
+          (subst (λ x. HasCome (code_of code a.number) (map exchange_of es) a x (Some q)) e (subst (λ y. HasCome (code_of code a.number) (map exchange_of es) a a.outcome y) f h.ran)) h.asked before x rest s);
+      limited = subst (λ n. IsLimited n (answered a r)) (sym leaves.limit) limited;
+      full = λ x. absurd (subst Unfilled x (unfilled_of (answered a r).outcome (unstopped_if a e a.pending r on)));
+    }
+
+-- and one that stops it, where nothing is kept but the ask at which it was stopped
+stopped_played : ActorsRun → (code : PlainCode) (es : List Entry) (o : Option Ask) (a : PlainActor) (q : Ask) (r : Reply) → a.outcome ≡ None → unanswered a ≡ Some q → MayAnswer q r → Stops r
+    → ((answered a r).outcome ≡ Some outcome.JournalFull → WasStoppedAt (code_of code a.number) (map exchange_of es) (answered a r) (Some q)) → HasPlayed code es o a → HasPlayed code es (Some q) (answered a r)
+stopped_played laws code es o a q r e f may stop filled h =
+    let ends = stop_ends a q r f stop in
+    let leaves = answer_leaves a q r f may in
+    let limited = answered_limited a.limit a r e leaves h.limited in
+    record {
+      stands = subst (λ n. StandingCode (code_of code n)) (sym leaves.number) h.stands;
+      stage = h.stage;
+      ran = laws.stops code (map exchange_of es) a q r e f may stop h.ran;
+      staged = h.staged;
+      here = as_is (answered a r) h.stage (Some ends.0) (unanswered (answered a r)) ends.1 refl tt;
+      asked = λ before x rest s. subst (λ n. AskedOn (code_of code n) before (answered a r)) (sym leaves.number) (answer_asked (code_of code a.number) before a r leaves (h.asked before x rest s));
+      limited = subst (λ n. IsLimited n (answered a r)) (sym leaves.limit) limited;
+      full = λ x. subst (λ n. WasStoppedAt (code_of code n) (map exchange_of es) (answered a r) (Some q)) (sym leaves.number) (filled x);
+    }
+
+-- an actor that asks hasn't ended
+pub asker_goes : (code : PlainCode) (a : PlainActor) (q : Ask) → Runs code a → unanswered a ≡ Some q → a.outcome ≡ None
+asker_goes code a q h f = go a.outcome refl a.pending f h.goes
+  where
+    go : (o : Option Outcome) → a.outcome ≡ o → (p : Option Pending) → asked_for p (is_running a.tx) a.at a.view (applied_in a.tx) a.done ≡ Some q → CanGoOn code h.kinds h.body a o p → a.outcome ≡ None
+    go None e p g x = e
+    go (Some o) e None g x = cc
+    go (Some o) e (Some p) g x = absurd x
+
+kept_more : (ks : List Kept) (k : Kept) → map entry_of (ks ++ k ∷ []) ≡ map entry_of ks ++ entry_of k ∷ []
+kept_more [] k = refl
+kept_more (x ∷ ks) k = ap (λ l. entry_of x ∷ l) (kept_more ks k)
+
+-- a reply keeps what it is, of what is kept behind it
+pub answer_played : ActorsRun → (code : PlainCode) (ks : List Kept) (o : Option Ask) (a : PlainActor) (q : Ask) (r : Reply) (at number : ℕ) → Runs code a → unanswered a ≡ Some q → unanswered (answered a r) ≡ None → MayAnswer q r → HasPlayed code (map entry_of ks) o a
+    → HasPlayed code (map entry_of (kept_after r (kept_of q r at number) ks)) (stopped_after r q o) (answered a r)
+answer_played laws code ks o a q r at number runs f free may h = go r free may
+  where
+    e : a.outcome ≡ None
+    e = asker_goes code a q runs f
+
+    heard : (r : Reply) → unanswered (answered a r) ≡ None → MayAnswer q r → (Stops r → ⊥) → HasPlayed code (map entry_of (ks ++ kept_of q r at number ∷ [])) o (answered a r)
+    heard r free may on = subst (λ es. HasPlayed code es o (answered a r)) (sym (kept_more ks (kept_of q r at number))) (heard_played laws code (map entry_of ks) o a q r at e f free may on h)
+
+    go : (r : Reply) → unanswered (answered a r) ≡ None → MayAnswer q r → HasPlayed code (map entry_of (kept_after r (kept_of q r at number) ks)) (stopped_after r q o) (answered a r)
+    go (reply.At p) free may = heard (reply.At p) free may (λ x. x)
+    go (reply.Is v) free may = heard (reply.Is v) free may (λ x. x)
+    go (reply.Views p vs) free may = heard (reply.Views p vs) free may (λ x. x)
+    go reply.Done free may = heard reply.Done free may (λ x. x)
+    go (reply.Retry c) free may = heard (reply.Retry c) free may (λ x. x)
+    go (reply.Changed c) free may = heard (reply.Changed c) free may (λ x. x)
+    go (reply.AgentIsFailed g) free may = heard (reply.AgentIsFailed g) free may (λ x. x)
+    go (reply.Action n x v) free may = heard (reply.Action n x v) free may (λ x. x)
+    go (reply.Opened p v) free may = heard (reply.Opened p v) free may (λ x. x)
+    go reply.Idle free may = absurd (idle_never h.stage q (as_known a h.stage None (Some q) e f h.here).0 may)
+    go reply.Full free may = stopped_played laws code (map entry_of ks) o a q reply.Full e f may tt (λ x. asked_last laws code (map exchange_of (map entry_of ks)) a q e f may h.ran) h
+    go reply.Memory free may = stopped_played laws code (map entry_of ks) o a q reply.Memory e f may tt (λ x. absurd (subst Unfilled x (subst Unfilled (sym (memory_stops a q f)) tt))) h
+
+-- an actor that has ended asks nothing
+pub ended_free : (code : PlainCode) (a : PlainActor) (o : Outcome) → Runs code a → a.outcome ≡ Some o → unanswered a ≡ None
+ended_free code a o h e = go a.pending (subst (λ x. CanGoOn code h.kinds h.body a x a.pending) e h.goes)
+  where
+    go : (p : Option Pending) → CanGoOn code h.kinds h.body a (Some o) p → asked_for p (is_running a.tx) a.at a.view (applied_in a.tx) a.done ≡ None
+    go None x = refl
+    go (Some p) x = absurd x
+
+-- a new actor is the one of its own number and limit
+pub renewed : (code : PlainCode) (k limit : ℕ) (a : PlainActor) → IsNew code k limit a → IsNew code a.number a.limit a
+renewed code k limit a n = record {
+  number = refl;
+  opens = subst (λ i. configuration_of a ≡ opening (code_of code i) []) (sym n.number) n.opens;
+  unended = n.unended;
+  unasking = n.unasking;
+  unused = n.unused;
+  limited = refl;
+}
+
+pub numbered_below : (code : PlainCode) (k limit : ℕ) (a : PlainActor) → IsNew code k limit a → k < length code.threads → a.number < length code.threads
+numbered_below code k limit a n below = subst (λ i. i < length code.threads) (sym n.number) below

@@ -1,0 +1,19 @@
+use Rattle.std.proofs.Common.{◌≡◌, ◌<◌, ◌+◌, ◌++◌, ◌∷◌, [], length, take, get_or, rules, sym, subst}
+use Rattle.txs_played.specs.Gather.{AreReportsOf}
+use Rattle.txs_machine.proofs.Playing.{taken_read}
+use Rattle.txs_played.proofs.Gathering.{reports_more}
+use Rattle.txs_played.proofs.parts.report_all.Goals as goal
+
+pub loop-one-preserved : goal.loop-one-preserved
+loop-one-preserved c =
+    let s = c.args.shared.now in
+    let ps = c.args.played.now in
+    let i = c.loop-one.one-index in
+    let p = c.one-item.result in
+    let rs = c.loop-one.threads.items in
+    let r = c.in_ok-report_of.field-0 in
+    let within : i < length ps = search rules in
+    let read : p ≡ get_or ps i p = search rules in
+    let pushed : c.push.new.self.items ≡ rs ++ r ∷ [] = search rules in
+    subst (λ l. AreReportsOf s (take (i + 1) ps) l) (sym pushed)
+    (subst (λ l. AreReportsOf s l (rs ++ r ∷ [])) (sym (taken_read ps i p within read)) (reports_more s (take i ps) rs p r c.loop-one.invariant c.in_ok-report_of.ensures))

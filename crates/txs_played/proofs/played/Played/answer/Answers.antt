@@ -1,0 +1,37 @@
+use Rattle.std.proofs.Common.{rules, ◌≡◌, map, sym, subst, ◌∙◌, false, Option, Some, None}
+use Rattle.txs_asks.specs.declared.ask.Ask.{Ask}
+use Rattle.txs_actor.specs.PlainActor.{MayAnswer, MayAnswerIf, answered, unanswered}
+use Rattle.txs_replay.specs.Replay.{entry_of}
+use Rattle.txs_played.specs.Played.{PlainPlayed, HasPlayed, IsPlayed, kept_after, stopped_after, kept_of}
+use Rattle.txs_played.proofs.Playing.{answer_played}
+use Rattle.txs_played.proofs.played.Played.answer.Goals as goal
+
+pub invariant_of-self : goal.invariant_of-self
+invariant_of-self c =
+    let code = c.self.inside.code.now in
+    let a = c.self.inside.actor in
+    let q = c.in-Some.ask in
+    let r = c.args.reply in
+    let kept = c.self.inside.kept in
+    let at = c.self.inside.stopped in
+    let before : PlainPlayed = record { code = code; actor = a; kept = kept; stopped = at; lost = c.self.inside.lost } in
+    let after : PlainPlayed = record { code = code; actor = c.answer.new.self; kept = c.keep-keeping.new.kept; stopped = c.keep-keeping.new.stopped; lost = c.self.inside.lost } in
+    let lost : c.self.inside.lost ≡ false = search rules in
+    let was = subst (λ l. IsPlayed l before c.self.inside.asked) lost c.self.invariant.1 in
+    let had : c.self.inside.asked ≡ Some q = search rules in
+    let asks : unanswered a ≡ Some q = sym was.0 ∙ had in
+    let none : c.take.new.self ≡ None = search rules in
+    let answers : MayAnswerIf (unanswered a) r = search rules in
+    let may : MayAnswer q r = subst (λ (o : Option Ask). MayAnswerIf o r) asks answers in
+    let free = subst (λ x. unanswered x ≡ None) c.answer.ensures.answered c.answer.ensures.free in
+    let more : c.keep-keeping.new.kept ≡ kept_after r (kept_of q r c.args.at c.args.number) kept = search rules in
+    let noted : c.keep-keeping.new.stopped ≡ stopped_after r q at = search rules in
+    let is = answer_played c.actors_run.ensures code kept at a q r c.args.at c.args.number c.self.invariant.0 asks free may was.1 in (
+      c.answer.ensures.runs,
+      subst (λ l. IsPlayed l after c.take.new.self) (sym lost) (
+        none ∙ sym c.answer.ensures.free,
+        subst (λ x. HasPlayed code (map entry_of c.keep-keeping.new.kept) c.keep-keeping.new.stopped x) (sym c.answer.ensures.answered)
+            (subst (λ o. HasPlayed code (map entry_of c.keep-keeping.new.kept) o (answered a r)) (sym noted)
+            (subst (λ ks. HasPlayed code (map entry_of ks) (stopped_after r q at) (answered a r)) (sym more) is)),
+      ),
+    )

@@ -1,0 +1,231 @@
+//! The comparison of what actors kept with what they shared.
+
+ghost use Rattle.std.specs.Prelude.{◌≡◌, ◌↔◌, length, false, IsTrue, IfOk, IfErr, OnOk};
+ghost use Rattle.txs_machine.specs.RunOver.{places_of};
+ghost use Rattle.txs_machine.specs.Schedule.{IsExplainedBy};
+ghost use Rattle.txs_played.specs.Adds.{adds_event, kept_trace, IsNotedBehind};
+ghost use Rattle.txs_played.specs.Gather.{StoppedSo, IsPlayer, AreWhole, ArePlayed, ArePlayers, IsMadeFor, kept_by, Agrees, IsReportOf, AreReportsOf, AllHaveDone};
+ghost use Rattle.txs_machine.specs.declared.runner.RunError.TheVariants.{JournalMismatch};
+ghost use Rattle.txs_shared.specs.SharedState.{shared_of};
+
+use crate::played::Played;
+use std::alloc::{AllocError, Global};
+use txs_asks::{Ask, Outcome, Reply};
+use txs_bytes::same_code;
+use txs_code::Verified;
+use txs_follows::replies_fit;
+use txs_machine::{Place, Report, RunError, ThreadReport, actors_explained};
+use txs_replay::law::replay_tells;
+use txs_replay::replay::replays;
+use txs_replay::{Kept, KeptEntries};
+use txs_runs::law::told_fits;
+use txs_shared::SharedState;
+use txs_world::law::{done_is_undisturbed, unwritten_stays};
+
+/// What actors shared, and what each of them did.
+#[derive(Drop)]
+pub struct Gathered {
+    pub shared: SharedState,
+    pub report: Report,
+}
+
+/// Whether an actor that was stopped by a full book was stopped where that is full.
+fn is_stopped_so(shared: &SharedState, played: &Played<'_>) -> bool
+    requires { played.now.lost ≡ false }
+    ensures { IsTrue result ↔ StoppedSo shared.now played.now }
+{
+    if played.outcome() != Some(Outcome::JournalFull) {
+        return true;
+    }
+    played.has_full_book(shared)
+}
+
+/// Whether it is the actor with this number, made with this code, waits for no reply, and was stopped by a full book only where that is full.
+#[tactic(auto, using(crate::proofs::Gathering::other_number, crate::proofs::Gathering::other_code, crate::proofs::Gathering::asking, crate::proofs::Gathering::stopped_otherwise, crate::proofs::Gathering::player_of))]
+fn is_player(code: &Verified, shared: &SharedState, number: usize, played: &Played<'_>) -> bool
+    requires { played.now.lost ≡ false }
+    ensures { IsTrue result ↔ IsPlayer code.now shared.now number played.now }
+{
+    if usize::from(played.number()) != number {
+        return false;
+    }
+    if !same_code(played.code().code(), code.code()) {
+        return false;
+    }
+    if played.is_asking() {
+        return false;
+    }
+    is_stopped_so(shared, played)
+}
+
+/// Whether none of them lost something.
+fn are_whole(played: &[Played<'_>]) -> bool
+    ensures whole { IsTrue result ↔ AreWhole played.now }
+    ensures played { IsTrue result → ArePlayed played.now }
+{
+    for one in played {
+        if one.is_lost() {
+            return false;
+        }
+    }
+    true
+}
+
+/// Whether they are the actors of all numbers from 0 on, as `is_player` says.
+fn are_players(code: &Verified, shared: &SharedState, played: &[Played<'_>]) -> bool
+    requires { AreWhole played.now }
+    ensures { IsTrue result ↔ ArePlayers code.now shared.now 0 played.now }
+{
+    for number in 0..played.len() {
+        if !is_player(code, shared, number, &played[number]) {
+            return false;
+        }
+    }
+    true
+}
+
+/// Whether what is shared is of the code's cells, for its threads, and there are as many actors.
+fn is_made_for(code: &Verified, shared: &SharedState, actors: usize) -> bool
+    ensures { IsTrue result ↔ IsMadeFor code.now shared.now actors }
+{
+    let threads = code.code().threads().len();
+    shared.made_for(code.code().cells())
+        && usize::from(shared.threads()) == threads
+        && actors == threads
+}
+
+/// Whether an ask that was answered so added an event to its book.
+fn adds_event(ask: &Ask, reply: &Reply) -> bool
+    ensures { result ≡ adds_event ask.now reply.now }
+{
+    match ask {
+        Ask::Begin | Ask::View { .. } | Ask::Take { .. } | Ask::OpenAt { .. } => false,
+        Ask::Look { .. } => matches!(reply, Reply::Retry(_)),
+        Ask::CloseAt { .. } => matches!(reply, Reply::Done),
+        _ => !matches!(reply, Reply::Full),
+    }
+}
+
+/// Notes the place of the event that an entry added, if it did.
+#[tactic(auto, using(crate::proofs::Adding::noted_added, crate::proofs::Adding::noted_none))]
+fn note(trace: &mut Vec<Place>, shared: &SharedState, kept: &Kept) -> Result<(), AllocError>
+    ensures { OnOk result (IsNotedBehind shared.now.cells kept.now trace.old.items trace.new.items) }
+{
+    if !adds_event(&kept.ask, &kept.reply) {
+        return Ok(());
+    }
+    let place = Place {
+        book: shared.book_for(&kept.ask) as u32,
+        at: kept.at,
+    };
+    trace.push(place)?;
+    Ok(())
+}
+
+/// The places of the events that these entries added.
+fn trace_of(
+    alloc: Global,
+    shared: &SharedState,
+    kept: &KeptEntries,
+) -> Result<Vec<Place>, AllocError>
+    ensures { IfOk result (λ trace. places_of trace.items ≡ kept_trace shared.now.cells kept.now) }
+{
+    let mut trace = Vec::new(alloc);
+    for i in 0..kept.len() {
+        note(&mut trace, shared, kept.get(i))?;
+    }
+    Ok(trace)
+}
+
+/// What an actor did, as a report tells it.
+fn report_of(
+    alloc: Global,
+    shared: &SharedState,
+    played: &Played<'_>,
+) -> Result<ThreadReport, AllocError>
+    ensures { IfOk result (λ ran. IsReportOf shared.now played.now ran) }
+{
+    let actor = played.actor();
+    let printed = Vec::from_slice(alloc, actor.printed())?;
+    let trace = trace_of(alloc, shared, played.kept())?;
+    Ok(ThreadReport {
+        outcome: actor.outcome(),
+        printed,
+        trace,
+        steps: actor.steps(),
+    })
+}
+
+/// What all actors did.
+fn report_all(
+    alloc: Global,
+    shared: &SharedState,
+    played: &[Played<'_>],
+) -> Result<Vec<ThreadReport>, AllocError>
+    ensures { IfOk result (λ v. AreReportsOf shared.now played.now v.items) }
+{
+    let mut threads = Vec::with_capacity(alloc, played.len())?;
+    for one in played {
+        threads.push(report_of(alloc, shared, one)?)?;
+    }
+    Ok(threads)
+}
+
+/// What each of them kept.
+fn take_kept(alloc: Global, played: Vec<Played<'_>>) -> Result<Vec<KeptEntries>, AllocError>
+    ensures { IfOk result (λ v. v.items ≡ kept_by played.entry.items) }
+{
+    let mut kept = Vec::with_capacity(alloc, played.len())?;
+    for one in played {
+        kept.push(one.into_kept())?;
+    }
+    Ok(kept)
+}
+
+/// The comparison of the actors of a run with what they share: they agree where there is one for each thread, each was made with this code, and
+/// what they kept, `served` asks in all, is answered from the beginning as it was and leads to these books. Then the books told each actor just
+/// what it kept, it is where its code comes to on that, and each program that the code follows explains the report.
+///
+/// # Errors
+/// `JournalMismatch` where they don't agree; `Memory` where there was no memory, also of an actor that lost what it should have kept.
+#[tactic(auto, using(crate::proofs::Gathering::made_of))]
+pub fn gather(
+    alloc: Global,
+    code: &Verified,
+    shared: SharedState,
+    served: u64,
+    played: Vec<Played<'_>>,
+) -> Result<Gathered, RunError>
+    ensures shared { IfOk result (λ g. g.shared ≡ shared) }
+    ensures agrees { IfOk result (λ g. Agrees code.now shared served played.entry.items) }
+    ensures one_each { IfOk result (λ g. length g.report.threads.items ≡ length code.now.threads) }
+    ensures done { IfOk result (λ g. AllHaveDone code.now shared g.report.threads.items) }
+    ensures explained { IfOk result (λ g. IsExplainedBy code.now (shared_of g.shared) g.report.threads.items) }
+    ensures differs { IfErr result (λ e. e ≡ JournalMismatch → Agrees code.now shared served played.entry.items → ⊥) }
+{
+    replay_tells();
+    actors_explained();
+    replies_fit();
+    told_fits();
+    done_is_undisturbed();
+    unwritten_stays();
+    let _stands = shared.events();
+    if !are_whole(played.as_slice()) {
+        return Err(RunError::Memory);
+    }
+    if !is_made_for(code, &shared, played.len()) {
+        return Err(RunError::JournalMismatch);
+    }
+    if !are_players(code, &shared, played.as_slice()) {
+        return Err(RunError::JournalMismatch);
+    }
+    let threads = report_all(alloc, &shared, played.as_slice())?;
+    let kept = take_kept(alloc, played)?;
+    if !replays(alloc, &shared, served, kept)? {
+        return Err(RunError::JournalMismatch);
+    }
+    Ok(Gathered {
+        shared,
+        report: Report { threads },
+    })
+}

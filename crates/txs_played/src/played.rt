@@ -1,0 +1,270 @@
+//! An actor with what it kept.
+
+ghost use Rattle.std.specs.Prelude.{◌≡◌, ◌≤◌, ◌<◌, ◌↔◌, [], length, map, true, false, Some, None, IsTrue, OnOk, IfOk};
+ghost use Rattle.txs_actor.specs.PlainActor.{Runs, MayAnswerIf, answered, unanswered};
+ghost use Rattle.txs_actor.specs.Turns.{IsNew, Turns};
+ghost use Rattle.txs_actor.specs.declared.outcome.Turn.TheVariants as turned;
+ghost use Rattle.txs_asks.specs.declared.ask.Ask.{Ask as AnAsk};
+ghost use Rattle.txs_asks.specs.declared.event.Outcome.{Outcome as AnOutcome};
+ghost use Rattle.txs_played.specs.Gather.{HasFullBook};
+ghost use Rattle.txs_played.specs.Played.{PlainPlayed, HasPlayed, new_player, kept_after, stopped_after, kept_of};
+ghost use Rattle.txs_replay.specs.Replay.{entry_of};
+ghost use Rattle.txs_value.specs.Limits.{most_events};
+
+use std::alloc::{AllocError, Global};
+use std::marker::Model;
+use std::mem;
+use txs_actor::{Actor, Turn, actors_run, may_answer};
+use txs_asks::{Ask, Event, Outcome, Reply, copy_ask, copy_reply};
+use txs_code::Verified;
+use txs_replay::replay::is_exchanged;
+use txs_replay::{Kept, KeptEntries};
+use txs_runs::law::typed_stands;
+use txs_shared::SharedState;
+use txs_value::limits::MOST_EVENTS;
+
+/// An actor with a reference to its code, and with what it kept: each ask with the reply that it went on with.
+#[derive(Drop)]
+pub struct Played<'a> {
+    alloc: Global,
+    code: &'a Verified,
+    actor: Actor,
+    /// The ask that has no reply yet.
+    asked: Option<Ask>,
+    kept: KeptEntries,
+    /// The ask at which it was stopped, if it was.
+    stopped: Option<Ask>,
+    /// Whether there was no memory to keep an ask or a reply.
+    lost: bool,
+}
+
+impl<'a> Model for Played<'a> {
+    ghost use Rattle.txs_played.specs.Played.{PlainPlayed, IsWell};
+    ghost use Rattle.std.specs.Coded.{codes};
+    ghost use Rattle.txs_value.specs.contracts.value.Value as value;
+
+    ghost Value = { PlainPlayed };
+
+    ghost coded = { Prim.hlevel (codes, value.the_row.coded) };
+
+    ghost view = { λ p. record { code = p.code.now; actor = p.actor; kept = p.kept; stopped = p.stopped; lost = p.lost } };
+
+    ghost invariant = { λ p. IsWell (record { code = p.code.now; actor = p.actor; kept = p.kept; stopped = p.stopped; lost = p.lost }) p.asked };
+}
+
+/// A copy of an ask, where there is room to keep it.
+fn copy_kept(alloc: Global, kept: &mut KeptEntries, ask: &Ask) -> Result<Ask, AllocError>
+    ensures same { kept.new ≡ kept.old }
+    ensures copy { IfOk result (λ q. q ≡ ask.now) }
+{
+    kept.reserve()?;
+    copy_ask(alloc, ask)
+}
+
+/// Whether a book of these events has as many as it may have.
+#[tactic(auto, unfolding(txs_value::specs::Limits::most_events))]
+fn is_full(events: &[Event]) -> bool
+    ensures { IsTrue result ↔ (most_events ≤ length events.now) }
+{
+    events.len() >= MOST_EVENTS
+}
+
+/// Keeps an ask with a copy of its reply, or as the one at which the actor was stopped.
+fn keep(
+    alloc: Global,
+    kept: &mut KeptEntries,
+    stopped: &mut Option<Ask>,
+    ask: Ask,
+    reply: &Reply,
+    at: u32,
+    number: u64,
+) -> Result<(), AllocError>
+    ensures kept { OnOk result (kept.new ≡ kept_after reply.now (kept_of ask reply.now at number) kept.old) }
+    ensures stopped { OnOk result (stopped.new ≡ stopped_after reply.now ask stopped.old) }
+{
+    if !is_exchanged(reply) {
+        drop(mem::replace(stopped, Some(ask)));
+        return Ok(());
+    }
+    let copy = copy_reply(alloc, reply)?;
+    kept.push(Kept {
+        ask,
+        reply: copy,
+        at,
+        number,
+    })
+}
+
+impl<'a> Played<'a> {
+    /// A new actor, made with this code, that has kept nothing yet.
+    pub fn new(alloc: Global, code: &'a Verified, actor: Actor) -> Played<'a>
+        requires runs { Runs code.now actor }
+        requires new { IsNew code.now actor.number actor.limit actor }
+        requires there { actor.number < length code.now.threads }
+        ensures { result ≡ new_player code.now actor }
+    {
+        actors_run();
+        typed_stands();
+        let _rooms = code.rooms();
+        Played {
+            alloc,
+            code,
+            actor,
+            asked: None,
+            kept: KeptEntries::new(alloc),
+            stopped: None,
+            lost: false,
+        }
+    }
+
+    /// A turn of the actor. Where it asks, and there is no memory to keep the ask, it has ended so from then on.
+    pub fn turn(&mut self) -> Turn
+        requires free { self.old.lost ≡ false → unanswered self.old.actor ≡ None }
+        ensures kept { self.new.kept ≡ self.old.kept }
+        ensures stopped { self.new.stopped ≡ self.old.stopped }
+        ensures code { self.new.code ≡ self.old.code }
+        ensures number { self.new.actor.number ≡ self.old.actor.number }
+        ensures turned { self.new.lost ≡ false → Turns self.old.code self.old.actor result self.new.actor }
+        ensures went { result ≡ turned.Went → (self.new.lost ≡ false) × (unanswered self.new.actor ≡ None) }
+        ensures asks { (q : AnAsk) → result ≡ turned.Asks q → (self.new.lost ≡ false) × (unanswered self.new.actor ≡ Some q) }
+        ensures ended { (o : AnOutcome) → result ≡ turned.Ended o → self.new.lost ≡ false → self.new.actor.outcome ≡ Some o }
+    {
+        actors_run();
+        if self.lost {
+            return Turn::Ended(Outcome::Memory);
+        }
+        match self.actor.turn(self.code) {
+            Turn::Went => Turn::Went,
+            Turn::Ended(outcome) => Turn::Ended(outcome),
+            Turn::Asks(ask) => match copy_kept(self.alloc, &mut self.kept, &ask) {
+                Ok(copy) => {
+                    drop(mem::replace(&mut self.asked, Some(copy)));
+                    Turn::Asks(ask)
+                }
+                Err(_) => {
+                    self.lost = true;
+                    drop(ask);
+                    Turn::Ended(Outcome::Memory)
+                }
+            },
+        }
+    }
+
+    /// The actor goes on after the reply to its ask, which was served where its book had `at` events, and behind `number` asks of all
+    /// actors. The reply is kept with the ask, and of one that stops the actor the ask alone; where there is no memory to keep it, the actor makes no
+    /// more turns.
+    pub fn answer(&mut self, number: u64, at: u32, reply: Reply)
+        requires answers { self.old.lost ≡ false → MayAnswerIf (unanswered self.old.actor) reply }
+        ensures code { self.new.code ≡ self.old.code }
+        ensures answered { self.new.lost ≡ false → self.new.actor ≡ answered self.old.actor reply }
+        ensures free { self.new.lost ≡ false → unanswered self.new.actor ≡ None }
+        ensures kept { (q : AnAsk) → unanswered self.old.actor ≡ Some q → self.new.lost ≡ false → self.new.kept ≡ kept_after reply (kept_of q reply at number) self.old.kept }
+        ensures stopped { (q : AnAsk) → unanswered self.old.actor ≡ Some q → self.new.lost ≡ false → self.new.stopped ≡ stopped_after reply q self.old.stopped }
+    {
+        actors_run();
+        if self.lost {
+            return;
+        }
+        let Some(ask) = self.asked.take() else {
+            unreachable!();
+        };
+        let keeping = keep(
+            self.alloc,
+            &mut self.kept,
+            &mut self.stopped,
+            ask,
+            &reply,
+            at,
+            number,
+        );
+        match keeping {
+            Ok(()) => self.actor.answer(self.code, reply),
+            Err(_) => {
+                self.lost = true;
+                self.actor.answer(self.code, reply);
+            }
+        }
+    }
+
+    /// The number of its actor.
+    pub fn number(&self) -> u16
+        ensures { result ≡ self.now.actor.number }
+    {
+        self.actor.number()
+    }
+
+    /// Its code.
+    pub fn code(&self) -> &'a Verified
+        ensures { result.now ≡ self.now.code }
+    {
+        self.code
+    }
+
+    /// Its actor.
+    pub fn actor(&self) -> &Actor
+        ensures { result.now ≡ self.now.actor }
+    {
+        &self.actor
+    }
+
+    /// Whether an ask has no answer yet.
+    pub fn is_asking(&self) -> bool
+        ensures free { self.now.lost ≡ false → result ≡ false → unanswered self.now.actor ≡ None }
+        ensures asks { self.now.lost ≡ false → IsTrue result → unanswered self.now.actor ≡ None → ⊥ }
+    {
+        self.asked.is_some()
+    }
+
+    /// Whether the ask that has no answer yet may have this reply.
+    pub fn may_answer(&self, reply: &Reply) -> bool
+        ensures { IsTrue result → self.now.lost ≡ false → MayAnswerIf (unanswered self.now.actor) reply.now }
+    {
+        match &self.asked {
+            Some(ask) => may_answer(ask, reply),
+            None => false,
+        }
+    }
+
+    /// Whether there was no memory to keep an ask or a reply. If there was, the actor is where its code comes to on what it kept.
+    pub fn is_lost(&self) -> bool
+        ensures value { result ≡ self.now.lost }
+        ensures played { result ≡ false → HasPlayed self.now.code (map entry_of self.now.kept) self.now.stopped self.now.actor }
+    {
+        self.lost
+    }
+
+    /// Whether the book for the ask at which it was stopped has as many events as it may have.
+    pub fn has_full_book(&self, shared: &SharedState) -> bool
+        ensures { IsTrue result ↔ HasFullBook shared.now self.now.stopped }
+    {
+        match &self.stopped {
+            Some(ask) => is_full(shared.numbered_events(shared.book_for(ask))),
+            None => false,
+        }
+    }
+
+    /// How it ended, if it did.
+    pub fn outcome(&self) -> Option<Outcome>
+        ensures { self.now.lost ≡ false → result ≡ self.now.actor.outcome }
+    {
+        if self.lost {
+            return Some(Outcome::Memory);
+        }
+        self.actor.outcome()
+    }
+
+    /// What it kept.
+    pub fn kept(&self) -> &KeptEntries
+        ensures { result.now ≡ self.now.kept }
+    {
+        &self.kept
+    }
+
+    /// What it kept, without the rest.
+    pub fn into_kept(self) -> KeptEntries
+        ensures { result ≡ self.entry.kept }
+    {
+        let Played { kept, .. } = self;
+        kept
+    }
+}
