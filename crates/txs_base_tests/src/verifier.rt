@@ -52,6 +52,11 @@ const SWAPPED: &[u8] = &[21];
 
 const HALT: &[u8] = &[24];
 
+const SEND_INC: &[u8] = &[23, 0, 0, 3, 0, 0];
+
+// Code without bodies, of `(def g (agent nil))`.
+const AGENT: &[u8] = b"TXS1\x00\x01\x02\x00\x01g\x00\x00\x00\x00\x00\x00\x00\x00\x00";
+
 // A body: its parameters, its locals, and its instructions.
 type Body<'a> = (u8, u8, &'a [&'a [u8]]);
 
@@ -271,17 +276,18 @@ fn gives_what_runs_today(rt: HostRuntime) -> Result<(), Fail> {
         (0, 0, &[ATOM, SWAP_INC, INC, SWAPPED, HALT]),
     )?;
     assert!(rt; load_verified(rt.alloc(), &FORM).is_ok());
-    assert!(rt; is_left_out(rt.alloc(), swaps.as_slice(), LeftOut::Cell(1)));
-    let mut reset = Vec::from_slice(
+    assert!(rt; load_verified(rt.alloc(), swaps.as_slice()).is_ok());
+    assert!(rt; is_left_out(rt.alloc(), AGENT, LeftOut::Cell(0)));
+    let mut sends = Vec::from_slice(
         rt.alloc(),
         b"TXS1\x00\x00\x00\x00\x00\x01\x00\x00\x00\x00\x01",
     )?;
-    write_body(&mut reset, (0, 0, &[NUMBER, NUMBER, &[22], HALT]))?;
+    write_body(&mut sends, (0, 0, &[NUMBER, SEND_INC, HALT]))?;
     assert!(rt;
         is_left_out(
             rt.alloc(),
-            reset.as_slice(),
-            LeftOut::Instruction(Thread(0), 2)
+            sends.as_slice(),
+            LeftOut::Instruction(Thread(0), 1)
         )
     );
     Ok(())

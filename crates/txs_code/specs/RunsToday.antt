@@ -11,7 +11,7 @@ use Rattle.txs_code.specs.declared.instr.Instr.{Instr}
 use Rattle.txs_code.specs.declared.instr.Instr.TheVariants.{Const, Local, Store, Pop, Jump, JumpFalse, Core, Call, Return, Vector, Print, Look, Put, TxBegin, TxEnd, Open, Close, Send, Halt}
 use Rattle.txs_code.specs.declared.instr.OpenForm.TheVariants as open_form
 
--- today's actors run this instruction: of the forms on cells `deref`, `ensure`, `ref-set`, `alter` and `commute` alone
+-- today's actors run this instruction: all but `send`
 abbrev pub IsRunToday : Instr → Type 0
 IsRunToday (Const k) = Unit {0}
 IsRunToday (Local i) = Unit {0}
@@ -27,15 +27,15 @@ IsRunToday (Print n) = Unit {0}
 IsRunToday (Look Deref) = Unit {0}
 IsRunToday (Look Ensure) = Unit {0}
 IsRunToday (Put RefSet) = Unit {0}
-IsRunToday (Put Reset) = ⊥
+IsRunToday (Put Reset) = Unit {0}
 IsRunToday TxBegin = Unit {0}
 IsRunToday TxEnd = Unit {0}
 IsRunToday (Open open_form.Alter n) = Unit {0}
 IsRunToday (Open (open_form.Commute callee) n) = Unit {0}
-IsRunToday (Open (open_form.Swap callee) n) = ⊥
+IsRunToday (Open (open_form.Swap callee) n) = Unit {0}
 IsRunToday (Close update.Alter) = Unit {0}
 IsRunToday (Close update.Commute) = Unit {0}
-IsRunToday (Close update.Swap) = ⊥
+IsRunToday (Close update.Swap) = Unit {0}
 IsRunToday (Send callee n) = ⊥
 IsRunToday Halt = Unit {0}
 
@@ -49,10 +49,10 @@ abbrev pub BodiesRunToday : List CodeBody → Type 0
 BodiesRunToday [] = Unit {0}
 BodiesRunToday (b ∷ bs) = AreRunToday b.instrs × BodiesRunToday bs
 
--- of cells, refs run today
+-- of cells, refs and atoms run today
 abbrev pub KindRunsToday : CellKind → Type 0
 KindRunsToday Ref = Unit {0}
-KindRunsToday Atom = ⊥
+KindRunsToday Atom = Unit {0}
 KindRunsToday Agent = ⊥
 
 -- each of these cells does
@@ -60,7 +60,7 @@ abbrev pub CellsRunToday : List CellDefinition → Type 0
 CellsRunToday [] = Unit {0}
 CellsRunToday (d ∷ ds) = KindRunsToday d.kind × CellsRunToday ds
 
--- The code that today's actors run: none of its bodies has an instruction that they don't, and its cells are refs.
+-- The code that today's actors run: none of its bodies has an instruction that they don't, and its cells are refs and atoms.
 pub record RunsToday (code : PlainCode) : Type 0 where
   pub functions : BodiesRunToday code.functions
   pub threads : BodiesRunToday code.threads

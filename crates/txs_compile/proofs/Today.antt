@@ -7,12 +7,13 @@ use Rattle.txs_value.specs.declared.fault.Span.{Span}
 use Rattle.txs_value.specs.declared.form.CellForm.{CellForm}
 use Rattle.txs_value.specs.declared.form.CellForm.TheVariants as on_cell
 use Rattle.txs_value.specs.declared.form.LookForm.TheVariants.{Deref, Ensure}
-use Rattle.txs_value.specs.declared.form.PutForm.TheVariants.{RefSet}
-use Rattle.txs_value.specs.declared.form.UpdateForm.TheVariants.{Alter, Commute}
+use Rattle.txs_value.specs.declared.form.PutForm.TheVariants.{RefSet, Reset}
+use Rattle.txs_value.specs.declared.form.UpdateForm.TheVariants.{Alter, Commute, Swap}
 use Rattle.txs_value.specs.declared.op.Op.{Op}
 use Rattle.txs_value.specs.declared.op.Callee.{Callee}
 use Rattle.txs_value.specs.declared.op.Callee.TheVariants.{Core as CoreOp, Function as TheFunction}
-use Rattle.txs_value.specs.declared.value.CellKind.TheVariants.{Ref}
+use Rattle.txs_value.specs.declared.value.CellKind.{CellKind}
+use Rattle.txs_value.specs.declared.value.CellKind.TheVariants.{Ref, Atom}
 use Rattle.txs_value.specs.declared.value.Value.{Value}
 use Rattle.txs_value.specs.declared.value.Value.TheVariants.{Cell}
 use Rattle.txs_reader.specs.declared.form.Bracket.TheVariants.{Round, Square}
@@ -246,8 +247,8 @@ special_kept kind.RefSet s args e h = family_kept (Some (on_cell.Put RefSet)) s.
 special_kept kind.Alter s args e h = family_kept (Some (on_cell.Update Alter)) s.span args tt h
 special_kept kind.Commute s args e h = family_kept (Some (on_cell.Update Commute)) s.span args tt h
 special_kept kind.Ensure s args e h = family_kept (Some (on_cell.Look Ensure)) s.span args tt h
-special_kept kind.Swap s args e h = absurd (later e)
-special_kept kind.Reset s args e h = absurd (later e)
+special_kept kind.Swap s args e h = family_kept (Some (on_cell.Update Swap)) s.span args tt h
+special_kept kind.Reset s args e h = family_kept (Some (on_cell.Put Reset)) s.span args tt h
 special_kept kind.Send s args e h = absurd (later e)
 special_kept kind.Ns s args e h = tt
 special_kept kind.Def s args e h = tt
@@ -450,7 +451,7 @@ cells_more : (cells : List CellDefinition) (d : CellDefinition) → CellsRunToda
 cells_more [] d h k = (k, tt)
 cells_more (c ∷ cells) d h k = (h.0, cells_more cells d h.1 k)
 
--- a cell that is defined is a ref
+-- a cell that is defined is a ref or an atom
 abbrev SortToday : Option CellSort → Type 0
 SortToday None = Unit {0}
 SortToday (Some sort) = KindRunsToday sort.kind
@@ -465,15 +466,16 @@ only_today sort form h = here (is_literal form) where
   here true = h
   here false = tt
 
-opened_today : (mode : Option ErrorMode) (form : Form) → DefiningToday (opened Ref mode form)
-opened_today None form = tt
-opened_today (Some mode) form = only_today (Some (record { kind = Ref; error_mode = mode })) form tt
+opened_today : (k : CellKind) (mode : Option ErrorMode) (form : Form) → KindRunsToday k → DefiningToday (opened k mode form)
+opened_today k None form h = tt
+opened_today k (Some mode) form h = only_today (Some (record { kind = k; error_mode = mode })) form h
 
 cell_today : (o : Option FormName) (args : Forms) → makes_later o ≡ false → DefiningToday (cell_of (kind_at o) args)
-cell_today (Some kind.Atom) args e = absurd (later e)
+cell_today (Some kind.Atom) no_forms e = tt
+cell_today (Some kind.Atom) (first form behind) e = opened_today Atom (mode_behind Atom behind) form tt
 cell_today (Some kind.Agent) args e = absurd (later e)
 cell_today (Some kind.Ref) no_forms e = tt
-cell_today (Some kind.Ref) (first form behind) e = opened_today (mode_behind Ref behind) form
+cell_today (Some kind.Ref) (first form behind) e = opened_today Ref (mode_behind Ref behind) form tt
 cell_today _ args e = tt
 
 defining_today : (form : Form) → makes_later (head_form form) ≡ false → DefiningToday (defining_of form)
@@ -493,7 +495,7 @@ one_today s name at span (Some d) k h =
     (λ _. two_every Any Any StateToday (literal most_depth d.value) (new_name s.defined name at) (λ v n. with_definition d.sort s n v) (any (literal most_depth d.value)) (any (new_name s.defined name at))
     (λ v n _ _. definition_today d.sort s n v k h))
 
--- a form that is named makes no cell but a ref
+-- a form that is named makes no agent
 abbrev NamedToday : Option NamedForm → Type 0
 NamedToday None = Unit {0}
 NamedToday (Some f) = makes_later (head_form f.form) ≡ false

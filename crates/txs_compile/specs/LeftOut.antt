@@ -24,16 +24,13 @@ abbrev pub head_form : Form → Option FormName
 head_form (group Round (first head rest) span) = form_at head
 head_form _ = None
 
--- The table of the forms that don't run yet: of those on cells `deref`, `ensure`, `ref-set`, `alter` and `commute` do.
+-- The table of the forms that don't run yet: of those on cells all but `send` do.
 abbrev pub runs_later : Option FormName → Bool
-runs_later (Some kind.Swap) = true
-runs_later (Some kind.Reset) = true
 runs_later (Some kind.Send) = true
 runs_later _ = false
 
--- the table of the cells that don't run yet: all but refs
+-- the table of the cells that don't run yet: agents
 abbrev pub makes_later : Option FormName → Bool
-makes_later (Some kind.Atom) = true
 makes_later (Some kind.Agent) = true
 makes_later _ = false
 
@@ -58,16 +55,16 @@ abbrev pub third : Form → Option Form
 third (group Round (first a (first b (first c rest))) span) = Some c
 third _ = None
 
--- whether a form makes a cell that isn't a ref
+-- whether a form makes an agent
 abbrev pub has_later_cell : Option Form → Bool
 has_later_cell None = false
 has_later_cell (Some form) = makes_later (head_form form)
 
--- whether a form defines an atom or an agent
+-- whether a form defines an agent
 abbrev pub is_later_definition : Form → Bool
 is_later_definition form = defines (head_form form) && has_later_cell (third form)
 
--- The first form of a script that is left out until it runs, in source order: the definition of an atom or agent, as a whole, or a form on cells.
+-- The first form of a script that is left out until it runs, in source order: the definition of an agent, as a whole, or a form on cells.
 abbrev pub left_out : List Form → Option Span
 left_out [] = None
 left_out (form ∷ forms) = if is_later_definition form then Some (place form) else or_else (left_out_in form) (left_out forms)

@@ -21,21 +21,18 @@ fn head_form(form: &Form) -> Option<FormName>
     }
 }
 
-/// Whether the form is one on cells that doesn't run yet: `deref`, `ensure`, `ref-set`, `alter` and `commute` do.
+/// Whether the form is one on cells that doesn't run yet: all but `send` do.
 fn runs_later(form: &Form) -> bool
     ensures { result ≡ runs_later (head_form (tree form.now)) }
 {
-    matches!(
-        head_form(form),
-        Some(FormName::Swap | FormName::Reset | FormName::Send)
-    )
+    matches!(head_form(form), Some(FormName::Send))
 }
 
-/// Whether the form makes a cell that isn't a ref.
+/// Whether the form makes an agent.
 fn makes_later(form: &Form) -> bool
     ensures { result ≡ makes_later (head_form (tree form.now)) }
 {
-    matches!(head_form(form), Some(FormName::Atom | FormName::Agent))
+    matches!(head_form(form), Some(FormName::Agent))
 }
 
 /// Whether the form is a definition.
@@ -58,7 +55,7 @@ fn third(form: &Form) -> Option<&Form>
     Some(third)
 }
 
-/// Whether the form defines an atom or an agent.
+/// Whether the form defines an agent.
 fn is_later_definition(form: &Form) -> bool
     ensures { result ≡ is_later_definition (tree form.now) }
 {

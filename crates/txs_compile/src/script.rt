@@ -1,6 +1,7 @@
 //! From the bytes of a script to its program and code.
 
 ghost use Rattle.std.specs.Prelude.{◌≡◌, Some, None, IfOk, IfErr};
+ghost use Rattle.txs_bytes.specs.CodeForm.{HasForm};
 ghost use Rattle.txs_check.specs.Refused.{CheckStops};
 ghost use Rattle.txs_code.specs.OwnCells.{NamesOwnCells};
 ghost use Rattle.txs_code.specs.PlainCode.{function_codes};
@@ -22,6 +23,7 @@ use crate::left_out::left_out;
 use std::alloc::Global;
 use txs_check::{CheckErrorKind, check};
 use txs_code::Verified;
+use txs_formed::law::code_of_script_has_form;
 use txs_gen::follows::{
     code_of_agents_follows, code_of_program_follows, code_of_program_sends_sound,
 };
@@ -100,13 +102,16 @@ pub fn compile(alloc: Global, bytes: &[u8]) -> Result<(Program, Verified), Compi
     ensures sends { IfOk result (λ c. CodesSendSound (program_of c.0).functions (codes_of c.1)) }
     ensures cells { IfOk result (λ c. c.1.cells ≡ c.0.cells) }
     ensures own_cells { IfOk result (λ c. NamesOwnCells c.1) }
+    ensures form { IfOk result (λ c. HasForm c.1) }
     ensures refused { IfErr result (λ e. IsRefusal bytes.now e) }
 {
     let forms = forms_of(alloc, bytes)?;
     let program = program_of_forms(alloc, bytes, forms.as_slice())?;
     let verified = generate(alloc, &program)?;
+    let _rooms = verified.rooms();
     code_of_program_follows();
     code_of_agents_follows();
     code_of_program_sends_sound();
+    code_of_script_has_form();
     Ok((program, verified))
 }

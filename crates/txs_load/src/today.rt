@@ -6,8 +6,8 @@ ghost use Rattle.txs_load.specs.Load.{IsBodyLeftOut, IsLeftOut, IsLeftOutAt, IsL
 ghost use Rattle.txs_verify.specs.Verdict.{name_of};
 
 use crate::error::LeftOut;
-use txs_code::{Body, Code, Instr, OpenForm};
-use txs_value::{CellDefinition, CellKind, LookForm, PutForm, UpdateForm};
+use txs_code::{Body, Code, Instr};
+use txs_value::{CellDefinition, CellKind};
 use txs_verify::error::BodyName;
 
 /// Whether today's actors run an instruction.
@@ -16,9 +16,6 @@ fn is_run(instr: Instr) -> bool
     ensures no { (result ≡ false) → IsRunToday instr → ⊥ }
 {
     match instr {
-        Instr::Put(PutForm::Reset) => false,
-        Instr::Open(OpenForm::Swap(_), _) => false,
-        Instr::Close(UpdateForm::Swap) => false,
         Instr::Send(_, _) => false,
         _ => true,
     }
@@ -66,8 +63,8 @@ fn is_run_cell(kind: CellKind) -> bool
     ensures no { (result ≡ false) → KindRunsToday kind → ⊥ }
 {
     match kind {
-        CellKind::Ref => true,
-        CellKind::Atom | CellKind::Agent => false,
+        CellKind::Ref | CellKind::Atom => true,
+        CellKind::Agent => false,
     }
 }
 

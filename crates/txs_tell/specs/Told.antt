@@ -170,12 +170,14 @@ abbrev pub events_told : Bool → List Event → List ℕ
 events_told false book = []
 events_told true book = event_lines 0 book
 
--- What is told of code that is to be written: its byte form, or that it has none.
-pub data FormTold (code : PlainCode) (t : Told) : Type 0 where
-  of_form : (fits : HasForm code) (output : t.output ≡ form code) (errors : t.errors ≡ []) (status : t.status ≡ 0) → FormTold code t
-  of_none : (none : HasForm code → ⊥) (output : t.output ≡ []) (errors : t.errors ≡ codes "no byte form" ++ codes "\n") (status : t.status ≡ 1) → FormTold code t
+-- What is told of code that is to be written: its byte form.
+pub record FormTold (code : PlainCode) (t : Told) : Type 0 where
+  pub fits : HasForm code
+  pub output : t.output ≡ form code
+  pub errors : t.errors ≡ []
+  pub status : t.status ≡ 0
 
--- What is told of a script: that it is refused; that it compiles; the listing of its code; its code's byte form, or that this has none; what its run told, and behind it its cells and events; or that a play
+-- What is told of a script: that it is refused; that it compiles; the listing of its code; its code's byte form; what its run told, and behind it its cells and events; or that a play
 -- names no thread, and nothing ran.
 pub data ScriptTells (script : Script) (t : Told) : Wanted → Type 0 where
   of_refused :

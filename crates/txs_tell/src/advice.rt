@@ -48,7 +48,7 @@ pub fn of_read(kind: ReadErrorKind, is_form: bool) -> Option<&'static str>
 /// What to do about Clojure that this profile leaves out, or about a form that is left out until it runs.
 fn of_left_out(is_form: bool) -> &'static str {
     if is_form {
-        "Do without it until it runs: for now cells are refs, which `alter`, `commute` and `ref-set` set."
+        "Do without it until it runs: for now cells are refs and atoms, and nothing is sent."
     } else {
         "Write it another way: this profile of Clojure leaves it out."
     }

@@ -2,6 +2,7 @@
 
 ghost use Rattle.std.specs.Option.{option_map};
 ghost use Rattle.std.specs.Prelude.{◌≡◌, ◌++◌, ◌≤◌, length, [], codes, IfOk, OnOk};
+ghost use Rattle.txs_bytes.specs.CodeForm.{HasForm};
 ghost use Rattle.txs_disasm.specs.Listing.{listing};
 ghost use Rattle.txs_machine.specs.RunOver.{IsStateOf};
 ghost use Rattle.txs_runs.specs.Shared.{untouched};
@@ -11,9 +12,9 @@ ghost use Rattle.txs_tell.specs.Told.{RunAnswers, ScriptTells, FormTold, Check, 
 
 use crate::cells::write_cells;
 use crate::explain::Script;
-use crate::told::{REFUSED, Told, UNUSABLE, Use, answer, complaint, of_threads, refused};
+use crate::told::{Told, UNUSABLE, Use, answer, complaint, of_threads, refused};
 use std::alloc::{AllocError, Global};
-use txs_bytes::bytes_of;
+use txs_bytes::encode;
 use txs_code::Verified;
 use txs_compile::compile;
 use txs_disasm::write_listing;
@@ -187,15 +188,13 @@ fn list_script(alloc: Global, script: Script<'_>) -> Result<Told, AllocError>
     Ok(told)
 }
 
-/// The byte form of the code, on the standard output, or that it has none.
+/// The byte form of the code, on the standard output.
 fn form_of(alloc: Global, code: &Verified) -> Result<Told, AllocError>
+    requires { HasForm code.now }
     ensures { IfOk result (λ t. FormTold code.now (told_of t)) }
 {
-    let bytes = bytes_of(alloc, code.code())?;
-    match bytes {
-        Some(bytes) => Ok(answer(bytes, alloc)),
-        None => complaint(alloc, REFUSED, "no byte form"),
-    }
+    let bytes = encode(alloc, code.code())?;
+    Ok(answer(bytes, alloc))
 }
 
 /// Compiles the script and writes its code in its byte form. Nothing runs.

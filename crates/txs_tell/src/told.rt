@@ -45,7 +45,7 @@ pub enum Use<'a> {
 /// All threads ended.
 pub const DONE: u8 = 0;
 
-/// The script was refused, or its code has no byte form.
+/// The script was refused.
 pub const REFUSED: u8 = 1;
 
 /// The words can't be used, a play names no thread, or a stream couldn't be read or written.

@@ -17,3 +17,9 @@ returns-clause-own_cells c =
 pub returns-clause-sends : goal.returns-clause-sends
 returns-clause-sends c =
     c.code_of_program_sends_sound.ensures c.in_ok-verified.verified (program_of c.in_ok-program.program) c.in_ok-program.ensures.ok.sound c.in_ok-verified.ensures
+
+pub returns-clause-form : goal.returns-clause-form
+returns-clause-form c =
+    let p = c.in_ok-program.ensures.ok in
+    let own = code_names_own_cells c.in_ok-verified.verified (program_of c.in_ok-program.program) c.in_ok-verified.ensures c.in_ok-program.ensures.own_cells in
+    c.code_of_script_has_form.ensures c.args.bytes.now p.forms (program_of c.in_ok-program.program) c.in_ok-verified.verified c.rooms-rooms.result.0.now c.rooms-rooms.result.1.now p.reads p.resolved p.sound c.in_ok-verified.ensures own c.rooms-rooms.ensures
