@@ -1,6 +1,7 @@
-//! What reader, resolver and checks say of a script, also of forms that the program leaves out so far.
+//! What reader, resolver and checks say of a script, also of forms that the program leaves out so far; and what decoder and verifier say of
+//! code.
 
-use crate::written::{Written, nothing};
+use crate::written::{Written, nothing, words_in, written_of};
 use std::alloc::{AllocError, Global};
 use txs_check::check;
 use txs_reader::read_script;
@@ -36,6 +37,17 @@ pub fn checked(alloc: Global, script: &[u8]) -> Result<Written, AllocError> {
             written.errors.extend_from_slice(line.as_bytes())?;
             written.status = 1;
         }
+    }
+    Ok(written)
+}
+
+/// What decoder and verifier say of code: `ok`, or the refusal.
+pub fn checked_code(alloc: Global, code: &[u8]) -> Result<Written, AllocError> {
+    let words = words_in(alloc, "dis --code")?;
+    let mut written = written_of(alloc, words.as_slice(), code);
+    if written.status == 0 {
+        written.output.clear();
+        written.output.extend_from_slice(b"ok\n")?;
     }
     Ok(written)
 }

@@ -8,6 +8,8 @@ pub const WORDS: &str = "$";
 pub const OUTPUT: &str = ">";
 /// A line of the standard error.
 pub const ERRORS: &str = "!";
+/// Bytes of code, in hexadecimal digits.
+pub const CODE: &str = "%";
 /// The status.
 pub const STATUS: &str = "=";
 
@@ -23,7 +25,7 @@ fn behind<'a>(line: &'a str, mark: &str) -> Option<&'a str> {
 
 /// Whether a line has one of the marks.
 fn is_marked(line: &str) -> bool {
-    [WORDS, OUTPUT, ERRORS, STATUS]
+    [WORDS, OUTPUT, ERRORS, CODE, STATUS]
         .iter()
         .any(|mark| behind(line, mark).is_some())
 }
@@ -57,6 +59,20 @@ pub fn unmarked(alloc: Global, text: &str) -> Result<String, AllocError> {
         if !line.is_empty() && !is_marked(line) {
             all.push_str(line)?;
             all.push('\n')?;
+        }
+    }
+    Ok(all)
+}
+
+/// The bytes that stand in hexadecimal digits behind the marks of code; up to the first line in which anything else stands.
+pub fn code_in(alloc: Global, text: &str) -> Result<Vec<u8>, AllocError> {
+    let mut all = Vec::new(alloc);
+    for line in text.lines() {
+        if let Some(digits) = behind(line, CODE) {
+            match hex::decode(alloc, digits.as_bytes()) {
+                Ok(bytes) => all.extend_from_slice(&bytes)?,
+                Err(_) => return Ok(all),
+            }
         }
     }
     Ok(all)

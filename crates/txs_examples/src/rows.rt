@@ -2,8 +2,10 @@
 
 use crate::built::is_built;
 use crate::compare::agrees;
-use crate::layers::checked;
-use crate::marks::{ERRORS, OUTPUT, STATUS, WORDS, all_behind, first_behind, unmarked};
+use crate::layers::{checked, checked_code};
+use crate::marks::{
+    CODE, ERRORS, OUTPUT, STATUS, WORDS, all_behind, code_in, first_behind, unmarked,
+};
 use crate::written::{Written, words_in, written_of};
 use std::alloc::{AllocError, Global};
 use std::{fs, io};
@@ -15,10 +17,22 @@ pub struct Count {
     pub wrong: u32,
 }
 
-/// What is written for a script: by the layers up to the checks alone, or by the program.
+/// The bytes of a row: those of its code, or of its script.
+fn bytes_of(alloc: Global, row: &str) -> Result<Vec<u8>, AllocError> {
+    if first_behind(row, CODE).is_some() {
+        return code_in(alloc, row);
+    }
+    let script = unmarked(alloc, row)?;
+    Vec::from_slice(alloc, script.as_bytes())
+}
+
+/// What is written for a script: by the layers up to the checks alone, or by the program; or for code by its decoder and verifier alone.
 fn run(alloc: Global, words: &str, script: &[u8]) -> Result<Written, AllocError> {
     if words == "check-all" {
         return checked(alloc, script);
+    }
+    if words == "check-code" {
+        return checked_code(alloc, script);
     }
     let words = words_in(alloc, words)?;
     Ok(written_of(alloc, words.as_slice(), script))
@@ -55,14 +69,14 @@ fn is_as_expected(rt: &HostRuntime, name: &str, head: &str, row: &str) -> io::Re
     let status = first_behind(row, STATUS)
         .or(first_behind(head, STATUS))
         .unwrap_or("0");
-    let script = unmarked(rt.alloc(), row)?;
-    let written = run(rt.alloc(), words, script.as_bytes())?;
+    let script = bytes_of(rt.alloc(), row)?;
+    let written = run(rt.alloc(), words, script.as_slice())?;
     let output = (OUTPUT, "the standard output");
     let errors = (ERRORS, "the standard error");
     let first = agrees_with(rt, name, output, row, written.output.as_slice())?;
     let second = agrees_with(rt, name, errors, row, written.errors.as_slice())?;
     let third = ended_so(rt, name, written.status, status)?;
-    let fourth = is_built(rt, name, script.as_bytes())?;
+    let fourth = is_built(rt, name, script.as_slice())?;
     Ok(first && second && third && fourth)
 }
 
