@@ -8,6 +8,11 @@ repository stays as it is. Run `rt check` in the crate first, or the copy is pro
 A line for each edit tells that it was refused, and after how many seconds, that the crate is STILL PROVED with it, so that a
 contract is too weak, or why it cannot be applied, which shows nothing. The exit status is 0 where each was refused, else 1.
 
+With --together, edits of different functions are made in one copy, and one check proves just these functions: so the crate
+is loaded once for many edits. An edit counts as refused there where a goal of its own function isn't proved; one that isn't
+refused so, or only by a proof file that names what it took away, is tried once more alone. A crate whose library is built
+(`rt lib`) isn't checked without edits first.
+
 An edit is written as one of must-fail/: a line 'file: src/x.rt', then pairs of lines 'old: TEXT' and 'new: TEXT'. Each
 old TEXT stands once in the file, as the pairs before it have left it."""
 import argparse
@@ -63,8 +68,9 @@ def copy_to(room, crate, used):
     return f"{room}/crates/{crate}"
 
 
-def edited(edit, folder):
-    """The texts of the files that the edit changes, as they are and as it makes them, by their paths in the crate."""
+def edited(edit, folder, texts=None):
+    """The texts of the files that the edit changes, as they are and as it makes them, by their paths in the crate. Where texts
+    are given, these stand in place of the files."""
     path, old, was, made = None, None, {}, {}
     with open(edit, encoding="utf-8") as file:
         lines = file.read().split("\n")
@@ -80,6 +86,8 @@ def edited(edit, folder):
         elif word == "new":
             if not path or not old:
                 raise Unfit("a 'new:' line stands before any 'file:' or 'old:' line")
+            if path not in made and texts and path in texts:
+                was[path] = made[path] = texts[path]
             if path not in made:
                 try:
                     with open(f"{folder}/{path}", encoding="utf-8") as file:
@@ -128,7 +136,7 @@ def judged(status, lines, changed):
         raise Unfit("the kept work of a library could not be used: run rt check in that library first")
     if status == 0:
         return False, ""
-    if status != 1 or not any(line.startswith("logic=not-proved") for line in lines):
+    if status != 1 or not any(line.startswith(("logic=not-proved", "only=")) for line in lines):
         told = [line for line in lines if "error" in line] or lines
         raise Unfit(f"it did not reach the prover: {told[0][:200]}")
     told = [line for line in lines if re.match(r"(note: )?\S+:\d+:\d+:", line)]
@@ -138,17 +146,102 @@ def judged(status, lines, changed):
     return True, next((line for line in told if not LOST.match(line)), "")
 
 
-def try_edits(crate, edits, used, tells_why):
+def is_built(crate, used):
+    """Whether the crate's library is built, and so proved, and no text of it or of those that it uses is newer."""
+    try:
+        built = os.stat(f"{ROOT}/crates/{crate}/out/rlib/stamp").st_mtime
+    except OSError:
+        return False
+    texts = [f"{at}/{it}" for name in with_all_used(crate, used) for part in PARTS[:3] for at, _, files in os.walk(f"{ROOT}/crates/{name}/{part}") for it in files]
+    return all(os.stat(it).st_mtime < built for it in texts)
+
+
+def function_at(text, path, place):
+    """The path of the function whose body has this place, as `rt check --only` takes it, or nothing where it is in no function
+    of a module or of a type's own."""
+    inside = list(re.finditer(r"(?m)^( *)(?:pub(?:\([a-z]+\))? )?(?:const )?fn (\w+)", text[:place]))
+    if not inside:
+        return None
+    found = inside[-1]
+    module = [it for it in path[len("src/") : -len(".rt")].split("/") if it not in ("lib", "main", "mod")]
+    if not found[1]:
+        return "::".join([*module, found[2]])
+    blocks = re.findall(r"(?m)^impl(?:<[^>]*>)? (\w+)(?:<[^>]*>)?( for)?", text[: found.start()])
+    return "::".join([*module, blocks[-1][0], found[2]]) if blocks and not blocks[-1][1] else None
+
+
+def grouped(edits, folder):
+    """Edits of different functions in groups: of each group the texts that they make together, and its edits with their functions.
+    What is of no function's body alone, or can't be applied, is in no group."""
+    groups = []
+    for edit in edits:
+        try:
+            was, made = edited(edit, folder)
+        except Unfit:
+            continue
+        if len(made) != 1:
+            continue
+        path = next(iter(made))
+        place = next((i for i, (a, b) in enumerate(zip(was[path], made[path])) if a != b), 0)
+        function = function_at(was[path], path, place)
+        if function is None:
+            continue
+        for texts, names in groups:
+            if function in names.values():
+                continue
+            try:
+                _, together = edited(edit, folder, texts)
+            except Unfit:
+                continue
+            texts.update(together)
+            names[edit] = function
+            break
+        else:
+            groups.append((made, {edit: function}))
+    return groups
+
+
+def refused_together(crate, folder, texts, names):
+    """The edits of a group that one check refuses, each by a goal of its own function, with what it said of it."""
+    was = {}
+    for path in texts:
+        with open(f"{folder}/{path}", encoding="utf-8") as file:
+            was[path] = file.read()
+    write(folder, texts)
+    status, lines = check(folder, "--jobs", "1", *[word for name in names.values() for word in ("--only", name)])
+    write(folder, was)
+    try:
+        if not judged(status, lines, texts)[0]:
+            return {}
+    except Unfit:
+        return {}
+    found = {}
+    for edit, name in names.items():
+        verdict = next((it for it in lines if it.startswith(f"fn {crate}::{name}: ")), "")
+        answers = f"./proofs/{name.replace('::', '/')}/"
+        errors = [it for it in lines if it.startswith(answers) and ": error" in it and not LOST.match(it)]
+        if verdict and not verdict.endswith(": proved") and ("did not prove" in verdict or errors):
+            found[edit] = errors[0] if errors else verdict
+    return found
+
+
+def try_edits(crate, edits, used, tells_why, together=False):
     """Tries the crate's edits in a copy, and returns how many were refused, are still proved, and cannot be applied."""
     counts = [0, 0, 0]
     with tempfile.TemporaryDirectory(prefix="wrong-bodies-") as room:
         folder = copy_to(room, crate, used)
-        status, lines = check(folder)
+        status, lines = (0, []) if together and is_built(crate, used) else check(folder)
         if status:
             told = [line for line in lines if "error" in line] or lines[-3:]
             print(f"cannot be applied {crate}: the crate isn't proved without any edit: {told[0][:200]}", flush=True)
             return [0, 0, len(edits)]
-        for edit in edits:
+        done = {}
+        for texts, names in grouped(edits, folder) if together else []:
+            done.update(refused_together(crate, folder, texts, names))
+        for edit, said in done.items():
+            print(f"refused {crate}/{os.path.basename(edit)[:-len('.edit')]} (together){': ' + said[:200] if tells_why else ''}", flush=True)
+            counts[0] += 1
+        for edit in [it for it in edits if it not in done]:
             name, begun = f"{crate}/{os.path.basename(edit)[:-len('.edit')]}", time.monotonic()
             try:
                 was, made = edited(edit, folder)
@@ -173,6 +266,7 @@ def main():
     words.add_argument("--jobs", metavar="N", type=int, default=1, help="how many crates to try side by side (1)")
     words.add_argument("--only", metavar="NAME", action="append", help="try only the edits of this name; may be given again")
     words.add_argument("--gate", action="store_true", help="try the gate's own edits, those of must-fail/, in their place")
+    words.add_argument("--together", action="store_true", help="try edits of different functions in one check")
     words.add_argument("--why", action="store_true", help="show what the prover said first of each that it refused")
     asked = words.parse_args()
     used, part, edits = crates_used(), "must-fail" if asked.gate else "wrong-bodies", {}
@@ -188,7 +282,7 @@ def main():
     if not edits:
         sys.exit(f"wrong_bodies.py: no such edit in a folder {part}")
     with ThreadPoolExecutor(max(asked.jobs, 1)) as pool:
-        counts = list(pool.map(lambda it: try_edits(it, edits[it], used, asked.why), edits))
+        counts = list(pool.map(lambda it: try_edits(it, edits[it], used, asked.why, asked.together), edits))
     refused, proved, unfit = (sum(it) for it in zip(*counts))
     print(f"{refused + proved + unfit} wrong bodies: {refused} refused, {proved} still proved, {unfit} cannot be applied")
     return 1 if proved or unfit else 0
