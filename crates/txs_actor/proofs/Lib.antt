@@ -1,5 +1,6 @@
 pub mod Answering
 pub mod Applying
+pub mod Attending
 pub mod Calling
 pub mod Departing
 pub mod Effects

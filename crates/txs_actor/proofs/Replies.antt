@@ -1,5 +1,5 @@
 -- The replies that asks may have, one by one.
-use Rattle.std.proofs.Common.{◌≡◌, ℕ, Bool, true, false, List, length, Option, Some, None}
+use Rattle.std.proofs.Common.{◌≡◌, ℕ, Bool, true, false, List, length, Option, Some, None, Result}
 use Rattle.txs_asks.specs.Ask.{Writes}
 use Rattle.txs_asks.specs.declared.ask.Ask.TheVariants as ask
 use Rattle.txs_asks.specs.declared.ask.Reply.{Reply}
@@ -102,6 +102,34 @@ module _ (P : Reply → Type 0) where
   fail_replies p q done full memory Idle m = absurd m
   fail_replies p q done full memory (Opened n v) m = absurd m
 
+  pub take_replies : (g : CellId) → ((n : ℕ) (x : AnAction) (v : Value) → P (Action n x v)) → P Idle → P Memory → (r : Reply) → MayAnswer (ask.Take g) r → P r
+  take_replies g action idle memory (Action n x v) m = action n x v
+  take_replies g action idle memory Idle m = idle
+  take_replies g action idle memory Memory m = memory
+  take_replies g action idle memory (At n) m = absurd m
+  take_replies g action idle memory (Is v) m = absurd m
+  take_replies g action idle memory (Views n vs) m = absurd m
+  take_replies g action idle memory Done m = absurd m
+  take_replies g action idle memory (Retry d) m = absurd m
+  take_replies g action idle memory (Changed d) m = absurd m
+  take_replies g action idle memory (AgentIsFailed h) m = absurd m
+  take_replies g action idle memory (Opened n v) m = absurd m
+  take_replies g action idle memory Full m = absurd m
+
+  pub finish_replies : (g : CellId) (new : Result Value Fault) → P Done → P Full → P Memory → (r : Reply) → MayAnswer (ask.Finish g new) r → P r
+  finish_replies g new done full memory Done m = done
+  finish_replies g new done full memory Full m = full
+  finish_replies g new done full memory Memory m = memory
+  finish_replies g new done full memory (At n) m = absurd m
+  finish_replies g new done full memory (Is v) m = absurd m
+  finish_replies g new done full memory (Views n vs) m = absurd m
+  finish_replies g new done full memory (Retry d) m = absurd m
+  finish_replies g new done full memory (Changed d) m = absurd m
+  finish_replies g new done full memory (AgentIsFailed h) m = absurd m
+  finish_replies g new done full memory (Action n x v) m = absurd m
+  finish_replies g new done full memory Idle m = absurd m
+  finish_replies g new done full memory (Opened n v) m = absurd m
+
   pub reset_replies : (c : CellId) (v : Value) → P Done → P Full → P Memory → (r : Reply) → MayAnswer (ask.CloseAt c None v) r → P r
   reset_replies c v done full memory (At n) m = absurd m
   reset_replies c v done full memory (Is w) m = absurd m
@@ -194,6 +222,9 @@ pub record Cases (P : Pending → Bool → Reply → Type 0) (w : Work) : Type 0
   pub denied : (i : Bool) (g : CellId) → P pending.Commit i (AgentIsFailed g)
   pub fails : (f : Fault) (i : Bool) → P (pending.Fail f) i Done
   pub breaks : (c : CellId) (p : ℕ) (f : Fault) (i : Bool) → P (pending.Broke c p f) i Done
+  pub takes : (g : CellId) (i : Bool) (n : ℕ) (x : AnAction) (v : Value) → P (pending.Take g) i (Action n x v)
+  pub idles : (g : CellId) (i : Bool) → P (pending.Take g) i Idle
+  pub finishes : (g : CellId) (new : Result Value Fault) (i : Bool) → P (pending.Finish g new) i Done
   pub full : (p : Pending) (i : Bool) → P p i Full
   pub memory : (p : Pending) (i : Bool) → P p i Memory
 
@@ -211,3 +242,5 @@ by_reply P w k (pending.Close c p v) i at view ws r m = close_replies (P (pendin
 by_reply P w k pending.Commit i at view ws r m = commit_replies (P pending.Commit i) at (set_writes w) w.ensures view ws w.sends (k.commits i) (k.commits_again i) (k.changed i) (k.denied i) (k.full pending.Commit i) (k.memory pending.Commit i) r m
 by_reply P w k (pending.Fail f) i at view ws r m = fail_replies (P (pending.Fail f) i) at view (k.fails f i) (k.full (pending.Fail f) i) (k.memory (pending.Fail f) i) r m
 by_reply P w k (pending.Broke c p f) i at view ws r m = broke_replies (P (pending.Broke c p f) i) c p (k.breaks c p f i) (k.full (pending.Broke c p f) i) (k.memory (pending.Broke c p f) i) r m
+by_reply P w k (pending.Take g) i at view ws r m = take_replies (P (pending.Take g) i) g (k.takes g i) (k.idles g i) (k.memory (pending.Take g) i) r m
+by_reply P w k (pending.Finish g new) i at view ws r m = finish_replies (P (pending.Finish g new) i) g new (k.finishes g new i) (k.full (pending.Finish g new) i) (k.memory (pending.Finish g new) i) r m

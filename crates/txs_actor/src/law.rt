@@ -3,7 +3,7 @@
 ghost use Rattle.txs_actor.specs.Laws.{ActorsRun};
 
 /// An actor has done what the machine does on the exchanges so far: no turn changes that, and an answer
-/// adds its exchange.
+/// adds its exchange, unless it has no action for an agent, which is no step.
 pub fn actors_run()
     ensures { ActorsRun }
 {}

@@ -11,7 +11,7 @@ pub struct Origin {
     pub stack: Stack,
 }
 
-/// The transaction of an actor, or the swap that it has in hand.
+/// The transaction of an actor, or the swap that it has in hand, or the action of an agent's.
 #[derive(Drop)]
 pub enum Transaction {
     /// None.
@@ -46,6 +46,17 @@ pub enum Transaction {
         at: u32,
         from: Origin,
     },
+    /// An agent is in its own body, with the action that it has taken, if it has.
+    Attending {
+        agent: CellId,
+        action: Option<Action>,
+    },
+    /// The function of an agent's action runs, in a stack of its own: that of the agent's body is put aside.
+    Acting {
+        agent: CellId,
+        action: Action,
+        aside: Stack,
+    },
 }
 
 /// What an actor's unanswered ask is for.
@@ -76,4 +87,8 @@ pub enum Pending {
     Fail(Fault),
     /// A swap of this atom, which was opened at this place, has ended with a fault.
     Broke(CellId, u32, Fault),
+    /// An agent takes the first action of its mailbox.
+    Take(CellId),
+    /// An agent's action is over, with the agent's new state or with a fault.
+    Finish(CellId, Result<Value, Fault>),
 }

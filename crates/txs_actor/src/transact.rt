@@ -369,7 +369,9 @@ fn begin(alloc: Global, span: Span, stack: &Stack, tx: &mut Transaction) -> Move
         Transaction::Restarting { left } => *left,
         Transaction::Applying { .. }
         | Transaction::Evaluating { .. }
-        | Transaction::Swapping { .. } => unreachable!(),
+        | Transaction::Swapping { .. }
+        | Transaction::Attending { .. }
+        | Transaction::Acting { .. } => unreachable!(),
     };
     match stack.copy(alloc) {
         Ok(stack) => Moved::Asks(Pending::Begin {
@@ -447,7 +449,9 @@ fn end(alloc: Global, tx: &mut Transaction, frame: &TxFrame) -> Moved
         Transaction::Outside | Transaction::Restarting { .. } | Transaction::Swapping { .. } => {
             Moved::On
         }
-        Transaction::Evaluating { .. } => unreachable!(),
+        Transaction::Evaluating { .. }
+        | Transaction::Attending { .. }
+        | Transaction::Acting { .. } => unreachable!(),
     }
 }
 

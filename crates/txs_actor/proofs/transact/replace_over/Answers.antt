@@ -1,4 +1,4 @@
-use Rattle.std.proofs.Common.{◌≡◌, ◌+◌, ◌-◌, ◌<◌, ◌≤◌, ◌++◌, ◌∷◌, [], ℕ, List, length, take, sym, ap, ◌∙◌, subst, arith, rules}
+use Rattle.std.proofs.Common.{◌≡◌, ◌+◌, ◌-◌, ◌++◌, ◌∷◌, [], ℕ, List, length, ap, ◌∙◌, arith, rules}
 use Rattle.txs_stack.specs.PlainFrame.{PlainStack}
 use Rattle.txs_value.specs.declared.value.Value.{Value}
 use Rattle.txs_stack.specs.Values.{below, but_last}

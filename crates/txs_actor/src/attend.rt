@@ -1,0 +1,74 @@
+//! Turns of an agent in its own body: it takes an action, runs it, and hands in its value.
+
+ghost use Rattle.std.specs.Prelude.{◌≡◌, None};
+ghost use Rattle.txs_actor.specs.PlainActor.{Lives, unanswered};
+ghost use Rattle.txs_actor.specs.Turns.{Turns, IsAttending, taken, call_of, CanAct, BeginsActing, CanApplyFor, AppliesFor, CanAttend, AttendsSo};
+ghost use Rattle.txs_actor.specs.declared.outcome.Turn.TheVariants as turned;
+
+use crate::actor::{Actor, ends};
+use crate::outcome::Turn;
+use txs_asks::Outcome;
+use txs_code::Verified;
+use txs_value::Callee;
+
+impl Actor {
+    /// The function of the action begins.
+    fn begin_function(&mut self, code: &Verified, f: u16, turn: &mut Turn)
+        requires can { CanAct code.now self.old f }
+        requires went { turn.old ≡ turned.Went }
+        ensures { BeginsActing code.now self.old f turn.new self.new }
+    {
+        match self.action_stack(code, f) {
+            Ok(stack) => self.begin_acting(stack),
+            Err(_) => self.end(Outcome::Memory, turn),
+        }
+    }
+
+    /// The action that was taken is run: an operation at once, a function in turns of its own.
+    fn run_action(&mut self, code: &Verified, turn: &mut Turn)
+        requires can { CanApplyFor code.now self.old (call_of (taken self.old.tx)) }
+        requires went { turn.old ≡ turned.Went }
+        ensures { AppliesFor code.now self.old (call_of (taken self.old.tx)) turn.new self.new }
+    {
+        match self.call_taken() {
+            Some(Callee::Core(op)) => self.run_operation(op, turn),
+            Some(Callee::Function(f)) => self.begin_function(code, f, turn),
+            None => unreachable!(),
+        }
+    }
+
+    /// An instruction of the agent's own body.
+    fn attend_at(&mut self, code: &Verified, turn: &mut Turn)
+        requires can { CanAttend code.now self.old self.old.place }
+        requires went { turn.old ≡ turned.Went }
+        ensures { AttendsSo code.now self.old self.old.place turn.new self.new }
+    {
+        let at = self.place();
+        if at == 0 {
+            self.take(turn);
+            return;
+        }
+        if at == 1 {
+            self.run_action(code, turn);
+            return;
+        }
+        self.give(turn);
+    }
+
+    /// A turn in the agent's own body.
+    pub(crate) fn attend(&mut self, code: &Verified, turn: &mut Turn)
+        requires lives { Lives code.now self.old }
+        requires attending { IsAttending self.old.tx }
+        requires answered { unanswered self.old ≡ None }
+        requires went { turn.old ≡ turned.Went }
+        ensures turns { Turns code.now self.old turn.new self.new }
+        ensures lives { Lives code.now self.new }
+    {
+        if let Some(outcome) = self.over() {
+            ends(turn, outcome);
+            return;
+        }
+        self.count();
+        self.attend_at(code, turn);
+    }
+}
