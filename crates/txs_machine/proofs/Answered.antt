@@ -7,11 +7,11 @@ use Rattle.txs_asks.specs.declared.event.Outcome.{Outcome}
 use Rattle.txs_asks.specs.declared.event.Outcome.TheVariants as outcome
 use Rattle.txs_frame.specs.Phase.{PlainPhase}
 use Rattle.txs_value.specs.declared.value.Value.{Value}
-use Rattle.txs_actor.specs.PlainActor.{PlainActor, MayAnswer, Stops, answered, answered_for, answered_if, asked_for, applied_in, run_again, end_again, refuse, views, unanswered, is_running}
+use Rattle.txs_actor.specs.PlainActor.{PlainActor, MayAnswer, Stops, answered, answered_for, answered_if, asked_for, applied_in, run_again, end_again, refuse, views, attends_anew, unanswered, is_running}
 use Rattle.txs_actor.specs.declared.state.Pending.{Pending}
-use Rattle.txs_actor.specs.declared.state.Pending.TheVariants.{Begin, Read, Ensure, Open, View, Reset, Send, Swap, Close, Commit, Fail, Broke}
+use Rattle.txs_actor.specs.declared.state.Pending.TheVariants.{Begin, Read, Ensure, Open, View, Reset, Send, Swap, Close, Commit, Fail, Broke, Take, Finish}
 use Rattle.txs_actor.specs.declared.state.Transaction.{Transaction}
-use Rattle.txs_actor.specs.declared.state.Transaction.TheVariants.{Outside, Restarting, Running, Applying, Evaluating, Swapping}
+use Rattle.txs_actor.specs.declared.state.Transaction.TheVariants.{Outside, Restarting, Running, Applying, Evaluating, Swapping, Attending, Acting}
 use Rattle.txs_actor.proofs.Replies.{by_reply}
 
 -- an outcome that isn't want of steps
@@ -48,6 +48,8 @@ again_leaves a (Applying zero from phase) = ends a _ (outcome.Failed _) refl ref
 again_leaves a (Applying (suc left) from phase) = goes a _ refl refl refl refl refl
 again_leaves a (Evaluating left from phase aside) = goes a _ refl refl refl refl refl
 again_leaves a (Swapping c p from) = goes a _ refl refl refl refl refl
+again_leaves a (Attending ag o) = goes a _ refl refl refl refl refl
+again_leaves a (Acting ag ax aside) = goes a _ refl refl refl refl refl
 
 end_leaves : (a : PlainActor) (tx : Transaction) → Leaves a (end_again a tx)
 end_leaves a Outside = goes a _ refl refl refl refl refl
@@ -58,6 +60,8 @@ end_leaves a (Applying zero from phase) = ends a _ (outcome.Failed _) refl refl 
 end_leaves a (Applying (suc left) from phase) = goes a _ refl refl refl refl refl
 end_leaves a (Evaluating left from phase aside) = goes a _ refl refl refl refl refl
 end_leaves a (Swapping c p from) = goes a _ refl refl refl refl refl
+end_leaves a (Attending ag o) = goes a _ refl refl refl refl refl
+end_leaves a (Acting ag ax aside) = goes a _ refl refl refl refl refl
 
 refuse_leaves : (a : PlainActor) (tx : Transaction) → Leaves a (refuse a tx)
 refuse_leaves a Outside = goes a _ refl refl refl refl refl
@@ -66,6 +70,8 @@ refuse_leaves a (Running left inner from) = ends a _ (outcome.Failed _) refl ref
 refuse_leaves a (Applying left from phase) = ends a _ (outcome.Failed _) refl refl refl refl refl tt
 refuse_leaves a (Evaluating left from phase aside) = goes a _ refl refl refl refl refl
 refuse_leaves a (Swapping c p from) = goes a _ refl refl refl refl refl
+refuse_leaves a (Attending ag o) = goes a _ refl refl refl refl refl
+refuse_leaves a (Acting ag ax aside) = goes a _ refl refl refl refl refl
 
 views_leaves : (a : PlainActor) (phase : PlainPhase) (q : ℕ) (vs : List Value) (tx : Transaction) → Leaves a (views a phase q vs tx)
 views_leaves a phase q vs Outside = goes a _ refl refl refl refl refl
@@ -74,6 +80,18 @@ views_leaves a phase q vs (Running left inner from) = goes a _ refl refl refl re
 views_leaves a phase q vs (Applying left from before) = goes a _ refl refl refl refl refl
 views_leaves a phase q vs (Evaluating left from before aside) = goes a _ refl refl refl refl refl
 views_leaves a phase q vs (Swapping c p from) = goes a _ refl refl refl refl refl
+views_leaves a phase q vs (Attending ag o) = goes a _ refl refl refl refl refl
+views_leaves a phase q vs (Acting ag ax aside) = goes a _ refl refl refl refl refl
+
+anew_leaves : (a : PlainActor) (tx : Transaction) → Leaves a (attends_anew a tx)
+anew_leaves a Outside = goes a _ refl refl refl refl refl
+anew_leaves a (Restarting left) = goes a _ refl refl refl refl refl
+anew_leaves a (Running left inner from) = goes a _ refl refl refl refl refl
+anew_leaves a (Applying left from phase) = goes a _ refl refl refl refl refl
+anew_leaves a (Evaluating left from phase aside) = goes a _ refl refl refl refl refl
+anew_leaves a (Swapping c p from) = goes a _ refl refl refl refl refl
+anew_leaves a (Attending g o) = goes a _ refl refl refl refl refl
+anew_leaves a (Acting g x aside) = goes a _ refl refl refl refl refl
 
 full_leaves : (a : PlainActor) (p : Pending) → Leaves a (answered_for a p reply.Full)
 full_leaves a (Begin left from) = ends a _ outcome.JournalFull refl refl refl refl refl tt
@@ -88,6 +106,8 @@ full_leaves a (Close c p v) = ends a _ outcome.JournalFull refl refl refl refl r
 full_leaves a Commit = ends a _ outcome.JournalFull refl refl refl refl refl tt
 full_leaves a (Fail f) = ends a _ outcome.JournalFull refl refl refl refl refl tt
 full_leaves a (Broke c p f) = ends a _ outcome.JournalFull refl refl refl refl refl tt
+full_leaves a (Take g) = ends a _ outcome.JournalFull refl refl refl refl refl tt
+full_leaves a (Finish g new) = ends a _ outcome.JournalFull refl refl refl refl refl tt
 
 memory_leaves : (a : PlainActor) (p : Pending) → Leaves a (answered_for a p reply.Memory)
 memory_leaves a (Begin left from) = ends a _ outcome.Memory refl refl refl refl refl tt
@@ -102,18 +122,39 @@ memory_leaves a (Close c p v) = ends a _ outcome.Memory refl refl refl refl refl
 memory_leaves a Commit = ends a _ outcome.Memory refl refl refl refl refl tt
 memory_leaves a (Fail f) = ends a _ outcome.Memory refl refl refl refl refl tt
 memory_leaves a (Broke c p f) = ends a _ outcome.Memory refl refl refl refl refl tt
+memory_leaves a (Take g) = ends a _ outcome.Memory refl refl refl refl refl tt
+memory_leaves a (Finish g new) = ends a _ outcome.Memory refl refl refl refl refl tt
 
 some : {A : Type 0} {x y : A} → Some x ≡ Some y → x ≡ y
 some e = cc
 
--- what an answer leaves, where it is one that the actor's ask may have
-pub answer_leaves : (a : PlainActor) (q : Ask) (r : Reply) → unanswered a ≡ Some q → MayAnswer q r → Leaves a (answered a r)
-answer_leaves a q r e m = go a.pending e
+-- where there is no action for an agent, a step less is counted
+abbrev LeavesBy : Reply → PlainActor → PlainActor → Type 0
+LeavesBy reply.Idle a b = Unit {0}
+LeavesBy _ a b = Leaves a b
+
+leaves_unless : (r : Reply) (a b : PlainActor) → (r ≡ reply.Idle → ⊥) → LeavesBy r a b → Leaves a b
+leaves_unless (reply.At p) a b unless k = k
+leaves_unless (reply.Is v) a b unless k = k
+leaves_unless (reply.Views q vs) a b unless k = k
+leaves_unless reply.Done a b unless k = k
+leaves_unless (reply.Retry d) a b unless k = k
+leaves_unless (reply.Changed d) a b unless k = k
+leaves_unless (reply.AgentIsFailed h) a b unless k = k
+leaves_unless (reply.Action n x v) a b unless k = k
+leaves_unless reply.Idle a b unless k = absurd (unless refl)
+leaves_unless (reply.Opened q v) a b unless k = k
+leaves_unless reply.Full a b unless k = k
+leaves_unless reply.Memory a b unless k = k
+
+-- what an answer leaves, where it is one that the actor's ask may have, and hands out no want of an action
+pub answer_leaves : (a : PlainActor) (q : Ask) (r : Reply) → unanswered a ≡ Some q → MayAnswer q r → (r ≡ reply.Idle → ⊥) → Leaves a (answered a r)
+answer_leaves a q r e m unless = leaves_unless r a (answered a r) unless (go a.pending e)
   where
-    go : (o : Option Pending) → asked_for o (is_running a.tx) a.at a.view (applied_in a.tx) a.done ≡ Some q → Leaves a (answered_if a o r)
+    go : (o : Option Pending) → asked_for o (is_running a.tx) a.at a.view (applied_in a.tx) a.done ≡ Some q → LeavesBy r a (answered_if a o r)
     go None e = cc
     go (Some p) e =
-        by_reply (λ y i x. Leaves a (answered_for a y x)) a.done
+        by_reply (λ y i x. LeavesBy x a (answered_for a y x)) a.done
         (record {
           begins = λ left from i x. goes a _ refl refl refl refl refl;
           reads = λ c i v. goes a _ refl refl refl refl refl;
@@ -135,6 +176,9 @@ answer_leaves a q r e m = go a.pending e
           denied = λ i g. refuse_leaves a a.tx;
           fails = λ f i. ends a _ (outcome.Failed f) refl refl refl refl refl tt;
           breaks = λ c k f i. ends a _ (outcome.Failed f) refl refl refl refl refl tt;
+          takes = λ g i n x v. goes a _ refl refl refl refl refl;
+          idles = λ g i. tt;
+          finishes = λ g new i. anew_leaves a a.tx;
           full = λ y i. full_leaves a y;
           memory = λ y i. memory_leaves a y;
         }) p (is_running a.tx) a.at a.view (applied_in a.tx) r (subst (λ x. MayAnswer x r) (sym (some e)) m)
@@ -154,6 +198,8 @@ full_ends a (Close c p v) = refl
 full_ends a Commit = refl
 full_ends a (Fail f) = refl
 full_ends a (Broke c p f) = refl
+full_ends a (Take g) = refl
+full_ends a (Finish g new) = refl
 
 memory_ends : (a : PlainActor) (p : Pending) → (answered_for a p reply.Memory).outcome ≡ Some outcome.Memory
 memory_ends a (Begin left from) = refl
@@ -168,6 +214,8 @@ memory_ends a (Close c p v) = refl
 memory_ends a Commit = refl
 memory_ends a (Fail f) = refl
 memory_ends a (Broke c p f) = refl
+memory_ends a (Take g) = refl
+memory_ends a (Finish g new) = refl
 
 -- the end of an actor that is stopped so
 abbrev end_by : Reply → Option Outcome → Type 0

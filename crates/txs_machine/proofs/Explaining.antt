@@ -10,12 +10,12 @@ use Rattle.txs_value.specs.declared.cell.CellDefinition.{CellDefinition}
 use Rattle.txs_tree.specs.Meaning.{Completion}
 use Rattle.txs_tree.specs.Thread.{ThreadState, thread_meaning}
 use Rattle.txs_tree.specs.Tree.{PlainThread, PlainProgram, ThreadSource}
-use Rattle.txs_code.specs.PlainCode.{CodeBody, PlainCode, thread_code}
+use Rattle.txs_code.specs.PlainCode.{CodeBody, PlainCode, thread_code, function_codes}
 use Rattle.txs_follows.specs.Follows.{Follows}
 use Rattle.txs_follows.specs.FollowsAll.{source_of, FollowsAll}
 use Rattle.txs_follows.specs.RepliesFit.{Out, RepliesFit, Explained, halted, HasEaten}
 use Rattle.txs_follows.specs.RepliesFitTo.{FittingToFits}
-use Rattle.txs_actor.specs.PlainActor.{PlainActor, body_or_none, code_of, state_of, configuration_of, standing, stands_at, unanswered}
+use Rattle.txs_actor.specs.PlainActor.{PlainActor, own_body, code_of, state_of, configuration_of, standing, stands_at, unanswered}
 use Rattle.txs_world.specs.Laws.{UnwrittenStays, DoneIsUndisturbed}
 use Rattle.txs_runs.specs.Explains.{BooksStand}
 use Rattle.txs_runs.specs.Invariant.{SharedStands}
@@ -184,13 +184,13 @@ module _ (by : Known) (code : PlainCode) (k : ℕ) (books : ℕ → List Event) 
           inr (d.0, d.1, sym past ∙ d.2, a.steps, on.0, on.1, prints.0, prints.1)
 
 -- the code of a program's thread
-pub code_at : (code : PlainCode) (bs : List CodeBody) (ts : List PlainThread) (k : ℕ) (t : PlainThread) → length (map (thread_code code) bs) ≡ length ts → nth ts k ≡ Some t
-    → nth (map (thread_code code) bs) k ≡ Some (thread_code code (body_or_none (nth bs k)))
-code_at code [] [] k t e h = absurd (subst is_some (sym h) tt)
-code_at code [] (u ∷ ts) k t e h = absurd (omega (arith, e))
-code_at code (b ∷ bs) [] k t e h = absurd (omega (arith, e))
-code_at code (b ∷ bs) (u ∷ ts) zero t e h = refl
-code_at code (b ∷ bs) (u ∷ ts) (suc k) t e h = code_at code bs ts k t (omega (arith, e)) h
+pub code_at : (code : PlainCode) (bs : List CodeBody) (ts : List PlainThread) (n k : ℕ) (t : PlainThread) → length (map (thread_code code) bs) ≡ length ts → nth ts k ≡ Some t
+    → nth (map (thread_code code) bs) k ≡ Some (record { functions = function_codes code; main = own_body code n (nth bs k) })
+code_at code [] [] n k t e h = absurd (subst is_some (sym h) tt)
+code_at code [] (u ∷ ts) n k t e h = absurd (omega (arith, e))
+code_at code (b ∷ bs) [] n k t e h = absurd (omega (arith, e))
+code_at code (b ∷ bs) (u ∷ ts) n zero t e h = refl
+code_at code (b ∷ bs) (u ∷ ts) n (suc k) t e h = code_at code bs ts n k t (omega (arith, e)) h
 
 pub length_map : {A B : Type 0} (f : A → B) (xs : List A) → length (map f xs) ≡ length xs
 length_map f [] = refl
@@ -207,7 +207,7 @@ thread_explained : Known → (code : PlainCode) (k limit : ℕ) (books : ℕ →
 thread_explained by code k limit books x r h rep p t same follows e =
     let a = x.actor in
     let tr = x.trace.items in
-    let f : Follows (code_of code k) (source_of p t) = follows.each k (code_of code k) t (code_at code code.threads p.threads k t follows.as_many e) e in
+    let f : Follows (code_of code k) (source_of p t) = follows.each k (code_of code k) t (code_at code code.threads p.threads k k t follows.as_many e) e in
     let means : MeansSo p t books a.outcome a.printed tr code.cells = part_explained by code k books tr a h.free h.over.over h.over.traced (source_of p t) same f in
     let least : LeastSo p t books a.printed tr code.cells = part_printed by code k books tr a h.free h.over.over h.over.traced (source_of p t) same f in
     record {

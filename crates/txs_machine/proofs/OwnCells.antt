@@ -1,11 +1,12 @@
 -- Code that names its own cells alone has constants and opening values in which all cells are the store's.
-use Rattle.std.proofs.Common.{◌≡◌, ℕ, zero, suc, true, List, [], ◌∷◌, Option, Some, None, refl, sym, ap, subst, slice_index_or}
+use Rattle.std.proofs.Common.{◌≡◌, ℕ, zero, suc, true, List, [], ◌∷◌, ◌-◌, length, Option, Some, None, refl, sym, ap, subst, slice_index_or}
 use Rattle.txs_value.specs.Forms.{same_kind}
 use Rattle.txs_value.specs.PlainValue.{PlainValue, nil, truth, int, key, text, vector, cell, PlainValues, end, more}
 use Rattle.txs_value.specs.Places.{nth}
 use Rattle.txs_value.specs.View.{plain_of}
 use Rattle.txs_value.specs.declared.cell.CellDefinition.{CellDefinition}
 use Rattle.txs_value.specs.declared.fault.Span.{Span}
+use Rattle.txs_value.specs.declared.value.CellId.{CellId}
 use Rattle.txs_value.specs.declared.value.CellKind.{CellKind}
 use Rattle.txs_value.specs.declared.value.CellKind.TheVariants.{Ref, Atom, Agent}
 use Rattle.txs_value.specs.declared.value.Value.{Value}
@@ -15,7 +16,7 @@ use Rattle.txs_code.specs.OwnCells.{kind_at, HoldsDefined, RowHoldsDefined, Name
 use Rattle.txs_code.specs.PlainCode.{CodeBody, PlainCode, parameters_of, plain_instr, plain_instrs, plain_bodies, thread_code}
 use Rattle.txs_code.specs.declared.instr.Instr.{Instr}
 use Rattle.txs_code.specs.declared.instr.Instr.TheVariants as instr
-use Rattle.txs_actor.specs.PlainActor.{body_or_none, code_of}
+use Rattle.txs_actor.specs.PlainActor.{agents_from, agent_or_none, own_body, code_of}
 use Rattle.txs_world.specs.Book.{is_of_kind, opening}
 use Rattle.txs_world.specs.Store.{cells_of}
 use Rattle.txs_runs.specs.Lawful.{HasCells, RowHasCells, IsKnown, CodeIsKnown, OpeningIsKnown}
@@ -118,6 +119,21 @@ thread_known code b h f at v e = subst (FoundKnown code.cells) e (found f)
     found zero = nth_known code.cells (parameters_of code.functions) code.constants b.instrs b.spans at h.constants
     found (suc f) = body_known code.cells (parameters_of code.functions) code.constants code.functions f at h.constants
 
--- the code of each thread
+-- the code of each actor
 pub code_known : (code : PlainCode) (n : ℕ) → NamesOwnCells code → CodeIsKnown code.cells (code_of code n)
-code_known code n h = thread_known code (body_or_none (nth code.threads n)) h
+code_known code n h f at v e = subst (FoundKnown code.cells) e (found f)
+  where
+    agent_known : (o : Option CellId) (at : ℕ) → FoundKnown code.cells (nth (agent_or_none o).instrs at)
+    agent_known None at = tt
+    agent_known (Some g) zero = tt
+    agent_known (Some g) (suc zero) = tt
+    agent_known (Some g) (suc (suc zero)) = tt
+    agent_known (Some g) (suc (suc (suc at))) = tt
+
+    own_known : (o : Option CodeBody) → FoundKnown code.cells (nth (own_body code n o).instrs at)
+    own_known None = agent_known (nth (agents_from 0 code.cells) (n - length code.threads)) at
+    own_known (Some b) = nth_known code.cells (parameters_of code.functions) code.constants b.instrs b.spans at h.constants
+
+    found : (f : ℕ) → FoundKnown code.cells (fetch (code_of code n) f at)
+    found zero = own_known (nth code.threads n)
+    found (suc f) = body_known code.cells (parameters_of code.functions) code.constants code.functions f at h.constants

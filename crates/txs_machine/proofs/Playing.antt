@@ -25,7 +25,7 @@ is_some (Some x) = Unit {0}
 -- ---- what another actor adds
 
 others : (code : PlainCode) (k j limit : ℕ) (books later : ℕ → List Event) (x : Player) → (k ≡ j → ⊥) → Grown k books later → ValuesKnown code later → IsBetween code j limit books x → IsBetween code j limit later x
-others code k j limit books later x n g v h = record { runs = h.runs; free = h.free; limited = h.limited; over = over_others code k j books later x.trace.items x.actor n g v h.over }
+others code k j limit books later x n g v h = record { lives = h.lives; free = h.free; limited = h.limited; over = over_others code k j books later x.trace.items x.actor n g v h.over }
 
 all_others : (code : PlainCode) (k limit : ℕ) (books later : ℕ → List Event) (j : ℕ) (xs : List Player) → k < j → Grown k books later → ValuesKnown code later → AreBetween code limit books j xs → AreBetween code limit later j xs
 all_others code k limit books later j [] n g v h = tt

@@ -23,7 +23,7 @@ use Rattle.txs_code.specs.ActorState.{ActorState}
 use Rattle.txs_code.specs.Machine.{ThreadCode, Configuration, Turned, Ended, Failed, Asking, Unfinished, Stuck, and_then, turn, run}
 use Rattle.txs_code.proofs.Acts.{run_more}
 use Rattle.txs_code.specs.Opening.{given, opening}
-use Rattle.txs_code.specs.PlainCode.{CodeBody, PlainCode, thread_code}
+use Rattle.txs_code.specs.PlainCode.{CodeBody, PlainCode, thread_code, function_codes}
 use Rattle.txs_code.specs.WellTyped.{WellTyped}
 use Rattle.txs_follows.specs.Follows.{Follows}
 use Rattle.txs_follows.specs.RepliesFit.{Out, RepliesFit, Explained}
@@ -32,7 +32,7 @@ use Rattle.txs_tree.specs.Meaning.{Completion}
 use Rattle.txs_tree.specs.Thread.{ThreadState, thread_meaning}
 use Rattle.txs_tree.specs.Tree.{ThreadSource}
 use Rattle.txs_actor.specs.Laws.{ActorsRun}
-use Rattle.txs_actor.specs.PlainActor.{PlainActor, MayAnswer, Stops, answered, unanswered, configuration_of, state_of, body_or_none, code_of, stands_at, standing, Awaits, AsksLast, HasAsked, HasRun, HasCome, HasEndedSo}
+use Rattle.txs_actor.specs.PlainActor.{PlainActor, MayAnswer, Stops, answered, unanswered, configuration_of, state_of, code_of, stands_at, standing, Awaits, AsksLast, HasAsked, HasRun, HasCome, HasEndedSo, own_body, HandsOut}
 use Rattle.txs_actor.specs.Turns.{IsNew, OneStep, Answers, Moves, TurnsFrom, Turns, GoesOnAfter, TurnsOf}
 use Rattle.txs_actor.specs.declared.outcome.Turn.{Turn}
 use Rattle.txs_actor.specs.declared.outcome.Turn.TheVariants as turned
@@ -223,7 +223,7 @@ body_there (b ∷ bs) (suc k) h = body_there bs k (omega (arith, h))
 -- the instructions of each thread of well-typed code stand where they may
 pub standing_of : TypedStands → (code : PlainCode) (function_rooms thread_rooms : List ℕ) (k : ℕ) → WellTyped code function_rooms thread_rooms → k < length code.threads → StandingCode (code_of code k)
 standing_of law code function_rooms thread_rooms k well below =
-    let b = body_there code.threads k below in subst (λ o. StandingCode (thread_code code (body_or_none o))) (sym b.1) (law code function_rooms thread_rooms k b.0 well b.1)
+    let b = body_there code.threads k below in subst (λ (o : Option CodeBody). StandingCode (record { functions = function_codes code; main = own_body code k o })) (sym b.1) (law code function_rooms thread_rooms k b.0 well b.1)
 
 -- an actor that goes on stands where its next instruction asks in its stage
 pub stands_staged : (code : PlainCode) (xs : List Exchange) (a : PlainActor) → StagedCode (code_of code a.number) → unanswered a ≡ None → HasRun code xs a → a.outcome ≡ None → TurnIsStaged (code_of code a.number) (configuration_of a)
@@ -534,7 +534,7 @@ pub asked_last : ActorsRun → (code : PlainCode) (xs : List Exchange) (a : Plai
 asked_last laws code xs a q e f may ran =
     let b = answered a reply.Full in
     let c = code_of code a.number in
-    let leaves = answer_leaves a q reply.Full f may in
+    let leaves = answer_leaves a q reply.Full f may (λ i. cc) in
     let asked : HasAsked c xs a q = subst (λ o. HasCome c xs a o (Some q)) e (subst (λ y. HasCome c xs a a.outcome y) f ran) in
     let ends : HasEndedSo c xs b outcome.JournalFull =
     subst (λ i. HasEndedSo (code_of code i) xs b outcome.JournalFull) leaves.number
@@ -578,7 +578,8 @@ heard_over laws law code k books taken tr new a q r mine lawful e f free may on 
     let more = later code k books taken q lawful in
     let known = as_known a h.stage None (Some q) e f h.here in
     let stood = stood_known code k books (map exchange_of h.entries) h.stage a None (Some q) e f w.stood in
-    let leaves = answer_leaves a q r f may in
+    let unless : r ≡ reply.Idle → ⊥ = λ i. subst IsExchanged i x in
+    let leaves = answer_leaves a q r f may unless in
     let below = is_below k (length code.threads) w.thread in
     let xs = map exchange_of (h.entries ++ entry q r at ∷ []) in
     let next = stage_after h.stage q r in
@@ -587,7 +588,7 @@ heard_over laws law code k books taken tr new a q r mine lawful e f free may on 
         number = leaves.number ∙ h.number;
         entries = h.entries ++ entry q r at ∷ [];
         stage = stage_after h.stage q r;
-        ran = subst (λ ys. HasRun code ys (answered a r)) (sym (map_append h.entries (entry q r at))) (laws.answers code (map exchange_of h.entries) a q r e f may on h.ran);
+        ran = subst (λ ys. HasRun code ys (answered a r)) (sym (map_append h.entries (entry q r at))) (laws.answers code (map exchange_of h.entries) a q r e f may on unless h.ran);
         told = subst (λ y. ToldBy code.cells (length code.threads) more k (h.entries ++ entry q y at ∷ []) (stage_after h.stage q y)) (sym same)
             (law code.cells (length code.threads) books taken k q h.entries h.stage lawful known.0 h.told (subst IsExchanged same x));
         here = as_is (answered a r) (stage_after h.stage q r) (answered a r).outcome None refl free (in_after (answered a r) (stage_after h.stage q r) (answered a r).outcome (known.1 r may on));
@@ -613,7 +614,7 @@ stopped_over : ActorsRun → (code : PlainCode) (k : ℕ) (books : ℕ → List 
 stopped_over laws code k books tr a q r e f may stop filled w =
     let h = w.over in
     let ends = stop_ends a q r f stop in
-    let leaves = answer_leaves a q r f may in
+    let leaves = answer_leaves a q r f may (λ i. subst Stops i stop) in
     record {
       over = record {
         number = leaves.number ∙ h.number;
@@ -653,6 +654,42 @@ idle_never st (ask.Finish g new) ok may = may
 idle_never st (ask.OpenAt c) ok may = may
 idle_never st (ask.CloseAt c p v) ok may = may
 idle_never st (ask.Broke c p) ok may = may
+
+-- nor is it handed an action
+pub action_never : (st : Stage) (q : Ask) (n : ℕ) (x : Action) (v : Value) → AsksIn st q → MayAnswer q (reply.Action n x v) → ⊥
+action_never stages.Idle (ask.Take g) n x v ok may = ok
+action_never (stages.Open at) (ask.Take g) n x v ok may = ok
+action_never (stages.Viewing at view) (ask.Take g) n x v ok may = ok
+action_never (stages.Swapping c at) (ask.Take g) n x v ok may = ok
+action_never st ask.Begin n x v ok may = may
+action_never st (ask.Look c p) n x v ok may = may
+action_never st (ask.View cs) n x v ok may = may
+action_never st (ask.Commit p ws es q cs xs) n x v ok may = may
+action_never st (ask.Fail p q) n x v ok may = may
+action_never st (ask.Peek c) n x v ok may = may
+action_never st (ask.Send y) n x v ok may = may
+action_never st (ask.Finish g new) n x v ok may = may
+action_never st (ask.OpenAt c) n x v ok may = may
+action_never st (ask.CloseAt c p w) n x v ok may = may
+action_never st (ask.Broke c p) n x v ok may = may
+
+-- what a thread is answered is no want of an action, and hands out none
+pub never_idle : (code : PlainCode) (k : ℕ) (books : ℕ → List Event) (tr : List Place) (a : PlainActor) (q : Ask) (r : Reply) → a.outcome ≡ None → unanswered a ≡ Some q → RunLawfully code k books tr a → MayAnswer q r → r ≡ reply.Idle → ⊥
+never_idle code k books tr a q r e f w may i = idle_never w.over.stage q (as_known a w.over.stage None (Some q) e f w.over.here).0 (subst (λ (x : Reply). MayAnswer q x) i may)
+
+pub hands_none : (code : PlainCode) (k : ℕ) (books : ℕ → List Event) (tr : List Place) (a : PlainActor) (q : Ask) (r : Reply) → a.outcome ≡ None → unanswered a ≡ Some q → RunLawfully code k books tr a → MayAnswer q r → HandsOut code r
+hands_none code k books tr a q (reply.Action n x v) e f w may = absurd (action_never w.over.stage q n x v (as_known a w.over.stage None (Some q) e f w.over.here).0 may)
+hands_none code k books tr a q (reply.At p) e f w may = tt
+hands_none code k books tr a q (reply.Is v) e f w may = tt
+hands_none code k books tr a q (reply.Views p vs) e f w may = tt
+hands_none code k books tr a q reply.Done e f w may = tt
+hands_none code k books tr a q (reply.Retry d) e f w may = tt
+hands_none code k books tr a q (reply.Changed d) e f w may = tt
+hands_none code k books tr a q (reply.AgentIsFailed g) e f w may = tt
+hands_none code k books tr a q reply.Idle e f w may = tt
+hands_none code k books tr a q (reply.Opened p v) e f w may = tt
+hands_none code k books tr a q reply.Full e f w may = tt
+hands_none code k books tr a q reply.Memory e f w may = tt
 
 -- the state of the code's cells with these books
 abbrev state_with : PlainCode → List (List Event) → List Bool → PlainShared

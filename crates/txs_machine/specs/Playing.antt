@@ -2,7 +2,7 @@
 use Rattle.std.specs.Prelude.{◌≡◌, ◌≤◌, ◌<◌, ℕ, zero, suc, List, [], ◌∷◌, None}
 use Rattle.txs_asks.specs.declared.event.Event.{Event}
 use Rattle.txs_code.specs.PlainCode.{PlainCode}
-use Rattle.txs_actor.specs.PlainActor.{PlainActor, Runs, unanswered}
+use Rattle.txs_actor.specs.PlainActor.{PlainActor, Lives, unanswered}
 use Rattle.txs_machine.specs.Lawfully.{RunLawfully}
 use Rattle.txs_machine.specs.RunOver.{IsLimited}
 use Rattle.txs_machine.specs.Schedule.{plays_of}
@@ -12,7 +12,7 @@ use Rattle.txs_machine.specs.declared.schedule.ThreadReport.{ThreadReport}
 
 -- the actor of the k-th thread between two plays: it asks nothing, has done over the books what its code says, and asks next what it may ask
 pub record IsBetween (code : PlainCode) (k limit : ℕ) (books : ℕ → List Event) (x : Player) : Type 0 where
-  pub runs : Runs code x.actor
+  pub lives : Lives code x.actor
   pub free : unanswered x.actor ≡ None
   pub limited : IsLimited limit x.actor
   pub over : RunLawfully code k books x.trace.items x.actor

@@ -1,7 +1,7 @@
 //! A thread's run over what actors share.
 
 ghost use Rattle.std.specs.Prelude.{◌≡◌, ◌≤◌, ◌<◌, ℕ, length, nat_lt, true, take, if◌then◌else◌, IfOk, Some, None, []};
-ghost use Rattle.txs_actor.specs.PlainActor.{Runs, unanswered};
+ghost use Rattle.txs_actor.specs.PlainActor.{Lives, unanswered};
 ghost use Rattle.txs_runs.specs.Shared.{untouched, book_for};
 ghost use Rattle.txs_runs.proofs.Growing.{Grown};
 ghost use Rattle.txs_shared.specs.SharedState.{shared_of, numbered_book, is_lawful};
@@ -89,13 +89,13 @@ fn serve_noted(trace: &mut Vec<Place>, shared: &mut SharedState, actor: u16, ask
 
 /// Serves the actor's ask, which is one that it may make, and hands the actor the answer.
 fn serve_ask(player: &mut Player, code: &Verified, shared: &mut SharedState, ask: Ask, k: u16)
-    requires runs { Runs code.now player.old.actor }
+    requires lives { Lives code.now player.old.actor }
     requires going { player.old.actor.outcome ≡ None }
     requires asks { unanswered player.old.actor ≡ Some ask }
     requires limited { IsLimited player.old.actor.limit player.old.actor }
     requires of { IsStateOf code.now shared.old }
     requires over { RunLawfully code.now k (books_of shared.old) player.old.trace.items player.old.actor }
-    ensures runs { Runs code.now player.new.actor }
+    ensures lives { Lives code.now player.new.actor }
     ensures answered { unanswered player.new.actor ≡ None }
     ensures steps { player.new.actor.steps ≡ player.old.actor.steps }
     ensures limited { IsLimited player.old.actor.limit player.new.actor }
@@ -120,13 +120,13 @@ pub(crate) fn round(
     k: u16,
     budget: u64,
 ) -> Option<Outcome>
-    requires runs { Runs code.now player.old.actor }
+    requires lives { Lives code.now player.old.actor }
     requires some { 0 < budget }
     requires answered { unanswered player.old.actor ≡ None }
     requires limited { IsLimited player.old.actor.limit player.old.actor }
     requires of { IsStateOf code.now shared.old }
     requires over { RunLawfully code.now k (books_of shared.old) player.old.trace.items player.old.actor }
-    ensures runs { Runs code.now player.new.actor }
+    ensures lives { Lives code.now player.new.actor }
     ensures after { IsAfter player.new.actor result }
     ensures free { unanswered player.new.actor ≡ None }
     ensures progress { result ≡ None → player.old.actor.steps < player.new.actor.steps }
@@ -149,7 +149,7 @@ pub(crate) fn round(
 /// Turns the actor to its end, with each of its asks served. Each round makes a step at
 /// least, and the actor may make no more than its limit.
 fn run_to_end(player: &mut Player, code: &Verified, shared: &mut SharedState, k: u16) -> Outcome
-    requires runs { Runs code.now player.old.actor }
+    requires lives { Lives code.now player.old.actor }
     requires answered { unanswered player.old.actor ≡ None }
     requires limited { IsLimited player.old.actor.limit player.old.actor }
     requires of { IsStateOf code.now shared.old }

@@ -1,7 +1,7 @@
 //! Runs of all threads over what they share, by turns that a schedule names.
 
 ghost use Rattle.std.specs.Prelude.{◌≡◌, ◌<◌, ◌≤◌, ℕ, [], length, set, take, true, false, IsTrue, IfOk, IfErr, IfSome, OnOk, Some, None};
-ghost use Rattle.txs_actor.specs.PlainActor.{Runs, unanswered};
+ghost use Rattle.txs_actor.specs.PlainActor.{unanswered};
 ghost use Rattle.txs_machine.specs.declared.schedule.ScheduleError.TheVariants.{Memory};
 ghost use Rattle.txs_machine.specs.RunOver.{IsStateOf, books_of};
 ghost use Rattle.txs_machine.specs.Playing.{IsBetween, AreBetween, IsPlayed, ArePlayedAt, AreLater, HaveSteps, AllEnded, IsUnended, IsReported, AreReported};

@@ -174,7 +174,7 @@ thread_explained : Known → (code : PlainCode) (k limit : ℕ) (books : ℕ →
 thread_explained by code k limit books r d p t same follows e =
     let a = d.actor in
     let tr = r.trace.items in
-    let f : Follows (code_of code k) (source_of p t) = follows.each k (code_of code k) t (code_at code code.threads p.threads k t follows.as_many e) e in
+    let f : Follows (code_of code k) (source_of p t) = follows.each k (code_of code k) t (code_at code code.threads p.threads k k t follows.as_many e) e in
     let means : MeansSo p t books a.outcome a.printed tr code.cells = part_explained by code k books tr a d.waits d.over d.traced (source_of p t) same f in
     let least : LeastSo p t books a.printed tr code.cells = part_printed by code k books tr a d.waits d.over d.traced (source_of p t) same f in
     record {

@@ -1,5 +1,5 @@
 -- What a turn and an answer leave of an actor that keeps its asks.
-use Rattle.std.proofs.Common.{◌≡◌, ◌<◌, ℕ, List, [], ◌∷◌, ◌++◌, length, map, Option, Some, None, refl, sym, ap, subst, ◌∙◌}
+use Rattle.std.proofs.Common.{◌≡◌, ◌<◌, ℕ, List, [], ◌∷◌, ◌++◌, length, map, Option, Some, None, refl, sym, ap, subst, ◌∙◌, inl, inr}
 use Rattle.txs_asks.specs.declared.ask.Ask.{Ask}
 use Rattle.txs_asks.specs.declared.ask.Reply.{Reply}
 use Rattle.txs_asks.specs.declared.ask.Reply.TheVariants as reply
@@ -10,7 +10,7 @@ use Rattle.txs_code.specs.Opening.{opening}
 use Rattle.txs_code.specs.PlainCode.{PlainCode}
 use Rattle.txs_code.specs.WellTyped.{WellTyped}
 use Rattle.txs_actor.specs.Laws.{ActorsRun}
-use Rattle.txs_actor.specs.PlainActor.{PlainActor, Runs, CanGoOn, MayAnswer, Stops, answered, unanswered, asked_for, is_running, applied_in, configuration_of, code_of, HasAsked, HasRun, HasCome}
+use Rattle.txs_actor.specs.PlainActor.{PlainActor, CanGoOn, AttendsOn, Lives, HandsOut, MayAnswer, Stops, answered, unanswered, asked_for, is_running, applied_in, configuration_of, code_of, HasAsked, HasRun, HasCome}
 use Rattle.txs_actor.specs.Turns.{IsNew, TurnsFrom, Turns}
 use Rattle.txs_actor.specs.declared.outcome.Turn.{Turn}
 use Rattle.txs_actor.specs.declared.state.Pending.{Pending}
@@ -26,7 +26,7 @@ use Rattle.txs_replay.specs.declared.kept.Kept.{Kept}
 use Rattle.txs_machine.specs.RunOver.{IsLimited, AskedOn}
 use Rattle.txs_machine.proofs.Answered.{answer_leaves, full_stops, memory_stops, stop_ends}
 use Rattle.txs_machine.proofs.Limits.{new_limited, turn_limited, answered_limited}
-use Rattle.txs_machine.proofs.RunOver.{Unfilled, as_is, as_known, turn_keeps, move_unfilled, standing_of, stands_staged, turn_asked, no_entry, in_after, unfilled_of, map_append, answer_asked, more_asked, asked_last, idle_never}
+use Rattle.txs_machine.proofs.RunOver.{Unfilled, as_is, as_known, turn_keeps, move_unfilled, standing_of, stands_staged, turn_asked, no_entry, in_after, unfilled_of, map_append, answer_asked, more_asked, asked_last, idle_never, action_never}
 use Rattle.txs_played.specs.Played.{WasStoppedAt, HasPlayed, kept_after, stopped_after, kept_of}
 
 -- ---- an actor that keeps its asks
@@ -75,17 +75,17 @@ staged_append st mid end [] fs e h = subst (λ i. AreStaged i fs end) (sym e) h
 staged_append st mid end (x ∷ es) fs g h = (g.0, staged_append (stage_after st x.ask x.reply) mid end es fs g.1 h)
 
 -- so does a reply that the actor goes on with, where its entry is kept
-heard_played : ActorsRun → (code : PlainCode) (es : List Entry) (o : Option Ask) (a : PlainActor) (q : Ask) (r : Reply) (at : ℕ) → a.outcome ≡ None → unanswered a ≡ Some q → unanswered (answered a r) ≡ None → MayAnswer q r → (Stops r → ⊥) → HasPlayed code es o a
+heard_played : ActorsRun → (code : PlainCode) (es : List Entry) (o : Option Ask) (a : PlainActor) (q : Ask) (r : Reply) (at : ℕ) → a.outcome ≡ None → unanswered a ≡ Some q → unanswered (answered a r) ≡ None → MayAnswer q r → (Stops r → ⊥) → (r ≡ reply.Idle → ⊥) → HasPlayed code es o a
     → HasPlayed code (es ++ record { ask = q; reply = r; at = at } ∷ []) o (answered a r)
-heard_played laws code es o a q r at e f free may on h =
+heard_played laws code es o a q r at e f free may on unless h =
     let known = as_known a h.stage None (Some q) e f h.here in
-    let leaves = answer_leaves a q r f may in
+    let leaves = answer_leaves a q r f may unless in
     let own : Entry = record { ask = q; reply = r; at = at } in
     let limited = answered_limited a.limit a r e leaves h.limited in
     record {
       stands = subst (λ n. StandingCode (code_of code n)) (sym leaves.number) h.stands;
       stage = stage_after h.stage q r;
-      ran = subst (λ xs. HasRun code xs (answered a r)) (sym (map_append es own)) (laws.answers code (map exchange_of es) a q r e f may on h.ran);
+      ran = subst (λ xs. HasRun code xs (answered a r)) (sym (map_append es own)) (laws.answers code (map exchange_of es) a q r e f may on unless h.ran);
       staged = staged_append Idle h.stage (stage_after h.stage q r) es (own ∷ []) h.staged (known.0, refl);
       here = as_is (answered a r) (stage_after h.stage q r) (answered a r).outcome None refl free (in_after (answered a r) (stage_after h.stage q r) (answered a r).outcome (known.1 r may on));
       asked = λ before x rest s. subst (λ n. AskedOn (code_of code n) before (answered a r)) (sym leaves.number)
@@ -100,7 +100,7 @@ stopped_played : ActorsRun → (code : PlainCode) (es : List Entry) (o : Option 
     → ((answered a r).outcome ≡ Some outcome.JournalFull → WasStoppedAt (code_of code a.number) (map exchange_of es) (answered a r) (Some q)) → HasPlayed code es o a → HasPlayed code es (Some q) (answered a r)
 stopped_played laws code es o a q r e f may stop filled h =
     let ends = stop_ends a q r f stop in
-    let leaves = answer_leaves a q r f may in
+    let leaves = answer_leaves a q r f may (λ i. subst Stops i stop) in
     let limited = answered_limited a.limit a r e leaves h.limited in
     record {
       stands = subst (λ n. StandingCode (code_of code n)) (sym leaves.number) h.stands;
@@ -114,48 +114,74 @@ stopped_played laws code es o a q r e f may stop filled h =
     }
 
 -- an actor that asks hasn't ended
-pub asker_goes : (code : PlainCode) (a : PlainActor) (q : Ask) → Runs code a → unanswered a ≡ Some q → a.outcome ≡ None
-asker_goes code a q h f = go a.outcome refl a.pending f h.goes
+pub asker_goes : (code : PlainCode) (a : PlainActor) (q : Ask) → Lives code a → unanswered a ≡ Some q → a.outcome ≡ None
+asker_goes code a q (inl h) f = go a.outcome refl a.pending f h.goes
   where
     go : (o : Option Outcome) → a.outcome ≡ o → (p : Option Pending) → asked_for p (is_running a.tx) a.at a.view (applied_in a.tx) a.done ≡ Some q → CanGoOn code h.kinds h.body a o p → a.outcome ≡ None
     go None e p g x = e
     go (Some o) e None g x = cc
     go (Some o) e (Some p) g x = absurd x
+asker_goes code a q (inr h) f = go a.outcome refl a.pending f h.attends
+  where
+    go : (o : Option Outcome) → a.outcome ≡ o → (p : Option Pending) → asked_for p (is_running a.tx) a.at a.view (applied_in a.tx) a.done ≡ Some q → AttendsOn code h.agent a o p → a.outcome ≡ None
+    go None e p x g = e
+    go (Some o) e None x g = cc
+    go (Some o) e (Some p) x g = absurd g
+
+-- an actor that has played so is handed no action
+pub hands_played : (code : PlainCode) (es : List Entry) (o : Option Ask) (a : PlainActor) (q : Ask) (r : Reply) → a.outcome ≡ None → unanswered a ≡ Some q → MayAnswer q r → HasPlayed code es o a → HandsOut code r
+hands_played code es o a q (reply.Action n x v) e f may h = absurd (action_never h.stage q n x v (as_known a h.stage None (Some q) e f h.here).0 may)
+hands_played code es o a q (reply.At p) e f may h = tt
+hands_played code es o a q (reply.Is v) e f may h = tt
+hands_played code es o a q (reply.Views p vs) e f may h = tt
+hands_played code es o a q reply.Done e f may h = tt
+hands_played code es o a q (reply.Retry d) e f may h = tt
+hands_played code es o a q (reply.Changed d) e f may h = tt
+hands_played code es o a q (reply.AgentIsFailed g) e f may h = tt
+hands_played code es o a q reply.Idle e f may h = tt
+hands_played code es o a q (reply.Opened p v) e f may h = tt
+hands_played code es o a q reply.Full e f may h = tt
+hands_played code es o a q reply.Memory e f may h = tt
 
 kept_more : (ks : List Kept) (k : Kept) → map entry_of (ks ++ k ∷ []) ≡ map entry_of ks ++ entry_of k ∷ []
 kept_more [] k = refl
 kept_more (x ∷ ks) k = ap (λ l. entry_of x ∷ l) (kept_more ks k)
 
 -- a reply keeps what it is, of what is kept behind it
-pub answer_played : ActorsRun → (code : PlainCode) (ks : List Kept) (o : Option Ask) (a : PlainActor) (q : Ask) (r : Reply) (at number : ℕ) → Runs code a → unanswered a ≡ Some q → unanswered (answered a r) ≡ None → MayAnswer q r → HasPlayed code (map entry_of ks) o a
+pub answer_played : ActorsRun → (code : PlainCode) (ks : List Kept) (o : Option Ask) (a : PlainActor) (q : Ask) (r : Reply) (at number : ℕ) → Lives code a → unanswered a ≡ Some q → unanswered (answered a r) ≡ None → MayAnswer q r → HasPlayed code (map entry_of ks) o a
     → HasPlayed code (map entry_of (kept_after r (kept_of q r at number) ks)) (stopped_after r q o) (answered a r)
 answer_played laws code ks o a q r at number runs f free may h = go r free may
   where
     e : a.outcome ≡ None
     e = asker_goes code a q runs f
 
-    heard : (r : Reply) → unanswered (answered a r) ≡ None → MayAnswer q r → (Stops r → ⊥) → HasPlayed code (map entry_of (ks ++ kept_of q r at number ∷ [])) o (answered a r)
-    heard r free may on = subst (λ es. HasPlayed code es o (answered a r)) (sym (kept_more ks (kept_of q r at number))) (heard_played laws code (map entry_of ks) o a q r at e f free may on h)
+    heard : (r : Reply) → unanswered (answered a r) ≡ None → MayAnswer q r → (Stops r → ⊥) → (r ≡ reply.Idle → ⊥) → HasPlayed code (map entry_of (ks ++ kept_of q r at number ∷ [])) o (answered a r)
+    heard r free may on unless = subst (λ es. HasPlayed code es o (answered a r)) (sym (kept_more ks (kept_of q r at number))) (heard_played laws code (map entry_of ks) o a q r at e f free may on unless h)
 
     go : (r : Reply) → unanswered (answered a r) ≡ None → MayAnswer q r → HasPlayed code (map entry_of (kept_after r (kept_of q r at number) ks)) (stopped_after r q o) (answered a r)
-    go (reply.At p) free may = heard (reply.At p) free may (λ x. x)
-    go (reply.Is v) free may = heard (reply.Is v) free may (λ x. x)
-    go (reply.Views p vs) free may = heard (reply.Views p vs) free may (λ x. x)
-    go reply.Done free may = heard reply.Done free may (λ x. x)
-    go (reply.Retry c) free may = heard (reply.Retry c) free may (λ x. x)
-    go (reply.Changed c) free may = heard (reply.Changed c) free may (λ x. x)
-    go (reply.AgentIsFailed g) free may = heard (reply.AgentIsFailed g) free may (λ x. x)
-    go (reply.Action n x v) free may = heard (reply.Action n x v) free may (λ x. x)
-    go (reply.Opened p v) free may = heard (reply.Opened p v) free may (λ x. x)
+    go (reply.At p) free may = heard (reply.At p) free may (λ x. x) (λ i. cc)
+    go (reply.Is v) free may = heard (reply.Is v) free may (λ x. x) (λ i. cc)
+    go (reply.Views p vs) free may = heard (reply.Views p vs) free may (λ x. x) (λ i. cc)
+    go reply.Done free may = heard reply.Done free may (λ x. x) (λ i. cc)
+    go (reply.Retry c) free may = heard (reply.Retry c) free may (λ x. x) (λ i. cc)
+    go (reply.Changed c) free may = heard (reply.Changed c) free may (λ x. x) (λ i. cc)
+    go (reply.AgentIsFailed g) free may = heard (reply.AgentIsFailed g) free may (λ x. x) (λ i. cc)
+    go (reply.Action n x v) free may = heard (reply.Action n x v) free may (λ x. x) (λ i. cc)
+    go (reply.Opened p v) free may = heard (reply.Opened p v) free may (λ x. x) (λ i. cc)
     go reply.Idle free may = absurd (idle_never h.stage q (as_known a h.stage None (Some q) e f h.here).0 may)
     go reply.Full free may = stopped_played laws code (map entry_of ks) o a q reply.Full e f may tt (λ x. asked_last laws code (map exchange_of (map entry_of ks)) a q e f may h.ran) h
     go reply.Memory free may = stopped_played laws code (map entry_of ks) o a q reply.Memory e f may tt (λ x. absurd (subst Unfilled x (subst Unfilled (sym (memory_stops a q f)) tt))) h
 
 -- an actor that has ended asks nothing
-pub ended_free : (code : PlainCode) (a : PlainActor) (o : Outcome) → Runs code a → a.outcome ≡ Some o → unanswered a ≡ None
-ended_free code a o h e = go a.pending (subst (λ x. CanGoOn code h.kinds h.body a x a.pending) e h.goes)
+pub ended_free : (code : PlainCode) (a : PlainActor) (o : Outcome) → Lives code a → a.outcome ≡ Some o → unanswered a ≡ None
+ended_free code a o (inl h) e = go a.pending (subst (λ x. CanGoOn code h.kinds h.body a x a.pending) e h.goes)
   where
     go : (p : Option Pending) → CanGoOn code h.kinds h.body a (Some o) p → asked_for p (is_running a.tx) a.at a.view (applied_in a.tx) a.done ≡ None
+    go None x = refl
+    go (Some p) x = absurd x
+ended_free code a o (inr h) e = go a.pending (subst (λ x. AttendsOn code h.agent a x a.pending) e h.attends)
+  where
+    go : (p : Option Pending) → AttendsOn code h.agent a (Some o) p → asked_for p (is_running a.tx) a.at a.view (applied_in a.tx) a.done ≡ None
     go None x = refl
     go (Some p) x = absurd x
 

@@ -7,7 +7,7 @@ use Rattle.txs_asks.specs.declared.ask.Reply.TheVariants as reply
 use Rattle.txs_asks.specs.declared.event.Outcome.TheVariants.{JournalFull}
 use Rattle.txs_code.specs.Machine.{ThreadCode}
 use Rattle.txs_code.specs.PlainCode.{PlainCode}
-use Rattle.txs_actor.specs.PlainActor.{PlainActor, Runs, HasRun, AsksLast, unanswered, code_of}
+use Rattle.txs_actor.specs.PlainActor.{PlainActor, Lives, HasRun, AsksLast, unanswered, code_of}
 use Rattle.txs_runs.specs.Stages.{Stage, Idle}
 use Rattle.txs_runs.specs.Standing.{StandingCode}
 use Rattle.txs_runs.specs.Told.{Entry, exchange_of, AreStaged}
@@ -52,7 +52,7 @@ IsPlayed false p q = (q ≡ unanswered p.actor) × HasPlayed p.code (map entry_o
 
 -- the actor can go on with its code, and so it is of what it kept
 abbrev pub IsWell : PlainPlayed → Option Ask → Type 0
-IsWell p q = Runs p.code p.actor × IsPlayed p.lost p q
+IsWell p q = Lives p.code p.actor × IsPlayed p.lost p q
 
 -- what is kept after a reply: one entry more, but for one that stops the actor
 abbrev pub kept_after : Reply → Kept → List Kept → List Kept

@@ -1,7 +1,7 @@
 //! An actor with what it kept.
 
 ghost use Rattle.std.specs.Prelude.{◌≡◌, ◌≤◌, ◌<◌, ◌↔◌, [], length, map, true, false, Some, None, IsTrue, OnOk, IfOk};
-ghost use Rattle.txs_actor.specs.PlainActor.{Runs, MayAnswerIf, answered, unanswered};
+ghost use Rattle.txs_actor.specs.PlainActor.{Lives, MayAnswerIf, answered, unanswered};
 ghost use Rattle.txs_actor.specs.Turns.{IsNew, Turns};
 ghost use Rattle.txs_actor.specs.declared.outcome.Turn.TheVariants as turned;
 ghost use Rattle.txs_asks.specs.declared.ask.Ask.{Ask as AnAsk};
@@ -98,7 +98,7 @@ fn keep(
 impl<'a> Played<'a> {
     /// A new actor, made with this code, that has kept nothing yet.
     pub fn new(alloc: Global, code: &'a Verified, actor: Actor) -> Played<'a>
-        requires runs { Runs code.now actor }
+        requires lives { Lives code.now actor }
         requires new { IsNew code.now actor.number actor.limit actor }
         requires there { actor.number < length code.now.threads }
         ensures { result ≡ new_player code.now actor }

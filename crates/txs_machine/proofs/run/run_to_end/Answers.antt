@@ -8,7 +8,7 @@ loop-ended-preserved c =
     let e = c.round-ended.ensures in
     let i = c.loop-ended.invariant in
     record {
-      runs = e.runs;
+      lives = e.lives;
       after = e.after;
       limited = subst (λ (n : ℕ). IsLimited n c.round-ended.new.player.actor) i.limited.limited e.limited;
       of = e.of;

@@ -1,4 +1,4 @@
-use Rattle.txs_actor.specs.PlainActor.{Runs}
+use Rattle.txs_actor.specs.PlainActor.{Lives}
 use Rattle.txs_machine.specs.Lawfully.{RunLawfully}
 use Rattle.txs_machine.specs.RunOver.{IsStateOf, books_of, AreOwn, IsAfter, IsLimited}
 use Rattle.txs_machine.proofs.Limits.{rounds_left}
@@ -8,7 +8,7 @@ use Rattle.txs_machine.proofs.run.run_to_end.Given as goal
 abbrev pub invariant-loop-ended : goal.invariant-loop-ended
 invariant-loop-ended l =
     record {
-      runs : Runs l.code l.player.actor;
+      lives : Lives l.code l.player.actor;
       after : IsAfter l.player.actor l.ended;
       limited : IsLimited l.fn.player.actor.limit l.player.actor;
       of : IsStateOf l.code l.shared;

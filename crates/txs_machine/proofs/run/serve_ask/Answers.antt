@@ -2,11 +2,11 @@ use Rattle.std.proofs.Common.{◌≡◌, ℕ, true, Option, None, sym, subst, �
 use Rattle.txs_asks.specs.declared.ask.Ask.{Ask}
 use Rattle.txs_actor.specs.PlainActor.{PlainActor, MayAnswer, MayAnswerIf, unanswered}
 use Rattle.txs_shared.specs.SharedState.{is_lawful}
-use Rattle.txs_machine.specs.RunOver.{IsLimited}
+use Rattle.txs_machine.specs.RunOver.{IsLimited, books_of}
 use Rattle.txs_machine.specs.Serving.{IsServed}
 use Rattle.txs_machine.proofs.Answered.{answer_leaves}
 use Rattle.txs_machine.proofs.Limits.{answered_limited}
-use Rattle.txs_machine.proofs.RunOver.{Leads, asks_lawfully, served_may, served_over}
+use Rattle.txs_machine.proofs.RunOver.{Leads, asks_lawfully, never_idle, hands_none, served_may, served_over}
 use Rattle.txs_machine.proofs.run.serve_ask.Goals as goal
 
 -- the ask is one that the actor may ask
@@ -22,6 +22,12 @@ answer-requires-clause-answers c =
     subst (λ (o : Option Ask). MayAnswerIf o c.serve_noted-reply.result) (sym c.requires.asks)
     (served_may c.args.shared.now c.serve_noted-reply.new.shared c.number-number.result c.args.ask c.serve_noted-reply.result c.args.player.now.trace.items c.serve_noted-reply.new.trace.items c.serve_noted-reply.ensures)
 
+pub answer-requires-clause-hands_out : goal.answer-requires-clause-hands_out
+answer-requires-clause-hands_out c =
+    let r = c.serve_noted-reply.result in
+    hands_none c.args.code.now c.args.k (books_of c.args.shared.now) c.args.player.now.trace.items c.args.player.now.actor c.args.ask r c.requires.going c.requires.asks c.requires.over
+    (served_may c.args.shared.now c.serve_noted-reply.new.shared c.number-number.result c.args.ask r c.args.player.now.trace.items c.serve_noted-reply.new.trace.items c.serve_noted-reply.ensures)
+
 pub returns-clause-steps : goal.returns-clause-steps
 returns-clause-steps c =
     let a = c.args.player.now.actor in
@@ -29,7 +35,7 @@ returns-clause-steps c =
     let may : MayAnswer c.args.ask r =
     served_may c.args.shared.now c.serve_noted-reply.new.shared c.number-number.result c.args.ask r c.args.player.now.trace.items c.serve_noted-reply.new.trace.items c.serve_noted-reply.ensures
     in
-    subst (λ (x : PlainActor). x.steps ≡ a.steps) (sym c.answer.ensures.answered) (answer_leaves a c.args.ask r c.requires.asks may).steps
+    subst (λ (x : PlainActor). x.steps ≡ a.steps) (sym c.answer.ensures.answered) (answer_leaves a c.args.ask r c.requires.asks may (never_idle c.args.code.now c.args.k (books_of c.args.shared.now) c.args.player.now.trace.items a c.args.ask r c.requires.going c.requires.asks c.requires.over may)).steps
 
 pub returns-clause-limited : goal.returns-clause-limited
 returns-clause-limited c =
@@ -38,7 +44,7 @@ returns-clause-limited c =
     let may : MayAnswer c.args.ask r =
     served_may c.args.shared.now c.serve_noted-reply.new.shared c.number-number.result c.args.ask r c.args.player.now.trace.items c.serve_noted-reply.new.trace.items c.serve_noted-reply.ensures
     in
-    subst (λ (x : PlainActor). IsLimited a.limit x) (sym c.answer.ensures.answered) (answered_limited a.limit a r c.requires.going (answer_leaves a c.args.ask r c.requires.asks may) c.requires.limited)
+    subst (λ (x : PlainActor). IsLimited a.limit x) (sym c.answer.ensures.answered) (answered_limited a.limit a r c.requires.going (answer_leaves a c.args.ask r c.requires.asks may (never_idle c.args.code.now c.args.k (books_of c.args.shared.now) c.args.player.now.trace.items a c.args.ask r c.requires.going c.requires.asks c.requires.over may)) c.requires.limited)
 
 -- what the answer leaves
 pub returns-clause-of : goal.returns-clause-of

@@ -19,7 +19,7 @@ invariant_of-self c =
     let free : unanswered a ≡ None = search rules in
     let was = subst (λ l. IsPlayed l before c.self.inside.asked) lost c.self.invariant.1 in
     let is = turn_played c.actors_run.ensures code (map entry_of kept) at a b Went free c.in-Went.ensures.turns was.1 in
-    (c.in-Went.ensures.runs, subst (λ l. IsPlayed l after c.self.inside.asked) (sym lost) (was.0 ∙ free ∙ sym c.in-Went.ensures.says, is.1))
+    (c.in-Went.ensures.lives, subst (λ l. IsPlayed l after c.self.inside.asked) (sym lost) (was.0 ∙ free ∙ sym c.in-Went.ensures.says, is.1))
 
 pub invariant_of-self-in-Ended : goal.invariant_of-self-in-Ended
 invariant_of-self-in-Ended c =
@@ -34,8 +34,8 @@ invariant_of-self-in-Ended c =
     let free : unanswered a ≡ None = search rules in
     let was = subst (λ l. IsPlayed l before c.self.inside.asked) lost c.self.invariant.1 in
     let is = turn_played c.actors_run.ensures code (map entry_of kept) at a b (Ended c.in-Ended.outcome) free c.in-Ended.ensures.turns was.1 in
-    let done = ended_free code b c.in-Ended.outcome c.in-Ended.ensures.runs c.in-Ended.ensures.says in
-    (c.in-Ended.ensures.runs, subst (λ l. IsPlayed l after c.self.inside.asked) (sym lost) (was.0 ∙ free ∙ sym done, is.1))
+    let done = ended_free code b c.in-Ended.outcome c.in-Ended.ensures.lives c.in-Ended.ensures.says in
+    (c.in-Ended.ensures.lives, subst (λ l. IsPlayed l after c.self.inside.asked) (sym lost) (was.0 ∙ free ∙ sym done, is.1))
 
 pub invariant_of-self-in-Ok : goal.invariant_of-self-in-Ok
 invariant_of-self-in-Ok c =
@@ -52,6 +52,6 @@ invariant_of-self-in-Ok c =
     let is = turn_played c.actors_run.ensures code (map entry_of kept) at a b (Asks c.in-Asks.ask) free c.in-Asks.ensures.turns was.1 in
     let copied : c.replace.new.dest ≡ unanswered b = search rules in
     let same : c.copy_kept.new.kept ≡ kept = search rules in (
-      c.in-Asks.ensures.runs,
+      c.in-Asks.ensures.lives,
       subst (λ l. IsPlayed l after c.replace.new.dest) (sym lost) (copied, subst (λ ks. HasPlayed code (map entry_of ks) at b) (sym same) is.1),
     )
