@@ -25,7 +25,6 @@ use Rattle.txs_code.specs.ActorState.{StepResult, step_of, Taken, finish}
 use Rattle.txs_code.specs.Machine.{PlainBody, ThreadCode, Frame, to_stack, locals_of, nils, agent_code, Configuration, Turned, Asking, Unfinished, turn, on, started, told, first_place, runs_callee}
 use Rattle.txs_code.specs.Machine as machine
 use Rattle.txs_code.specs.PlainCode.{PlainCode, CodeBody, parameters_of, function_codes}
-use Rattle.txs_code.specs.RunsToday.{RunsToday}
 use Rattle.txs_code.specs.WellTyped.{FunctionKind, plain, a_function, IsTable, IsStaging, IsPureFunction, WellTypedFunctions, WellTyped}
 use Rattle.txs_stack.specs.Calls.{begun}
 use Rattle.txs_stack.specs.PlainFrame.{PlainFrame, PlainStack}
@@ -95,7 +94,7 @@ moves_so d a c r e lt h =
 
 -- ---- turns in the agent's own body
 
-module _ (d : PlainCode) (function_rooms thread_rooms : List ℕ) (typed : WellTyped d function_rooms thread_rooms) (today : RunsToday d) (n : ℕ) (was : List ℕ) (p seen : ℕ) (done : Work) (kept : Option Commute) (limit room : ℕ) (g : CellId)
+module _ (d : PlainCode) (function_rooms thread_rooms : List ℕ) (typed : WellTyped d function_rooms thread_rooms) (n : ℕ) (was : List ℕ) (p seen : ℕ) (done : Work) (kept : Option Commute) (limit room : ℕ) (g : CellId)
     (actor : IsActorOf d n g) (roomy : 0 < room) (commutes : AllApply (functions_of d typed.kinds) done.commutes) (opened : OpenApplies (functions_of d typed.kinds) kept) where
   -- the agent's actor in its own body
   abbrev pub own : ℕ → Option Action → List Value → ℕ → Option Pending → PlainActor
@@ -118,7 +117,6 @@ module _ (d : PlainCode) (function_rooms thread_rooms : List ℕ) (typed : WellT
     function_rooms = function_rooms;
     thread_rooms = thread_rooms;
     typed = typed;
-    today = today;
     agent = g;
     action = o;
     here = refl;
@@ -135,7 +133,6 @@ module _ (d : PlainCode) (function_rooms thread_rooms : List ℕ) (typed : WellT
     function_rooms = function_rooms;
     thread_rooms = thread_rooms;
     typed = typed;
-    today = today;
     agent = g;
     action = o;
     here = refl;
@@ -286,7 +283,7 @@ module _ (d : PlainCode) (function_rooms thread_rooms : List ℕ) (typed : WellT
           let c0 = began_at (begun f b1 (v ∷ x.args) (b1.locals + i.1)) in
           went_so 1 (Some x) (v ∷ []) turned.Went c c0 refl (h.2 ∙ ap began_at i.4) (begins_means f e b1 i.2 within many (b1.locals + i.1))
           (record { number = refl; outcome = refl; unanswered = refl; counted = refl; limited = refl })
-          (inl (record { kinds = typed.kinds; rooms = function_rooms; functions = typed.functions; today = today; body = b1; is = i.2; goes = begins_goes f can.0 b1 i.2 within many i.1 i.3 }))
+          (inl (record { kinds = typed.kinds; rooms = function_rooms; functions = typed.functions; body = b1; is = i.2; goes = begins_goes f can.0 b1 i.2 within many i.1 i.3 }))
       begins_one f e (turned.Asks q) c h = absurd h
       begins_one f e (turned.Ended y) c h = no_memory 1 (Some x) (v ∷ []) [] (omega arith) y c h.0 h.1
 
@@ -329,16 +326,16 @@ module _ (d : PlainCode) (a : PlainActor) (h : Attends d a) (lt : a.steps < a.li
   attends_here : AttendsAt d g a → a.outcome ≡ None → a.pending ≡ None → AttendsHere d a
   attends_here (waits is) e f =
       subst (λ (x : PlainActor). AttendsHere d x) (plainly 0 None [] e f is)
-      (record { can = (g, refl); so = λ r c k. takes_one d h.function_rooms h.thread_rooms h.typed h.today a.number a.printed a.at a.view a.done a.commuting a.limit a.room g here_actor h.roomy h.commutes h.opened a.steps lt r c k })
+      (record { can = (g, refl); so = λ r c k. takes_one d h.function_rooms h.thread_rooms h.typed a.number a.printed a.at a.view a.done a.commuting a.limit a.room g here_actor h.roomy h.commutes h.opened a.steps lt r c k })
   attends_here (has_taken x v may is) e f =
       subst (λ (y : PlainActor). AttendsHere d y) (plainly 1 (Some x) (v ∷ []) e f is)
       (record {
-        can = can_one d h.function_rooms h.thread_rooms h.typed h.today a.number a.printed a.at a.view a.done a.commuting a.limit a.room g here_actor h.roomy h.commutes h.opened a.steps lt x v may x.callee refl;
-        so = λ r c k. runs_one d h.function_rooms h.thread_rooms h.typed h.today a.number a.printed a.at a.view a.done a.commuting a.limit a.room g here_actor h.roomy h.commutes h.opened a.steps lt x v may x.callee refl r c k;
+        can = can_one d h.function_rooms h.thread_rooms h.typed a.number a.printed a.at a.view a.done a.commuting a.limit a.room g here_actor h.roomy h.commutes h.opened a.steps lt x v may x.callee refl;
+        so = λ r c k. runs_one d h.function_rooms h.thread_rooms h.typed a.number a.printed a.at a.view a.done a.commuting a.limit a.room g here_actor h.roomy h.commutes h.opened a.steps lt x v may x.callee refl r c k;
       })
   attends_here (has_value x v is) e f =
       subst (λ (y : PlainActor). AttendsHere d y) (plainly 2 (Some x) (v ∷ []) e f is)
-      (record { can = (omega arith, (g, refl)); so = λ r c k. gives_one d h.function_rooms h.thread_rooms h.typed h.today a.number a.printed a.at a.view a.done a.commuting a.limit a.room g here_actor h.roomy h.commutes h.opened a.steps lt x v r c k })
+      (record { can = (omega arith, (g, refl)); so = λ r c k. gives_one d h.function_rooms h.thread_rooms h.typed a.number a.printed a.at a.view a.done a.commuting a.limit a.room g here_actor h.roomy h.commutes h.opened a.steps lt x v r c k })
 
 -- ---- actors that run a body aren't in an agent's own
 
@@ -447,7 +444,6 @@ attends_over d a None o c e l i f k =
       function_rooms = h.function_rooms;
       thread_rooms = h.thread_rooms;
       typed = h.typed;
-      today = h.today;
       agent = h.agent;
       action = h.action;
       here = h.here;
@@ -509,7 +505,6 @@ module _ (d : PlainCode) (a : PlainActor) (h : Attends d a) (e : a.outcome ≡ N
     function_rooms = h.function_rooms;
     thread_rooms = h.thread_rooms;
     typed = h.typed;
-    today = h.today;
     agent = g;
     action = o;
     here = t;
@@ -588,12 +583,11 @@ module _ (d : PlainCode) (n limit : ℕ) (g : CellId) (actor : IsActorOf d n g) 
         limited = refl;
       }
 
-  pub agent_lives : w ≡ no_work → (function_rooms thread_rooms : List ℕ) → WellTyped d function_rooms thread_rooms → RunsToday d → Attends d new_agent
-  agent_lives undone function_rooms thread_rooms typed today = record {
+  pub agent_lives : w ≡ no_work → (function_rooms thread_rooms : List ℕ) → WellTyped d function_rooms thread_rooms → Attends d new_agent
+  agent_lives undone function_rooms thread_rooms typed = record {
     function_rooms = function_rooms;
     thread_rooms = thread_rooms;
     typed = typed;
-    today = today;
     agent = g;
     action = None;
     here = refl;

@@ -5,6 +5,5 @@ pub mod Machine
 pub mod Opening
 pub mod OwnCells
 pub mod PlainCode
-pub mod RunsToday
 pub mod Spans
 pub mod WellTyped

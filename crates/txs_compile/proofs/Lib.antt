@@ -1,2 +1,1 @@
 pub mod OwnCells
-pub mod Today

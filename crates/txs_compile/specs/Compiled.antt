@@ -1,8 +1,8 @@
 -- What compiling a script gives.
-use Rattle.std.specs.Prelude.{◌≡◌, ◌≢◌, ℕ, List, map, Some, None}
+use Rattle.std.specs.Prelude.{◌≢◌, ℕ, List, map}
 use Rattle.txs_reader.specs.Script.{Reads, ReadStops}
 use Rattle.txs_reader.specs.Tree.{Tree as Form}
-use Rattle.txs_reader.specs.declared.error.ReadErrorKind.TheVariants.{Memory as Unread, LeftOut}
+use Rattle.txs_reader.specs.declared.error.ReadErrorKind.TheVariants.{Memory as Unread}
 use Rattle.txs_reader.specs.declared.error.ReadError.{ReadError}
 use Rattle.txs_resolve.specs.Names.{Resolves, ResolveStops}
 use Rattle.txs_expand.specs.declared.error.ResolveError.{ResolveError}
@@ -12,35 +12,31 @@ use Rattle.txs_tree.specs.Sound.{Sound}
 use Rattle.txs_tree.specs.Tree.{PlainProgram}
 use Rattle.txs_code.specs.Machine.{ThreadCode}
 use Rattle.txs_code.specs.PlainCode.{PlainCode, thread_code}
-use Rattle.txs_compile.specs.LeftOut.{left_out}
 use Rattle.txs_compile.specs.declared.compile_error.CompileError.{CompileError}
 use Rattle.txs_compile.specs.declared.compile_error.CompileError.TheVariants.{Read, Resolve, Check, Memory}
 
--- the program of a script: its forms are read, none is left out, names resolve to the program, and that is sound
+-- the program of a script: its forms are read, names resolve to the program, and that is sound
 pub record IsProgramOf (bytes : List ℕ) (p : PlainProgram) : Type 0 where
   pub forms : List Form
   pub reads : Reads bytes forms
-  pub whole : left_out forms ≡ None
   pub resolved : Resolves forms p
   pub sound : Sound p
 
--- why a script isn't read: no forms are those of its bytes, or one of its forms is left out, which is the first
-pub data IsUnread (bytes : List ℕ) (e : ReadError) : Type 0 where
-  stops : (told : e.kind ≢ Unread) (refused : ReadStops bytes e.kind e.at) → IsUnread bytes e
-  leaves_out : (forms : List Form) (reads : Reads bytes forms) (kind : e.kind ≡ LeftOut) (first : left_out forms ≡ Some e.at) → IsUnread bytes e
+-- why a script isn't read: no forms are those of its bytes
+pub record IsUnread (bytes : List ℕ) (e : ReadError) : Type 0 where
+  pub told : e.kind ≢ Unread
+  pub stops : ReadStops bytes e.kind e.at
 
 -- why names of a script that reads don't resolve
 pub record IsUnresolved (bytes : List ℕ) (e : ResolveError) : Type 0 where
   pub forms : List Form
   pub reads : Reads bytes forms
-  pub whole : left_out forms ≡ None
   pub stops : ResolveStops forms e
 
 -- why a script whose names resolve isn't sound
 pub record IsUnchecked (bytes : List ℕ) (e : CheckError) : Type 0 where
   pub forms : List Form
   pub reads : Reads bytes forms
-  pub whole : left_out forms ≡ None
   pub program : PlainProgram
   pub resolved : Resolves forms program
   pub stops : CheckStops program e

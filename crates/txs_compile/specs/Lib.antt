@@ -1,2 +1,1 @@
-pub mod LeftOut
 pub mod Compiled

@@ -4,7 +4,6 @@
 #![tactic(auto)]
 
 pub mod compile_error;
-mod left_out;
 mod script;
 
 pub use compile_error::CompileError;

@@ -1,6 +1,6 @@
 //! From the bytes of a script to its program and code.
 
-ghost use Rattle.std.specs.Prelude.{◌≡◌, Some, None, IfOk, IfErr};
+ghost use Rattle.std.specs.Prelude.{◌≡◌, IfOk, IfErr};
 ghost use Rattle.txs_bytes.specs.CodeForm.{HasForm};
 ghost use Rattle.txs_check.specs.Refused.{CheckStops};
 ghost use Rattle.txs_code.specs.OwnCells.{NamesOwnCells};
@@ -9,17 +9,14 @@ ghost use Rattle.txs_follows.specs.FollowsAgent.{FollowsAgents};
 ghost use Rattle.txs_follows.specs.FollowsAll.{FollowsAll};
 ghost use Rattle.txs_follows.specs.Sends.{CodesSendSound};
 ghost use Rattle.txs_gen.specs.OwnCells.{ProgramNamesOwnCells};
-ghost use Rattle.txs_gen.specs.Today.{ProgramRunsToday};
 ghost use Rattle.txs_reader.specs.Script.{Reads};
 ghost use Rattle.txs_reader.specs.Tree.{trees};
 ghost use Rattle.txs_resolve.specs.Names.{Resolves, ResolveStops};
 ghost use Rattle.txs_tree.specs.Sound.{Sound};
 ghost use Rattle.txs_tree.specs.View.{program_of};
 ghost use Rattle.txs_compile.specs.Compiled.{IsProgramOf, IsRefusal, codes_of};
-ghost use Rattle.txs_compile.specs.LeftOut.{left_out};
 
 use crate::compile_error::CompileError;
-use crate::left_out::left_out;
 use std::alloc::Global;
 use txs_check::{CheckErrorKind, check};
 use txs_code::Verified;
@@ -28,24 +25,17 @@ use txs_gen::follows::{
     code_of_agents_follows, code_of_program_follows, code_of_program_sends_sound,
 };
 use txs_gen::generate;
-use txs_reader::{Form, ReadError, ReadErrorKind, read_script};
+use txs_reader::{Form, ReadErrorKind, read_script};
 use txs_resolve::{ResolveErrorKind, resolve};
 use txs_tree::{Program, Raw};
 
-/// The forms of a script, none of which is left out.
+/// The forms of a script.
 fn forms_of(alloc: Global, bytes: &[u8]) -> Result<Vec<Form>, CompileError>
     ensures ok { IfOk result (λ forms. Reads bytes.now (trees forms.items)) }
-    ensures whole { IfOk result (λ forms. left_out (trees forms.items) ≡ None) }
     ensures err { IfErr result (λ e. IsRefusal bytes.now e) }
 {
     match read_script(alloc, bytes) {
-        Ok(forms) => match left_out(forms.as_slice()) {
-            None => Ok(forms),
-            Some(at) => Err(CompileError::Read(ReadError {
-                kind: ReadErrorKind::LeftOut,
-                at,
-            })),
-        },
+        Ok(forms) => Ok(forms),
         Err(e) => match e.kind {
             ReadErrorKind::Memory => Err(CompileError::Memory),
             _ => Err(CompileError::Read(e)),
@@ -55,8 +45,7 @@ fn forms_of(alloc: Global, bytes: &[u8]) -> Result<Vec<Form>, CompileError>
 
 /// The program whose names these forms resolve to.
 fn raw_of(alloc: Global, bytes: &[u8], forms: &[Form]) -> Result<Raw, CompileError>
-    requires reads { Reads bytes.now (trees forms.now) }
-    requires whole { left_out (trees forms.now) ≡ None }
+    requires { Reads bytes.now (trees forms.now) }
     ensures ok { IfOk result (λ raw. Resolves (trees forms.now) (program_of raw)) }
     ensures err { IfErr result (λ e. IsRefusal bytes.now e) }
 {
@@ -71,10 +60,8 @@ fn raw_of(alloc: Global, bytes: &[u8], forms: &[Form]) -> Result<Raw, CompileErr
 
 /// The program that these forms are.
 fn program_of_forms(alloc: Global, bytes: &[u8], forms: &[Form]) -> Result<Program, CompileError>
-    requires reads { Reads bytes.now (trees forms.now) }
-    requires whole { left_out (trees forms.now) ≡ None }
+    requires { Reads bytes.now (trees forms.now) }
     ensures ok { IfOk result (λ p. IsProgramOf bytes.now (program_of p)) }
-    ensures today { IfOk result (λ p. ProgramRunsToday (program_of p)) }
     ensures own_cells { IfOk result (λ p. ProgramNamesOwnCells (program_of p)) }
     ensures err { IfErr result (λ e. IsRefusal bytes.now e) }
 {
@@ -91,8 +78,7 @@ fn program_of_forms(alloc: Global, bytes: &[u8], forms: &[Form]) -> Result<Progr
 /// Compiles a script: its program, and code that follows the program.
 ///
 /// # Errors
-/// `Read` where the script isn't read, with the first refusal from left to right, or where one of its forms
-/// is left out until it runs, with the first such form; `Resolve` where its names don't resolve,
+/// `Read` where the script isn't read, with the first refusal from left to right; `Resolve` where its names don't resolve,
 /// and `Check` where its program isn't sound, each with the first reason in source order; `Memory` where
 /// there was no memory for one of them.
 pub fn compile(alloc: Global, bytes: &[u8]) -> Result<(Program, Verified), CompileError>

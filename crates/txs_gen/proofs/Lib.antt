@@ -12,5 +12,4 @@ pub mod Segments
 pub mod Sends
 pub mod Simulates
 pub mod Steps
-pub mod Today
 pub mod Tries

@@ -7,4 +7,3 @@ pub mod Gen
 pub mod Generated
 pub mod OwnCells
 pub mod Sends
-pub mod Today

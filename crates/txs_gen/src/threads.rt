@@ -8,7 +8,6 @@ ghost use Rattle.txs_gen.specs.Bodies.{finished, AreSoundFunctions, AreSoundThre
 ghost use Rattle.txs_gen.specs.Emission.{emission, IsPlaced};
 ghost use Rattle.txs_gen.specs.Generated.{IsCodeOf};
 ghost use Rattle.txs_gen.specs.OwnCells.{ProgramNamesOwnCells};
-ghost use Rattle.txs_gen.specs.Today.{ProgramRunsToday};
 
 use crate::emit::{Around, Emitter, emit};
 use std::alloc::{AllocError, Global};
@@ -33,8 +32,7 @@ struct Bodies {
 ///
 /// `AllocError` where there is no memory for the code.
 pub fn generate(alloc: Global, program: &Program) -> Result<Verified, AllocError>
-    requires today { ProgramRunsToday (program_of program.now) }
-    requires own_cells { ProgramNamesOwnCells (program_of program.now) }
+    requires { ProgramNamesOwnCells (program_of program.now) }
     ensures { IfOk result (λ code. IsCodeOf code (program_of program.now)) }
 {
     let cells = copy_cells(alloc, program.cells())?;

@@ -1,11 +1,8 @@
 -- Refusals of bytes and of their code.
-use Rattle.std.proofs.Common.{◌≡◌, List, true, Option, Some, None, refl, sym, subst}
-use Rattle.std.specs.Option.{IfSome}
-use Rattle.txs_code.specs.PlainCode.{CodeBody, PlainCode}
-use Rattle.txs_code.specs.RunsToday.{BodiesRunToday, CellsRunToday}
-use Rattle.txs_load.specs.declared.error.LeftOut.{LeftOut}
+use Rattle.std.proofs.Common.{◌≡◌, sym, subst}
+use Rattle.txs_code.specs.PlainCode.{PlainCode}
 use Rattle.txs_load.specs.declared.error.LoadError.{LoadError}
-use Rattle.txs_load.specs.Load.{IsBodyLeftOut, of_threads, Runs, IsWrongCode, code_error_by, code_error}
+use Rattle.txs_load.specs.Load.{IsWrongCode, code_error_by, code_error}
 use Rattle.txs_verify.specs.Verdict.{IsIllTyped, IsRefused, OrMemory}
 use Rattle.txs_verify.specs.declared.error.VerifyError.{VerifyError}
 use Rattle.txs_verify.specs.declared.error.VerifyErrorKind.{VerifyErrorKind}
@@ -25,8 +22,3 @@ wrong_code code e code_kind.Memory r i = tt
 
 pub code_refused : (code : PlainCode) (e : VerifyError) (l : LoadError) → l ≡ code_error e → OrMemory e.kind (IsRefused code e) → OrMemory e.kind (IsIllTyped code) → IsWrongCode code l
 code_refused code e l is r i = subst (IsWrongCode code) (sym is) (wrong_code code e e.kind r i)
-
--- of threads all run, or one doesn't
-pub runs_by : (code : PlainCode) (o : Option LeftOut) (ts : List CodeBody) → ts ≡ code.threads → CellsRunToday code.cells → BodiesRunToday code.functions → (o ≡ None → BodiesRunToday ts) → IfSome o (λ l. IsBodyLeftOut true ts l) → Runs code o
-runs_by code None ts is cells functions h w = record { functions = functions; threads = subst BodiesRunToday is (h refl); cells = cells }
-runs_by code (Some l) ts is cells functions h w = of_threads l (subst (λ x. IsBodyLeftOut true x l) is w)

@@ -1,16 +1,7 @@
 //! Why bytes aren't taken as code.
 
 use txs_bytes::CodeError;
-use txs_verify::error::{BodyName, VerifyError};
-
-/// What today's actors don't run.
-#[derive(Clone, Copy, PartialEq, Eq)]
-pub enum LeftOut {
-    /// An instruction: its body, and its place there.
-    Instruction(BodyName, usize),
-    /// A cell, by its number.
-    Cell(usize),
-}
+use txs_verify::error::VerifyError;
 
 /// Why bytes aren't taken as code.
 #[derive(Clone, Copy)]
@@ -19,8 +10,6 @@ pub enum LoadError {
     Bytes(CodeError),
     /// Their code isn't well typed.
     Code(VerifyError),
-    /// Their code is well typed, and isn't run yet.
-    LeftOut(LeftOut),
     /// There was no memory.
     Memory,
 }

@@ -8,7 +8,6 @@ ghost use Rattle.txs_load.specs.Load.{IsFormOf, IsRefusal, IsWrongCode, bytes_er
 
 use crate::error::LoadError;
 use crate::law::form_is_taken;
-use crate::today::left_out;
 use std::alloc::Global;
 use txs_bytes::{CodeError, CodeErrorKind, decode};
 use txs_code::{Code, Verified};
@@ -69,15 +68,12 @@ pub fn load(alloc: Global, bytes: &[u8]) -> Result<(Code, Rooms), LoadError>
 /// The same, ready to run.
 ///
 /// # Errors
-/// As `load`; and what of the code today's actors don't run.
+/// As `load`.
 pub fn load_verified(alloc: Global, bytes: &[u8]) -> Result<Verified, LoadError>
     ensures form { IfOk result (λ v. IsFormOf bytes.now v) }
     ensures refused { IfErr result (λ e. IsRefusal bytes.now e) }
 {
     let (code, rooms) = load(alloc, bytes)?;
-    if let Some(found) = left_out(&code) {
-        return Err(LoadError::LeftOut(found));
-    }
     match Verified::seal(alloc, code, rooms.functions, rooms.threads) {
         Ok(verified) => Ok(verified),
         Err(_) => Err(LoadError::Memory),

@@ -3,13 +3,11 @@ use Rattle.txs_tree.specs.Known.{known}
 use Rattle.txs_tree.specs.Sound.{SoundFunctions, SoundThreads, nodes_of_functions, nodes_of_all}
 use Rattle.txs_tree.specs.View.{functions_of, threads_of, program_of}
 use Rattle.txs_code.specs.OwnCells.{NamesOwnCells}
-use Rattle.txs_code.specs.RunsToday.{RunsToday}
 use Rattle.txs_code.specs.WellTyped.{WellTyped}
 use Rattle.txs_gen.specs.Bodies.{functions_from, function_rooms, threads_from, thread_rooms}
 use Rattle.txs_gen.specs.Generated.{constants_of_functions, constants_of_threads, IsCodeOf}
 use Rattle.txs_gen.proofs.Bodies.{code_from, code_is, code_right, code_well_typed, functions_nodes, lawful_none, lawful_from}
 use Rattle.txs_gen.proofs.OwnCells.{code_names_own_cells}
-use Rattle.txs_gen.proofs.Today.{code_runs_today}
 use Rattle.txs_gen.proofs.threads.generate.Goals as goal
 
 pub functions_code-requires : goal.functions_code-requires
@@ -51,8 +49,7 @@ seal-requires c =
       typed = subst (λ x. WellTyped x c.in_ok-of_functions.of_functions.rooms.items c.in_ok-of_threads.of_threads.rooms.items) (sym code)
           (subst (λ r. WellTyped (code_from zs fs ts) r c.in_ok-of_threads.of_threads.rooms.items) (sym (a.rooms ∙ ap function_rooms f))
           (subst (λ r. WellTyped (code_from zs fs ts) (function_rooms fs) r) (sym (b.rooms ∙ ap thread_rooms t)) (code_well_typed zs fs ts sound.functions sound.threads)));
-      today = subst RunsToday (sym code) (code_runs_today (code_from zs fs ts) (program_of c.args.program.now) (code_right zs fs ts sound.functions sound.threads (program_of c.args.program.now) refl refl refl) c.requires.today);
-      own_cells = subst NamesOwnCells (sym code) (code_names_own_cells (code_from zs fs ts) (program_of c.args.program.now) (code_right zs fs ts sound.functions sound.threads (program_of c.args.program.now) refl refl refl) c.requires.own_cells);
+      own_cells = subst NamesOwnCells (sym code) (code_names_own_cells (code_from zs fs ts) (program_of c.args.program.now) (code_right zs fs ts sound.functions sound.threads (program_of c.args.program.now) refl refl refl) c.requires);
     }
 
 -- what follows from what holds of a result
