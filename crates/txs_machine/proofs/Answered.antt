@@ -7,7 +7,7 @@ use Rattle.txs_asks.specs.declared.event.Outcome.{Outcome}
 use Rattle.txs_asks.specs.declared.event.Outcome.TheVariants as outcome
 use Rattle.txs_frame.specs.Phase.{PlainPhase}
 use Rattle.txs_value.specs.declared.value.Value.{Value}
-use Rattle.txs_actor.specs.PlainActor.{PlainActor, MayAnswer, Stops, answered, answered_for, answered_if, asked_for, applied_in, run_again, end_again, refuse, views, attends_anew, unanswered, is_running}
+use Rattle.txs_actor.specs.PlainActor.{PlainActor, MayAnswer, Stops, answered, answered_for, answered_if, asked_for, applied_in, state_of, run_again, end_again, refuse, views, attends_anew, unanswered, is_running}
 use Rattle.txs_actor.specs.declared.state.Pending.{Pending}
 use Rattle.txs_actor.specs.declared.state.Pending.TheVariants.{Begin, Read, Ensure, Open, View, Reset, Send, Swap, Close, Commit, Fail, Broke, Take, Finish}
 use Rattle.txs_actor.specs.declared.state.Transaction.{Transaction}
@@ -266,3 +266,99 @@ stop_ends a q (reply.AgentIsFailed g) e h = absurd h
 stop_ends a q (reply.Action i x v) e h = absurd h
 stop_ends a q reply.Idle e h = absurd h
 stop_ends a q (reply.Opened i v) e h = absurd h
+
+-- ---- what stays
+
+full_stays : (a : PlainActor) (p : Pending) → state_of (answered_for a p reply.Full) ≡ state_of a
+full_stays a (Begin left from) = refl
+full_stays a (Read c) = refl
+full_stays a (Ensure c es) = refl
+full_stays a (Open c n kept) = refl
+full_stays a (View phase) = refl
+full_stays a (Reset c v) = refl
+full_stays a (Send x n) = refl
+full_stays a (Swap c n from) = refl
+full_stays a (Close c p v) = refl
+full_stays a Commit = refl
+full_stays a (Fail f) = refl
+full_stays a (Broke c p f) = refl
+full_stays a (Take g) = refl
+full_stays a (Finish g new) = refl
+
+memory_stays : (a : PlainActor) (p : Pending) → state_of (answered_for a p reply.Memory) ≡ state_of a
+memory_stays a (Begin left from) = refl
+memory_stays a (Read c) = refl
+memory_stays a (Ensure c es) = refl
+memory_stays a (Open c n kept) = refl
+memory_stays a (View phase) = refl
+memory_stays a (Reset c v) = refl
+memory_stays a (Send x n) = refl
+memory_stays a (Swap c n from) = refl
+memory_stays a (Close c p v) = refl
+memory_stays a Commit = refl
+memory_stays a (Fail f) = refl
+memory_stays a (Broke c p f) = refl
+memory_stays a (Take g) = refl
+memory_stays a (Finish g new) = refl
+
+idle_stays : (a : PlainActor) (p : Pending) → (answered_for a p reply.Idle).number ≡ a.number
+idle_stays a (Begin left from) = refl
+idle_stays a (Read c) = refl
+idle_stays a (Ensure c es) = refl
+idle_stays a (Open c n kept) = refl
+idle_stays a (View phase) = refl
+idle_stays a (Reset c v) = refl
+idle_stays a (Send x n) = refl
+idle_stays a (Swap c n from) = refl
+idle_stays a (Close c p v) = refl
+idle_stays a Commit = refl
+idle_stays a (Fail f) = refl
+idle_stays a (Broke c p f) = refl
+idle_stays a (Take g) = refl
+idle_stays a (Finish g new) = refl
+
+idle_unended : (a : PlainActor) (p : Pending) → (answered_for a p reply.Idle).outcome ≡ a.outcome
+idle_unended a (Begin left from) = refl
+idle_unended a (Read c) = refl
+idle_unended a (Ensure c es) = refl
+idle_unended a (Open c n kept) = refl
+idle_unended a (View phase) = refl
+idle_unended a (Reset c v) = refl
+idle_unended a (Send x n) = refl
+idle_unended a (Swap c n from) = refl
+idle_unended a (Close c p v) = refl
+idle_unended a Commit = refl
+idle_unended a (Fail f) = refl
+idle_unended a (Broke c p f) = refl
+idle_unended a (Take g) = refl
+idle_unended a (Finish g new) = refl
+
+-- an actor that is stopped has printed and written what it had
+pub full_state : (a : PlainActor) (q : Ask) → unanswered a ≡ Some q → state_of (answered a reply.Full) ≡ state_of a
+full_state a q e = go a.pending
+  where
+    go : (o : Option Pending) → state_of (answered_if a o reply.Full) ≡ state_of a
+    go None = refl
+    go (Some p) = full_stays a p
+
+pub memory_state : (a : PlainActor) (q : Ask) → unanswered a ≡ Some q → state_of (answered a reply.Memory) ≡ state_of a
+memory_state a q e = go a.pending
+  where
+    go : (o : Option Pending) → state_of (answered_if a o reply.Memory) ≡ state_of a
+    go None = refl
+    go (Some p) = memory_stays a p
+
+-- one that has no action to take has its number, and goes on
+pub idle_number : (a : PlainActor) → (answered a reply.Idle).number ≡ a.number
+idle_number a = go a.pending
+  where
+    go : (o : Option Pending) → (answered_if a o reply.Idle).number ≡ a.number
+    go None = refl
+    go (Some p) = idle_stays a p
+
+pub idle_outcome : (a : PlainActor) → (answered a reply.Idle).outcome ≡ a.outcome
+idle_outcome a = go a.pending
+  where
+    go : (o : Option Pending) → (answered_if a o reply.Idle).outcome ≡ a.outcome
+    go None = refl
+    go (Some p) = idle_unended a p

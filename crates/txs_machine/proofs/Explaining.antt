@@ -56,7 +56,7 @@ reported_at (x ∷ xs) [] k r h e = absurd h
 reported_at (x ∷ xs) (s ∷ rs) zero r h e = (x, refl, subst (IsReported x) (ap (report_or s) e) h.0)
 reported_at (x ∷ xs) (s ∷ rs) (suc k) r h e = reported_at xs rs k r h.1 e
 
-as_many : (xs : List Player) (rs : List ThreadReport) → AreReported xs rs → length rs ≡ length xs
+pub as_many : (xs : List Player) (rs : List ThreadReport) → AreReported xs rs → length rs ≡ length xs
 as_many [] [] h = refl
 as_many [] (s ∷ rs) h = absurd h
 as_many (x ∷ xs) [] h = absurd h

@@ -12,6 +12,8 @@ use Rattle.txs_runs.proofs.Growing.{Grown, differ}
 use Rattle.txs_machine.specs.RunOver.{IsLimited}
 use Rattle.txs_machine.specs.Playing.{IsBetween, AreBetween, IsPlayed, ArePlayedAt, AreLater, HaveSteps, AllEnded, IsUnended, IsReported, AreReported}
 use Rattle.txs_machine.specs.Schedule.{player, plays_of, all_named}
+use Rattle.txs_machine.specs.Running.{attendants}
+use Rattle.txs_machine.specs.declared.player.AgentPlayer.{AgentPlayer}
 use Rattle.txs_machine.specs.declared.player.Player.{Player}
 use Rattle.txs_machine.specs.declared.schedule.Play.{Play}
 use Rattle.txs_machine.specs.declared.schedule.ThreadReport.{ThreadReport}
@@ -228,3 +230,31 @@ pub named_read : (n i : ℕ) (ys : List Play) (d : Play) → i < length ys → a
 named_read n i [] d l h = absurd (omega (arith, l))
 named_read n zero (x ∷ ys) d l h = let g = (and_both (nat_lt (player x) n) (all_named n ys) h).0 in grind (arith, nat_tests, g)
 named_read n (suc i) (x ∷ ys) d l h = named_read n i ys d (omega (arith, l)) (and_both (nat_lt (player x) n) (all_named n ys) h).1
+
+-- ---- plays of agents
+
+-- a play of an actor behind these leaves their plays
+plays_behind_at : (ys : List Play) (y : Play) (j : ℕ) (xs bs : List Player) → j + length xs ≤ player y → AreLater xs bs → HaveSteps ys j xs → HaveSteps (ys ++ y ∷ []) j bs
+plays_behind_at ys y j [] [] n l h = tt
+plays_behind_at ys y j [] (b ∷ bs) n l h = absurd l
+plays_behind_at ys y j (a ∷ xs) [] n l h = absurd l
+plays_behind_at ys y j (a ∷ xs) (b ∷ bs) n l h = (
+  λ e. (let x = l.0 e in let s = h.0 x.0 in
+      subst (λ m. m ≤ b.actor.steps) (sym (plays_more j ys y ∙ ap (λ t. if t then suc (plays_of j ys) else plays_of j ys) (differ (player y) j (λ d. absurd (omega (arith, d, n)))))) (omega (arith, x.1, s))),
+  plays_behind_at ys y (suc j) xs bs (omega (arith, n)) l.1 h.1,
+)
+
+pub plays_behind : (ys : List Play) (y : Play) (xs bs : List Player) → length xs ≤ player y → AreLater xs bs → HaveSteps ys 0 xs → HaveSteps (ys ++ y ∷ []) 0 bs
+plays_behind ys y xs bs n l h = let e : 0 + length xs ≤ player y = omega (arith, n) in plays_behind_at ys y 0 xs bs e l h
+
+-- a play of one of these, or of an actor behind them
+pub at_or_behind : (ys : List Play) (y : Play) (k : ℕ) (xs bs : List Player) → player y ≡ k → (k < length xs → ArePlayedAt k xs bs) → AreLater xs bs → HaveSteps ys 0 xs → HaveSteps (ys ++ y ∷ []) 0 bs
+at_or_behind ys y k xs bs e p l h = go (nat_lt k (length xs)) refl
+  where
+    go : (b : Bool) → nat_lt k (length xs) ≡ b → HaveSteps (ys ++ y ∷ []) 0 bs
+    go true f = let lt : k < length xs = grind (arith, nat_tests, f) in plays_steps ys y xs bs (subst (λ n. ArePlayedAt n xs bs) (sym e) (p lt)) h
+    go false f = let ge : length xs ≤ k = grind (arith, nat_tests, f) in plays_behind ys y xs bs (subst (λ n. length xs ≤ n) (sym e) ge) l h
+
+pub attendants_append : (xs : List AgentPlayer) (x : AgentPlayer) → attendants (xs ++ x ∷ []) ≡ attendants xs ++ x.player ∷ []
+attendants_append [] x = refl
+attendants_append (y ∷ xs) x = ap (λ l. y.player ∷ l) (attendants_append xs x)

@@ -23,7 +23,7 @@ use Rattle.txs_code.specs.ActorState.{ActorState}
 use Rattle.txs_code.specs.Machine.{ThreadCode, Configuration, Turned, Ended, Failed, Asking, Unfinished, Stuck, and_then, turn, run}
 use Rattle.txs_code.proofs.Acts.{run_more}
 use Rattle.txs_code.specs.Opening.{given, opening}
-use Rattle.txs_code.specs.PlainCode.{CodeBody, PlainCode, thread_code, function_codes}
+use Rattle.txs_code.specs.PlainCode.{CodeBody, PlainCode, function_codes}
 use Rattle.txs_code.specs.WellTyped.{WellTyped}
 use Rattle.txs_follows.specs.Follows.{Follows}
 use Rattle.txs_follows.specs.RepliesFit.{Out, RepliesFit, Explained}
@@ -76,7 +76,7 @@ use Rattle.txs_machine.specs.RunOver.{IsStateOf, books_of, IsIn, IsOwn, AreOwn, 
 use Rattle.txs_machine.specs.Serving.{may_add, IsNext, with_place, IsServed}
 use Rattle.txs_machine.specs.declared.player.Place.{Place}
 
-append_nil : {A : Type 0} (xs : List A) → xs ++ [] ≡ xs
+pub append_nil : {A : Type 0} (xs : List A) → xs ++ [] ≡ xs
 append_nil [] = refl
 append_nil (x ∷ xs) = ap (λ l. x ∷ l) (append_nil xs)
 
@@ -354,7 +354,7 @@ unfilled_of (Some outcome.Memory) u = tt
 
 -- ---- books that grow
 
-append_length : {A : Type 0} (xs ys : List A) → length (xs ++ ys) ≡ length xs + length ys
+pub append_length : {A : Type 0} (xs ys : List A) → length (xs ++ ys) ≡ length xs + length ys
 append_length [] ys = omega arith
 append_length (x ∷ xs) ys = let h = append_length xs ys in omega (arith, h)
 
@@ -441,25 +441,25 @@ more_asked code es y a q r same h asked before e rest s = go (apart es y before 
 
 module _ (code : PlainCode) (k : ℕ) (books : ℕ → List Event) (taken : List Bool) (q : Ask) (lawful : may_ask code.cells (length code.threads) taken k q (books (book_for code.cells q)) ≡ true) where
   -- the book for the ask
-  abbrev home : List Event
+  abbrev pub home : List Event
   home = books (book_for code.cells q)
 
-  abbrev v : Served
+  abbrev pub v : Served
   v = serve_on code.cells k q home
 
   -- the books after it was served
-  abbrev later : ℕ → List Event
+  abbrev pub later : ℕ → List Event
   later = with_book (book_for code.cells q) v.book books
 
   abbrev known : Serves k home v
   known = serves k home code.cells q
 
   -- what was served adds events of the actor alone
-  served_grows : Grown k books later
+  pub served_grows : Grown k books later
   served_grows = growing.own_grown code.cells (length code.threads) k books q taken lawful v refl known
 
   -- where nothing is added, the books are as before
-  left_as : v.book ≡ home → (n : ℕ) → later n ≡ books n
+  pub left_as : v.book ≡ home → (n : ℕ) → later n ≡ books n
   left_as e n = go (n == book_for code.cells q) refl
     where
       go : (b : Bool) → (n == book_for code.cells q) ≡ b → (if b then v.book else books n) ≡ books n
@@ -467,7 +467,7 @@ module _ (code : PlainCode) (k : ℕ) (books : ℕ → List Event) (taken : List
       go false h = refl
 
   -- a full book stays as it is
-  full_keeps : IsFull v.reply → v.book ≡ home
+  pub full_keeps : IsFull v.reply → v.book ≡ home
   full_keeps f = known.grown ∙ ap (λ l. home ++ l) (known.stays (λ ex. never v.reply ex f)) ∙ append_nil home
     where
       never : (r : Reply) → IsExchanged r → IsFull r → ⊥
@@ -485,11 +485,11 @@ module _ (code : PlainCode) (k : ℕ) (books : ℕ → List Event) (taken : List
       never reply.Memory ex f = f
 
   -- the place of the event that was added, if one was
-  abbrev added : List told_by.Place
+  abbrev pub added : List told_by.Place
   added = if nat_lt (length home) (length v.book) then record { book = book_for code.cells q; at = length home } ∷ [] else []
 
   -- an entry behind the others adds its place behind theirs
-  trace_grows : (es : List Entry) → AllHold code.cells (length code.threads) books k es → trace_of code.cells later k (es ++ entry q v.reply (length home) ∷ []) ≡ trace_of code.cells books k es ++ added
+  pub trace_grows : (es : List Entry) → AllHold code.cells (length code.threads) books k es → trace_of code.cells later k (es ++ entry q v.reply (length home) ∷ []) ≡ trace_of code.cells books k es ++ added
   trace_grows es h =
       appended es ∙ ap (λ ps. ps ++ adding code.cells later k own []) (trace_stays code.cells (length code.threads) k k books later served_grows es h)
       ∙ ap (λ (x : Served). trace_of code.cells books k es ++ (if nat_lt (length home) (length x.book) then record { book = book_for code.cells q; at = length home } ∷ [] else [])) served_own
@@ -518,14 +518,14 @@ module _ (code : PlainCode) (k : ℕ) (books : ℕ → List Event) (taken : List
           over false = refl
 
 -- places that were noted, as the laws of runs speak of them
-places_append : (ps qs : List Place) → places_of (ps ++ qs) ≡ places_of ps ++ places_of qs
+pub places_append : (ps qs : List Place) → places_of (ps ++ qs) ≡ places_of ps ++ places_of qs
 places_append [] qs = refl
 places_append (p ∷ ps) qs = ap (λ l. record { book = p.book; at = p.at } ∷ l) (places_append ps qs)
 
 place_is : (book at : ℕ) (p : Place) → p.book ≡ book → p.at ≡ at → places_of (p ∷ []) ≡ record { book = book; at = at } ∷ []
 place_is book at p e f = rw (e, f) refl
 
-noted_places : (b : Bool) (ps : List Place) (p : Place) (book at : ℕ) → p.book ≡ book → p.at ≡ at → places_of (with_place b ps p) ≡ places_of ps ++ (if b then record { book = book; at = at } ∷ [] else [])
+pub noted_places : (b : Bool) (ps : List Place) (p : Place) (book at : ℕ) → p.book ≡ book → p.at ≡ at → places_of (with_place b ps p) ≡ places_of ps ++ (if b then record { book = book; at = at } ∷ [] else [])
 noted_places true ps p book at e f = places_append ps (p ∷ []) ∙ ap (λ l. places_of ps ++ l) (place_is book at p e f)
 noted_places false ps p book at e f = sym (append_nil (places_of ps))
 
@@ -562,7 +562,7 @@ asked_last laws code xs a q e f may ran =
     wanted Stuck = None
 
 -- the ask at which an actor was stopped for a full book
-full_at : ActorsRun → (code : PlainCode) (k : ℕ) (books : ℕ → List Event) (xs : List Exchange) (a : PlainActor) (q : Ask) → a.number ≡ k → a.outcome ≡ None → unanswered a ≡ Some q → MayAnswer q reply.Full → most_events ≤ length (books (book_for code.cells q))
+pub full_at : ActorsRun → (code : PlainCode) (k : ℕ) (books : ℕ → List Event) (xs : List Exchange) (a : PlainActor) (q : Ask) → a.number ≡ k → a.outcome ≡ None → unanswered a ≡ Some q → MayAnswer q reply.Full → most_events ≤ length (books (book_for code.cells q))
     → HasRun code xs a → AtFullBook code.cells (code_of code k) books xs (answered a reply.Full)
 full_at laws code k books xs a q n e f may full ran =
     record { ask = q; asked = subst (λ i. AsksLast (code_of code i) xs (answered a reply.Full) q) n (asked_last laws code xs a q e f may ran); full = full }
@@ -692,7 +692,7 @@ hands_none code k books tr a q reply.Full e f w may = tt
 hands_none code k books tr a q reply.Memory e f w may = tt
 
 -- the state of the code's cells with these books
-abbrev state_with : PlainCode → List (List Event) → List Bool → PlainShared
+abbrev pub state_with : PlainCode → List (List Event) → List Bool → PlainShared
 state_with code bs taken = record { cells = code.cells; threads = length code.threads; books = bs; taken = taken }
 
 -- what an answer leaves: the state of the same cells, the actor with what it has done, and its own events alone behind those before
@@ -804,7 +804,7 @@ module _ (laws : ActorsRun) (law : ServedIsTold) (code : PlainCode) (k : ℕ) (b
   served_leads r free may (inr u) = subst Left (sym u.replied) (undone (subst (MayAnswer q) u.replied may) u.state u.places)
 
 -- a state of the code's
-as_state : (code : PlainCode) (s : PlainShared) → IsStateOf code s → s ≡ state_with code s.books s.taken
+pub as_state : (code : PlainCode) (s : PlainShared) → IsStateOf code s → s ≡ state_with code s.books s.taken
 as_state code s h = rw (h.cells, h.threads) refl
 
 -- its books stand

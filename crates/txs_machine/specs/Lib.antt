@@ -1,7 +1,9 @@
+pub mod Agents
 pub mod Followed
 pub mod Lawfully
 pub mod Playing
 pub mod RunOver
 pub mod Runner
+pub mod Running
 pub mod Schedule
 pub mod Serving

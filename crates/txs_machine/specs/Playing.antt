@@ -3,6 +3,7 @@ use Rattle.std.specs.Prelude.{◌≡◌, ◌≤◌, ◌<◌, ℕ, zero, suc, Lis
 use Rattle.txs_asks.specs.declared.event.Event.{Event}
 use Rattle.txs_code.specs.PlainCode.{PlainCode}
 use Rattle.txs_actor.specs.PlainActor.{PlainActor, Lives, unanswered}
+use Rattle.txs_actor.specs.Turns.{IsNew}
 use Rattle.txs_machine.specs.Lawfully.{RunLawfully}
 use Rattle.txs_machine.specs.RunOver.{IsLimited}
 use Rattle.txs_machine.specs.Schedule.{plays_of}
@@ -69,3 +70,8 @@ AreReported [] [] = Unit {0}
 AreReported [] (r ∷ rs) = ⊥
 AreReported (x ∷ xs) [] = ⊥
 AreReported (x ∷ xs) (r ∷ rs) = IsReported x r × AreReported xs rs
+
+-- these actors are before their first turns, and may make so many steps; the first of them is the k-th actor
+abbrev pub AreNew : PlainCode → ℕ → ℕ → List Player → Type 0
+AreNew code limit k [] = Unit {0}
+AreNew code limit k (x ∷ xs) = IsNew code k limit x.actor × (x.trace.items ≡ []) × AreNew code limit (suc k) xs

@@ -1,5 +1,5 @@
 -- Runs of all threads of a code over what they share, by turns that a schedule names, and what a program's source says of them.
-use Rattle.std.specs.Prelude.{◌≡◌, ◌≤◌, ℕ, suc, Bool, true, false, ◌&&◌, ◌==◌, nat_lt, List, [], ◌∷◌, ◌++◌, length, map, Option, Some, None, if◌then◌else◌}
+use Rattle.std.specs.Prelude.{◌≡◌, ◌≤◌, ◌+◌, ℕ, suc, Bool, true, false, ◌&&◌, ◌==◌, nat_lt, List, [], ◌∷◌, ◌++◌, length, map, Option, Some, None, if◌then◌else◌}
 use Rattle.std.proofs.Common.{◌⊎◌}
 use Rattle.txs_asks.specs.SeenEvent.{SeenEvent}
 use Rattle.txs_asks.specs.declared.event.Event.{Event}
@@ -13,7 +13,7 @@ use Rattle.txs_tree.specs.Tree.{PlainThread, PlainProgram}
 use Rattle.txs_code.specs.PlainCode.{PlainCode, thread_code}
 use Rattle.txs_follows.specs.FollowsAll.{source_of, FollowsAll}
 use Rattle.txs_follows.specs.RepliesFit.{Explained, halted, HasEaten}
-use Rattle.txs_actor.specs.PlainActor.{PlainActor, unanswered, stating, standing}
+use Rattle.txs_actor.specs.PlainActor.{PlainActor, agents_from, unanswered, stating, standing}
 use Rattle.txs_shared.specs.SharedState.{PlainShared}
 use Rattle.txs_runs.specs.Explains.{BooksStand, CommitsUndisturbed}
 use Rattle.txs_runs.specs.Shared.{Shared}
@@ -32,12 +32,12 @@ abbrev pub player : Play → ℕ
 player (play.Turn k) = k
 player (play.Ask k) = k
 
--- how many of these plays name this thread
+-- how many of these plays name this actor
 abbrev pub plays_of : ℕ → List Play → ℕ
 plays_of k [] = 0
 plays_of k (y ∷ ys) = if player y == k then suc (plays_of k ys) else plays_of k ys
 
--- whether each play names one of so many threads
+-- whether each play names one of so many actors
 abbrev pub all_named : ℕ → List Play → Bool
 all_named n [] = true
 all_named n (y ∷ ys) = nat_lt (player y) n && all_named n ys
@@ -104,7 +104,7 @@ pub record Explains (p : PlainProgram) (sh : Shared) (rans : List ThreadReport) 
 abbrev pub IsExplainedBy : PlainCode → Shared → List ThreadReport → Type 0
 IsExplainedBy code sh rans = (p : PlainProgram) → p.cells ≡ code.cells → FollowsAll (map (thread_code code) code.threads) p → Explains p sh rans
 
--- Why there is no report: a play names no thread, and nothing was run; or there was no memory.
+-- Why there is no report: a play names no actor, and nothing was run; or there was no memory.
 abbrev pub HasNoReport : PlainCode → List Play → PlainShared → PlainShared → ScheduleError → Type 0
-HasNoReport code ys before after NoActor = (all_named (length code.threads) ys ≡ false) × (after ≡ before)
-HasNoReport code ys before after Memory = all_named (length code.threads) ys ≡ true
+HasNoReport code ys before after NoActor = (all_named (length code.threads + length (agents_from 0 code.cells)) ys ≡ false) × (after ≡ before)
+HasNoReport code ys before after Memory = all_named (length code.threads + length (agents_from 0 code.cells)) ys ≡ true

@@ -1,8 +1,9 @@
 //! Runs of actors over what they share, and what the source of a thread says of its run. `run_thread` runs a thread, whose source means just
-//! what its actor did in the books, with what it printed and how it ended; `run_schedule` runs all threads. What sources say of many actors
+//! what its actor did in the books, with what it printed and how it ended; `run_schedule` runs all threads and agents. What sources say of many actors
 //! over what they share is told by the laws of txs_runs.
 #![tactic(auto)]
 
+mod agents;
 pub mod law;
 mod player;
 pub mod run;

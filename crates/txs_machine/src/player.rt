@@ -1,6 +1,7 @@
 //! An actor of a run, with the places of its events.
 
 use txs_actor::Actor;
+use txs_value::CellId;
 
 /// A place in a book: book 0 is the store's, n that of the n-th atom in the order of the cells.
 #[derive(Clone, Copy)]
@@ -14,4 +15,18 @@ pub struct Place {
 pub struct Player {
     pub actor: Actor,
     pub trace: Vec<Place>,
+}
+
+/// An agent, and its actor.
+#[derive(Drop)]
+pub struct AgentPlayer {
+    pub agent: CellId,
+    pub player: Player,
+}
+
+/// All actors of a run: those of the threads, and behind them those of the agents, in the order of the cells.
+#[derive(Drop)]
+pub struct Players {
+    pub threads: Vec<Player>,
+    pub agents: Vec<AgentPlayer>,
 }

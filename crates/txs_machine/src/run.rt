@@ -8,6 +8,7 @@ ghost use Rattle.txs_shared.specs.SharedState.{shared_of, numbered_book, is_lawf
 ghost use Rattle.txs_value.specs.Limits.{most_events};
 ghost use Rattle.txs_machine.specs.Lawfully.{RunLawfully};
 ghost use Rattle.txs_machine.specs.RunOver.{IsStateOf, AreOwn, books_of, IsAfter, IsExplained, IsLimited, HasEnded};
+ghost use Rattle.txs_machine.specs.Running.{GoesAs, IsAnswered};
 ghost use Rattle.txs_machine.specs.Serving.{may_add, IsNext, IsServed};
 
 use crate::law::actors_explained;
@@ -69,7 +70,12 @@ fn keep_added(trace: &mut Vec<Place>, kept: usize, added: bool)
 
 /// Answers an actor's lawful ask, and notes the place of the event that it adds. There is room for the place before anything is served;
 /// without memory for it nothing is, and the reply says so.
-fn serve_noted(trace: &mut Vec<Place>, shared: &mut SharedState, actor: u16, ask: Ask) -> Reply
+pub(crate) fn serve_noted(
+    trace: &mut Vec<Place>,
+    shared: &mut SharedState,
+    actor: u16,
+    ask: Ask,
+) -> Reply
     requires { is_lawful shared.old actor ask ≡ true }
     ensures { IsServed shared.old actor ask result shared.new trace.old.items trace.new.items }
 {
@@ -102,6 +108,8 @@ fn serve_ask(player: &mut Player, code: &Verified, shared: &mut SharedState, ask
     ensures of { IsStateOf code.now shared.new }
     ensures over { RunLawfully code.now k (books_of shared.new) player.new.trace.items player.new.actor }
     ensures grown { Grown k (books_of shared.old) (books_of shared.new) }
+    ensures taken { shared.new.taken ≡ shared.old.taken }
+    ensures served { IsAnswered k shared.old player.old.actor player.old.trace.items ask shared.new player.new.actor player.new.trace.items }
 {
     let _own_cells = code.code();
     let number = player.actor.number();
@@ -134,6 +142,8 @@ pub(crate) fn round(
     ensures of { IsStateOf code.now shared.new }
     ensures over { RunLawfully code.now k (books_of shared.new) player.new.trace.items player.new.actor }
     ensures grown { Grown k (books_of shared.old) (books_of shared.new) }
+    ensures taken { shared.new.taken ≡ shared.old.taken }
+    ensures goes { player.old.actor.outcome ≡ None → GoesAs code.now k shared.old player.old.actor player.old.trace.items shared.new player.new.actor player.new.trace.items }
 {
     actors_run();
     match player.actor.run(code, budget) {

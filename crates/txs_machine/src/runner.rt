@@ -1,6 +1,7 @@
 //! What runs all threads of a code up to their ends, whoever makes the turns.
 
 ghost use Rattle.std.specs.Prelude.{◌≡◌, length, IfOk};
+ghost use Rattle.txs_machine.specs.Agents.{agents_of, AreDrained, AreExplainedBy};
 ghost use Rattle.txs_machine.specs.RunOver.{IsStateOf};
 ghost use Rattle.txs_machine.specs.Runner.{error_name};
 ghost use Rattle.txs_machine.specs.Schedule.{HaveEnded, IsExplainedBy};
@@ -48,10 +49,10 @@ impl RunError {
     }
 }
 
-/// Runs all threads of a code by workers.
+/// Runs all threads and agents of a code by workers.
 pub trait Runner {
-    /// Runs all threads of the code by so many workers up to their ends, each for so many steps at most: what they share behind the run, and
-    /// what each did.
+    /// Runs all threads of the code by so many workers up to their ends, and its agents until none that goes on has something to do, each for so many steps
+    /// at most: what they share behind the run, and what each did.
     fn run(
         &self,
         alloc: Global,
@@ -62,5 +63,8 @@ pub trait Runner {
         ensures of { IfOk result (λ ran. IsStateOf code.now ran.0) }
         ensures one_each { IfOk result (λ ran. length ran.1.threads.items ≡ length code.now.threads) }
         ensures ended { IfOk result (λ ran. HaveEnded ran.1.threads.items) }
-        ensures explained { IfOk result (λ ran. IsExplainedBy code.now (shared_of ran.0) ran.1.threads.items) };
+        ensures explained { IfOk result (λ ran. IsExplainedBy code.now (shared_of ran.0) ran.1.threads.items) }
+        ensures agents_each { IfOk result (λ ran. length ran.1.agents.items ≡ length (agents_of code.now)) }
+        ensures drained { IfOk result (λ ran. AreDrained code.now (shared_of ran.0) ran.1.agents.items) }
+        ensures all_explained { IfOk result (λ ran. AreExplainedBy code.now (shared_of ran.0) ran.1.threads.items ran.1.agents.items) };
 }

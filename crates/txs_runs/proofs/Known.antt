@@ -21,7 +21,7 @@ turn_staged : (code : ThreadCode) (c : Configuration) → c.state.todo ≡ [] �
 turn_staged code c e may ok = subst (λ l. TurnIsStaged code (record c { state = record c.state { todo = l } })) (sym e) (act_staged c code (fetch code c.body c.place) may ok)
 
 -- what is known goes on to be known
-run_known : (code : ThreadCode) (k : KnownCode code) (m : ℕ) (c d : Configuration) → k.Holds c → run code m c ≡ Unfinished d → k.Holds d
+pub run_known : (code : ThreadCode) (k : KnownCode code) (m : ℕ) (c d : Configuration) → k.Holds c → run code m c ≡ Unfinished d → k.Holds d
 run_known code k zero c d h e = subst k.Holds (same_place c d e) h
   where
     place_or : Configuration → Turned Configuration → Configuration

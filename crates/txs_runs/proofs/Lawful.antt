@@ -637,5 +637,10 @@ module _ (cells : List CellDefinition) where
       pub plays_lawful : FreshStands → (ys : List Play) → AsksAreLawful cells threads codes (plays_from cells threads codes ys (opens cells codes))
       plays_lawful fresh ys = state_lawful (plays_from cells threads codes ys (opens cells codes)) (all_lawful ys (opens cells codes) (opens_lawful fresh))
 
+-- all values of a run's books name defined cells alone
+pub run_known : ServeKeeps → FreshStands → (cells : List CellDefinition) (threads : ℕ) (codes : ℕ → ThreadCode) (ys : List Play) (opened : OpeningIsKnown cells) → ((a : ℕ) → CodeIsKnown cells (codes a))
+    → (n : ℕ) → BookKnown cells opened ((plays_from cells threads codes ys (opens cells codes)).shared.books n)
+run_known keeps fresh cells threads codes ys opened known = (all_lawful cells threads opened codes known keeps ys (opens cells codes) (opens_lawful cells threads opened codes known keeps fresh)).books
+
 pub run_lawful : ServeKeeps → FreshStands → RunAsksLawful
 run_lawful keeps fresh cells threads codes ys opened known = plays_lawful cells threads opened codes known keeps fresh ys

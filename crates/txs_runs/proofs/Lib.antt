@@ -16,6 +16,7 @@ pub mod Refused
 pub mod Replayed
 pub mod Report
 pub mod Sending
+pub mod Sent
 pub mod ServedKnown
 pub mod Serving
 pub mod Staging

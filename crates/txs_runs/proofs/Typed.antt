@@ -30,7 +30,7 @@ use Rattle.txs_value.specs.declared.value.CellId.{CellId}
 use Rattle.txs_value.specs.declared.value.Value.{Value}
 use Rattle.txs_value.specs.declared.value.Value.TheVariants.{Nil, Truth, Int, Key, Text, Vector, Cell}
 use Rattle.txs_code.specs.ActorState.{ActorState, Replied, Unreplied, receives, asks, StepResult, Continue, Break, Redo, Await, Malformed, on_step, step_of, Reading, Says, SaysRetry, SaysNothing, read_as, heard, read_point, just_done, value_there, newest_value, views, Verdict, Landed, Outdated, Undone, Denied, commit_verdict, opened, swap_verdict, send_verdict, begun, begin, fail, buffered_or, look, paired, viewed, view, commit, peek, SwapInHand, open_atom, close_swap, break_swap, reset_atom, sent, send_now, read_cell, read, set_own, assign_cell, assign, RefUpdate, Alters, Commutes, update_form, kept_open, open_update, close_own, close_update, open_swap, send_action, send_to, print}
-use Rattle.txs_code.specs.Machine.{PlainInstr, Push, Load, Store, Pop, Jump, JumpFalse, CoreOf, CallOf, Return, MakeVector, PrintOf, TxBegin, TxEnd, LookOf, PutOf, OpenOf, CloseOf, SendOf, Halt, TakeOf, RunOf, FinishOf, ThreadCode, instr_at, fetch, Destination, to_stack, to_commutes, Frame, Savepoint, Activity, Outside, Restarting, Running, Applying, Swapping, Acting, is_inside, Configuration, ahead, called, arguments_of, Turned, Ended, Failed, Asking, Unfinished, Stuck, told, raise, rerun, retried, on, found, on_top, on_args, on_args_of, on_two, push_all, put, gives, begins, decided, lands, settles, applies, ends, stack_after, doing_after, returns_to, opens_ref, opens_atom, opens, swap_decided, closes_swap, closes, act, turn}
+use Rattle.txs_code.specs.Machine.{PlainInstr, Push, Load, Store, Pop, Jump, JumpFalse, CoreOf, CallOf, Return, MakeVector, PrintOf, TxBegin, TxEnd, LookOf, PutOf, OpenOf, CloseOf, SendOf, Halt, TakeOf, RunOf, FinishOf, ThreadCode, instr_at, fetch, Destination, to_stack, to_commutes, Frame, Savepoint, Activity, Outside, Restarting, Running, Applying, Swapping, Acting, is_inside, Configuration, ahead, called, arguments_of, Turned, Ended, Failed, Asking, Unfinished, Stuck, told, raise, rerun, retried, on, found, on_top, on_args, on_args_of, on_two, push_all, put, gives, begins, decided, lands, settles, applies, ends, stack_after, doing_after, returns_to, opens_ref, opens_atom, opens, swap_decided, closes_swap, closes, act, turn, run}
 use Rattle.txs_code.specs.Opening.{given, opening}
 use Rattle.txs_code.specs.PlainCode.{CodeBody, PlainCode, parameters_of, plain_instr, plain_instrs, plain_bodies, thread_code}
 use Rattle.txs_code.specs.WellTyped as typed
@@ -42,7 +42,7 @@ use Rattle.txs_code.specs.declared.instr.OpenForm.TheVariants as open_form
 use Rattle.txs_runs.specs.Explains.{code_or_none}
 use Rattle.txs_runs.specs.Lawful.{TypedStands, TypedActorsStand}
 use Rattle.txs_runs.specs.Standing.{MayStandIn, MayStandHere, IsThreads, StandingCode}
-use Rattle.txs_runs.proofs.Known.{standing_code}
+use Rattle.txs_runs.proofs.Known.{KnownCode, run_known, standing_code}
 
 -- an instruction as the machine sees it, where it has a span
 abbrev Fetched : List ℕ → List Value → Option PlainInstr → Option Instr → Type 0
@@ -1204,15 +1204,63 @@ module _ (code : PlainCode) (main : CodeBody) (kinds : List FunctionKind) where
     given_ok xs c (Swapping swap from) ok = ok
     given_ok xs c (Acting g x) ok = ok
 
-    pub stands_all : Body 0 a_thread → StandingCode tc
-    stands_all b = standing_code tc (record {
+    known_all : Body 0 a_thread → KnownCode tc
+    known_all b = record {
       Holds = Holds;
       opens = ((typed.plain 0, record { owner = a_thread; body = b; here = b.staging.first }), tt, tt, (tt, tt));
       may = λ c k. may_all c k;
       threads = λ c k. threads_all c c.doing k.2;
       given = λ xs c k. (k.0, k.1, given_ok xs c c.doing k.2, k.3);
       keeps = λ c d k e. subst Lands e (lands_all c k);
-    })
+    }
+
+    pub stands_all : Body 0 a_thread → StandingCode tc
+    stands_all b = standing_code tc (known_all b)
+
+    abbrev callee_or : PlainInstr → Option Callee
+    callee_or (SendOf f m span) = Some f
+    callee_or _ = None
+
+    staged_send : (st : typed.Stage) (i : Instr) (f : Callee) (m : ℕ) (span : Span) → Fetched ps ks (Some (SendOf f m span)) (Some i) → (owner : Owner) (stages : Stages) (at : ℕ) → FitsStage fs owner stages at st i → IsPureCallee kinds f
+    staged_send (typed.plain t) (instr.Send g k) f m span e owner stages at h = subst (IsPureCallee kinds) (ap (callee_in g) (sym (ap callee_or e.1))) h.1
+      where
+        callee_in : Callee → Option Callee → Callee
+        callee_in g None = g
+        callee_in g (Some x) = x
+    staged_send (typed.opened t n by) (instr.Send g k) f m span e owner stages at h = absurd h
+    staged_send (typed.applied t by) (instr.Send g k) f m span e owner stages at h = absurd h
+    staged_send st (instr.Const k) f m span e owner stages at h = absurd (subst is_some (ap callee_or e.1) tt)
+    staged_send st (instr.Local i) f m span e owner stages at h = absurd (subst is_some (ap callee_or e.1) tt)
+    staged_send st (instr.Store i) f m span e owner stages at h = absurd (subst is_some (ap callee_or e.1) tt)
+    staged_send st instr.Pop f m span e owner stages at h = absurd (subst is_some (ap callee_or e.1) tt)
+    staged_send st (instr.Jump to) f m span e owner stages at h = absurd (subst is_some (ap callee_or e.1) tt)
+    staged_send st (instr.JumpFalse to) f m span e owner stages at h = absurd (subst is_some (ap callee_or e.1) tt)
+    staged_send st (instr.Core op n) f m span e owner stages at h = absurd (subst is_some (ap callee_or e.1) tt)
+    staged_send st (instr.Call f2) f m span e owner stages at h = absurd (subst is_some (ap callee_or e.1) tt)
+    staged_send st instr.Return f m span e owner stages at h = absurd (subst is_some (ap callee_or e.1) tt)
+    staged_send st (instr.Vector n) f m span e owner stages at h = absurd (subst is_some (ap callee_or e.1) tt)
+    staged_send st (instr.Print n) f m span e owner stages at h = absurd (subst is_some (ap callee_or e.1) tt)
+    staged_send st (instr.Look l) f m span e owner stages at h = absurd (subst is_some (ap callee_or e.1) tt)
+    staged_send st (instr.Put p) f m span e owner stages at h = absurd (subst is_some (ap callee_or e.1) tt)
+    staged_send st instr.TxBegin f m span e owner stages at h = absurd (subst is_some (ap callee_or e.1) tt)
+    staged_send st instr.TxEnd f m span e owner stages at h = absurd (subst is_some (ap callee_or e.1) tt)
+    staged_send st (instr.Open o n) f m span e owner stages at h = absurd (subst is_some (ap callee_or e.1) tt)
+    staged_send st (instr.Close u) f m span e owner stages at h = absurd (subst is_some (ap callee_or e.1) tt)
+    staged_send st instr.Halt f m span e owner stages at h = absurd (subst is_some (ap callee_or e.1) tt)
+
+    -- a send's callee is pure, wherever the code comes to one
+    send_pure : (n at : ℕ) (f : Callee) (m : ℕ) (span : Span) → Somewhere n at → fetch tc n at ≡ Some (SendOf f m span) → IsPureCallee kinds f
+    send_pure n at f m span a e =
+        let w = a.1 in
+        let fit = w.body.staging.fits at a.0 w.here in
+        staged_send a.0 fit.0 f m span (subst (Fetched ps ks (Some (SendOf f m span))) fit.1 (subst (λ o. Fetched ps ks o (nth w.body.body.instrs at)) e (w.body.fetches at))) w.owner w.body.stages at fit.2
+
+    pub sends_pure : Body 0 a_thread → (m : ℕ) (xs : List Exchange) (c : Configuration) → run tc m (opening tc xs) ≡ Unfinished c → (f : Callee) (n : ℕ) (span : Span) → fetch tc c.body c.place ≡ Some (SendOf f n span) → IsPureCallee kinds f
+    unfolding known_all
+    sends_pure b m xs c e f n span i =
+        let k = known_all b in
+        let h = run_known tc k m (opening tc xs) c (k.given xs (opening tc []) k.opens) e in
+        send_pure c.body c.place f n span h.0 i
 
   -- ---- the bodies of well-typed code
 

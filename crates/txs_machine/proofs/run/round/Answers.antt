@@ -3,6 +3,7 @@ use Rattle.txs_machine.specs.RunOver.{IsLimited, books_of}
 use Rattle.txs_actor.specs.declared.outcome.Turn.TheVariants.{Went, Asks, Ended}
 use Rattle.txs_machine.proofs.Limits.{turns_limited, turns_count, turns_free}
 use Rattle.txs_machine.proofs.RunOver.{turns_over, not_grown}
+use Rattle.txs_machine.proofs.Going.{turned_goes, asked_goes}
 use Rattle.txs_machine.proofs.run.round.Goals as goal
 
 pub serve_ask-requires-clause-going : goal.serve_ask-requires-clause-going
@@ -70,3 +71,18 @@ returns-in-Ended-clause-free c =
 
 pub returns-in-Went-clause-free : goal.returns-in-Went-clause-free
 returns-in-Went-clause-free c = c.in-Went.ensures.says
+
+pub returns-in-Ended-clause-goes : goal.returns-in-Ended-clause-goes
+returns-in-Ended-clause-goes c going =
+    turned_goes c.actors_run.ensures c.args.code.now c.args.k c.args.budget c.args.shared.now c.args.player.now.actor c.run.new.self (Ended c.in-Ended.outcome) c.args.player.now.trace.items c.requires.answered
+    (turns_free c.args.code.now c.args.budget c.args.player.now.actor c.run.new.self (Ended c.in-Ended.outcome) tt c.requires.answered c.in-Ended.ensures.turns) tt going c.in-Ended.ensures.turns
+
+pub returns-in-Went-clause-goes : goal.returns-in-Went-clause-goes
+returns-in-Went-clause-goes c going =
+    turned_goes c.actors_run.ensures c.args.code.now c.args.k c.args.budget c.args.shared.now c.args.player.now.actor c.run.new.self Went c.args.player.now.trace.items c.requires.answered
+    c.in-Went.ensures.says tt going c.in-Went.ensures.turns
+
+pub returns-in-Asks-clause-goes : goal.returns-in-Asks-clause-goes
+returns-in-Asks-clause-goes c going =
+    asked_goes c.actors_run.ensures c.args.code.now c.args.k c.args.budget c.args.shared.now c.serve_ask.new.shared c.args.player.now.actor c.run.new.self c.serve_ask.new.player.actor c.in-Asks.ask c.args.player.now.trace.items c.serve_ask.new.player.trace.items
+    c.requires.of c.requires.answered going c.in-Asks.ensures.says.0 c.in-Asks.ensures.says.1 c.in-Asks.ensures.turns c.serve_ask.ensures.served

@@ -7,6 +7,7 @@ use Rattle.txs_machine.specs.Serving.{IsServed}
 use Rattle.txs_machine.proofs.Answered.{answer_leaves}
 use Rattle.txs_machine.proofs.Limits.{answered_limited}
 use Rattle.txs_machine.proofs.RunOver.{Leads, asks_lawfully, never_idle, hands_none, served_may, served_over}
+use Rattle.txs_machine.proofs.Taking.{thread_taken}
 use Rattle.txs_machine.proofs.run.serve_ask.Goals as goal
 
 -- the ask is one that the actor may ask
@@ -106,3 +107,30 @@ returns-clause-grown c =
     (served_over c.actors_run.ensures c.served_is_told.ensures c.args.code.now s t k x.actor q r x.trace.items tr c.requires.of mine lawful c.requires.going c.requires.asks free may served c.requires.over)
     in
     leads.grown
+
+-- how the ask was answered
+pub returns-clause-served : goal.returns-clause-served
+returns-clause-served c =
+    let s = c.args.shared.now in
+    let x = c.args.player.now in
+    let k = c.args.k in
+    let q = c.args.ask in
+    let r = c.serve_noted-reply.result in
+    let t = c.serve_noted-reply.new.shared in
+    let tr = c.serve_noted-reply.new.trace.items in
+    let mine = c.code-own_cells.ensures.own_cells in
+    let served : IsServed s k q r t x.trace.items tr = subst (λ (n : ℕ). IsServed s n q r t x.trace.items tr) (c.number-number.ensures ∙ c.requires.over.over.number) c.serve_noted-reply.ensures in
+    record {
+      reply = r;
+      is = c.answer.ensures.answered;
+      lawful = asks_lawfully c.args.code.now s k x.trace.items x.actor q mine c.requires.of c.requires.going c.requires.asks c.requires.over;
+      free = subst (λ (a : PlainActor). unanswered a ≡ None) c.answer.ensures.answered c.answer.ensures.free;
+      may = served_may s t k q r x.trace.items tr served;
+      served = served;
+    }
+
+pub returns-clause-taken : goal.returns-clause-taken
+returns-clause-taken c =
+    let s = c.args.shared.now in
+    let x = c.args.player.now in
+    thread_taken c.args.code.now c.args.k s c.serve_noted-reply.new.shared c.number-number.result x.actor c.args.ask c.serve_noted-reply.result x.trace.items c.serve_noted-reply.new.trace.items c.requires.going c.requires.asks c.requires.over c.serve_noted-reply.ensures

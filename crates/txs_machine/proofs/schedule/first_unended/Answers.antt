@@ -6,7 +6,7 @@ use Rattle.txs_machine.proofs.schedule.first_unended.Goals as goal
 pub returns-then-is_none-clause-unended : goal.returns-then-is_none-clause-unended
 returns-then-is_none-clause-unended c =
     let xs = c.args.players.now in
-    let a = c.index-players-from.result in
+    let a = c.index-players-k.result in
     let within : c.loop-k.k < length xs = search rules in
     let read : a ≡ get_or xs c.loop-k.k a = search rules in
     let none : a.actor.outcome ≡ None = search rules in
@@ -15,7 +15,7 @@ returns-then-is_none-clause-unended c =
 pub loop-k-preserved : goal.loop-k-preserved
 loop-k-preserved c =
     let xs = c.args.players.now in
-    let a = c.index-players-from.result in
+    let a = c.index-players-k.result in
     let within : c.loop-k.k < length xs = search rules in
     let read : a ≡ get_or xs c.loop-k.k a = search rules in
     let some : a.actor.outcome ≡ None → ⊥ = λ e. search (rules, e) in

@@ -1,7 +1,9 @@
 use Rattle.std.proofs.Common.{◌≡◌, ◌<◌, ◌+◌, ◌++◌, ◌∷◌, ℕ, [], length, rules, sym, subst, arith}
-use Rattle.txs_machine.specs.Playing.{IsBetween, AreBetween}
+use Rattle.txs_actor.specs.Turns.{IsNew}
+use Rattle.txs_machine.specs.Playing.{IsBetween, AreBetween, AreNew}
 use Rattle.txs_machine.specs.declared.player.Player.{Player}
 use Rattle.txs_machine.proofs.Limits.{new_limited}
+use Rattle.txs_machine.proofs.Opened.{new_more}
 use Rattle.txs_machine.proofs.Playing.{between_more}
 use Rattle.txs_machine.proofs.RunOver.{standing_of, new_over}
 use Rattle.txs_machine.proofs.schedule.open_actors.Goals as goal
@@ -30,4 +32,5 @@ loop-k-preserved c =
       many = search rules;
       between = subst (λ l. AreBetween code most (λ n. []) 0 l) (sym pushed)
           (between_more code most (λ n. []) 0 players x c.loop-k.invariant.between (subst (λ (n : ℕ). IsBetween code n most (λ i. []) x) place between));
+      opened = subst (λ l. AreNew code most 0 l) (sym pushed) (new_more code most 0 players x c.loop-k.invariant.opened (subst (λ (n : ℕ). IsNew code n most a) place new) c.new.ensures.items);
     }

@@ -1,13 +1,16 @@
-use Rattle.std.proofs.Common.{◌≡◌, length}
-use Rattle.txs_machine.specs.RunOver.{IsStateOf, books_of}
-use Rattle.txs_machine.specs.Playing.{AreBetween, AreLater}
+use Rattle.std.proofs.Common.{◌≡◌, ◌≤◌, length}
+use Rattle.txs_machine.specs.Playing.{AreLater}
+use Rattle.txs_machine.specs.RunOver.{IsStateOf}
+use Rattle.txs_machine.specs.Running.{ArePlaying, left_all}
 use Rattle.txs_machine.proofs.schedule.play_rest.Given as goal
 
 abbrev pub invariant-loop-k : goal.invariant-loop-k
 invariant-loop-k l =
     record {
       of : IsStateOf l.code l.shared;
-      between : AreBetween l.code l.max_steps (books_of l.shared) 0 l.players.items;
-      many : length l.players.items ≡ length l.fn.players.items;
-      later : AreLater l.fn.players.items l.players.items;
+      playing : ArePlaying l.code l.max_steps l.shared l.players;
+      many : length l.players.threads.items ≡ length l.fn.players.threads.items;
+      agents : length l.players.agents.items ≡ length l.fn.players.agents.items;
+      later : AreLater l.fn.players.threads.items l.players.threads.items;
+      left : left_all l.players ≤ left_all l.fn.players;
     }

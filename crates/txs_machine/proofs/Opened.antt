@@ -1,0 +1,115 @@
+-- The actors of a run before its first play, and how many there are.
+use Rattle.std.proofs.Common.{◌≡◌, ◌≤◌, ◌<◌, ◌+◌, ℕ, zero, suc, List, [], ◌∷◌, ◌++◌, length, drop, get_or, Option, Some, None, refl, sym, ap, subst, ◌∙◌, arith}
+use Rattle.std.proofs.lemmas.List.{drop_more}
+use Rattle.txs_asks.specs.declared.event.Event.{Event}
+use Rattle.txs_value.specs.Places.{nth}
+use Rattle.txs_value.specs.declared.cell.CellDefinition.{CellDefinition}
+use Rattle.txs_value.specs.declared.value.CellKind.{CellKind}
+use Rattle.txs_value.specs.declared.value.CellKind.TheVariants.{Ref, Atom, Agent}
+use Rattle.txs_code.specs.Machine.{Unfinished}
+use Rattle.txs_code.specs.Opening.{opening}
+use Rattle.txs_code.specs.PlainCode.{PlainCode}
+use Rattle.txs_actor.specs.Laws.{ActorsRun}
+use Rattle.txs_actor.specs.PlainActor.{agents_from, code_of, with_agent}
+use Rattle.txs_actor.specs.Turns.{IsNew}
+use Rattle.txs_world.specs.Store.{cells_of, none_taken}
+use Rattle.txs_runs.specs.Run.{new_actor}
+use Rattle.txs_runs.specs.Shared.{Shared, untouched}
+use Rattle.txs_shared.specs.SharedState.{PlainShared, shared_of}
+use Rattle.txs_machine.specs.Agents.{agents_of}
+use Rattle.txs_machine.specs.Playing.{AreBetween, AreNew}
+use Rattle.txs_machine.specs.RunOver.{places_of}
+use Rattle.txs_machine.specs.Running.{AreAttending, ArePlaying, IsPlacedAs, IsPlayerOf, IsRunOf, attendants}
+use Rattle.txs_machine.specs.declared.player.AgentPlayer.{AgentPlayer}
+use Rattle.txs_machine.specs.declared.player.Player.{Player}
+use Rattle.txs_machine.specs.declared.player.Players.{Players}
+use Rattle.txs_machine.proofs.Played.{attendant_there}
+
+abbrev is_some : {A : Type 0} → Option A → Type 0
+is_some None = ⊥
+is_some (Some x) = Unit {0}
+
+abbrev or_else : {A : Type 0} → A → Option A → A
+or_else d None = d
+or_else d (Some x) = x
+
+-- ---- actors that are new
+
+-- one more behind the others
+pub new_more : (code : PlainCode) (limit k : ℕ) (xs : List Player) (x : Player) → AreNew code limit k xs → IsNew code (k + length xs) limit x.actor → x.trace.items ≡ [] → AreNew code limit k (xs ++ x ∷ [])
+new_more code limit k [] x h n e = (subst (λ m. IsNew code m limit x.actor) (omega arith) n, e, tt)
+new_more code limit k (y ∷ xs) x h n e = (h.0, h.1, new_more code limit (suc k) xs x h.2 (subst (λ m. IsNew code m limit x.actor) (omega arith) n) e)
+
+-- the one at a place
+new_at : (code : PlainCode) (limit k i : ℕ) (xs : List Player) (x : Player) → AreNew code limit k xs → nth xs i ≡ Some x → IsNew code (k + i) limit x.actor × (x.trace.items ≡ [])
+new_at code limit k i [] x h e = absurd (subst is_some (sym e) tt)
+new_at code limit k zero (y ∷ xs) x h e =
+    subst (λ (z : Player). IsNew code (k + 0) limit z.actor × (z.trace.items ≡ [])) (ap (or_else y) e) (subst (λ m. IsNew code m limit y.actor) (omega arith) h.0, h.1)
+new_at code limit k (suc i) (y ∷ xs) x h e =
+    let r = new_at code limit (suc k) i xs x h.2 e in (subst (λ m. IsNew code m limit x.actor) (omega arith) r.0, r.1)
+
+-- is that of a run in which nothing was done yet
+new_player : ActorsRun → (code : PlainCode) (k limit : ℕ) (books : ℕ → List Event) (x : Player) → IsNew code k limit x.actor → x.trace.items ≡ [] → IsPlayerOf code k books x.actor x.trace.items (new_actor (code_of code k))
+new_player laws code k limit books x n e = record {
+  number = n.number;
+  waits = n.unasking;
+  placed = subst (λ o. IsPlacedAs x.actor o (Unfinished (opening (code_of code k) [])) None) (sym n.unended) (ap (λ c. Unfinished c) (sym n.opens), refl);
+  ran = laws.begins code k limit x.actor n;
+  traced = ap places_of e;
+  full = λ o. absurd (subst is_some (sym o ∙ n.unended) tt);
+}
+
+opened_run : ActorsRun → (code : PlainCode) (limit : ℕ) (s : PlainShared) (xs : List Player) (gs : List AgentPlayer) → shared_of s ≡ untouched code.cells → AreNew code limit 0 xs → AreNew code limit (length code.threads) (attendants gs) → IsRunOf code s xs gs
+opened_run laws code limit s xs gs same threads agents = record {
+  turns = [];
+  shared = same;
+  threads = λ k x e. (let n = new_at code limit 0 k xs x threads e in new_player laws code k limit (shared_of s).books x (subst (λ m. IsNew code m limit x.actor) (omega arith) n.0) n.1);
+  agents = λ i x e. (let n = new_at code limit (length code.threads) i (attendants gs) x.player agents (attendant_there gs i x e) in new_player laws code (length code.threads + i) limit (shared_of s).books x.player n.0 n.1);
+}
+
+none_many : (cells : List CellDefinition) → length (none_taken (cells_of cells)) ≡ length cells
+none_many [] = refl
+none_many (d ∷ cells) = ap suc (none_many cells)
+
+-- what holds of all actors before the first play
+pub opened_playing : ActorsRun → (code : PlainCode) (limit k : ℕ) (s : PlainShared) (all : Players) → shared_of s ≡ untouched code.cells → k ≡ length code.threads → length all.threads.items ≡ k → AreBetween code limit (λ n. []) 0 all.threads.items → AreNew code limit 0 all.threads.items
+    → AreAttending code limit (none_taken (cells_of code.cells)) k (agents_of code) all.agents.items → AreNew code limit k (attendants all.agents.items) → ArePlaying code limit s all
+opened_playing laws code limit k s all same count many between new attending agents = record {
+  many = many ∙ count;
+  long = ap (λ (sh : Shared). length sh.taken) same ∙ none_many code.cells;
+  threads = subst (λ (sh : Shared). AreBetween code limit sh.books 0 all.threads.items) (sym same) between;
+  agents = subst (λ (sh : Shared). AreAttending code limit sh.taken (length code.threads) (agents_of code) all.agents.items) (sym same)
+      (subst (λ n. AreAttending code limit (none_taken (cells_of code.cells)) n (agents_of code) all.agents.items) count attending);
+  run = opened_run laws code limit s all.threads.items all.agents.items same new (subst (λ n. AreNew code limit n (attendants all.agents.items)) count agents);
+}
+
+-- ---- how many agents there are
+
+-- whatever the number of the first cell
+same_many : (m n : ℕ) (ds : List CellDefinition) → length (agents_from m ds) ≡ length (agents_from n ds)
+same_many m n [] = refl
+same_many m n (d ∷ ds) = go d.kind (same_many (suc m) (suc n) ds)
+  where
+    go : (k : CellKind) → length (agents_from (suc m) ds) ≡ length (agents_from (suc n) ds) → length (with_agent k m (agents_from (suc m) ds)) ≡ length (with_agent k n (agents_from (suc n) ds))
+    go Ref e = e
+    go Atom e = e
+    go Agent e = ap suc e
+
+-- no more than cells
+pub agents_few : (n : ℕ) (ds : List CellDefinition) → length (agents_from n ds) ≤ length ds
+agents_few n [] = omega arith
+agents_few n (d ∷ ds) = go d.kind (agents_few (suc n) ds)
+  where
+    go : (k : CellKind) → length (agents_from (suc n) ds) ≤ length ds → length (with_agent k n (agents_from (suc n) ds)) ≤ suc (length ds)
+    go Ref h = omega (arith, h)
+    go Atom h = omega (arith, h)
+    go Agent h = omega (arith, h)
+
+-- those from a cell on are that one, if it is one, and those behind it
+pub agents_behind : (ds : List CellDefinition) (i : ℕ) (d : CellDefinition) → i < length ds → d ≡ get_or ds i d → length (agents_from 0 (drop i ds)) ≡ length (with_agent d.kind 0 []) + length (agents_from 0 (drop (i + 1) ds))
+agents_behind ds i d l e = ap (λ xs. length (agents_from 0 xs)) (drop_more ds i d l ∙ ap (λ x. x ∷ drop (i + 1) ds) (sym e)) ∙ go d.kind (same_many 1 0 (drop (i + 1) ds))
+  where
+    go : (k : CellKind) → length (agents_from 1 (drop (i + 1) ds)) ≡ length (agents_from 0 (drop (i + 1) ds)) → length (with_agent k 0 (agents_from 1 (drop (i + 1) ds))) ≡ length (with_agent k 0 []) + length (agents_from 0 (drop (i + 1) ds))
+    go Ref h = omega (arith, h)
+    go Atom h = omega (arith, h)
+    go Agent h = omega (arith, h)

@@ -1,0 +1,18 @@
+use Rattle.std.proofs.Common.{◌≡◌, ◌+◌, length, rules, subst, inl, inr, arith}
+use Rattle.txs_machine.specs.Playing.{IsUnended}
+use Rattle.txs_machine.specs.Running.{IsWorking}
+use Rattle.txs_machine.proofs.Working.{thread_there}
+use Rattle.txs_machine.proofs.schedule.first_live.Goals as goal
+
+pub returns-in-Some-clause-live : goal.returns-in-Some-clause-live
+returns-in-Some-clause-live c =
+    let unended : IsUnended c.in-Some.k c.args.players.now.threads.items = search rules in
+    inl (thread_there c.args.players.now.threads.items c.in-Some.k unended)
+
+pub returns-in-Some-first_working-clause-live : goal.returns-in-Some-first_working-clause-live
+returns-in-Some-first_working-clause-live c =
+    let i = c.in-Some-first_working.i in
+    let len : c.len.result ≡ length c.args.players.now.threads.items = search rules in
+    let w : IsWorking c.args.code.now c.args.shared.now i c.args.players.now.agents.items = subst (IsWorking c.args.code.now c.args.shared.now i) c.as_slice-2.ensures.value c.in-Some-first_working.ensures.working in
+    let place : c.len.result + i ≡ length c.args.players.now.threads.items + i = omega (arith, len) in
+    inr (i, place, w.0, w.1, w.2, w.3)

@@ -1,0 +1,97 @@
+-- Agents in runs: which actors there are, what a report says of the agents', what a program says of them, and when rounds are over.
+use Rattle.std.specs.Prelude.{◌≡◌, ◌+◌, ℕ, List, [], length, map, Option, Some, None}
+use Rattle.txs_asks.specs.declared.event.Event.{Event}
+use Rattle.txs_asks.specs.declared.event.Outcome.{Outcome}
+use Rattle.txs_asks.specs.declared.event.Outcome.TheVariants as outcome
+use Rattle.txs_value.specs.Places.{nth}
+use Rattle.txs_value.specs.declared.value.CellId.{CellId}
+use Rattle.txs_tree.specs.Tree.{PlainProgram}
+use Rattle.txs_code.specs.PlainCode.{PlainCode, thread_code, function_codes}
+use Rattle.txs_follows.specs.FollowsAgent.{FollowsAgents}
+use Rattle.txs_follows.specs.FollowsAll.{FollowsAll}
+use Rattle.txs_follows.specs.Sends.{CodesSendSound}
+use Rattle.txs_actor.specs.PlainActor.{PlainActor, HasRun, agents_from, code_of, unanswered}
+use Rattle.txs_world.specs.Store.{cells_of, next_action}
+use Rattle.txs_runs.specs.Agents.{ActsMean, AllSound}
+use Rattle.txs_runs.specs.Shared.{Shared}
+use Rattle.txs_runs.specs.Told.{Entry, exchange_of, AllHold, TraceHolds, trace_of}
+use Rattle.txs_machine.specs.RunOver.{IsLimited, AtFullBook, places_of}
+use Rattle.txs_machine.specs.Schedule.{Explains}
+use Rattle.txs_machine.specs.declared.schedule.ThreadReport.{ThreadReport}
+
+-- ---- actors
+
+-- the agents of a code, in the order of its cells
+abbrev pub agents_of : PlainCode → List CellId
+agents_of code = agents_from 0 code.cells
+
+-- how many actors there are: the threads, and behind them the agents
+abbrev pub actors_of : PlainCode → ℕ
+actors_of code = length code.threads + length (agents_of code)
+
+-- ---- what the actors of agents did
+
+-- An entry of a report says what the k-th actor, an agent's, did over the books: after so many steps, of which it makes no more than its limit, and all
+-- where they were spent, it is where the machine's meaning comes to on what the books told it; it has printed these bytes, and ended so if it has;
+-- the trace has the places of its events, and names no others; and where it was stopped for a full book, the book for its ask is full.
+pub record AgentHasDone (code : PlainCode) (k limit : ℕ) (books : ℕ → List Event) (ran : ThreadReport) : Type 0 where
+  pub actor : PlainActor
+  pub number : actor.number ≡ k
+  pub entries : List Entry
+  pub over : HasRun code (map exchange_of entries) actor
+  pub hold : AllHold code.cells (length code.threads) books k entries
+  pub waits : unanswered actor ≡ None
+  pub limited : IsLimited limit actor
+  pub ended : actor.outcome ≡ ran.outcome
+  pub printed : actor.printed ≡ ran.printed.items
+  pub counted : actor.steps ≡ ran.steps
+  pub traced : places_of ran.trace.items ≡ trace_of code.cells books k entries
+  pub names : TraceHolds books k (places_of ran.trace.items)
+  pub full : actor.outcome ≡ Some outcome.JournalFull → AtFullBook code.cells (code_of code k) books (map exchange_of entries) actor
+
+-- There is one entry for each agent, in the order of the cells, which says what the agent's actor did.
+pub record AgentsAreDone (code : PlainCode) (limit : ℕ) (books : ℕ → List Event) (rans : List ThreadReport) : Type 0 where
+  pub one_each : length rans ≡ length (agents_of code)
+  pub each : (i : ℕ) (ran : ThreadReport) → nth rans i ≡ Some ran → AgentHasDone code (length code.threads + i) limit books ran
+
+-- ---- what the source says of agents
+
+-- an agent's actor hasn't ended, or was stopped: it never is done, and never fails
+abbrev pub NeverEnds : Option Outcome → Type 0
+NeverEnds None = Unit {0}
+NeverEnds (Some outcome.Done) = ⊥
+NeverEnds (Some (outcome.Failed f)) = ⊥
+NeverEnds (Some outcome.StepsSpent) = Unit {0}
+NeverEnds (Some outcome.JournalFull) = Unit {0}
+NeverEnds (Some outcome.Memory) = Unit {0}
+
+-- The entry of an agent is explained: its trace names the agent's events and no others, it printed nothing, and it never ended.
+pub record ExplainsAgent (k : ℕ) (books : ℕ → List Event) (ran : ThreadReport) : Type 0 where
+  pub traced : TraceHolds books k (places_of ran.trace.items)
+  pub silent : ran.printed.items ≡ []
+  pub unended : NeverEnds ran.outcome
+
+-- A program explains a run with its agents: it explains its threads; there is one entry for each agent; what was sent a program may send; and each
+-- action that was handed in is what its callee means, on the state that the agent found, of the action that was the first in its mail.
+pub record ExplainsAll (p : PlainProgram) (sh : Shared) (threads agents : List ThreadReport) : Type 0 where
+  pub by_threads : Explains p sh threads
+  pub one_each : length agents ≡ length (agents_from 0 p.cells)
+  pub sends : AllSound p.functions (sh.books 0)
+  pub acts : ActsMean p.functions p.cells (sh.books 0)
+  pub each : (i : ℕ) (ran : ThreadReport) → nth agents i ≡ Some ran → ExplainsAgent (length p.threads + i) sh.books ran
+
+-- each program of the code's cells that the code follows, of whose functions its functions are the actions', and whose sends alone it sends, explains
+-- the run
+abbrev pub AreExplainedBy : PlainCode → Shared → List ThreadReport → List ThreadReport → Type 0
+AreExplainedBy code sh threads agents =
+    (p : PlainProgram)
+    → p.cells ≡ code.cells → FollowsAll (map (thread_code code) code.threads) p
+    → FollowsAgents (function_codes code) p.functions → CodesSendSound p.functions (map (thread_code code) code.threads)
+    → ExplainsAll p sh threads agents
+
+-- ---- when rounds are over
+
+-- each agent whose actor hasn't ended has failed, or nothing waits for it
+abbrev pub AreDrained : PlainCode → Shared → List ThreadReport → Type 0
+AreDrained code sh agents =
+    (i : ℕ) (g : CellId) (ran : ThreadReport) → nth (agents_of code) i ≡ Some g → nth agents i ≡ Some ran → ran.outcome ≡ None → next_action (cells_of code.cells) (sh.books 0) g ≡ None

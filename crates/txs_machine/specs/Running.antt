@@ -1,0 +1,197 @@
+-- Runs of all threads and agents of a code are those that the laws of runs speak of: which turns they are, and what holds of agents' actors between two
+-- plays.
+use Rattle.std.proofs.Common.{◌⊎◌}
+use Rattle.std.specs.Prelude.{◌≡◌, ◌+◌, ◌-◌, ℕ, suc, Bool, true, false, List, [], ◌∷◌, length, map, Option, Some, None}
+use Rattle.txs_asks.specs.declared.ask.Ask.{Ask}
+use Rattle.txs_asks.specs.declared.ask.Ask.TheVariants as ask
+use Rattle.txs_asks.specs.declared.ask.Reply.{Reply}
+use Rattle.txs_asks.specs.declared.event.Event.{Event}
+use Rattle.txs_asks.specs.declared.event.Outcome.{Outcome}
+use Rattle.txs_asks.specs.declared.event.Outcome.TheVariants as outcome
+use Rattle.txs_value.specs.Places.{nth}
+use Rattle.txs_value.specs.declared.action.Action.{Action}
+use Rattle.txs_value.specs.declared.value.CellId.{CellId}
+use Rattle.txs_code.specs.Machine.{Activity, Outside, Restarting, Running, Applying, Swapping, Acting, Configuration, Turned, Ended, Failed, Unfinished}
+use Rattle.txs_code.specs.PlainCode.{PlainCode}
+use Rattle.txs_actor.specs.PlainActor.{PlainActor, HasRun, IsActorOf, Lives, MayAnswer, answered, code_of, configuration_of, state_of, unanswered}
+use Rattle.txs_world.specs.Book.{has_agent, actor_of}
+use Rattle.txs_world.specs.Store.{cells_of, is_taken, next_action}
+use Rattle.txs_runs.specs.Run as run
+use Rattle.txs_runs.specs.Run.{Stop, JournalFull, Memory, TurnsSpent}
+use Rattle.txs_runs.specs.Told.{exchange_of, AllHold, trace_of}
+use Rattle.txs_shared.specs.SharedState.{PlainShared, shared_of, is_lawful}
+use Rattle.txs_machine.specs.Agents.{agents_of}
+use Rattle.txs_machine.specs.Playing.{AreBetween}
+use Rattle.txs_machine.specs.RunOver.{IsLimited, AtFullBook, books_of, places_of}
+use Rattle.txs_machine.specs.Serving.{IsServed}
+use Rattle.txs_machine.specs.declared.player.Place.{Place}
+use Rattle.txs_machine.specs.declared.player.AgentPlayer.{AgentPlayer}
+use Rattle.txs_machine.specs.declared.player.Player.{Player}
+use Rattle.txs_machine.specs.declared.player.Players.{Players}
+
+-- ---- the turns that a run is
+
+-- the state of a run after these turns
+abbrev pub after_turns : PlainCode → List run.Play → run.State → run.State
+after_turns code = run.plays_from code.cells (length code.threads) (code_of code)
+
+-- the state of a run of the code after these turns
+abbrev pub run_of : PlainCode → List run.Play → run.State
+run_of code ys = after_turns code ys (run.opens code.cells (code_of code))
+
+-- An actor that goes on is where a run's actor is; one that is done or has failed has ended so there; one that was stopped stands there stopped, and
+-- has printed and written what that one has.
+abbrev pub IsPlacedAs : PlainActor → Option Outcome → Turned Configuration → Option Stop → Type 0
+IsPlacedAs a None at why = (at ≡ Unfinished (configuration_of a)) × (why ≡ None)
+IsPlacedAs a (Some outcome.Done) at why = (at ≡ Ended (state_of a)) × (why ≡ None)
+IsPlacedAs a (Some (outcome.Failed f)) at why = (at ≡ Failed f (state_of a)) × (why ≡ None)
+IsPlacedAs a (Some outcome.StepsSpent) at why = (at ≡ Unfinished (configuration_of a)) × (why ≡ Some TurnsSpent)
+IsPlacedAs a (Some outcome.JournalFull) at why = (c : Configuration) × (at ≡ Unfinished c) × (c.state ≡ state_of a) × (why ≡ Some JournalFull)
+IsPlacedAs a (Some outcome.Memory) at why = (c : Configuration) × (at ≡ Unfinished c) × (c.state ≡ state_of a) × (why ≡ Some Memory)
+
+-- The k-th actor, with this trace, is a run's k-th actor: it asks nothing, is where that one is, has done what the machine does on that one's entries, and its trace has
+-- the places of the events that they added; where it was stopped for a full book, the book for its ask is full.
+pub record IsPlayerOf (code : PlainCode) (k : ℕ) (books : ℕ → List Event) (a : PlainActor) (trace : List Place) (y : run.Actor) : Type 0 where
+  pub number : a.number ≡ k
+  pub waits : unanswered a ≡ None
+  pub placed : IsPlacedAs a a.outcome y.at y.stopped
+  pub ran : HasRun code (map exchange_of y.entries) a
+  pub traced : places_of trace ≡ trace_of code.cells books k y.entries
+  pub full : a.outcome ≡ Some outcome.JournalFull → AtFullBook code.cells (code_of code k) books (map exchange_of y.entries) a
+
+-- What is shared and the players, of the threads and behind them of the agents, are those of a list of turns, each with its ask served and answered in
+-- the same step. By this the laws of runs hold of them, whatever the order of the turns.
+pub record IsRunOf (code : PlainCode) (s : PlainShared) (xs : List Player) (gs : List AgentPlayer) : Type 0 where
+  pub turns : List run.Play
+  pub shared : shared_of s ≡ (run_of code turns).shared
+  pub threads : (k : ℕ) (x : Player) → nth xs k ≡ Some x → IsPlayerOf code k (books_of s) x.actor x.trace.items ((run_of code turns).actors k)
+  pub agents : (i : ℕ) (x : AgentPlayer) → nth gs i ≡ Some x → IsPlayerOf code (length code.threads + i) (books_of s) x.player.actor x.player.trace.items ((run_of code turns).actors (length code.threads + i))
+
+-- these turns are one actor's
+abbrev pub AreOf : ℕ → List run.Play → Type 0
+AreOf k [] = Unit {0}
+AreOf k (y ∷ ys) = (run.actor_of y ≡ k) × AreOf k ys
+
+-- from this state of a run, turns of the k-th actor come to where this actor is, and to what is shared
+pub record ComesTo (code : PlainCode) (k : ℕ) (st : run.State) (t : PlainShared) (b : PlainActor) (trace : List Place) : Type 0 where
+  pub turns : List run.Play
+  pub own : AreOf k turns
+  pub shared : shared_of t ≡ (after_turns code turns st).shared
+  pub player : IsPlayerOf code k (books_of t) b trace ((after_turns code turns st).actors k)
+
+-- a play of the k-th actor: wherever it was in a run, it is there after turns of its own
+abbrev pub GoesAs : PlainCode → ℕ → PlainShared → PlainActor → List Place → PlainShared → PlainActor → List Place → Type 0
+GoesAs code k s a trace t b later =
+    (st : run.State) → shared_of s ≡ st.shared → AllHold code.cells (length code.threads) (books_of s) k (st.actors k).entries → IsPlayerOf code k (books_of s) a trace (st.actors k) → ComesTo code k st t b later
+
+-- an actor's ask, which it might make, was answered, and the place of the event that it added was noted
+pub record IsAnswered (k : ℕ) (s : PlainShared) (a : PlainActor) (trace : List Place) (q : Ask) (t : PlainShared) (b : PlainActor) (later : List Place) : Type 0 where
+  pub reply : Reply
+  pub is : b ≡ answered a reply
+  pub lawful : is_lawful s k q ≡ true
+  pub free : unanswered (answered a reply) ≡ None
+  pub may : MayAnswer q reply
+  pub served : IsServed s k q reply t trace later
+
+-- ---- agents between two plays
+
+-- an agent has an action in hand
+abbrev pub is_acting : Activity → Bool
+is_acting Outside = false
+is_acting (Restarting left) = false
+is_acting (Running left inner from) = false
+is_acting (Applying left from work values) = false
+is_acting (Swapping swap from) = false
+is_acting (Acting g x) = true
+
+-- an agent is in its own body, with an action in hand or without
+abbrev pub IsAgents : Activity → Type 0
+IsAgents Outside = Unit {0}
+IsAgents (Restarting left) = ⊥
+IsAgents (Running left inner from) = ⊥
+IsAgents (Applying left from work values) = ⊥
+IsAgents (Swapping swap from) = ⊥
+IsAgents (Acting g x) = Unit {0}
+
+-- the store knows whether the agent has an action in hand
+abbrev pub IsSynced : List Bool → CellId → PlainActor → Type 0
+IsSynced taken g a = a.outcome ≡ None → IsAgents (configuration_of a).doing × (is_taken taken g ≡ is_acting (configuration_of a).doing)
+
+-- this agent's actor has this number
+pub record IsAgentAt (code : PlainCode) (g : CellId) (k : ℕ) : Type 0 where
+  pub has : has_agent (cells_of code.cells) g ≡ true
+  pub place : k ≡ actor_of (length code.threads) (cells_of code.cells) g
+  pub acts : IsActorOf code k g
+
+-- the actor of an agent between two plays: it asks nothing, may take an action where it has none and hand one in where it has one
+pub record IsAttending (code : PlainCode) (g : CellId) (k limit : ℕ) (taken : List Bool) (x : AgentPlayer) : Type 0 where
+  pub agent : x.agent ≡ g
+  pub at : IsAgentAt code g k
+  pub lives : Lives code x.player.actor
+  pub free : unanswered x.player.actor ≡ None
+  pub number : x.player.actor.number ≡ k
+  pub limited : IsLimited limit x.player.actor
+  pub synced : IsSynced taken g x.player.actor
+
+-- so are the actors of these agents, of which the first is the k-th actor
+abbrev pub AreAttending : PlainCode → ℕ → List Bool → ℕ → List CellId → List AgentPlayer → Type 0
+AreAttending code limit taken k [] [] = Unit {0}
+AreAttending code limit taken k [] (x ∷ xs) = ⊥
+AreAttending code limit taken k (g ∷ gs) [] = ⊥
+AreAttending code limit taken k (g ∷ gs) (x ∷ xs) = IsAttending code g k limit taken x × AreAttending code limit taken (suc k) gs xs
+
+-- the actors of agents alone
+abbrev pub attendants : List AgentPlayer → List Player
+attendants [] = []
+attendants (x ∷ xs) = x.player ∷ attendants xs
+
+-- how many rounds there may still be: none after the end
+abbrev pub left_for : Option Outcome → PlainActor → ℕ
+left_for None a = suc (a.limit - a.steps)
+left_for (Some o) a = 0
+
+-- and of all these actors together
+abbrev pub left_of : List Player → ℕ
+left_of [] = 0
+left_of (x ∷ xs) = left_for x.actor.outcome x.actor + left_of xs
+
+-- of the threads and the agents
+abbrev pub left_all : Players → ℕ
+left_all all = left_of all.threads.items + left_of (attendants all.agents.items)
+
+-- an agent's actor that hasn't ended has something to do: the first action of its mail
+abbrev pub HasWork : PlainCode → PlainShared → CellId → Type 0
+HasWork code s g = (x : Action) × (next_action (cells_of code.cells) (books_of s 0) g ≡ Some x)
+
+-- the actor at this place among the threads hasn't ended, or that at this place behind them hasn't and has something to do
+abbrev pub IsLive : PlainCode → PlainShared → Players → ℕ → Type 0
+IsLive code s all k =
+    ((x : Player) × (nth all.threads.items k ≡ Some x) × (x.actor.outcome ≡ None))
+    ⊎ ((i : ℕ) × (k ≡ length all.threads.items + i) × (x : AgentPlayer) × (nth all.agents.items i ≡ Some x) × (x.player.actor.outcome ≡ None) × HasWork code s x.agent)
+
+-- the agent's actor at this place hasn't ended, and has something to do
+abbrev pub IsWorking : PlainCode → PlainShared → ℕ → List AgentPlayer → Type 0
+IsWorking code s i xs = (x : AgentPlayer) × (nth xs i ≡ Some x) × (x.player.actor.outcome ≡ None) × HasWork code s x.agent
+
+-- all of these actors that haven't ended have nothing to do
+abbrev pub AreIdle : PlainCode → PlainShared → List AgentPlayer → Type 0
+AreIdle code s [] = Unit {0}
+AreIdle code s (x ∷ xs) = (x.player.actor.outcome ≡ None → HasWork code s x.agent → ⊥) × AreIdle code s xs
+
+-- another actor's play leaves whether an agent has an action in hand
+abbrev pub LeavesTaken : CellId → List Bool → List Bool → Type 0
+LeavesTaken g before later = (h : CellId) → (h.number ≡ g.number → ⊥) → is_taken later h ≡ is_taken before h
+
+-- an agent asks to take an action where it has none in hand, and to hand in the one that it has
+abbrev pub AsksAsAgent : List Bool → CellId → Ask → Type 0
+AsksAsAgent taken g (ask.Take h) = (h ≡ g) × (is_taken taken g ≡ false)
+AsksAsAgent taken g (ask.Finish h new) = (h ≡ g) × (is_taken taken g ≡ true)
+AsksAsAgent taken g _ = ⊥
+
+-- what holds of all actors between two plays
+pub record ArePlaying (code : PlainCode) (limit : ℕ) (s : PlainShared) (all : Players) : Type 0 where
+  pub many : length all.threads.items ≡ length code.threads
+  pub long : length s.taken ≡ length code.cells
+  pub threads : AreBetween code limit (books_of s) 0 all.threads.items
+  pub agents : AreAttending code limit s.taken (length code.threads) (agents_of code) all.agents.items
+  pub run : IsRunOf code s all.threads.items all.agents.items
