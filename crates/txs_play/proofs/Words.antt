@@ -2,7 +2,8 @@
 use Rattle.std.proofs.Common.{◌≡◌, ℕ, Bool, List, Option, String, Global, sym, subst, subst₂}
 use Rattle.std.specs.Prelude.{string_bytes}
 use Rattle.std.specs.Option.{IfSome}
-use Rattle.txs_tell.specs.Told.{Script, Told, ScheduleTells, front}
+use Rattle.txs_tell.specs.Lines.{Script}
+use Rattle.txs_tell.specs.Told.{Told, ScheduleTells, front}
 use Rattle.txs_tell.proofs.Fronts.{some_maps}
 use Rattle.txs_words.specs.declared.words.Words.{Words}
 use Rattle.txs_words.specs.declared.words.Words.TheVariants.{Run, RunCode}

@@ -28,7 +28,7 @@ fn explained_as(explain: bool, file: &Option<String>) -> Option<&str>
 /// Does what the words ask for, with the script that the reader has; no file is opened or written, and the code that is to go to one goes to
 /// the writer, and where lines are explained the
 /// words' file is but named. Answers the status: 0 where all ended and for help, 1 for a script that is refused, 2 for words
-/// that can't be used, a list of plays that isn't one or names no thread, or a stream that couldn't be read or written, 3 for a thread that failed, 4 for want of steps or
+/// that can't be used, a list of plays that isn't one or names no actor, or a stream that couldn't be read or written, 3 for a thread or an agent that failed, 4 for want of steps or
 /// memory; the highest that applies.
 pub fn play_words<R: Read, W: Write, F: Write>(
     alloc: Global,

@@ -1,5 +1,5 @@
 -- What a reader gave of its known bytes, and what holds of an answer carried over.
-use Rattle.std.proofs.Common.{◌≡◌, ℕ, List, [], ◌++◌, take, Option, Some, None, Result, Ok, Err, IfOk, ap, ◌∙◌, subst}
+use Rattle.std.proofs.Common.{◌≡◌, ℕ, List, [], ◌++◌, take, Option, Some, None, Result, Ok, Err, IfOk, OnOk, ap, ◌∙◌, subst}
 use Rattle.std.specs.Option.{IfSome, option_map}
 
 -- a front of them, read to its end into an empty list
@@ -20,6 +20,11 @@ some_maps (Some x) P Q f h = f x h
 pub ok_maps : {A E : Type 0} (r : Result A E) (P Q : A → Type 0) → ((x : A) → P x → Q x) → IfOk r P → IfOk r Q
 ok_maps (Ok x) P Q f h = f x h
 ok_maps (Err e) P Q f h = tt
+
+-- what follows from what holds where an answer is one
+pub on_ok : {A E : Type 0} (r : Result A E) (P Q : Type 0) → (P → Q) → OnOk r P → OnOk r Q
+on_ok (Ok x) P Q f h = f h
+on_ok (Err e) P Q f h = tt
 
 -- what holds whatever the value is
 pub some_always : {A : Type 0} (o : Option A) (P : A → Type 0) → ((x : A) → P x) → IfSome o P

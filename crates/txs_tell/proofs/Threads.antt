@@ -2,7 +2,7 @@
 use Rattle.std.proofs.Common.{◌≡◌, ◌+◌, ◌<◌, ℕ, suc, max, List, ◌∷◌, ◌++◌, length, get_or, drop, refl, sym, ap, ◌∙◌, subst, append_assoc, arith}
 use Rattle.std.proofs.lemmas.List.{drop_more}
 use Rattle.txs_machine.specs.declared.schedule.ThreadReport.{ThreadReport}
-use Rattle.txs_tell.specs.Told.{Script, IsLesson, AreLessons, how_ended, end_line, end_place, all_printed, status_from, status_of}
+use Rattle.txs_tell.specs.Lines.{Script, IsLesson, AreLessons, how_ended, thread_front, end_line, end_place, all_printed, status_from, status_of}
 
 dropped : (rs : List ThreadReport) (k : ℕ) (r : ThreadReport) → k < length rs → r ≡ get_or rs k r → drop k rs ≡ r ∷ drop (k + 1) rs
 dropped rs k r l e = drop_more rs k r l ∙ ap (λ x. x ∷ drop (k + 1) rs) (sym e)
@@ -15,7 +15,7 @@ printed_more rs k r out l e before =
 
 -- the lines of the threads to come, behind one more
 pub lessons_more : (script : Script) (k : ℕ) (rs : List ThreadReport) (r : ThreadReport) (errors line : List ℕ) → k < length rs → r ≡ get_or rs k r
-    → ((rest : List ℕ) → AreLessons script k (drop k rs) rest → AreLessons script 0 rs (errors ++ rest)) → IsLesson script (end_line k (how_ended r.outcome)) (end_place (how_ended r.outcome)) line
+    → ((rest : List ℕ) → AreLessons script k (drop k rs) rest → AreLessons script 0 rs (errors ++ rest)) → IsLesson script (end_line (thread_front k) (how_ended r.outcome)) (end_place (how_ended r.outcome)) line
     → (rest : List ℕ) → AreLessons script (k + 1) (drop (k + 1) rs) rest → AreLessons script 0 rs ((errors ++ line) ++ rest)
 lessons_more script k rs r errors line l e before lesson rest h =
     let next : k + 1 ≡ suc k = omega arith in

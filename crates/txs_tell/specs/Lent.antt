@@ -1,7 +1,8 @@
 -- What is lent to the program's parts, as plain data.
 use Rattle.std.specs.Prelude.{ℕ, List, Option, Some, None}
 use Rattle.std.specs.Borrow.{Bor}
-use Rattle.txs_tell.specs.Told.{Script, Told, Wanted, Check, Listing, Build, Run}
+use Rattle.txs_tell.specs.Lines.{Script}
+use Rattle.txs_tell.specs.Told.{Told, Wanted, Check, Listing, Build, Run}
 use Rattle.txs_tell.specs.declared.explain.Script as lent
 use Rattle.txs_tell.specs.declared.told.Told as owned
 use Rattle.txs_tell.specs.declared.told.Use.{Use}

@@ -1,36 +1,31 @@
 -- What the program tells of a script: on its standard output, on its standard error, and by its status.
-use Rattle.std.specs.Prelude.{◌≡◌, ℕ, suc, max, Bool, true, false, List, [], ◌∷◌, ◌++◌, ◌+◌, ◌^◌, nat_lt, if◌then◌else◌, take, length, codes, decimal, Option, Some, None}
+use Rattle.std.specs.Prelude.{◌≡◌, ℕ, max, Bool, true, false, List, [], ◌++◌, ◌+◌, take, codes, Option, Some, None}
 use Rattle.std.specs.Io.KnownBytes.{Appends}
+use Rattle.std.specs.declared.result.Result.TheVariants.{Ok, Err}
 use Rattle.txs_asks.specs.declared.event.Event.{Event}
-use Rattle.txs_asks.specs.declared.event.Outcome.{Outcome}
-use Rattle.txs_asks.specs.declared.event.Outcome.TheVariants.{Done, Failed, StepsSpent, JournalFull, Memory}
-use Rattle.txs_check.specs.Errors.{check_number, check_name}
-use Rattle.txs_code.specs.PlainCode.{PlainCode}
+use Rattle.txs_code.specs.PlainCode.{PlainCode, function_codes}
 use Rattle.txs_compile.specs.Compiled.{IsProgramOf, IsRefusal, codes_of}
 use Rattle.txs_compile.specs.declared.compile_error.CompileError.{CompileError}
-use Rattle.txs_compile.specs.declared.compile_error.CompileError.TheVariants.{Read, Resolve, Check as Unsound, Memory as NoMemory}
 use Rattle.txs_bytes.specs.CodeForm.{HasForm, form}
 use Rattle.txs_disasm.specs.Listing.{listing}
+use Rattle.txs_follows.specs.FollowsAgent.{FollowsAgents}
 use Rattle.txs_follows.specs.FollowsAll.{FollowsAll}
+use Rattle.txs_follows.specs.Sends.{CodesSendSound}
+use Rattle.txs_machine.specs.Agents.{actors_of, AgentsAreDone, AreDrained, AreExplainedBy, ExplainsAll}
 use Rattle.txs_machine.specs.RunOver.{IsStateOf, books_of}
 use Rattle.txs_machine.specs.Schedule.{AreDone, HaveEnded, IsExplainedBy, all_named}
 use Rattle.txs_machine.specs.declared.schedule.Play.{Play}
 use Rattle.txs_machine.specs.declared.schedule.ThreadReport.{ThreadReport}
+use Rattle.txs_tell.specs.AgentLines.{AreAgentsTold, failure_of, named_from, status_of_agents}
 use Rattle.txs_tell.specs.CellLines.{cell_lines}
-use Rattle.txs_tell.specs.Explained.{explained}
+use Rattle.txs_tell.specs.Lines.{Script, IsLesson, AreLessons, all_printed, list_place, refused_line, refused_place, status_from}
 use Rattle.txs_schedule.specs.EventLines.{event_lines}
 use Rattle.txs_schedule.specs.Plays.{plays_in}
 use Rattle.txs_schedule.specs.declared.plays.WrongPlay.{WrongPlay}
-use Rattle.std.specs.declared.result.Result.TheVariants.{Ok, Err}
-use Rattle.txs_reader.specs.Errors.{report_number as read_number, report_name as read_name}
-use Rattle.txs_expand.specs.Reported.{report_number as resolve_number, report_name as resolve_name}
 use Rattle.txs_shared.specs.SharedState.{PlainShared, shared_of, numbered_book, newest_of}
 use Rattle.txs_tree.specs.Tree.{PlainProgram}
-use Rattle.txs_value.specs.Faults.{fault_name}
 use Rattle.txs_value.specs.Limits.{most_script}
 use Rattle.txs_value.specs.declared.cell.CellDefinition.{CellDefinition}
-use Rattle.txs_value.specs.declared.fault.Fault.{Fault}
-use Rattle.txs_value.specs.declared.fault.Span.{Span}
 
 -- what is told: the bytes of both streams, and the status
 pub record Told : Type 0 where
@@ -38,127 +33,48 @@ pub record Told : Type 0 where
   pub errors : List ℕ
   pub status : ℕ
 
--- What is wanted of a script: that it is compiled, that its code is listed or written in its byte form, or that its threads run by these plays and then in rounds up to their ends, each for so many steps
--- at most; and whether the cells and the events are told behind what they print.
+-- What is wanted of a script: that it is compiled, that its code is listed or written in its byte form, or that its threads and agents run by these plays and then in
+-- rounds, until all threads have ended and no agent has something to do, each for so many steps at most; and whether the cells and the events are told behind what they print.
 pub data Wanted : Type 0 where
   Check : Wanted
   Listing : Wanted
   Build : Wanted
   Run : (plays : List Play) (steps : ℕ) (cells events : Bool) → Wanted
 
--- a script as the program has it: its bytes, and the name of its file where lines are explained
-pub record Script : Type 0 where
-  pub text : List ℕ
-  pub file : Option (List ℕ)
+-- ---- what is told of a run
 
--- ---- lines of the standard error
+-- The standard error of a run: for each thread the line that tells how it ended, and behind these what is told of each agent.
+pub record EndsTold (cells : List CellDefinition) (script : Script) (s : PlainShared) (threads agents : List ThreadReport) (errors : List ℕ) : Type 0 where
+  pub of_threads : List ℕ
+  pub of_agents : List ℕ
+  pub first : AreLessons script 0 threads of_threads
+  pub behind : AreAgentsTold script (failure_of s) (named_from 0 cells) agents of_agents
+  pub is : errors ≡ of_threads ++ of_agents
 
--- where a line ends with a place: " at FROM..TO"
-abbrev pub at_place : Span → List ℕ
-at_place s = codes " at " ++ decimal s.from ++ codes ".." ++ decimal s.to ++ codes "\n"
+-- the highest status of all threads and agents
+abbrev pub run_status : List CellDefinition → PlainShared → List ThreadReport → List ThreadReport → ℕ
+run_status cells s threads agents = status_of_agents (status_from 0 threads) (failure_of s) (named_from 0 cells) agents
 
--- the line of a refusal of this number and name, at this place
-abbrev pub refusal_line : ℕ → List ℕ → Span → List ℕ
-refusal_line number name at = codes "refused " ++ decimal number ++ codes " " ++ name ++ at_place at
-
--- the line of a script that isn't compiled; of want of memory the program tells otherwise
-abbrev pub refused_line : CompileError → List ℕ
-refused_line (Read e) = refusal_line (read_number e.kind) (read_name e.kind) e.at
-refused_line (Resolve e) = refusal_line (resolve_number e.kind) (resolve_name e.kind) e.at
-refused_line (Unsound e) = refusal_line (check_number e.kind) (check_name e.kind) e.at
-refused_line NoMemory = []
-
--- the place of that refusal
-abbrev pub refused_place : CompileError → Option Span
-refused_place (Read e) = Some e.at
-refused_place (Resolve e) = Some e.at
-refused_place (Unsound e) = Some e.at
-refused_place NoMemory = None
-
--- the line of a thread that failed
-abbrev pub failed_line : ℕ → Fault → List ℕ
-failed_line k f = codes "thread " ++ decimal k ++ codes " failed: " ++ fault_name f.kind ++ at_place f.span
-
--- the line of a thread that was stopped, and why in a word
-abbrev pub stopped_line : ℕ → List ℕ → List ℕ
-stopped_line k why = codes "thread " ++ decimal k ++ codes " stopped: " ++ why ++ codes "\n"
-
--- the line of a thread that ended so; one that is done has none
-abbrev pub end_line : ℕ → Outcome → List ℕ
-end_line k Done = []
-end_line k (Failed f) = failed_line k f
-end_line k StepsSpent = stopped_line k (codes "StepsSpent")
-end_line k JournalFull = stopped_line k (codes "JournalFull")
-end_line k Memory = stopped_line k (codes "Memory")
-
--- the place where it ended
-abbrev pub end_place : Outcome → Option Span
-end_place (Failed f) = Some f.span
-end_place _ = None
-
--- what explains a line: nothing where no file is named, or where there is no sentence
-abbrev pub lesson_of : Option (List ℕ) → List ℕ → Option Span → Option (List ℕ) → List ℕ
-lesson_of None text at advice = []
-lesson_of (Some file) text at None = []
-lesson_of (Some file) text at (Some advice) = explained file text at advice
-
--- the standard error: a line, and behind it what explains it, with a sentence that says what to do
-pub record IsLesson (script : Script) (line : List ℕ) (at : Option Span) (errors : List ℕ) : Type 0 where
-  pub advice : Option (List ℕ)
-  pub is : errors ≡ line ++ lesson_of script.file script.text at advice
-
--- where the item of a list stands that says no play, where its places are numbers of 32 bits
-abbrev pub list_place : WrongPlay → Option Span
-list_place w = if nat_lt (w.from + w.length) (2 ^ 32) then Some (record { from = w.from; to = w.from + w.length }) else None
-
--- ---- the status
-
--- of a thread that ended so: 0 where it is done, 3 where it failed, 4 where it was stopped
-abbrev pub status_of : Outcome → ℕ
-status_of Done = 0
-status_of (Failed f) = 3
-status_of StepsSpent = 4
-status_of JournalFull = 4
-status_of Memory = 4
-
--- ---- what is told of a script
-
--- how a thread ended; every thread of a run has
-abbrev pub how_ended : Option Outcome → Outcome
-how_ended None = Done
-how_ended (Some o) = o
-
--- what all threads printed, one after the other in their order
-abbrev pub all_printed : List ThreadReport → List ℕ
-all_printed [] = []
-all_printed (r ∷ rs) = r.printed.items ++ all_printed rs
-
--- the highest of a status and those of these threads
-abbrev pub status_from : ℕ → List ThreadReport → ℕ
-status_from m [] = m
-status_from m (r ∷ rs) = status_from (max m (status_of (how_ended r.outcome))) rs
-
--- the standard error: for each of these threads the line that tells how it ended, in their order, where the first is the k-th
-abbrev pub AreLessons : Script → ℕ → List ThreadReport → List ℕ → Type 0
-AreLessons script k [] errors = errors ≡ []
-AreLessons script k (r ∷ rs) errors =
-    (line : List ℕ) × (rest : List ℕ) × IsLesson script (end_line k (how_ended r.outcome)) (end_place (how_ended r.outcome)) line × AreLessons script (suc k) rs rest × (errors ≡ line ++ rest)
-
--- What a run of all threads of the code over what they share tells, which it leaves so: what the threads printed and how each ended, with the
--- highest status.
+-- What a run of all threads and agents of the code over what they share tells, which it leaves so: what the threads printed, how each ended, which
+-- agents have failed and whose actors were stopped, and the highest status. The entries of the report say what each actor did, and each program that
+-- the code follows explains them: those of the threads, and, where the code follows its functions as well and sends what it may send, all.
 pub record RunTells (code : PlainCode) (script : Script) (steps : ℕ) (s : PlainShared) (t : Told) : Type 0 where
   pub rans : List ThreadReport
+  pub agents : List ThreadReport
   pub done : AreDone code steps (books_of s) rans
   pub ended : HaveEnded rans
   pub explained : IsExplainedBy code (shared_of s) rans
+  pub agents_done : AgentsAreDone code steps (books_of s) agents
+  pub drained : AreDrained code (shared_of s) agents
+  pub all_explained : AreExplainedBy code (shared_of s) rans agents
   pub output : t.output ≡ all_printed rans
-  pub errors : AreLessons script 0 rans t.errors
-  pub status : t.status ≡ status_from 0 rans
+  pub errors : EndsTold code.cells script s rans agents t.errors
+  pub status : t.status ≡ run_status code.cells s rans agents
 
--- what a run by these plays comes to: a play names no thread, or what the threads tell
+-- what a run by these plays comes to: a play names no actor, or what the run tells
 abbrev pub RunAnswers : PlainCode → Script → List Play → ℕ → PlainShared → Option Told → Type 0
-RunAnswers code script plays steps s None = all_named (length code.threads) plays ≡ false
-RunAnswers code script plays steps s (Some t) = (all_named (length code.threads) plays ≡ true) × RunTells code script steps s t
+RunAnswers code script plays steps s None = all_named (actors_of code) plays ≡ false
+RunAnswers code script plays steps s (Some t) = (all_named (actors_of code) plays ≡ true) × RunTells code script steps s t
 
 -- the lines of the cells behind a run, where they are wanted: their values after all events of their books
 abbrev pub cells_told : Bool → List CellDefinition → PlainShared → List ℕ
@@ -177,8 +93,19 @@ pub record FormTold (code : PlainCode) (t : Told) : Type 0 where
   pub errors : t.errors ≡ []
   pub status : t.status ≡ 0
 
--- What is told of a script: that it is refused; that it compiles; the listing of its code; its code's byte form; what its run told, and behind it its cells and events; or that a play
--- names no thread, and nothing ran.
+-- ---- what is told of a script
+
+-- A script is compiled to a program and its code: the script is that program, each thread of the code follows the program's, its functions follow the
+-- actions of agents, it sends only what the program may send, and it has the program's cells.
+pub record IsCompiled (text : List ℕ) (p : PlainProgram) (code : PlainCode) : Type 0 where
+  pub program : IsProgramOf text p
+  pub follows : FollowsAll (codes_of code) p
+  pub agents : FollowsAgents (function_codes code) p.functions
+  pub sends : CodesSendSound p.functions (codes_of code)
+  pub same : code.cells ≡ p.cells
+
+-- What is told of a script: that it is refused; that it compiles; the listing of its code; its code's byte form; what its run told, which its program
+-- explains, and behind it its cells and events; or that a play names no actor, and nothing ran.
 pub data ScriptTells (script : Script) (t : Told) : Wanted → Type 0 where
   of_refused :
       (wanted : Wanted) (e : CompileError) (refused : IsRefusal script.text e) (output : t.output ≡ [])
@@ -187,18 +114,19 @@ pub data ScriptTells (script : Script) (t : Told) : Wanted → Type 0 where
       (p : PlainProgram) (program : IsProgramOf script.text p)
       (output : t.output ≡ codes "ok\n") (errors : t.errors ≡ []) (status : t.status ≡ 0) → ScriptTells script t Check
   of_listed :
-      (p : PlainProgram) (code : PlainCode) (program : IsProgramOf script.text p) (follows : FollowsAll (codes_of code) p) (same : code.cells ≡ p.cells)
+      (p : PlainProgram) (code : PlainCode) (compiled : IsCompiled script.text p code)
       (output : t.output ≡ listing code) (errors : t.errors ≡ []) (status : t.status ≡ 0) → ScriptTells script t Listing
   of_built :
-      (p : PlainProgram) (code : PlainCode) (program : IsProgramOf script.text p) (follows : FollowsAll (codes_of code) p) (same : code.cells ≡ p.cells) (told : FormTold code t) → ScriptTells script t Build
+      (p : PlainProgram) (code : PlainCode) (compiled : IsCompiled script.text p code) (told : FormTold code t) → ScriptTells script t Build
   of_run :
-      (plays : List Play) (steps : ℕ) (with_cells with_events : Bool) (ran : Told) (p : PlainProgram) (code : PlainCode) (s : PlainShared) (program : IsProgramOf script.text p)
-      (follows : FollowsAll (codes_of code) p) (same : code.cells ≡ p.cells) (of : IsStateOf code s) (named : all_named (length code.threads) plays ≡ true) (told : RunTells code script steps s ran)
+      (plays : List Play) (steps : ℕ) (with_cells with_events : Bool) (ran : Told) (p : PlainProgram) (code : PlainCode) (s : PlainShared) (compiled : IsCompiled script.text p code)
+      (of : IsStateOf code s) (named : all_named (actors_of code) plays ≡ true) (told : RunTells code script steps s ran)
+      (explained : ExplainsAll p (shared_of s) told.rans told.agents)
       (output : t.output ≡ (ran.output ++ cells_told with_cells p.cells s) ++ events_told with_events (numbered_book s 0)) (errors : t.errors ≡ ran.errors) (status : t.status ≡ ran.status)
       → ScriptTells script t (Run plays steps with_cells with_events)
-  of_no_thread :
-      (plays : List Play) (steps : ℕ) (with_cells with_events : Bool) (p : PlainProgram) (code : PlainCode) (program : IsProgramOf script.text p)
-      (follows : FollowsAll (codes_of code) p) (unnamed : all_named (length code.threads) plays ≡ false)
+  of_no_actor :
+      (plays : List Play) (steps : ℕ) (with_cells with_events : Bool) (p : PlainProgram) (code : PlainCode) (compiled : IsCompiled script.text p code)
+      (unnamed : all_named (actors_of code) plays ≡ false)
       (output : t.output ≡ []) (errors : t.errors ≡ codes "run failed: NoActor" ++ codes "\n") (status : t.status ≡ 2) → ScriptTells script t (Run plays steps with_cells with_events)
 
 -- as much of an input as is read: its first bytes, one more than a script may have

@@ -13,8 +13,8 @@ use txs_value::FaultKind;
 pub const OF_LIST: &str =
     "Write each play as the number of its thread, as 0, which goes on up to its next ask; with a `t` before it, as t0, for one step; and with `xN` behind it for N times, 1 to 100000.";
 
-/// What to do about a script that isn't read, or of which a form is left out.
-pub fn of_read(kind: ReadErrorKind, is_form: bool) -> Option<&'static str>
+/// What to do about a script that isn't read.
+pub fn of_read(kind: ReadErrorKind) -> Option<&'static str>
     ensures { IsNone result ↔ (kind ≡ ReadErrorKind.Memory) }
 {
     Some(match kind {
@@ -40,18 +40,9 @@ pub fn of_read(kind: ReadErrorKind, is_form: bool) -> Option<&'static str>
         ReadErrorKind::TooLarge => {
             "Make it smaller: a script has at most 1,048,576 bytes, a text 65,535, a name 255, and a list 65,535 parts."
         }
-        ReadErrorKind::LeftOut => return Some(of_left_out(is_form)),
+        ReadErrorKind::LeftOut => "Write it another way: this profile of Clojure leaves it out.",
         ReadErrorKind::Memory => return None,
     })
-}
-
-/// What to do about Clojure that this profile leaves out, or about a form that is left out until it runs.
-fn of_left_out(is_form: bool) -> &'static str {
-    if is_form {
-        "Do without it until it runs: for now cells are refs and atoms, and nothing is sent."
-    } else {
-        "Write it another way: this profile of Clojure leaves it out."
-    }
 }
 
 /// What to do about forms that are no program.

@@ -17,13 +17,6 @@ pub struct Script<'a> {
     pub file: Option<&'a str>,
 }
 
-impl<'a> Script<'a> {
-    /// Whether a list begins in this place, and no token.
-    pub fn has_list_at(self, at: Span) -> bool {
-        self.text.get(at.from as usize) == Some(&b'(')
-    }
-}
-
 /// Appends the line that names a place: the file, the line and the column, both from 1.
 fn write_place(out: &mut Vec<u8>, file: &str, text: &[u8], offset: usize) -> Result<(), AllocError>
     ensures { OnOk result (out.new.items ≡ out.old.items ++ place_line file.now text.now offset) }

@@ -3,6 +3,7 @@
 #![tactic(auto)]
 
 mod advice;
+mod agents;
 pub mod cells;
 pub mod explain;
 pub mod play;

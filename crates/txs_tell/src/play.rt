@@ -55,7 +55,7 @@ pub fn write_told<W: Write, F: Write>(
 
 /// Does with the reader's script what is wanted, and writes what is told of it. Where a file is named, lines on the
 /// standard error are explained under its name. Answers the status: 0 where all ended, 1 for a script that is refused, 2
-/// for a play that names no thread or a stream that couldn't be read or written, 3 for a thread that failed, 4 for want of steps or memory; the highest
+/// for a play that names no actor or a stream that couldn't be read or written, 3 for a thread or an agent that failed, 4 for want of steps or memory; the highest
 /// that applies.
 pub fn play_script<R: Read, W: Write, F: Write>(
     alloc: Global,

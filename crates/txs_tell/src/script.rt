@@ -7,9 +7,12 @@ ghost use Rattle.txs_disasm.specs.Listing.{listing};
 ghost use Rattle.txs_machine.specs.RunOver.{IsStateOf};
 ghost use Rattle.txs_runs.specs.Shared.{untouched};
 ghost use Rattle.txs_shared.specs.SharedState.{shared_of, numbered_book};
+ghost use Rattle.txs_tell.specs.AgentLines.{named_from};
 ghost use Rattle.txs_tell.specs.Lent.{script_of, told_of, wanted_of};
-ghost use Rattle.txs_tell.specs.Told.{RunAnswers, ScriptTells, FormTold, Check, Listing, Build, Run, cells_told, events_told};
+ghost use Rattle.txs_tell.specs.Lines.{all_printed};
+ghost use Rattle.txs_tell.specs.Told.{EndsTold, RunAnswers, ScriptTells, FormTold, Check, Listing, Build, Run, cells_told, events_told, run_status};
 
+use crate::agents::add_agents;
 use crate::cells::write_cells;
 use crate::explain::Script;
 use crate::told::{Told, UNUSABLE, Use, answer, complaint, of_threads, refused};
@@ -18,13 +21,36 @@ use txs_bytes::encode;
 use txs_code::Verified;
 use txs_compile::compile;
 use txs_disasm::write_listing;
-use txs_machine::{Play, ScheduleError, run_schedule};
+use txs_machine::{Play, Report, ScheduleError, run_schedule};
 use txs_schedule::write_events;
 use txs_shared::SharedState;
 use txs_tree::Program;
+use txs_value::CellDefinition;
 
-/// What is told of the threads of the code, which run over the state by these plays and then in rounds, up to their ends; or
-/// nothing, where a play names no thread.
+/// What is told of the threads and agents of a run that is over: the lines of threads, and behind them those of agents.
+pub fn of_report(
+    alloc: Global,
+    script: Script<'_>,
+    cells: &[CellDefinition],
+    report: &Report,
+    shared: &SharedState,
+) -> Result<Told, AllocError>
+    requires few_threads { length report.now.threads.items ≤ 64 }
+    requires few_cells { length cells.now ≤ 1000 }
+    requires made { shared.now.cells ≡ cells.now }
+    requires one_each { length report.now.agents.items ≡ length (named_from 0 cells.now) }
+    ensures output { IfOk result (λ t. t.output.items ≡ all_printed report.now.threads.items) }
+    ensures errors { IfOk result (λ t. EndsTold cells.now (script_of script.entry) shared.now report.now.threads.items report.now.agents.items t.errors.items) }
+    ensures status { IfOk result (λ t. t.status ≡ run_status cells.now shared.now report.now.threads.items report.now.agents.items) }
+{
+    let mut told = of_threads(alloc, script, report)?;
+    let agents = report.agents.as_slice();
+    add_agents(alloc, &mut told, script, cells, agents, shared)?;
+    Ok(told)
+}
+
+/// What is told of a run of all threads and agents of the code over the state, by these plays and then in rounds, until all threads have ended and no
+/// agent has something to do; or nothing, where a play names no actor.
 pub fn run_code(
     alloc: Global,
     script: Script<'_>,
@@ -34,6 +60,7 @@ pub fn run_code(
     shared: &mut SharedState,
 ) -> Result<Option<Told>, AllocError>
     requires few { length code.now.threads ≤ 64 }
+    requires few_cells { length code.now.cells ≤ 1000 }
     requires of { IsStateOf code.now shared.old }
     requires unused { shared_of shared.old ≡ untouched code.now.cells }
     ensures of { IsStateOf code.now shared.new }
@@ -41,7 +68,8 @@ pub fn run_code(
 {
     match run_schedule(alloc, code, plays, steps, true, shared) {
         Ok(report) => {
-            let told = of_threads(alloc, script, &report)?;
+            let cells = code.code().cells();
+            let told = of_report(alloc, script, cells, &report, shared)?;
             Ok(Some(told))
         }
         Err(ScheduleError::NoActor) => Ok(None),
@@ -91,7 +119,7 @@ pub fn tell_events(told: &mut Told, wanted: bool, shared: &SharedState) -> Resul
 }
 
 /// Appends what is told behind a run: the lines of the program's cells, and of the events, where they are wanted.
-fn tell_book(
+pub fn tell_book(
     told: &mut Told,
     cells: bool,
     events: bool,

@@ -2,8 +2,9 @@
 
 ghost use Rattle.std.specs.Prelude.{◌≡◌, ◌≤◌, ◌++◌, ℕ, List, max, length, [], codes, decimal, Some, None, IfOk, OnOk};
 ghost use Rattle.txs_compile.specs.Compiled.{IsRefusal};
-ghost use Rattle.txs_tell.specs.Told.{ScriptTells, IsLesson, at_place, lesson_of, list_place, refusal_line, refused_line, refused_place, failed_line, stopped_line, end_line, end_place, status_of, how_ended, all_printed, status_from, AreLessons, Wanted};
 ghost use Rattle.txs_tell.specs.Lent.{text_in, script_of, told_of};
+ghost use Rattle.txs_tell.specs.Lines.{IsLesson, at_place, lesson_of, list_place, refusal_line, refused_line, refused_place, thread_front, failed_line, stopped_line, end_line, end_place, status_of, how_ended, all_printed, status_from, AreLessons};
+ghost use Rattle.txs_tell.specs.Told.{ScriptTells, Wanted};
 
 use crate::advice::{OF_LIST, of_check, of_outcome, of_read, of_resolve};
 use crate::explain::{Script, write_explained};
@@ -32,8 +33,8 @@ pub enum Use<'a> {
     Listing,
     /// It is compiled, and its code is written in its byte form.
     Build,
-    /// Its threads run by these plays and then in rounds, each for so many steps at most, with its cells and
-    /// the events of the run told or not.
+    /// Its threads and agents run by these plays and then in rounds, each for so many steps at most, with its
+    /// cells and the events of the run told or not.
     Run {
         plays: &'a [Play],
         steps: u64,
@@ -42,16 +43,16 @@ pub enum Use<'a> {
     },
 }
 
-/// All threads ended.
+/// All threads ended, and no agent has failed.
 pub const DONE: u8 = 0;
 
 /// The script was refused.
 pub const REFUSED: u8 = 1;
 
-/// The words can't be used, a play names no thread, or a stream couldn't be read or written.
+/// The words can't be used, a play names no actor, or a stream couldn't be read or written.
 pub const UNUSABLE: u8 = 2;
 
-/// A thread failed.
+/// A thread or an agent failed.
 const FAILED: u8 = 3;
 
 /// Steps or memory didn't suffice.
@@ -154,9 +155,9 @@ fn refusal_line(alloc: Global, number: u8, name: &str, at: Span) -> Result<Vec<u
     Ok(line)
 }
 
-/// The beginning of a thread's line.
-fn thread_line(alloc: Global, k: u16) -> Result<Vec<u8>, AllocError>
-    ensures { IfOk result (λ line. line.items ≡ codes "thread " ++ decimal k) }
+/// How a thread's line begins.
+fn thread_front(alloc: Global, k: u16) -> Result<Vec<u8>, AllocError>
+    ensures { IfOk result (λ line. line.items ≡ thread_front k) }
 {
     let mut line = Vec::new(alloc);
     line.extend_from_slice(b"thread ")?;
@@ -164,26 +165,22 @@ fn thread_line(alloc: Global, k: u16) -> Result<Vec<u8>, AllocError>
     Ok(line)
 }
 
-/// The line of a thread that failed.
-fn failed_line(alloc: Global, k: u16, fault: Fault) -> Result<Vec<u8>, AllocError>
-    ensures { IfOk result (λ line. line.items ≡ failed_line k fault) }
+/// Appends how the line of one that failed ends.
+fn end_failed(line: &mut Vec<u8>, fault: Fault) -> Result<(), AllocError>
+    ensures { OnOk result (line.new.items ≡ failed_line line.old.items fault) }
 {
-    let mut line = thread_line(alloc, k)?;
     line.extend_from_slice(b" failed: ")?;
     line.extend_from_slice(fault.kind.name().as_bytes())?;
-    write_place(&mut line, fault.span)?;
-    Ok(line)
+    write_place(line, fault.span)
 }
 
-/// The line of a thread that was stopped.
-fn stopped_line(alloc: Global, k: u16, why: &[u8]) -> Result<Vec<u8>, AllocError>
-    ensures { IfOk result (λ line. line.items ≡ stopped_line k why.now) }
+/// Appends how the line of one that was stopped ends.
+fn end_stopped(line: &mut Vec<u8>, why: &[u8]) -> Result<(), AllocError>
+    ensures { OnOk result (line.new.items ≡ stopped_line line.old.items why.now) }
 {
-    let mut line = thread_line(alloc, k)?;
     line.extend_from_slice(b" stopped: ")?;
     line.extend_from_slice(why)?;
-    line.push(b'\n')?;
-    Ok(line)
+    Ok(line.push(b'\n')?)
 }
 
 /// What is told of a refused script.
@@ -212,7 +209,7 @@ fn of_error(alloc: Global, script: Script<'_>, error: &CompileError) -> Result<T
 {
     match error {
         CompileError::Read(e) => {
-            let advice = of_read(e.kind, script.has_list_at(e.at));
+            let advice = of_read(e.kind);
             refusal(alloc, script, e.kind.number(), e.kind.name(), e.at, advice)
         }
         CompileError::Resolve(e) => {
@@ -275,36 +272,36 @@ pub fn wrong_list(alloc: Global, list: Script<'_>, wrong: WrongPlay) -> Result<T
     list_refusal(alloc, list, list_place(wrong), Some(OF_LIST))
 }
 
-/// What is told of a thread that failed.
+/// What is told of one that failed, whose line begins so.
 fn failed(
     alloc: Global,
     script: Script<'_>,
-    k: u16,
+    mut line: Vec<u8>,
     fault: Fault,
     advice: Option<&str>,
 ) -> Result<Told, AllocError>
     ensures output { IfOk result (λ t. t.output.items ≡ []) }
-    ensures errors { IfOk result (λ t. IsLesson (script_of script.entry) (failed_line k fault) (Some fault.span) t.errors.items) }
+    ensures errors { IfOk result (λ t. IsLesson (script_of script.entry) (failed_line line.items fault) (Some fault.span) t.errors.items) }
     ensures status { IfOk result (λ t. t.status ≡ 3) }
 {
-    let line = failed_line(alloc, k, fault)?;
+    end_failed(&mut line, fault)?;
     let told = lesson(alloc, script, FAILED, line, Some(fault.span), advice)?;
     Ok(told)
 }
 
-/// What is told of a thread that was stopped.
+/// What is told of one that was stopped, whose line begins so.
 fn stopped(
     alloc: Global,
     script: Script<'_>,
-    k: u16,
+    mut line: Vec<u8>,
     why: &[u8],
     advice: Option<&str>,
 ) -> Result<Told, AllocError>
     ensures output { IfOk result (λ t. t.output.items ≡ []) }
-    ensures errors { IfOk result (λ t. IsLesson (script_of script.entry) (stopped_line k why.now) None t.errors.items) }
+    ensures errors { IfOk result (λ t. IsLesson (script_of script.entry) (stopped_line line.items why.now) None t.errors.items) }
     ensures status { IfOk result (λ t. t.status ≡ 4) }
 {
-    let line = stopped_line(alloc, k, why)?;
+    end_stopped(&mut line, why)?;
     let told = lesson(alloc, script, SPENT, line, None, advice)?;
     Ok(told)
 }
@@ -318,19 +315,24 @@ pub fn nothing(alloc: Global) -> Told
     answer(Vec::new(alloc), alloc)
 }
 
-/// What is told of a thread that ended so, but for what it printed.
-fn of_end(alloc: Global, script: Script<'_>, k: u16, outcome: Outcome) -> Result<Told, AllocError>
+/// What is told of a thread, an agent or an agent's actor that ended so, but for what it printed. Its line, if there is one, begins so.
+pub(crate) fn of_end(
+    alloc: Global,
+    script: Script<'_>,
+    front: Vec<u8>,
+    outcome: Outcome,
+) -> Result<Told, AllocError>
     ensures output { IfOk result (λ t. t.output.items ≡ []) }
-    ensures errors { IfOk result (λ t. IsLesson (script_of script.entry) (end_line k outcome) (end_place outcome) t.errors.items) }
+    ensures errors { IfOk result (λ t. IsLesson (script_of script.entry) (end_line front.items outcome) (end_place outcome) t.errors.items) }
     ensures status { IfOk result (λ t. t.status ≡ status_of outcome) }
 {
     let advice = of_outcome(outcome);
     match outcome {
         Outcome::Done => Ok(nothing(alloc)),
-        Outcome::Failed(fault) => failed(alloc, script, k, fault, advice),
-        Outcome::StepsSpent => stopped(alloc, script, k, b"StepsSpent", advice),
-        Outcome::JournalFull => stopped(alloc, script, k, b"JournalFull", advice),
-        Outcome::Memory => stopped(alloc, script, k, b"Memory", advice),
+        Outcome::Failed(fault) => failed(alloc, script, front, fault, advice),
+        Outcome::StepsSpent => stopped(alloc, script, front, b"StepsSpent", advice),
+        Outcome::JournalFull => stopped(alloc, script, front, b"JournalFull", advice),
+        Outcome::Memory => stopped(alloc, script, front, b"Memory", advice),
     }
 }
 
@@ -353,10 +355,11 @@ fn add_thread(
     thread: &ThreadReport,
 ) -> Result<(), AllocError>
     ensures output { OnOk result (told.new.output.items ≡ told.old.output.items ++ thread.now.printed.items) }
-    ensures errors { OnOk result ((line : List ℕ) × IsLesson (script_of script.entry) (end_line k (how_ended thread.now.outcome)) (end_place (how_ended thread.now.outcome)) line × (told.new.errors.items ≡ told.old.errors.items ++ line)) }
+    ensures errors { OnOk result ((line : List ℕ) × IsLesson (script_of script.entry) (end_line (thread_front k) (how_ended thread.now.outcome)) (end_place (how_ended thread.now.outcome)) line × (told.new.errors.items ≡ told.old.errors.items ++ line)) }
     ensures status { OnOk result (told.new.status ≡ max told.old.status (status_of (how_ended thread.now.outcome))) }
 {
-    let end = of_end(alloc, script, k, how_ended(thread.outcome))?;
+    let front = thread_front(alloc, k)?;
+    let end = of_end(alloc, script, front, how_ended(thread.outcome))?;
     told.output.extend_from_slice(thread.printed.as_slice())?;
     told.errors.extend_from_slice(end.errors.as_slice())?;
     told.status = told.status.max(end.status);

@@ -1,21 +1,21 @@
 -- What the program tells of code in its byte form: on its standard output, on its standard error, and by its status.
-use Rattle.std.specs.Prelude.{◌≡◌, ℕ, Bool, true, false, List, [], ◌++◌, length, codes, decimal, Option, Some, None}
+use Rattle.std.specs.Prelude.{◌≡◌, ℕ, Bool, true, false, List, [], ◌++◌, codes, decimal, Option, Some, None}
 use Rattle.std.specs.declared.result.Result.TheVariants.{Ok}
 use Rattle.txs_bytes.specs.Errors.{code_error_number, code_error_name}
 use Rattle.txs_code.specs.PlainCode.{PlainCode}
 use Rattle.txs_code.specs.WellTyped.{WellTyped}
 use Rattle.txs_disasm.specs.Listing.{listing}
 use Rattle.txs_load.specs.Load.{IsFormOf, IsRefusal}
-use Rattle.txs_load.specs.declared.error.LeftOut.{LeftOut}
-use Rattle.txs_load.specs.declared.error.LeftOut.TheVariants.{Instruction, Cell}
 use Rattle.txs_load.specs.declared.error.LoadError.{LoadError}
-use Rattle.txs_load.specs.declared.error.LoadError.TheVariants.{Bytes, Code, LeftOut as NotYet, Memory}
+use Rattle.txs_load.specs.declared.error.LoadError.TheVariants.{Bytes, Code, Memory}
 use Rattle.txs_machine.specs.RunOver.{IsStateOf}
+use Rattle.txs_machine.specs.Agents.{actors_of}
 use Rattle.txs_machine.specs.Schedule.{all_named}
 use Rattle.txs_machine.specs.declared.schedule.Play.{Play}
 use Rattle.txs_schedule.specs.Plays.{plays_in}
 use Rattle.txs_shared.specs.SharedState.{PlainShared, numbered_book}
-use Rattle.txs_tell.specs.Told.{Script, Told, RunTells, ListTells, cells_told, events_told}
+use Rattle.txs_tell.specs.Lines.{Script}
+use Rattle.txs_tell.specs.Told.{Told, RunTells, ListTells, cells_told, events_told}
 use Rattle.txs_verify.specs.Errors.{verify_number, verify_name}
 use Rattle.txs_verify.specs.declared.error.BodyName.{BodyName}
 use Rattle.txs_verify.specs.declared.error.BodyName.TheVariants.{Function, Thread}
@@ -35,23 +35,16 @@ abbrev pub in_body : BodyName → ℕ → List ℕ
 in_body (Function n) at = codes " in fn " ++ decimal n ++ at_number (codes " at ") at
 in_body (Thread n) at = codes " in thread " ++ decimal n ++ at_number (codes " at ") at
 
--- what isn't run yet: an instruction, or a cell
-abbrev pub left_out_end : LeftOut → List ℕ
-left_out_end (Instruction body at) = in_body body at
-left_out_end (Cell n) = at_number (codes " in cell ") n
-
--- The line of bytes that aren't taken as code: the place among the bytes, or that of the instruction. Code that isn't run yet has the
--- number and the name of forms that are left out. Of want of memory the program tells otherwise.
+-- The line of bytes that aren't taken as code: the place among the bytes, or that of the instruction. Of want of memory the program tells otherwise.
 abbrev pub load_line : LoadError → List ℕ
 load_line (Bytes e) = refused_front (code_error_number e.kind) (code_error_name e.kind) ++ at_number (codes " at ") e.at
 load_line (Code e) = refused_front (verify_number e.kind) (verify_name e.kind) ++ in_body e.body e.at
-load_line (NotYet l) = refused_front 9 (codes "LeftOut") ++ left_out_end l
 load_line Memory = []
 
 -- ---- what is told
 
--- What is wanted of code: that it is listed, or that its threads run by these plays and then in rounds up to their ends, each for so many steps at
--- most; and whether the cells and the events are told behind what they print.
+-- What is wanted of code: that it is listed, or that its threads and agents run by these plays and then in rounds, until all threads have ended and no
+-- agent has something to do, each for so many steps at most; and whether the cells and the events are told behind what they print.
 pub data CodeWanted : Type 0 where
   Listed : CodeWanted
   Ran : (plays : List Play) (steps : ℕ) (cells events : Bool) → CodeWanted
@@ -61,7 +54,7 @@ abbrev pub no_script : Script
 no_script = record { text = []; file = None }
 
 -- What is told of bytes that are to be code's: that they are refused, truly; the listing of the code that they are the form of, which is well
--- typed; what its run told, and behind it its cells and events; or that a play names no thread, and nothing ran.
+-- typed; what its run told, and behind it its cells and events; or that a play names no actor, and nothing ran.
 pub data CodeTells (bytes : List ℕ) (t : Told) : CodeWanted → Type 0 where
   of_refused :
       (wanted : CodeWanted) (e : LoadError) (refused : IsRefusal bytes e) (output : t.output ≡ []) (errors : t.errors ≡ load_line e) (status : t.status ≡ 1) → CodeTells bytes t wanted
@@ -70,11 +63,11 @@ pub data CodeTells (bytes : List ℕ) (t : Told) : CodeWanted → Type 0 where
       (output : t.output ≡ listing code) (errors : t.errors ≡ []) (status : t.status ≡ 0) → CodeTells bytes t Listed
   of_run :
       (plays : List Play) (steps : ℕ) (with_cells with_events : Bool) (ran : Told) (code : PlainCode) (s : PlainShared) (of : IsFormOf bytes code) (state : IsStateOf code s)
-      (named : all_named (length code.threads) plays ≡ true) (told : RunTells code no_script steps s ran)
+      (named : all_named (actors_of code) plays ≡ true) (told : RunTells code no_script steps s ran)
       (output : t.output ≡ (ran.output ++ cells_told with_cells code.cells s) ++ events_told with_events (numbered_book s 0)) (errors : t.errors ≡ ran.errors) (status : t.status ≡ ran.status)
       → CodeTells bytes t (Ran plays steps with_cells with_events)
-  of_no_thread :
-      (plays : List Play) (steps : ℕ) (with_cells with_events : Bool) (code : PlainCode) (of : IsFormOf bytes code) (unnamed : all_named (length code.threads) plays ≡ false)
+  of_no_actor :
+      (plays : List Play) (steps : ℕ) (with_cells with_events : Bool) (code : PlainCode) (of : IsFormOf bytes code) (unnamed : all_named (actors_of code) plays ≡ false)
       (output : t.output ≡ []) (errors : t.errors ≡ codes "run failed: NoActor" ++ codes "\n") (status : t.status ≡ 2) → CodeTells bytes t (Ran plays steps with_cells with_events)
 
 -- What is told of a stream of such bytes: that it couldn't be read, what is told of the bytes, or that there was no memory.

@@ -1,11 +1,11 @@
 //! The lines that tell why bytes aren't taken as code.
 
 ghost use Rattle.std.specs.Prelude.{◌≡◌, ◌++◌, [], codes, decimal, IfOk, OnOk};
-ghost use Rattle.txs_tell_code.specs.CodeTold.{at_number, in_body, left_out_end, load_line, refused_front};
+ghost use Rattle.txs_tell_code.specs.CodeTold.{at_number, in_body, load_line, refused_front};
 
 use itoa::Buffer;
 use std::alloc::{AllocError, Global};
-use txs_load::error::{LeftOut, LoadError};
+use txs_load::error::LoadError;
 use txs_tell::told::{REFUSED, Told};
 use txs_verify::error::BodyName;
 
@@ -57,16 +57,6 @@ fn end_in_body(line: &mut Vec<u8>, body: BodyName, at: usize) -> Result<(), Allo
     }
 }
 
-/// Appends what isn't run yet, and ends the line.
-fn end_left_out(line: &mut Vec<u8>, left_out: LeftOut) -> Result<(), AllocError>
-    ensures { OnOk result (line.new.items ≡ line.old.items ++ left_out_end left_out) }
-{
-    match left_out {
-        LeftOut::Instruction(body, at) => end_in_body(line, body, at),
-        LeftOut::Cell(number) => end_with(line, " in cell ", number),
-    }
-}
-
 /// The line of what isn't taken; of want of memory there is none.
 fn load_line(alloc: Global, error: LoadError) -> Result<Vec<u8>, AllocError>
     ensures { IfOk result (λ line. line.items ≡ load_line error) }
@@ -80,11 +70,6 @@ fn load_line(alloc: Global, error: LoadError) -> Result<Vec<u8>, AllocError>
         LoadError::Code(e) => {
             let mut line = refused_front(alloc, e.kind.number(), e.kind.name())?;
             end_in_body(&mut line, e.body, e.at)?;
-            Ok(line)
-        }
-        LoadError::LeftOut(left_out) => {
-            let mut line = refused_front(alloc, 9, "LeftOut")?;
-            end_left_out(&mut line, left_out)?;
             Ok(line)
         }
         LoadError::Memory => Err(AllocError),

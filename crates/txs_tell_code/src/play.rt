@@ -44,7 +44,7 @@ fn use_bytes<R: Read>(
 }
 
 /// Does with the code whose byte form the reader has what is wanted, and writes what is told of it. Answers the status: 0 where all ended,
-/// 1 for bytes that are refused, 2 for a play that names no thread or a stream that couldn't be read or written, 3 for a thread that failed,
+/// 1 for bytes that are refused, 2 for a play that names no actor or a stream that couldn't be read or written, 3 for a thread or an agent that failed,
 /// 4 for want of steps or memory; the highest that applies.
 pub fn play_code<R: Read, W: Write, F: Write>(
     alloc: Global,

@@ -27,8 +27,8 @@ use txs_tell::told::{Told, UNUSABLE, answer, complaint};
 pub enum CodeUse<'a> {
     /// It is listed.
     Listing,
-    /// Its threads run by these plays and then in rounds, each for so many steps at most, with its cells and the events of the run told or
-    /// not.
+    /// Its threads and agents run by these plays and then in rounds, each for so many steps at most, with its cells and the events of the
+    /// run told or not.
     Run {
         plays: &'a [Play],
         steps: u64,

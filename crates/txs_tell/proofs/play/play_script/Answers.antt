@@ -1,6 +1,7 @@
 use Rattle.std.proofs.Common.{ℕ, List, subst₂}
 use Rattle.txs_tell.specs.Lent.{text_in, told_of, wanted_of}
-use Rattle.txs_tell.specs.Told.{Script, Told, StreamTells, Tells, of_stream, Written, front}
+use Rattle.txs_tell.specs.Lines.{Script}
+use Rattle.txs_tell.specs.Told.{Told, StreamTells, Tells, of_stream, Written, front}
 use Rattle.txs_tell.proofs.Fronts.{some_maps}
 use Rattle.txs_tell.proofs.play.play_script.Goals as goal
 

@@ -3,7 +3,8 @@ use Rattle.txs_machine.specs.declared.schedule.Play.{Play}
 use Rattle.txs_schedule.specs.Plays.{plays_in}
 use Rattle.txs_schedule.specs.declared.plays.WrongPlay.{WrongPlay}
 use Rattle.txs_tell.specs.Lent.{text_in}
-use Rattle.txs_tell.specs.Told.{Script, Told, Run, Tells, ScheduleTells, of_plays, of_list, Written, front}
+use Rattle.txs_tell.specs.Lines.{Script}
+use Rattle.txs_tell.specs.Told.{Told, Run, Tells, ScheduleTells, of_plays, of_list, Written, front}
 use Rattle.txs_tell.proofs.Fronts.{some_maps, some_always}
 use Rattle.txs_tell.proofs.schedule.play_schedule.Goals as goal
 

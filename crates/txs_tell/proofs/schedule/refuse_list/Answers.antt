@@ -1,6 +1,7 @@
 use Rattle.std.proofs.Common.{ℕ, List, Option, codes, subst₂}
 use Rattle.txs_tell.specs.Lent.{text_in, told_of}
-use Rattle.txs_tell.specs.Told.{IsLesson, list_place, list_name, of_wrong, Written}
+use Rattle.txs_tell.specs.Lines.{IsLesson, list_place}
+use Rattle.txs_tell.specs.Told.{list_name, of_wrong, Written}
 use Rattle.txs_tell.proofs.schedule.refuse_list.Goals as goal
 
 pub returns-in-Ok : goal.returns-in-Ok

@@ -6,4 +6,6 @@ pub returns-in-Err : goal.returns-in-Err
 returns-in-Err c = c.in_ok-told-in-Err.ensures Build
 
 pub returns : goal.returns
-returns c = of_built (program_of c.in-Ok.compiled.0) c.in-Ok.compiled.1 c.in-Ok.ensures.program c.in-Ok.ensures.code c.in-Ok.ensures.cells c.in_ok-told.ensures
+returns c =
+    let of = c.in-Ok.ensures in
+    of_built (program_of c.in-Ok.compiled.0) c.in-Ok.compiled.1 (record { program = of.program; follows = of.code; agents = of.agents; sends = of.sends; same = of.cells }) c.in_ok-told.ensures

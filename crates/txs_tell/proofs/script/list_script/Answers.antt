@@ -7,5 +7,6 @@ returns-in-Err c = c.in_ok-told-in-Err.ensures Listing
 
 pub returns : goal.returns
 returns c =
+    let of = c.in-Ok.ensures in
     let t = c.in_ok-told.ensures in
-    of_listed (program_of c.in-Ok.compiled.0) c.in-Ok.compiled.1 c.in-Ok.ensures.program c.in-Ok.ensures.code c.in-Ok.ensures.cells t.output t.errors t.status
+    of_listed (program_of c.in-Ok.compiled.0) c.in-Ok.compiled.1 (record { program = of.program; follows = of.code; agents = of.agents; sends = of.sends; same = of.cells }) t.output t.errors t.status

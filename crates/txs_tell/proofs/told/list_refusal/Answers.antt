@@ -1,6 +1,6 @@
 use Rattle.std.proofs.Common.{◌++◌, ℕ, List, ap, ◌∙◌}
 use Rattle.txs_tell.specs.Lent.{text_in}
-use Rattle.txs_tell.specs.Told.{lesson_of}
+use Rattle.txs_tell.specs.Lines.{lesson_of}
 use Rattle.txs_tell.proofs.told.list_refusal.Goals as goal
 
 pub returns-clause-errors : goal.returns-clause-errors

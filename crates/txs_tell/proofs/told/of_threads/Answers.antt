@@ -1,7 +1,7 @@
 use Rattle.std.proofs.Common.{◌≡◌, ◌≤◌, ◌<◌, ◌+◌, ◌++◌, ℕ, List, [], length, drop, get_or, rules, refl, sym, subst}
 use Rattle.std.proofs.lemmas.List.{append-nil, drop_all}
 use Rattle.txs_tell.specs.Lent.{script_of}
-use Rattle.txs_tell.specs.Told.{AreLessons, all_printed, status_from}
+use Rattle.txs_tell.specs.Lines.{AreLessons, all_printed, status_from}
 use Rattle.txs_tell.proofs.Threads.{lessons_more, printed_more, status_more}
 use Rattle.txs_tell.proofs.told.of_threads.Goals as goal
 

@@ -1,6 +1,6 @@
 use Rattle.std.proofs.Common.{◌≡◌, ◌++◌, ℕ, List, drop}
 use Rattle.txs_tell.specs.Lent.{script_of}
-use Rattle.txs_tell.specs.Told.{all_printed, status_from, AreLessons}
+use Rattle.txs_tell.specs.Lines.{all_printed, status_from, AreLessons}
 use Rattle.txs_tell.proofs.told.of_threads.Given as goal
 
 -- with what is told of the threads to come, what is told so far is what is told of all

@@ -1,12 +1,14 @@
-use Rattle.std.proofs.Common.{◌≡◌, ◌++◌, Option, length, true, false, subst, subst₂}
+use Rattle.std.proofs.Common.{◌≡◌, ◌++◌, Option, true, false, subst, subst₂}
 use Rattle.std.specs.Option.{option_map}
 use Rattle.txs_code.specs.PlainCode.{PlainCode}
+use Rattle.txs_machine.specs.Agents.{actors_of}
 use Rattle.txs_machine.specs.Schedule.{all_named}
 use Rattle.txs_shared.specs.SharedState.{numbered_book}
 use Rattle.txs_tell.specs.Lent.{told_of}
-use Rattle.txs_tell.specs.Told.{Script, RunAnswers, RunTells, cells_told, events_told}
+use Rattle.txs_tell.specs.Lines.{Script}
+use Rattle.txs_tell.specs.Told.{RunAnswers, RunTells, cells_told, events_told}
 use Rattle.txs_tell.specs.declared.told.Told as owned
-use Rattle.txs_tell_code.specs.CodeTold.{Ran, no_script, of_refused, of_run, of_no_thread}
+use Rattle.txs_tell_code.specs.CodeTold.{Ran, no_script, of_refused, of_run, of_no_actor}
 use Rattle.txs_tell_code.proofs.usage.run_bytes.Goals as goal
 
 pub returns-in-Err : goal.returns-in-Err
@@ -14,20 +16,20 @@ returns-in-Err c =
     let t = c.in_ok-told-in-Err.ensures in
     of_refused (Ran c.args.plays.now c.args.steps c.args.cells c.args.events) c.in-Err.error c.in-Err.ensures.refused t.output t.errors t.status
 
--- a play names no thread
+-- a play names no actor
 pub returns-in_default : goal.returns-in_default
 returns-in_default c =
     let code = c.in-Ok.code in
-    let unnamed : all_named (length code.threads) c.args.plays.now ≡ false =
+    let unnamed : all_named (actors_of code) c.args.plays.now ≡ false =
     subst₂ (λ (s : Script) (o : Option owned.Told). RunAnswers code s c.args.plays.now c.args.steps c.run_code.new.shared (option_map told_of o)) c.no_script-script.ensures c.in_default.is c.in_ok-told.ensures.told
     in
     let t = c.in_ok-told-2.ensures in
-    of_no_thread c.args.plays.now c.args.steps c.args.cells c.args.events code c.in-Ok.ensures.form unnamed t.output t.errors t.status
+    of_no_actor c.args.plays.now c.args.steps c.args.cells c.args.events code c.in-Ok.ensures.form unnamed t.output t.errors t.status
 
 pub returns : goal.returns
 returns c =
     let code = c.in-Ok.code in
-    let ran : (all_named (length code.threads) c.args.plays.now ≡ true) × RunTells code no_script c.args.steps c.run_code.new.shared (told_of c.in-Some.told) =
+    let ran : (all_named (actors_of code) c.args.plays.now ≡ true) × RunTells code no_script c.args.steps c.run_code.new.shared (told_of c.in-Some.told) =
     subst₂ (λ (s : Script) (o : Option owned.Told). RunAnswers code s c.args.plays.now c.args.steps c.run_code.new.shared (option_map told_of o)) c.no_script-script.ensures c.in-Some.is c.in_ok-told.ensures.told
     in
     let t = c.in_ok-tell_book.ensures in
