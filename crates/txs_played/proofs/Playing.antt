@@ -5,16 +5,15 @@ use Rattle.txs_asks.specs.declared.ask.Reply.{Reply}
 use Rattle.txs_asks.specs.declared.ask.Reply.TheVariants as reply
 use Rattle.txs_asks.specs.declared.event.Outcome.{Outcome}
 use Rattle.txs_asks.specs.declared.event.Outcome.TheVariants as outcome
-use Rattle.txs_code.specs.Machine.{ThreadCode}
 use Rattle.txs_code.specs.Opening.{opening}
 use Rattle.txs_code.specs.PlainCode.{PlainCode}
 use Rattle.txs_code.specs.WellTyped.{WellTyped}
 use Rattle.txs_actor.specs.Laws.{ActorsRun}
-use Rattle.txs_actor.specs.PlainActor.{PlainActor, CanGoOn, AttendsOn, Lives, HandsOut, MayAnswer, Stops, answered, unanswered, asked_for, is_running, applied_in, configuration_of, code_of, HasAsked, HasRun, HasCome}
+use Rattle.txs_actor.specs.PlainActor.{PlainActor, CanGoOn, AttendsOn, Lives, MayAnswer, Stops, answered, unanswered, asked_for, is_running, applied_in, configuration_of, code_of, HasRun, HasCome}
 use Rattle.txs_actor.specs.Turns.{IsNew, TurnsFrom, Turns}
 use Rattle.txs_actor.specs.declared.outcome.Turn.{Turn}
 use Rattle.txs_actor.specs.declared.state.Pending.{Pending}
-use Rattle.txs_actor.proofs.Following.{Unstopped, unstopped_if}
+use Rattle.txs_actor.proofs.Following.{unstopped_if}
 use Rattle.txs_runs.specs.Lawful.{TypedStands}
 use Rattle.txs_runs.specs.Standing.{StandingCode}
 use Rattle.txs_runs.specs.Staged.{StagedCode, stage_of}
@@ -24,22 +23,27 @@ use Rattle.txs_runs.proofs.Known.{standing_staged}
 use Rattle.txs_replay.specs.Replay.{entry_of}
 use Rattle.txs_replay.specs.declared.kept.Kept.{Kept}
 use Rattle.txs_machine.specs.RunOver.{IsLimited, AskedOn}
-use Rattle.txs_machine.proofs.Answered.{answer_leaves, full_stops, memory_stops, stop_ends}
+use Rattle.txs_machine.proofs.Answered.{answer_leaves, memory_stops, stop_ends, idle_number, idle_outcome}
 use Rattle.txs_machine.proofs.Limits.{new_limited, turn_limited, answered_limited}
-use Rattle.txs_machine.proofs.RunOver.{Unfilled, as_is, as_known, turn_keeps, move_unfilled, standing_of, stands_staged, turn_asked, no_entry, in_after, unfilled_of, map_append, answer_asked, more_asked, asked_last, idle_never, action_never}
-use Rattle.txs_played.specs.Played.{WasStoppedAt, HasPlayed, kept_after, stopped_after, kept_of}
+use Rattle.txs_machine.proofs.RunOver.{Unfilled, as_is, as_known, turn_keeps, move_unfilled, standing_of, stands_staged, turn_asked, no_entry, in_after, unfilled_of, map_append, answer_asked, more_asked, asked_last, idle_never}
+use Rattle.txs_played.specs.Goes.{HasGone}
+use Rattle.txs_played.specs.Played.{WasStoppedAt, IsThreadOn, HasPlayed, kept_after, stopped_after, kept_of}
+use Rattle.txs_played.proofs.Going.{new_gone, turn_gone, heard_gone, idle_gone, full_gone, memory_gone, turn_number, idle_limited}
 
 -- ---- an actor that keeps its asks
 
 -- a new one has kept nothing
-pub new_played : ActorsRun → TypedStands → (code : PlainCode) (function_rooms thread_rooms : List ℕ) (k limit : ℕ) (a : PlainActor) → WellTyped code function_rooms thread_rooms → k < length code.threads → IsNew code k limit a → HasPlayed code [] None a
-new_played laws law code function_rooms thread_rooms k limit a well below n = record {
-  stands = subst (λ i. StandingCode (code_of code i)) (sym n.number) (standing_of law code function_rooms thread_rooms k well below);
-  stage = Idle;
-  ran = laws.begins code k limit a n;
-  staged = refl;
-  here = as_is a Idle None None n.unended n.unasking (ap stage_of n.opens);
-  asked = λ before e rest s. absurd (no_entry before e rest s);
+pub new_played : ActorsRun → TypedStands → (code : PlainCode) (function_rooms thread_rooms : List ℕ) (limit : ℕ) (a : PlainActor) → WellTyped code function_rooms thread_rooms → IsNew code a.number limit a → HasPlayed code [] None a
+new_played laws law code function_rooms thread_rooms limit a well n = record {
+  ran = laws.begins code a.number limit a n;
+  gone = new_gone code a.number limit a n;
+  thread = λ below. record {
+    stands = standing_of law code function_rooms thread_rooms a.number well below;
+    stage = Idle;
+    staged = refl;
+    here = as_is a Idle None None n.unended n.unasking (ap stage_of n.opens);
+    asked = λ before e rest s. absurd (no_entry before e rest s);
+  };
   limited = new_limited a.limit a refl n.unended n.unused;
   full = λ x. absurd (subst Unfilled x (subst Unfilled (sym n.unended) tt));
 }
@@ -49,23 +53,32 @@ turn_stops : (P : PlainActor → Type 0) (code : PlainCode) (a b : PlainActor) (
 turn_stops P code a b r None u h x = absurd (subst Unfilled x (move_unfilled code a b r _ u))
 turn_stops P code a b r (Some o) u h x = subst (λ (y : PlainActor). y.outcome ≡ Some outcome.JournalFull → P y) (sym u.1) h x
 
--- a turn keeps what it is
+-- a turn keeps what a thread's is
+turn_thread : (code : PlainCode) (es : List Entry) (a b : PlainActor) (r : Turn) → unanswered a ≡ None → HasRun code (map exchange_of es) a → Turns code a r b → IsThreadOn code es a → IsThreadOn code es b
+turn_thread code es a b r f ran t h =
+    let known : StagedCode (code_of code a.number) = standing_staged (code_of code a.number) h.stands in
+    let staged = stands_staged code (map exchange_of es) a known f ran in
+    let kept = turn_keeps code a b r h.stage a.outcome staged refl f t (as_known a h.stage a.outcome None refl f h.here) in
+    record {
+      stands = subst (λ n. StandingCode (code_of code n)) (sym kept.0) h.stands;
+      stage = h.stage;
+      staged = h.staged;
+      here = kept.1;
+      asked = λ before e rest s. subst (λ n. AskedOn (code_of code n) before b) (sym kept.0) (turn_asked code before a b r a.outcome t (h.asked before e rest s));
+    }
+
+-- and what each is
 pub turn_played : ActorsRun → (code : PlainCode) (es : List Entry) (o : Option Ask) (a b : PlainActor) (r : Turn) → unanswered a ≡ None → Turns code a r b → HasPlayed code es o a → (b.number ≡ a.number) × HasPlayed code es o b
 turn_played laws code es o a b r f t h =
-    let known : StagedCode (code_of code a.number) = standing_staged (code_of code a.number) h.stands in
-    let staged = stands_staged code (map exchange_of es) a known f h.ran in
-    let kept = turn_keeps code a b r h.stage a.outcome staged refl f t (as_known a h.stage a.outcome None refl f h.here) in
+    let same : b.number ≡ a.number = turn_number code a b r a.outcome t in
     let limited : IsLimited a.limit b = turn_limited code a.limit a b r a.outcome t h.limited in (
-      kept.0,
+      same,
       record {
-        stands = subst (λ n. StandingCode (code_of code n)) (sym kept.0) h.stands;
-        stage = h.stage;
         ran = laws.turns code (map exchange_of es) a b r f h.ran t;
-        staged = h.staged;
-        here = kept.1;
-        asked = λ before e rest s. subst (λ n. AskedOn (code_of code n) before b) (sym kept.0) (turn_asked code before a b r a.outcome t (h.asked before e rest s));
+        gone = subst (λ n. HasGone (code_of code n) es b) (sym same) (turn_gone code es a b f h.gone r t);
+        thread = λ below. turn_thread code es a b r f h.ran t (h.thread (subst (λ n. n < length code.threads) same below));
         limited = subst (λ n. IsLimited n b) (sym limited.limited) limited;
-        full = λ x. subst (λ n. WasStoppedAt (code_of code n) (map exchange_of es) b o) (sym kept.0)
+        full = λ x. subst (λ n. WasStoppedAt (code_of code n) (map exchange_of es) b o) (sym same)
             (turn_stops (λ y. WasStoppedAt (code_of code a.number) (map exchange_of es) y o) code a b r a.outcome t h.full x);
       },
     )
@@ -74,44 +87,75 @@ staged_append : (st mid end : Stage) (es fs : List Entry) → AreStaged st es mi
 staged_append st mid end [] fs e h = subst (λ i. AreStaged i fs end) (sym e) h
 staged_append st mid end (x ∷ es) fs g h = (g.0, staged_append (stage_after st x.ask x.reply) mid end es fs g.1 h)
 
--- so does a reply that the actor goes on with, where its entry is kept
-heard_played : ActorsRun → (code : PlainCode) (es : List Entry) (o : Option Ask) (a : PlainActor) (q : Ask) (r : Reply) (at : ℕ) → a.outcome ≡ None → unanswered a ≡ Some q → unanswered (answered a r) ≡ None → MayAnswer q r → (Stops r → ⊥) → (r ≡ reply.Idle → ⊥) → HasPlayed code es o a
-    → HasPlayed code (es ++ record { ask = q; reply = r; at = at } ∷ []) o (answered a r)
-heard_played laws code es o a q r at e f free may on unless h =
+-- so does a reply that the actor goes on with, where its entry is kept, of a thread's
+heard_thread : (code : PlainCode) (es : List Entry) (a : PlainActor) (q : Ask) (r : Reply) (at : ℕ) → a.outcome ≡ None → unanswered a ≡ Some q → unanswered (answered a r) ≡ None → MayAnswer q r → (Stops r → ⊥) → (r ≡ reply.Idle → ⊥) → HasRun code (map exchange_of es) a → IsThreadOn code es a
+    → IsThreadOn code (es ++ record { ask = q; reply = r; at = at } ∷ []) (answered a r)
+heard_thread code es a q r at e f free may on unless ran h =
     let known = as_known a h.stage None (Some q) e f h.here in
     let leaves = answer_leaves a q r f may unless in
     let own : Entry = record { ask = q; reply = r; at = at } in
-    let limited = answered_limited a.limit a r e leaves h.limited in
     record {
       stands = subst (λ n. StandingCode (code_of code n)) (sym leaves.number) h.stands;
       stage = stage_after h.stage q r;
-      ran = subst (λ xs. HasRun code xs (answered a r)) (sym (map_append es own)) (laws.answers code (map exchange_of es) a q r e f may on unless h.ran);
       staged = staged_append Idle h.stage (stage_after h.stage q r) es (own ∷ []) h.staged (known.0, refl);
       here = as_is (answered a r) (stage_after h.stage q r) (answered a r).outcome None refl free (in_after (answered a r) (stage_after h.stage q r) (answered a r).outcome (known.1 r may on));
       asked = λ before x rest s. subst (λ n. AskedOn (code_of code n) before (answered a r)) (sym leaves.number)
           (more_asked (code_of code a.number) es own a q r leaves
-          (subst (λ x. HasCome (code_of code a.number) (map exchange_of es) a x (Some q)) e (subst (λ y. HasCome (code_of code a.number) (map exchange_of es) a a.outcome y) f h.ran)) h.asked before x rest s);
+          (subst (λ x. HasCome (code_of code a.number) (map exchange_of es) a x (Some q)) e (subst (λ y. HasCome (code_of code a.number) (map exchange_of es) a a.outcome y) f ran)) h.asked before x rest s);
+    }
+
+-- and of each
+heard_played : ActorsRun → (code : PlainCode) (es : List Entry) (o : Option Ask) (a : PlainActor) (q : Ask) (r : Reply) (at : ℕ) → a.outcome ≡ None → unanswered a ≡ Some q → unanswered (answered a r) ≡ None → MayAnswer q r → (Stops r → ⊥) → (r ≡ reply.Idle → ⊥) → HasPlayed code es o a
+    → HasPlayed code (es ++ record { ask = q; reply = r; at = at } ∷ []) o (answered a r)
+heard_played laws code es o a q r at e f free may on unless h =
+    let leaves = answer_leaves a q r f may unless in
+    let own : Entry = record { ask = q; reply = r; at = at } in
+    let limited = answered_limited a.limit a r e leaves h.limited in
+    record {
+      ran = subst (λ xs. HasRun code xs (answered a r)) (sym (map_append es own)) (laws.answers code (map exchange_of es) a q r e f may on unless h.ran);
+      gone = subst (λ n. HasGone (code_of code n) (es ++ own ∷ []) (answered a r)) (sym leaves.number) (heard_gone (code_of code a.number) es a q e f h.gone r at free may on);
+      thread = λ below. heard_thread code es a q r at e f free may on unless h.ran (h.thread (subst (λ n. n < length code.threads) leaves.number below));
       limited = subst (λ n. IsLimited n (answered a r)) (sym leaves.limit) limited;
       full = λ x. absurd (subst Unfilled x (unfilled_of (answered a r).outcome (unstopped_if a e a.pending r on)));
     }
 
--- and one that stops it, where nothing is kept but the ask at which it was stopped
-stopped_played : ActorsRun → (code : PlainCode) (es : List Entry) (o : Option Ask) (a : PlainActor) (q : Ask) (r : Reply) → a.outcome ≡ None → unanswered a ≡ Some q → MayAnswer q r → Stops r
-    → ((answered a r).outcome ≡ Some outcome.JournalFull → WasStoppedAt (code_of code a.number) (map exchange_of es) (answered a r) (Some q)) → HasPlayed code es o a → HasPlayed code es (Some q) (answered a r)
-stopped_played laws code es o a q r e f may stop filled h =
+-- one that stops a thread's, where nothing is kept but the ask at which it was stopped
+stopped_thread : (code : PlainCode) (es : List Entry) (a : PlainActor) (q : Ask) (r : Reply) → unanswered a ≡ Some q → MayAnswer q r → Stops r → IsThreadOn code es a → IsThreadOn code es (answered a r)
+stopped_thread code es a q r f may stop h =
     let ends = stop_ends a q r f stop in
     let leaves = answer_leaves a q r f may (λ i. subst Stops i stop) in
-    let limited = answered_limited a.limit a r e leaves h.limited in
     record {
       stands = subst (λ n. StandingCode (code_of code n)) (sym leaves.number) h.stands;
       stage = h.stage;
-      ran = laws.stops code (map exchange_of es) a q r e f may stop h.ran;
       staged = h.staged;
       here = as_is (answered a r) h.stage (Some ends.0) (unanswered (answered a r)) ends.1 refl tt;
       asked = λ before x rest s. subst (λ n. AskedOn (code_of code n) before (answered a r)) (sym leaves.number) (answer_asked (code_of code a.number) before a r leaves (h.asked before x rest s));
+    }
+
+-- and each
+stopped_played : ActorsRun → (code : PlainCode) (es : List Entry) (o : Option Ask) (a : PlainActor) (q : Ask) (r : Reply) → a.outcome ≡ None → unanswered a ≡ Some q → MayAnswer q r → Stops r
+    → HasGone (code_of code a.number) es (answered a r)
+    → ((answered a r).outcome ≡ Some outcome.JournalFull → WasStoppedAt (code_of code a.number) (map exchange_of es) (answered a r) (Some q)) → HasPlayed code es o a → HasPlayed code es (Some q) (answered a r)
+stopped_played laws code es o a q r e f may stop gone filled h =
+    let leaves = answer_leaves a q r f may (λ i. subst Stops i stop) in
+    let limited = answered_limited a.limit a r e leaves h.limited in
+    record {
+      ran = laws.stops code (map exchange_of es) a q r e f may stop h.ran;
+      gone = subst (λ n. HasGone (code_of code n) es (answered a r)) (sym leaves.number) gone;
+      thread = λ below. stopped_thread code es a q r f may stop (h.thread (subst (λ n. n < length code.threads) leaves.number below));
       limited = subst (λ n. IsLimited n (answered a r)) (sym leaves.limit) limited;
       full = λ x. subst (λ n. WasStoppedAt (code_of code n) (map exchange_of es) (answered a r) (Some q)) (sym leaves.number) (filled x);
     }
+
+-- an agent without an action is where it was; no thread asks for one
+idle_played : ActorsRun → (code : PlainCode) (es : List Entry) (o : Option Ask) (a : PlainActor) (q : Ask) → a.outcome ≡ None → unanswered a ≡ Some q → unanswered (answered a reply.Idle) ≡ None → MayAnswer q reply.Idle → HasPlayed code es o a → HasPlayed code es o (answered a reply.Idle)
+idle_played laws code es o a q e f free may h = record {
+  ran = laws.idles code (map exchange_of es) a q e f may h.ran;
+  gone = subst (λ n. HasGone (code_of code n) es (answered a reply.Idle)) (sym (idle_number a)) (idle_gone (code_of code a.number) es a q e f h.gone free may);
+  thread = λ below. (let t = h.thread (subst (λ n. n < length code.threads) (idle_number a) below) in absurd (idle_never t.stage q (as_known a t.stage None (Some q) e f t.here).0 may));
+  limited = idle_limited a e h.limited;
+  full = λ x. absurd (subst Unfilled x (subst Unfilled (sym (idle_outcome a ∙ e)) tt));
+}
 
 -- an actor that asks hasn't ended
 pub asker_goes : (code : PlainCode) (a : PlainActor) (q : Ask) → Lives code a → unanswered a ≡ Some q → a.outcome ≡ None
@@ -127,21 +171,6 @@ asker_goes code a q (inr h) f = go a.outcome refl a.pending f h.attends
     go None e p x g = e
     go (Some o) e None x g = cc
     go (Some o) e (Some p) x g = absurd g
-
--- an actor that has played so is handed no action
-pub hands_played : (code : PlainCode) (es : List Entry) (o : Option Ask) (a : PlainActor) (q : Ask) (r : Reply) → a.outcome ≡ None → unanswered a ≡ Some q → MayAnswer q r → HasPlayed code es o a → HandsOut code r
-hands_played code es o a q (reply.Action n x v) e f may h = absurd (action_never h.stage q n x v (as_known a h.stage None (Some q) e f h.here).0 may)
-hands_played code es o a q (reply.At p) e f may h = tt
-hands_played code es o a q (reply.Is v) e f may h = tt
-hands_played code es o a q (reply.Views p vs) e f may h = tt
-hands_played code es o a q reply.Done e f may h = tt
-hands_played code es o a q (reply.Retry d) e f may h = tt
-hands_played code es o a q (reply.Changed d) e f may h = tt
-hands_played code es o a q (reply.AgentIsFailed g) e f may h = tt
-hands_played code es o a q reply.Idle e f may h = tt
-hands_played code es o a q (reply.Opened p v) e f may h = tt
-hands_played code es o a q reply.Full e f may h = tt
-hands_played code es o a q reply.Memory e f may h = tt
 
 kept_more : (ks : List Kept) (k : Kept) → map entry_of (ks ++ k ∷ []) ≡ map entry_of ks ++ entry_of k ∷ []
 kept_more [] k = refl
@@ -168,9 +197,9 @@ answer_played laws code ks o a q r at number runs f free may h = go r free may
     go (reply.AgentIsFailed g) free may = heard (reply.AgentIsFailed g) free may (λ x. x) (λ i. cc)
     go (reply.Action n x v) free may = heard (reply.Action n x v) free may (λ x. x) (λ i. cc)
     go (reply.Opened p v) free may = heard (reply.Opened p v) free may (λ x. x) (λ i. cc)
-    go reply.Idle free may = absurd (idle_never h.stage q (as_known a h.stage None (Some q) e f h.here).0 may)
-    go reply.Full free may = stopped_played laws code (map entry_of ks) o a q reply.Full e f may tt (λ x. asked_last laws code (map exchange_of (map entry_of ks)) a q e f may h.ran) h
-    go reply.Memory free may = stopped_played laws code (map entry_of ks) o a q reply.Memory e f may tt (λ x. absurd (subst Unfilled x (subst Unfilled (sym (memory_stops a q f)) tt))) h
+    go reply.Idle free may = idle_played laws code (map entry_of ks) o a q e f free may h
+    go reply.Full free may = stopped_played laws code (map entry_of ks) o a q reply.Full e f may tt (full_gone (code_of code a.number) (map entry_of ks) a q e f h.gone) (λ x. asked_last laws code (map exchange_of (map entry_of ks)) a q e f may h.ran) h
+    go reply.Memory free may = stopped_played laws code (map entry_of ks) o a q reply.Memory e f may tt (memory_gone (code_of code a.number) (map entry_of ks) a q e f h.gone) (λ x. absurd (subst Unfilled x (subst Unfilled (sym (memory_stops a q f)) tt))) h
 
 -- an actor that has ended asks nothing
 pub ended_free : (code : PlainCode) (a : PlainActor) (o : Outcome) → Lives code a → a.outcome ≡ Some o → unanswered a ≡ None
@@ -195,6 +224,3 @@ renewed code k limit a n = record {
   unused = n.unused;
   limited = refl;
 }
-
-pub numbered_below : (code : PlainCode) (k limit : ℕ) (a : PlainActor) → IsNew code k limit a → k < length code.threads → a.number < length code.threads
-numbered_below code k limit a n below = subst (λ i. i < length code.threads) (sym n.number) below

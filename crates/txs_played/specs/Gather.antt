@@ -1,5 +1,5 @@
 -- When what actors kept agrees with what they shared, and what a report says of them then.
-use Rattle.std.specs.Prelude.{◌≡◌, ◌≤◌, ℕ, suc, false, List, [], ◌∷◌, length, map, Option, Some, None}
+use Rattle.std.specs.Prelude.{◌≡◌, ◌≤◌, ◌+◌, ℕ, suc, false, List, [], ◌∷◌, length, map, Option, Some, None}
 use Rattle.txs_asks.specs.declared.ask.Ask.{Ask}
 use Rattle.txs_asks.specs.declared.event.Outcome.TheVariants.{JournalFull}
 use Rattle.txs_value.specs.Limits.{most_events}
@@ -10,6 +10,7 @@ use Rattle.txs_runs.specs.Shared.{book_for}
 use Rattle.txs_shared.specs.SharedState.{PlainShared, numbered_book}
 use Rattle.txs_replay.specs.Replay.{entry_of, AreReplayed}
 use Rattle.txs_replay.specs.declared.kept.Kept.{Kept}
+use Rattle.txs_machine.specs.Agents.{actors_of, AgentHasDone}
 use Rattle.txs_machine.specs.RunOver.{books_of, places_of}
 use Rattle.txs_machine.specs.Schedule.{HasDone}
 use Rattle.txs_machine.specs.declared.schedule.ThreadReport.{ThreadReport}
@@ -49,20 +50,20 @@ abbrev pub ArePlayed : List PlainPlayed → Type 0
 ArePlayed [] = Unit {0}
 ArePlayed (p ∷ ps) = HasPlayed p.code (map entry_of p.kept) p.stopped p.actor × ArePlayed ps
 
--- what is shared is of the code's cells, for its threads, and there are as many actors
+-- what is shared is of the code's cells, for its threads, and there are as many actors as threads and agents
 abbrev pub IsMadeFor : PlainCode → PlainShared → ℕ → Type 0
-IsMadeFor code s actors = (s.cells ≡ code.cells) × (s.threads ≡ length code.threads) × (actors ≡ length code.threads)
+IsMadeFor code s actors = (s.cells ≡ code.cells) × (s.threads ≡ length code.threads) × (actors ≡ actors_of code)
 
 -- what each of them kept
 abbrev pub kept_by : List PlainPlayed → List (List Kept)
 kept_by ps = map (λ p. p.kept) ps
 
--- Parts agree: what is shared is of the code's cells and threads, there is one actor for each thread and no other, and what they kept, all that was served,
--- is answered as it was, from the beginning to what they share.
+-- Parts agree: what is shared is of the code's cells and threads, there is one actor for each thread, behind them one for each agent in the order of the
+-- cells, and no other, and what they kept, all that was served, is answered as it was, from the beginning to what they share.
 pub record Agrees (code : PlainCode) (s : PlainShared) (served : ℕ) (ps : List PlainPlayed) : Type 0 where
   pub cells : s.cells ≡ code.cells
   pub threads : s.threads ≡ length code.threads
-  pub one_each : length ps ≡ length code.threads
+  pub one_each : length ps ≡ actors_of code
   pub each : ArePlayers code s 0 ps
   pub replayed : AreReplayed s served (kept_by ps)
 
@@ -80,6 +81,10 @@ AreReportsOf s [] (r ∷ rs) = ⊥
 AreReportsOf s (p ∷ ps) [] = ⊥
 AreReportsOf s (p ∷ ps) (r ∷ rs) = IsReportOf s p r × AreReportsOf s ps rs
 
--- each entry says what an actor of the code did over the books
+-- each entry says what the actor of a thread of the code did over the books
 abbrev pub AllHaveDone : PlainCode → PlainShared → List ThreadReport → Type 0
 AllHaveDone code s rans = (k : ℕ) (ran : ThreadReport) → nth rans k ≡ Some ran → (limit : ℕ) × HasDone code k limit (books_of s) ran
+
+-- each entry says what the actor of an agent did, in the order of the agents
+abbrev pub AllHaveAttended : PlainCode → PlainShared → List ThreadReport → Type 0
+AllHaveAttended code s rans = (i : ℕ) (ran : ThreadReport) → nth rans i ≡ Some ran → (limit : ℕ) × AgentHasDone code (length code.threads + i) limit (books_of s) ran

@@ -1,3 +1,5 @@
 pub mod Adds
+pub mod Callees
 pub mod Gather
+pub mod Goes
 pub mod Played

@@ -1,5 +1,5 @@
 -- An actor with what it kept of its asks, and that it is where its code comes to on them.
-use Rattle.std.specs.Prelude.{◌≡◌, ℕ, Bool, true, false, List, [], ◌∷◌, ◌++◌, map, Option, Some, None}
+use Rattle.std.specs.Prelude.{◌≡◌, ◌<◌, ℕ, Bool, true, false, List, [], ◌∷◌, ◌++◌, length, map, Option, Some, None}
 use Rattle.txs_asks.specs.Ask.{Exchange}
 use Rattle.txs_asks.specs.declared.ask.Ask.{Ask}
 use Rattle.txs_asks.specs.declared.ask.Reply.{Reply}
@@ -14,21 +14,27 @@ use Rattle.txs_runs.specs.Told.{Entry, exchange_of, AreStaged}
 use Rattle.txs_replay.specs.Replay.{entry_of}
 use Rattle.txs_replay.specs.declared.kept.Kept.{Kept}
 use Rattle.txs_machine.specs.RunOver.{IsIn, IsLimited, AskedOn}
+use Rattle.txs_played.specs.Goes.{HasGone}
 
 -- with its last step an actor asked what it was stopped at
 abbrev pub WasStoppedAt : ThreadCode → List Exchange → PlainActor → Option Ask → Type 0
 WasStoppedAt code xs a None = ⊥
 WasStoppedAt code xs a (Some q) = AsksLast code xs a q
 
--- An actor is where its code comes to on these entries, whose asks came in their stages; it asked for each of them on those before, made no more steps than
--- it may, and where it was stopped for a full book, it was at this ask. Nothing is said of the books.
-pub record HasPlayed (code : PlainCode) (es : List Entry) (stopped : Option Ask) (a : PlainActor) : Type 0 where
+-- What holds besides of a thread's actor: its asks came in their stages, and it asked for each of them on those before.
+pub record IsThreadOn (code : PlainCode) (es : List Entry) (a : PlainActor) : Type 0 where
   pub stands : StandingCode (code_of code a.number)
   pub stage : Stage
-  pub ran : HasRun code (map exchange_of es) a
   pub staged : AreStaged Idle es stage
   pub here : IsIn a stage a.outcome (unanswered a)
   pub asked : (before : List Entry) (e : Entry) (rest : List Entry) → es ≡ before ++ e ∷ rest → AskedOn (code_of code a.number) before a
+
+-- An actor is where its code comes to on these entries, for each of which it asked on those before; it made no more steps than it may, and where it was
+-- stopped for a full book, it was at this ask. Nothing is said of the books.
+pub record HasPlayed (code : PlainCode) (es : List Entry) (stopped : Option Ask) (a : PlainActor) : Type 0 where
+  pub ran : HasRun code (map exchange_of es) a
+  pub gone : HasGone (code_of code a.number) es a
+  pub thread : a.number < length code.threads → IsThreadOn code es a
   pub limited : IsLimited a.limit a
   pub full : a.outcome ≡ Some JournalFull → WasStoppedAt (code_of code a.number) (map exchange_of es) a stopped
 
@@ -54,7 +60,7 @@ IsPlayed false p q = (q ≡ unanswered p.actor) × HasPlayed p.code (map entry_o
 abbrev pub IsWell : PlainPlayed → Option Ask → Type 0
 IsWell p q = Lives p.code p.actor × IsPlayed p.lost p q
 
--- what is kept after a reply: one entry more, but for one that stops the actor
+-- what is kept after a reply: one entry more, but for one that stops the actor, and where there is no action for an agent
 abbrev pub kept_after : Reply → Kept → List Kept → List Kept
 kept_after reply.Full k ks = ks
 kept_after reply.Memory k ks = ks
@@ -65,7 +71,6 @@ kept_after r k ks = ks ++ k ∷ []
 abbrev pub stopped_after : Reply → Ask → Option Ask → Option Ask
 stopped_after reply.Full q o = Some q
 stopped_after reply.Memory q o = Some q
-stopped_after reply.Idle q o = Some q
 stopped_after r q o = o
 
 -- an entry of these

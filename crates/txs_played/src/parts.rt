@@ -1,10 +1,12 @@
 //! The comparison of what actors kept with what they shared.
 
-ghost use Rattle.std.specs.Prelude.{◌≡◌, ◌↔◌, length, false, IsTrue, IfOk, IfErr, OnOk};
+ghost use Rattle.std.specs.Prelude.{◌≡◌, ◌≤◌, ◌<◌, ◌↔◌, [], length, take, drop, false, IsTrue, IfOk, IfErr, OnOk};
+ghost use Rattle.txs_machine.specs.Agents.{agents_of, AreExplainedBy};
+ghost use Rattle.txs_actor.specs.PlainActor.{agents_from, with_agent};
 ghost use Rattle.txs_machine.specs.RunOver.{places_of};
 ghost use Rattle.txs_machine.specs.Schedule.{IsExplainedBy};
 ghost use Rattle.txs_played.specs.Adds.{adds_event, kept_trace, IsNotedBehind};
-ghost use Rattle.txs_played.specs.Gather.{StoppedSo, IsPlayer, AreWhole, ArePlayed, ArePlayers, IsMadeFor, kept_by, Agrees, IsReportOf, AreReportsOf, AllHaveDone};
+ghost use Rattle.txs_played.specs.Gather.{StoppedSo, IsPlayer, AreWhole, ArePlayed, ArePlayers, IsMadeFor, kept_by, Agrees, IsReportOf, AreReportsOf, AllHaveDone, AllHaveAttended};
 ghost use Rattle.txs_machine.specs.declared.runner.RunError.TheVariants.{JournalMismatch};
 ghost use Rattle.txs_shared.specs.SharedState.{shared_of};
 
@@ -15,11 +17,12 @@ use txs_bytes::same_code;
 use txs_code::Verified;
 use txs_follows::replies_fit;
 use txs_machine::{Place, Report, RunError, ThreadReport, actors_explained};
-use txs_replay::law::replay_tells;
+use txs_replay::law::replay_runs;
 use txs_replay::replay::replays;
 use txs_replay::{Kept, KeptEntries};
-use txs_runs::law::told_fits;
+use txs_runs::law::{every_report_is_explained, told_fits, typed_threads_are_staged};
 use txs_shared::SharedState;
+use txs_value::{CellDefinition, CellKind};
 use txs_world::law::{done_is_undisturbed, unwritten_stays};
 
 /// What actors shared, and what each of them did.
@@ -44,7 +47,8 @@ fn is_stopped_so(shared: &SharedState, played: &Played<'_>) -> bool
 #[tactic(auto, using(crate::proofs::Gathering::other_number, crate::proofs::Gathering::other_code, crate::proofs::Gathering::asking, crate::proofs::Gathering::stopped_otherwise, crate::proofs::Gathering::player_of))]
 fn is_player(code: &Verified, shared: &SharedState, number: usize, played: &Played<'_>) -> bool
     requires { played.now.lost ≡ false }
-    ensures { IsTrue result ↔ IsPlayer code.now shared.now number played.now }
+    ensures player { IsTrue result ↔ IsPlayer code.now shared.now number played.now }
+    ensures few { IsTrue result → number < 65536 }
 {
     if usize::from(played.number()) != number {
         return false;
@@ -74,7 +78,8 @@ fn are_whole(played: &[Played<'_>]) -> bool
 /// Whether they are the actors of all numbers from 0 on, as `is_player` says.
 fn are_players(code: &Verified, shared: &SharedState, played: &[Played<'_>]) -> bool
     requires { AreWhole played.now }
-    ensures { IsTrue result ↔ ArePlayers code.now shared.now 0 played.now }
+    ensures players { IsTrue result ↔ ArePlayers code.now shared.now 0 played.now }
+    ensures few { IsTrue result → length played.now ≤ 65536 }
 {
     for number in 0..played.len() {
         if !is_player(code, shared, number, &played[number]) {
@@ -84,14 +89,36 @@ fn are_players(code: &Verified, shared: &SharedState, played: &[Played<'_>]) -> 
     true
 }
 
-/// Whether what is shared is of the code's cells, for its threads, and there are as many actors.
+/// One for an agent, and none for another cell.
+fn agents_in(cell: &CellDefinition) -> usize
+    ensures { result ≡ length (with_agent cell.now.kind 0 []) }
+{
+    match cell.kind {
+        CellKind::Agent => 1,
+        CellKind::Ref | CellKind::Atom => 0,
+    }
+}
+
+/// How many of these cells are agents.
+fn count_agents(cells: &[CellDefinition]) -> usize
+    ensures { result ≡ length (agents_from 0 cells.now) }
+{
+    let mut agents = 0;
+    for cell in cells {
+        agents += agents_in(cell);
+    }
+    agents
+}
+
+/// Whether what is shared is of the code's cells, for its threads, and there are as many actors as threads and agents.
 fn is_made_for(code: &Verified, shared: &SharedState, actors: usize) -> bool
     ensures { IsTrue result ↔ IsMadeFor code.now shared.now actors }
 {
     let threads = code.code().threads().len();
     shared.made_for(code.code().cells())
         && usize::from(shared.threads()) == threads
-        && actors == threads
+        && actors >= threads
+        && actors - threads == count_agents(code.code().cells())
 }
 
 /// Whether an ask that was answered so added an event to its book.
@@ -156,7 +183,7 @@ fn report_of(
     })
 }
 
-/// What all actors did.
+/// What these actors did.
 fn report_all(
     alloc: Global,
     shared: &SharedState,
@@ -164,11 +191,28 @@ fn report_all(
 ) -> Result<Vec<ThreadReport>, AllocError>
     ensures { IfOk result (λ v. AreReportsOf shared.now played.now v.items) }
 {
-    let mut threads = Vec::with_capacity(alloc, played.len())?;
+    let mut reports = Vec::with_capacity(alloc, played.len())?;
     for one in played {
-        threads.push(report_of(alloc, shared, one)?)?;
+        reports.push(report_of(alloc, shared, one)?)?;
     }
-    Ok(threads)
+    Ok(reports)
+}
+
+/// What all actors did, of whom the first so many are those of the threads.
+fn report_parts(
+    alloc: Global,
+    shared: &SharedState,
+    played: &[Played<'_>],
+    threads: usize,
+) -> Result<Report, AllocError>
+    requires { threads ≤ length played.now }
+    ensures threads { IfOk result (λ r. AreReportsOf shared.now (take threads played.now) r.threads.items) }
+    ensures agents { IfOk result (λ r. AreReportsOf shared.now (drop threads played.now) r.agents.items) }
+{
+    let (front, back) = played.split_at(threads);
+    let threads = report_all(alloc, shared, front)?;
+    let agents = report_all(alloc, shared, back)?;
+    Ok(Report { threads, agents })
 }
 
 /// What each of them kept.
@@ -182,9 +226,9 @@ fn take_kept(alloc: Global, played: Vec<Played<'_>>) -> Result<Vec<KeptEntries>,
     Ok(kept)
 }
 
-/// The comparison of the actors of a run with what they share: they agree where there is one for each thread, each was made with this code, and
-/// what they kept, `served` asks in all, is answered from the beginning as it was and leads to these books. Then the books told each actor just
-/// what it kept, it is where its code comes to on that, and each program that the code follows explains the report.
+/// The comparison of the actors of a run with what they share: they agree where there is one for each thread and behind these one for each agent, each
+/// was made with this code, and what they kept, `served` asks in all, is answered from the beginning as it was and leads to these books. Then the books
+/// told each actor just what it kept, it is where its code comes to on that, and each program that the code follows explains the report.
 ///
 /// # Errors
 /// `JournalMismatch` where they don't agree; `Memory` where there was no memory, also of an actor that lost what it should have kept.
@@ -199,16 +243,22 @@ pub fn gather(
     ensures shared { IfOk result (λ g. g.shared ≡ shared) }
     ensures agrees { IfOk result (λ g. Agrees code.now shared served played.entry.items) }
     ensures one_each { IfOk result (λ g. length g.report.threads.items ≡ length code.now.threads) }
+    ensures agents_each { IfOk result (λ g. length g.report.agents.items ≡ length (agents_of code.now)) }
     ensures done { IfOk result (λ g. AllHaveDone code.now shared g.report.threads.items) }
+    ensures attended { IfOk result (λ g. AllHaveAttended code.now shared g.report.agents.items) }
     ensures explained { IfOk result (λ g. IsExplainedBy code.now (shared_of g.shared) g.report.threads.items) }
+    ensures all_explained { IfOk result (λ g. AreExplainedBy code.now (shared_of g.shared) g.report.threads.items g.report.agents.items) }
     ensures differs { IfErr result (λ e. e ≡ JournalMismatch → Agrees code.now shared served played.entry.items → ⊥) }
 {
-    replay_tells();
+    replay_runs();
+    every_report_is_explained();
+    typed_threads_are_staged();
     actors_explained();
     replies_fit();
     told_fits();
     done_is_undisturbed();
     unwritten_stays();
+    let _rooms = code.rooms();
     let _stands = shared.events();
     if !are_whole(played.as_slice()) {
         return Err(RunError::Memory);
@@ -219,13 +269,11 @@ pub fn gather(
     if !are_players(code, &shared, played.as_slice()) {
         return Err(RunError::JournalMismatch);
     }
-    let threads = report_all(alloc, &shared, played.as_slice())?;
+    let threads = usize::from(shared.threads());
+    let report = report_parts(alloc, &shared, played.as_slice(), threads)?;
     let kept = take_kept(alloc, played)?;
     if !replays(alloc, &shared, served, kept)? {
         return Err(RunError::JournalMismatch);
     }
-    Ok(Gathered {
-        shared,
-        report: Report { threads },
-    })
+    Ok(Gathered { shared, report })
 }

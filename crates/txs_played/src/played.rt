@@ -1,16 +1,18 @@
 //! An actor with what it kept.
 
 ghost use Rattle.std.specs.Prelude.{◌≡◌, ◌≤◌, ◌<◌, ◌↔◌, [], length, map, true, false, Some, None, IsTrue, OnOk, IfOk};
-ghost use Rattle.txs_actor.specs.PlainActor.{Lives, MayAnswerIf, answered, unanswered};
+ghost use Rattle.txs_actor.specs.PlainActor.{HandsOut, Lives, MayAnswerIf, answered, unanswered};
 ghost use Rattle.txs_actor.specs.Turns.{IsNew, Turns};
 ghost use Rattle.txs_actor.specs.declared.outcome.Turn.TheVariants as turned;
 ghost use Rattle.txs_asks.specs.declared.ask.Ask.{Ask as AnAsk};
 ghost use Rattle.txs_asks.specs.declared.event.Outcome.{Outcome as AnOutcome};
+ghost use Rattle.txs_played.specs.Callees.{ArePure};
 ghost use Rattle.txs_played.specs.Gather.{HasFullBook};
 ghost use Rattle.txs_played.specs.Played.{PlainPlayed, HasPlayed, new_player, kept_after, stopped_after, kept_of};
 ghost use Rattle.txs_replay.specs.Replay.{entry_of};
 ghost use Rattle.txs_value.specs.Limits.{most_events};
 
+use crate::callees::hands_out;
 use std::alloc::{AllocError, Global};
 use std::marker::Model;
 use std::mem;
@@ -23,11 +25,13 @@ use txs_runs::law::typed_stands;
 use txs_shared::SharedState;
 use txs_value::limits::MOST_EVENTS;
 
-/// An actor with a reference to its code, and with what it kept: each ask with the reply that it went on with.
+/// An actor, of a thread or of an agent, with a reference to its code, and with what it kept: each ask with the reply that it went on with.
 #[derive(Drop)]
 pub struct Played<'a> {
     alloc: Global,
     code: &'a Verified,
+    /// Of each function, whether an action may call it.
+    callees: &'a [bool],
     actor: Actor,
     /// The ask that has no reply yet.
     asked: Option<Ask>,
@@ -39,6 +43,7 @@ pub struct Played<'a> {
 }
 
 impl<'a> Model for Played<'a> {
+    ghost use Rattle.txs_played.specs.Callees.{ArePure};
     ghost use Rattle.txs_played.specs.Played.{PlainPlayed, IsWell};
     ghost use Rattle.std.specs.Coded.{codes};
     ghost use Rattle.txs_value.specs.contracts.value.Value as value;
@@ -49,7 +54,7 @@ impl<'a> Model for Played<'a> {
 
     ghost view = { λ p. record { code = p.code.now; actor = p.actor; kept = p.kept; stopped = p.stopped; lost = p.lost } };
 
-    ghost invariant = { λ p. IsWell (record { code = p.code.now; actor = p.actor; kept = p.kept; stopped = p.stopped; lost = p.lost }) p.asked };
+    ghost invariant = { λ p. IsWell (record { code = p.code.now; actor = p.actor; kept = p.kept; stopped = p.stopped; lost = p.lost }) p.asked × ArePure p.code.now p.callees.now };
 }
 
 /// A copy of an ask, where there is room to keep it.
@@ -69,7 +74,7 @@ fn is_full(events: &[Event]) -> bool
     events.len() >= MOST_EVENTS
 }
 
-/// Keeps an ask with a copy of its reply, or as the one at which the actor was stopped.
+/// Keeps an ask with a copy of its reply, or as the one at which the actor was stopped; one that has no action for an agent is put away.
 fn keep(
     alloc: Global,
     kept: &mut KeptEntries,
@@ -82,6 +87,10 @@ fn keep(
     ensures kept { OnOk result (kept.new ≡ kept_after reply.now (kept_of ask reply.now at number) kept.old) }
     ensures stopped { OnOk result (stopped.new ≡ stopped_after reply.now ask stopped.old) }
 {
+    if let Reply::Idle = reply {
+        drop(ask);
+        return Ok(());
+    }
     if !is_exchanged(reply) {
         drop(mem::replace(stopped, Some(ask)));
         return Ok(());
@@ -96,11 +105,12 @@ fn keep(
 }
 
 impl<'a> Played<'a> {
-    /// A new actor, made with this code, that has kept nothing yet.
-    pub fn new(alloc: Global, code: &'a Verified, actor: Actor) -> Played<'a>
+    /// A new actor, of a thread or of an agent, made with this code, that has kept nothing yet. The callees are the functions of the code that an
+    /// action may call, as `sent_functions` tells them.
+    pub fn new(alloc: Global, code: &'a Verified, callees: &'a [bool], actor: Actor) -> Played<'a>
+        requires callees { ArePure code.now callees.now }
         requires lives { Lives code.now actor }
         requires new { IsNew code.now actor.number actor.limit actor }
-        requires there { actor.number < length code.now.threads }
         ensures { result ≡ new_player code.now actor }
     {
         actors_run();
@@ -109,6 +119,7 @@ impl<'a> Played<'a> {
         Played {
             alloc,
             code,
+            callees,
             actor,
             asked: None,
             kept: KeptEntries::new(alloc),
@@ -151,10 +162,11 @@ impl<'a> Played<'a> {
     }
 
     /// The actor goes on after the reply to its ask, which was served where its book had `at` events, and behind `number` asks of all
-    /// actors. The reply is kept with the ask, and of one that stops the actor the ask alone; where there is no memory to keep it, the actor makes no
-    /// more turns.
+    /// actors. The reply is kept with the ask, and of one that stops the actor the ask alone; where there is no action for an agent, nothing is kept, and
+    /// it is where it was. Where there is no memory to keep it, the actor makes no more turns.
     pub fn answer(&mut self, number: u64, at: u32, reply: Reply)
         requires answers { self.old.lost ≡ false → MayAnswerIf (unanswered self.old.actor) reply }
+        requires hands_out { self.old.lost ≡ false → HandsOut self.old.code reply }
         ensures code { self.new.code ≡ self.old.code }
         ensures answered { self.new.lost ≡ false → self.new.actor ≡ answered self.old.actor reply }
         ensures free { self.new.lost ≡ false → unanswered self.new.actor ≡ None }
@@ -215,12 +227,20 @@ impl<'a> Played<'a> {
         self.asked.is_some()
     }
 
-    /// Whether the ask that has no answer yet may have this reply.
+    /// Whether a reply hands out no action but one that an agent of its code can run.
+    fn can_take(&self, reply: &Reply) -> bool
+        ensures { IsTrue result → HandsOut self.now.code reply.now }
+    {
+        hands_out(self.code, self.callees, reply)
+    }
+
+    /// Whether the ask that has no answer yet may have this reply; an action that it hands out is one that its agent can run.
     pub fn may_answer(&self, reply: &Reply) -> bool
-        ensures { IsTrue result → self.now.lost ≡ false → MayAnswerIf (unanswered self.now.actor) reply.now }
+        ensures answers { IsTrue result → self.now.lost ≡ false → MayAnswerIf (unanswered self.now.actor) reply.now }
+        ensures hands_out { IsTrue result → HandsOut self.now.code reply.now }
     {
         match &self.asked {
-            Some(ask) => may_answer(ask, reply),
+            Some(ask) => may_answer(ask, reply) && self.can_take(reply),
             None => false,
         }
     }

@@ -1,10 +1,10 @@
 -- One entry more is served again.
-use Rattle.std.proofs.Common.{◌≡◌, ◌<◌, ◌+◌, ◌-◌, ℕ, zero, suc, Bool, true, false, List, [], ◌∷◌, length, set, get_or, Option, Some, None, refl, sym, ap, ◌∙◌, subst, arith}
+use Rattle.std.proofs.Common.{◌≡◌, ◌<◌, ◌+◌, ◌-◌, ℕ, suc, false, List, [], ◌∷◌, set, get_or, Option, Some, None, refl, sym, subst, arith}
 use Rattle.txs_asks.specs.declared.event.Event.{Event}
 use Rattle.txs_value.specs.declared.cell.CellDefinition.{CellDefinition}
-use Rattle.txs_runs.specs.Shared.{Shared, shared_after}
+use Rattle.txs_runs.specs.Shared.{Shared}
 use Rattle.txs_shared.specs.SharedState.{PlainShared, shared_of}
-use Rattle.txs_replay.specs.Replay.{holder_from, served_now, IsServedAgain, FirstServed, NextServed, Replays, MadeStep, IsStepped}
+use Rattle.txs_replay.specs.Replay.{holder_from, FirstServed, NextServed, Replays, MadeStep, IsStepped}
 use Rattle.txs_replay.specs.declared.kept.Kept.{Kept}
 
 module _ (s t : PlainShared) (rests later : List (List Kept)) (i m : ℕ) (books : ℕ → List Event) where

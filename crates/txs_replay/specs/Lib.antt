@@ -1,2 +1,3 @@
+pub mod Goes
 pub mod Laws
 pub mod Replay

@@ -1,8 +1,13 @@
 //! What holds of actors whose entries were served again. Each law stands on a function of its own, which does nothing when it runs.
 
-ghost use Rattle.txs_replay.specs.Laws.{ReplayTells};
+ghost use Rattle.txs_replay.specs.Laws.{ReplayRuns};
 
-/// Where what actors kept was served again and led to these books, the books told each actor just what it kept.
-pub fn replay_tells()
-    ensures { ReplayTells }
-{}
+use txs_runs::law::every_trace_holds;
+
+/// Where what actors kept was served again and led to these books, and their code asks for it, it is a run of the laws of runs; and so the books told
+/// each actor just what it kept.
+pub fn replay_runs()
+    ensures { ReplayRuns }
+{
+    every_trace_holds();
+}

@@ -1,7 +1,7 @@
-use Rattle.std.proofs.Common.{◌≡◌, ◌<◌, ◌≤◌, ◌+◌, ◌++◌, ◌∙◌, length, drop, get_or, rules, sym, ap}
+use Rattle.std.proofs.Common.{◌≡◌, ◌<◌, ◌+◌, ◌++◌, ◌∙◌, length, drop, get_or, rules, sym, ap}
 use Rattle.txs_machine.specs.RunOver.{places_of}
 use Rattle.txs_played.specs.Adds.{kept_trace, IsNotedBehind}
-use Rattle.txs_played.proofs.Adding.{noted_more, noted_all, drop_read}
+use Rattle.txs_played.proofs.Adding.{noted_more, drop_read}
 use Rattle.txs_played.proofs.parts.trace_of.Goals as goal
 
 pub loop-i-preserved : goal.loop-i-preserved

@@ -1,4 +1,4 @@
-use Rattle.std.proofs.Common.{rules, ◌≡◌, ◌<◌, ◌≤◌, ◌+◌, ◌∙◌, length, true, false, subst, sym, refl, arith}
+use Rattle.std.proofs.Common.{rules, ◌≡◌, ◌<◌, ◌≤◌, ◌∙◌, length, true, false, subst, sym}
 use Rattle.txs_shared.specs.SharedState.{shared_of}
 use Rattle.txs_replay.specs.Replay.{AllEmpty, IsStepped, MadeStep}
 use Rattle.txs_replay.proofs.Steps.{goes_on, came_from, ends_here, ends, begins_end}

@@ -8,9 +8,12 @@ pub invariant_of-result : goal.invariant_of-result
 invariant_of-result c =
     let code = c.args.code.now in
     let a = c.args.actor in (
-      c.requires.lives,
       (
-        sym c.requires.new.unasking,
-        subst (λ ks. HasPlayed code (map entry_of ks) None a) (sym c.new.ensures) (new_played c.actors_run.ensures c.typed_stands.ensures code _ _ a.number a.limit a c.rooms-rooms.ensures c.requires.there c.requires.new),
+        c.requires.lives,
+        (
+          sym c.requires.new.unasking,
+          subst (λ ks. HasPlayed code (map entry_of ks) None a) (sym c.new.ensures) (new_played c.actors_run.ensures c.typed_stands.ensures code _ _ a.limit a c.rooms-rooms.ensures c.requires.new),
+        ),
       ),
+      c.requires.callees,
     )

@@ -1,4 +1,4 @@
-use Rattle.std.proofs.Common.{rules, ◌≡◌, map, sym, subst, false, ◌∙◌, Some, None}
+use Rattle.std.proofs.Common.{rules, ◌≡◌, map, sym, subst, false, ◌∙◌, None}
 use Rattle.txs_actor.specs.PlainActor.{unanswered}
 use Rattle.txs_actor.specs.declared.outcome.Turn.TheVariants.{Went, Ended, Asks}
 use Rattle.txs_replay.specs.Replay.{entry_of}
@@ -17,9 +17,9 @@ invariant_of-self c =
     let after : PlainPlayed = record { code = code; actor = b; kept = kept; stopped = at; lost = c.self.inside.lost } in
     let lost : c.self.inside.lost ≡ false = search rules in
     let free : unanswered a ≡ None = search rules in
-    let was = subst (λ l. IsPlayed l before c.self.inside.asked) lost c.self.invariant.1 in
+    let was = subst (λ l. IsPlayed l before c.self.inside.asked) lost c.self.invariant.0.1 in
     let is = turn_played c.actors_run.ensures code (map entry_of kept) at a b Went free c.in-Went.ensures.turns was.1 in
-    (c.in-Went.ensures.lives, subst (λ l. IsPlayed l after c.self.inside.asked) (sym lost) (was.0 ∙ free ∙ sym c.in-Went.ensures.says, is.1))
+    ((c.in-Went.ensures.lives, subst (λ l. IsPlayed l after c.self.inside.asked) (sym lost) (was.0 ∙ free ∙ sym c.in-Went.ensures.says, is.1)), c.self.invariant.1)
 
 pub invariant_of-self-in-Ended : goal.invariant_of-self-in-Ended
 invariant_of-self-in-Ended c =
@@ -32,10 +32,10 @@ invariant_of-self-in-Ended c =
     let after : PlainPlayed = record { code = code; actor = b; kept = kept; stopped = at; lost = c.self.inside.lost } in
     let lost : c.self.inside.lost ≡ false = search rules in
     let free : unanswered a ≡ None = search rules in
-    let was = subst (λ l. IsPlayed l before c.self.inside.asked) lost c.self.invariant.1 in
+    let was = subst (λ l. IsPlayed l before c.self.inside.asked) lost c.self.invariant.0.1 in
     let is = turn_played c.actors_run.ensures code (map entry_of kept) at a b (Ended c.in-Ended.outcome) free c.in-Ended.ensures.turns was.1 in
     let done = ended_free code b c.in-Ended.outcome c.in-Ended.ensures.lives c.in-Ended.ensures.says in
-    (c.in-Ended.ensures.lives, subst (λ l. IsPlayed l after c.self.inside.asked) (sym lost) (was.0 ∙ free ∙ sym done, is.1))
+    ((c.in-Ended.ensures.lives, subst (λ l. IsPlayed l after c.self.inside.asked) (sym lost) (was.0 ∙ free ∙ sym done, is.1)), c.self.invariant.1)
 
 pub invariant_of-self-in-Ok : goal.invariant_of-self-in-Ok
 invariant_of-self-in-Ok c =
@@ -48,10 +48,13 @@ invariant_of-self-in-Ok c =
     let after : PlainPlayed = record { code = code; actor = b; kept = c.copy_kept.new.kept; stopped = at; lost = c.self.inside.lost } in
     let lost : c.self.inside.lost ≡ false = search rules in
     let free : unanswered a ≡ None = search rules in
-    let was = subst (λ l. IsPlayed l before c.self.inside.asked) lost c.self.invariant.1 in
+    let was = subst (λ l. IsPlayed l before c.self.inside.asked) lost c.self.invariant.0.1 in
     let is = turn_played c.actors_run.ensures code (map entry_of kept) at a b (Asks c.in-Asks.ask) free c.in-Asks.ensures.turns was.1 in
     let copied : c.replace.new.dest ≡ unanswered b = search rules in
     let same : c.copy_kept.new.kept ≡ kept = search rules in (
-      c.in-Asks.ensures.lives,
-      subst (λ l. IsPlayed l after c.replace.new.dest) (sym lost) (copied, subst (λ ks. HasPlayed code (map entry_of ks) at b) (sym same) is.1),
+      (
+        c.in-Asks.ensures.lives,
+        subst (λ l. IsPlayed l after c.replace.new.dest) (sym lost) (copied, subst (λ ks. HasPlayed code (map entry_of ks) at b) (sym same) is.1),
+      ),
+      c.self.invariant.1,
     )

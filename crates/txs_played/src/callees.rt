@@ -1,0 +1,157 @@
+//! Which functions an action may call.
+
+ghost use Rattle.std.specs.Prelude.{◌≡◌, ◌<◌, true, length, Some, IsTrue, IfOk};
+ghost use Rattle.txs_actor.specs.PlainActor.{HandsOut, MayRun};
+ghost use Rattle.txs_code.specs.PlainCode.{parameters_of};
+ghost use Rattle.txs_played.specs.Callees.{ArePure, IsBodyOf, IsMarkedAt, IsSent, sent_by};
+ghost use Rattle.txs_value.specs.Places.{nth};
+ghost use Rattle.txs_verify.specs.Marks.{mark_at};
+ghost use Rattle.txs_verify.specs.declared.walk.Mark.{Mark as AMark};
+
+use std::alloc::{AllocError, Global};
+use txs_asks::Reply;
+use txs_code::{Body, Instr, Verified};
+use txs_operations::takes;
+use txs_value::{Action, Callee};
+use txs_verify::walk::{Mark, mark_places};
+
+/// The function that an instruction sends, if it sends one.
+fn sent_by(instr: Instr) -> Option<u16>
+    ensures { result ≡ sent_by instr }
+{
+    match instr {
+        Instr::Send(Callee::Function(f), _) => Some(f),
+        _ => None,
+    }
+}
+
+/// Marks the function that an instruction sends, if it sends one.
+fn mark_sent(marks: &mut Vec<bool>, instr: Instr)
+    ensures { IsSent instr marks.old.items marks.new.items }
+{
+    if let Some(f) = sent_by(instr) {
+        let f = usize::from(f);
+        if f < marks.len() {
+            marks[f] = true;
+        }
+    }
+}
+
+/// Whether a place is marked.
+fn is_marked(places: &[Option<Mark>], at: usize) -> bool
+    requires { at < length places.now }
+    ensures { IsTrue result → (m : AMark) × (mark_at places.now at ≡ Some m) }
+{
+    match places[at] {
+        Some(_) => true,
+        None => false,
+    }
+}
+
+/// Marks the function that the instruction at a place sends, if the code comes to the place.
+fn mark_place(marks: &mut Vec<bool>, instrs: &[Instr], places: &[Option<Mark>], at: usize)
+    requires within { at < length instrs.now }
+    requires there { at < length places.now }
+    ensures { IsMarkedAt instrs.now places.now at marks.old.items marks.new.items }
+{
+    if is_marked(places, at) {
+        mark_sent(marks, instrs[at]);
+    }
+}
+
+/// Marks the functions that a body of the code sends where the code comes to it.
+fn mark_body(
+    alloc: Global,
+    code: &Verified,
+    body: &Body,
+    marks: &mut Vec<bool>,
+) -> Result<(), AllocError>
+    requires of { IsBodyOf code.now body.now }
+    requires pure { ArePure code.now marks.old.items }
+    ensures { ArePure code.now marks.new.items }
+{
+    let _rooms = code.rooms();
+    let instrs = body.instrs();
+    if instrs.len() >= 4_294_967_295 {
+        return Ok(());
+    }
+    let Ok(places) = mark_places(alloc, code.code().functions(), instrs) else {
+        return Err(AllocError);
+    };
+    for at in 0..instrs.len() {
+        mark_place(marks, instrs, places.as_slice(), at);
+    }
+    Ok(())
+}
+
+/// Marks the functions that the bodies of functions send.
+fn mark_functions(alloc: Global, code: &Verified, marks: &mut Vec<bool>) -> Result<(), AllocError>
+    requires pure { ArePure code.now marks.old.items }
+    ensures { ArePure code.now marks.new.items }
+{
+    let bodies = code.code().functions();
+    for f in 0..bodies.len() {
+        mark_body(alloc, code, &bodies[f], marks)?;
+    }
+    Ok(())
+}
+
+/// Marks the functions that the bodies of threads send.
+fn mark_threads(alloc: Global, code: &Verified, marks: &mut Vec<bool>) -> Result<(), AllocError>
+    requires pure { ArePure code.now marks.old.items }
+    ensures { ArePure code.now marks.new.items }
+{
+    let bodies = code.code().threads();
+    for k in 0..bodies.len() {
+        mark_body(alloc, code, &bodies[k], marks)?;
+    }
+    Ok(())
+}
+
+/// Of each function of the code, whether it is the callee of a send that the code comes to, so that it is pure.
+///
+/// # Errors
+/// `AllocError` where there was no memory.
+pub fn sent_functions(alloc: Global, code: &Verified) -> Result<Vec<bool>, AllocError>
+    ensures { IfOk result (λ marks. ArePure code.now marks.items) }
+{
+    let mut marks = vec![in alloc; false; code.code().functions().len()]?;
+    mark_functions(alloc, code, &mut marks)?;
+    mark_threads(alloc, code, &mut marks)?;
+    Ok(marks)
+}
+
+/// Whether a function is marked, and takes so many values.
+fn takes_so(code: &Verified, marks: &[bool], f: usize, count: usize) -> bool
+    ensures marked { IsTrue result → nth marks.now f ≡ Some true }
+    ensures parameters { IsTrue result → nth (parameters_of code.now.functions) f ≡ Some count }
+{
+    let functions = code.code().functions();
+    f < marks.len()
+        && f < functions.len()
+        && marks[f]
+        && usize::from(functions[f].parameters()) == count
+}
+
+/// Whether an action's callee is an operation or a marked function, and takes the agent's state and the arguments.
+pub(crate) fn may_run(code: &Verified, marks: &[bool], action: &Action) -> bool
+    requires { ArePure code.now marks.now }
+    ensures { IsTrue result → MayRun code.now action.now }
+{
+    let count = action.args.as_slice().len() + 1;
+    match action.callee {
+        Callee::Core(op) => takes(op, count),
+        Callee::Function(f) => takes_so(code, marks, usize::from(f), count),
+    }
+}
+
+/// Whether a reply hands out no action but such a one.
+pub(crate) fn hands_out(code: &Verified, marks: &[bool], reply: &Reply) -> bool
+    requires { ArePure code.now marks.now }
+    ensures { IsTrue result → HandsOut code.now reply.now }
+{
+    match reply {
+        Reply::Action { action, .. } => may_run(code, marks, action),
+        _ => true,
+    }
+}
