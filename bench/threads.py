@@ -1,13 +1,14 @@
 #!/usr/bin/env python3
-"""threads.py [--only contended,transfers,readers] [--runs R] [--warm W] [--growth]
+"""threads.py [--only contended,transfers,readers,swaps,sends] [--runs R] [--warm W] [--growth]
 Runs scripts of eight threads in txs, by rounds, and in real Clojure with as many threads, and compares what they print.
-`@N@` in a script is how many transactions each of them makes.
+`@N@` in a script is how many transactions, swaps or sends each of them makes.
   clj warm   best time inside one JVM, after W runs of the same compiled code
   txs        best wall time of `txs run`, from its start to its end
-With --growth the nanoseconds of a commit by one thread are told instead, as commits and refs beside it grow."""
+With --growth the nanoseconds of a commit by one thread are told instead, as commits and refs beside it grow, and those of a send
+with its action."""
 import argparse, tempfile
 import beside
-SIZES = {"contended": 1200, "transfers": 25000, "readers": 25000}
+SIZES = {"contended": 1200, "transfers": 25000, "readers": 25000, "swaps": 25000, "sends": 12000}
 
 
 def compared(folder, name, runs, warm):
@@ -31,6 +32,11 @@ def growth(folder, runs):
     for commits, refs in [(20000, 0), (80000, 0), (320000, 0), (980000, 0), (80000, 100), (80000, 900)]:
         took = seconds(commits, refs) - seconds(1, refs)
         print("%7d commits, %3d refs beside: %5.0f ns a commit" % (commits, refs, took * 1e9 / commits), flush=True)
+    for sends in (20000, 80000, 320000):
+        path = beside.filled(folder, "queue", sends)
+        seconds_of, memory, printed, _ = min(beside.txs(path) for _ in range(runs))
+        print("%7d sends by one thread: %5.0f ns a send with its action, %d MB, %s" % (
+            sends, seconds_of * 1e9 / sends, memory // 1024, "right" if printed.strip() == str(sends) else "WRONG " + printed), flush=True)
 
 
 def main():
@@ -45,7 +51,7 @@ def main():
         if a.growth:
             growth(folder, a.runs)
             return
-        print("%-10s %9s %11s %8s %12s  %s" % ("script", "commits", "clj warm s", "txs s", "txs by warm", "printed"))
+        print("%-10s %9s %11s %8s %12s  %s" % ("script", "done", "clj warm s", "txs s", "txs by warm", "printed"))
         for name in SIZES:
             if not a.only or name in a.only.split(","):
                 compared(folder, name, a.runs, a.warm)

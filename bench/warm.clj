@@ -1,5 +1,5 @@
 ;; warm.clj SCRIPT WARM RUNS: compiles the script once, runs its futures WARM times, and then RUNS times with a clock.
-;; Refs get their opening values again before each run. Prints the nanoseconds of the best timed run.
+;; Refs, atoms and agents get their opening values again before each run. Prints the nanoseconds of the best timed run.
 (ns warm (:refer-clojure :exclude [future]))
 (def bodies (atom []))
 (defmacro future [& body] `(swap! warm/bodies conj (fn [] ~@body)))
@@ -9,10 +9,15 @@
     (refer 'clojure.core :exclude '[future])
     (refer 'warm :only '[future])
     (load-reader (java.io.FileReader. ^String path)))
-  (let [refs (for [[_ v] (ns-interns 'script) :let [r @v] :when (instance? clojure.lang.Ref r)] [r @r])
-        opening (doall refs)
+  (let [cells (for [[_ v] (ns-interns 'script) :let [r @v] :when (instance? clojure.lang.IDeref r)] [r @r])
+        opening (doall cells)
+        again (fn [r v]
+                (cond
+                  (instance? clojure.lang.Ref r) (dosync (ref-set r v))
+                  (instance? clojure.lang.Atom r) (reset! r v)
+                  :else (do (send r (fn [_] v)) (await r))))
         once (fn []
-               (doseq [[r v] opening] (dosync (ref-set r v)))
+               (doseq [[r v] opening] (again r v))
                (let [t (System/nanoTime)]
                  (binding [*out* sink]
                    (doseq [f (mapv #(clojure.core/future-call %) @bodies)] @f))

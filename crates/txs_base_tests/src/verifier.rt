@@ -2,7 +2,7 @@
 use crate::bytes::{FORM, changed};
 use std::alloc::{AllocError, Global};
 use std::test::Fail;
-use txs_load::error::{LeftOut, LoadError};
+use txs_load::error::LoadError;
 use txs_load::load::{load, load_verified};
 use txs_verify::error::BodyName::{Function, Thread};
 use txs_verify::error::{BodyName, VerifyErrorKind};
@@ -260,16 +260,8 @@ fn judges_the_worked_form(rt: HostRuntime) {
     );
 }
 
-// Whether the bytes' code is refused to run for this alone.
-fn is_left_out(alloc: Global, form: &[u8], wanted: LeftOut) -> bool {
-    match load_verified(alloc, form) {
-        Err(LoadError::LeftOut(l)) => l == wanted,
-        _ => false,
-    }
-}
-
 #[test]
-fn gives_what_runs_today(rt: HostRuntime) -> Result<(), Fail> {
+fn gives_what_is_verified(rt: HostRuntime) -> Result<(), Fail> {
     let swaps = form_of(
         rt.alloc(),
         None,
@@ -277,18 +269,12 @@ fn gives_what_runs_today(rt: HostRuntime) -> Result<(), Fail> {
     )?;
     assert!(rt; load_verified(rt.alloc(), &FORM).is_ok());
     assert!(rt; load_verified(rt.alloc(), swaps.as_slice()).is_ok());
-    assert!(rt; is_left_out(rt.alloc(), AGENT, LeftOut::Cell(0)));
+    assert!(rt; load_verified(rt.alloc(), AGENT).is_ok());
     let mut sends = Vec::from_slice(
         rt.alloc(),
         b"TXS1\x00\x00\x00\x00\x00\x01\x00\x00\x00\x00\x01",
     )?;
     write_body(&mut sends, (0, 0, &[NUMBER, SEND_INC, HALT]))?;
-    assert!(rt;
-        is_left_out(
-            rt.alloc(),
-            sends.as_slice(),
-            LeftOut::Instruction(Thread(0), 1)
-        )
-    );
+    assert!(rt; load_verified(rt.alloc(), sends.as_slice()).is_ok());
     Ok(())
 }

@@ -2,7 +2,7 @@
 
 use crate::built::is_built;
 use crate::compare::agrees;
-use crate::layers::{checked, checked_code};
+use crate::layers::checked_code;
 use crate::marks::{
     CODE, ERRORS, OUTPUT, STATUS, WORDS, all_behind, code_in, first_behind, unmarked,
 };
@@ -26,11 +26,8 @@ fn bytes_of(alloc: Global, row: &str) -> Result<Vec<u8>, AllocError> {
     Vec::from_slice(alloc, script.as_bytes())
 }
 
-/// What is written for a script: by the layers up to the checks alone, or by the program; or for code by its decoder and verifier alone.
+/// What is written for a script by the program, or for code by its decoder and verifier alone.
 fn run(alloc: Global, words: &str, script: &[u8]) -> Result<Written, AllocError> {
-    if words == "check-all" {
-        return checked(alloc, script);
-    }
     if words == "check-code" {
         return checked_code(alloc, script);
     }

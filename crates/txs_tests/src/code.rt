@@ -81,7 +81,7 @@ fn is_refused(rt: HostRuntime) {
     }
 }
 
-/// Well-typed code that isn't run yet: a `send` to a constant of 7.
+/// Well-typed code that faults: a `send` to a constant of 7.
 const SENDS: &[u8] =
     b"TXS1\x00\x00\x00\x00\x00\x01\x03\x00\x00\x00\x00\x00\x00\x00\x07\x00\x00\x00\x01\
     \x00\x00\x00\x00\x00\x03\
@@ -98,8 +98,8 @@ thread 0 locals 0
 ";
 
 #[test]
-fn is_left_out(rt: HostRuntime) {
-    let line = "refused 9 LeftOut in thread 0 at 1\n";
+fn sends_to_no_agent(rt: HostRuntime) {
+    let line = "thread 0 failed: NotAnAgent at 0..0\n";
     assert!(rt; is_told(rt.alloc(), &list(), SENDS, SENDS_LISTED, "", 0));
-    assert!(rt; is_told(rt.alloc(), &run(rt.alloc()), SENDS, "", line, 1));
+    assert!(rt; is_told(rt.alloc(), &run(rt.alloc()), SENDS, "", line, 3));
 }
