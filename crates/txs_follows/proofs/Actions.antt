@@ -10,6 +10,7 @@ use Rattle.txs_operations.specs.Core.{core}
 use Rattle.txs_value.specs.declared.action.Action.{Action}
 use Rattle.txs_value.specs.declared.fault.Fault.{Fault}
 use Rattle.txs_value.specs.declared.fault.FaultKind.{FaultKind}
+use Rattle.txs_value.specs.declared.fault.Span.{Span}
 use Rattle.txs_value.specs.declared.op.Callee.{Callee}
 use Rattle.txs_value.specs.declared.op.Callee.TheVariants.{Core as CoreOp, Function}
 use Rattle.txs_value.specs.declared.value.CellId.{CellId}
@@ -17,6 +18,7 @@ use Rattle.txs_value.specs.declared.value.Value.{Value}
 use Rattle.txs_value.specs.declared.value.Value.TheVariants.{Nil}
 use Rattle.txs_tree.specs.Known.{is_pure, known}
 use Rattle.txs_tree.specs.Meaning.{Completion, Completes, Recurs, Faults, Retries, Waits, OutOfTurns, Invalid, Effects, result_of}
+use Rattle.txs_tree.specs.Pure.{nowhere}
 use Rattle.txs_tree.specs.Sound.{SoundFunctions, SoundCallee}
 use Rattle.txs_tree.specs.Tree.{PlainFunction}
 use Rattle.txs_code.specs.ActorState.{ActorState, Reception, Replied, Unreplied, receives, asks, heard, step_of, just_done, handed_out, take_action, finish}
@@ -24,11 +26,12 @@ use Rattle.txs_code.specs.Machine.{PlainBody, ThreadCode, agent_code, Outside, C
 use Rattle.txs_code.specs.Opening.{fresh}
 use Rattle.txs_follows.proofs.Grows.{GrowsTo, Later, later}
 use Rattle.txs_follows.proofs.Longer.{longer}
-use Rattle.txs_follows.proofs.Meant.{IsProper, SoundForms, known_callees}
+use Rattle.txs_follows.proofs.Meant.{SoundForms, known_callees}
 use Rattle.txs_follows.proofs.Callees.{sound_pure}
 use Rattle.txs_follows.proofs.Quiet.{carried, quietly, callee_carried}
 use Rattle.txs_follows.specs.ActionsBehave.{acting, ComesTo, CallComes, ActionsBehave, SoundFollowsAgents}
-use Rattle.txs_follows.specs.Behaves.{IsOver}
+use Rattle.txs_follows.specs.Behaves.{IsOver, IsProper}
+use Rattle.txs_follows.specs.Follows.{PureIsMeant}
 use Rattle.txs_follows.specs.FollowsAgent.{new_of, action_meaning, SoundAction, HandsOut, AgentFits, AgentTold, taking, AsksNext, GoesOn, FollowsAgent}
 
 -- ---- pure callees have an answer
@@ -73,11 +76,20 @@ carried_proper (OutOfTurns u) h = tt
 carried_proper Invalid h = absurd h
 
 -- a sound callee gives a value or a fault, or needs turns
-callee_proper : (functions : List PlainFunction) → SoundFunctions [] functions → (n : ℕ) (a : Action) (c : Callee) (vs : List Value) → SoundCallee (known functions) c (length vs) → IsProper (quietly n functions (length functions) a.span c vs tt)
-callee_proper functions sound n a c vs h =
-    let p = known_callees (Unit {0}) idle (λ P inside s. Unit {0}) idle_sound tt (λ P. tt) functions sound n false a.span c vs h in
-    let law = callee_carried (λ d. idle) n false functions sound (length functions) a.span c vs tt (sound_pure (known functions) c (length vs) h) in
-    carried_proper (quietly n functions (length functions) a.span c vs tt) (subst IsProper (sym (p.same tt) ∙ law.0) (proper_carried p.answer p.proper))
+pub callee_proper : (functions : List PlainFunction) → SoundFunctions [] functions → (n : ℕ) (span : Span) (c : Callee) (vs : List Value) → SoundCallee (known functions) c (length vs) → IsProper (quietly n functions (length functions) span c vs tt)
+callee_proper functions sound n span c vs h =
+    let p = known_callees (Unit {0}) idle (λ P inside s. Unit {0}) idle_sound false tt (λ P. tt) functions sound n false span c vs h in
+    let law = callee_carried (λ d. idle) n false functions sound (length functions) span c vs tt (sound_pure (known functions) c (length vs) h) in
+    carried_proper (quietly n functions (length functions) span c vs tt) (subst IsProper (sym (p.same tt) ∙ law.0) (proper_carried p.answer p.proper))
+
+operation_proper : (r : Result Value FaultKind) (span : Span) → IsProper (result_of r span tt)
+operation_proper (Ok v) span = tt
+operation_proper (Err e) span = tt
+
+-- so does any pure callee on as many values as it takes
+pub pure_meant : PureIsMeant
+pure_meant functions n (CoreOp op) vs sound h = operation_proper (core op vs) nowhere
+pure_meant functions n (Function f) vs sound h = callee_proper functions sound n nowhere (Function f) vs h
 
 -- ---- asks
 
@@ -150,7 +162,7 @@ module _ (code : List PlainBody) (functions : List PlainFunction) (sound : Sound
     callee_runs (CoreOp op) h = operation_runs (core op (v ∷ a.args))
     callee_runs (Function f) h =
         function_runs (called acts f (v ∷ a.args) to_stack 2 [] (acting g a 1 [] s)) (quietly n functions (length functions) a.span (Function f) (v ∷ a.args) tt)
-        (callee_proper functions sound n a (Function f) (v ∷ a.args) h) refl refl (behave.calls g a f n (v ∷ a.args) s (ap is_pure h.found ∙ h.pure))
+        (callee_proper functions sound n a.span (Function f) (v ∷ a.args) h) refl refl (behave.calls g a f n (v ∷ a.args) s (ap is_pure h.found ∙ h.pure))
 
     -- an action that was taken is run, by what it means
     abbrev Runs : Option (Result Value Fault) → Type 0

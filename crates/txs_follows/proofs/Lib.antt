@@ -18,6 +18,7 @@ pub mod Related
 pub mod Same
 pub mod Sound
 pub mod Threads
+pub mod Transactions
 pub mod Tries
 pub mod Whole
 pub mod Worlds

@@ -24,6 +24,7 @@ use Rattle.txs_tree.specs.Tree.{Mark, Tree, Const, Local, If, Do, Let, Loop, Rec
 use Rattle.txs_tree.proofs.Callable.{nth-take, nth-before, function_at}
 use Rattle.txs_follows.proofs.Functions.{known_free, there, nth_below, thread_sound, dosync_sound}
 use Rattle.txs_follows.proofs.Quiet.{carried, IsQuiet, quietly, callee_carried}
+use Rattle.txs_follows.specs.Behaves.{IsProper}
 
 -- which callees of so many values commutes may have
 abbrev pub Suits : Type 1
@@ -56,16 +57,6 @@ Any v = Unit {0}
 -- so many values
 abbrev Many : ℕ → List Value → Type 0
 Many n vs = length vs ≡ n
-
--- an answer of sound pure code: a value, a fault, or a want of turns
-abbrev pub IsProper : {A : Type 0} → Completion (Unit {0}) A → Type 0
-IsProper (Completes a u) = Unit {0}
-IsProper (Recurs vs u) = ⊥
-IsProper (Faults f u) = Unit {0}
-IsProper (Retries u) = ⊥
-IsProper (Waits u) = ⊥
-IsProper (OutOfTurns u) = Unit {0}
-IsProper Invalid = ⊥
 
 -- a pure callee on these values has such an answer, from any state, and leaves the state as it was
 pub record Proper (S : Type 0) (f : Applies S) (c : Callee) (vs : List Value) : Type 0 where
@@ -156,14 +147,14 @@ module _ (S : Type 0) (H : Bool → S → Type 0) where
       (again_meant inside tail d (body vs s) (turns n d body) (h vs s e f) (λ ws s1 q g. turns_meant inside tail n d body h ws s1 q g))
 
   -- an answer that is carried from a state, of code that waits for nothing
-  carried_proper : (s : S) (q : Completion (Unit {0}) Value) → IsQuiet q → MeantAs H false None Any (carried s q) → IsProper q
-  carried_proper s (Completes a u) w h = tt
-  carried_proper s (Recurs vs u) w h = absurd (none_some (length vs) h.0)
-  carried_proper s (Faults f u) w h = tt
-  carried_proper s (Retries u) w h = absurd w
-  carried_proper s (Waits u) w h = absurd w
-  carried_proper s (OutOfTurns u) w h = tt
-  carried_proper s Invalid w h = h
+  carried_proper : (inside : Bool) (s : S) (q : Completion (Unit {0}) Value) → IsQuiet q → MeantAs H inside None Any (carried s q) → IsProper q
+  carried_proper inside s (Completes a u) w h = tt
+  carried_proper inside s (Recurs vs u) w h = absurd (none_some (length vs) h.0)
+  carried_proper inside s (Faults f u) w h = tt
+  carried_proper inside s (Retries u) w h = absurd w
+  carried_proper inside s (Waits u) w h = absurd w
+  carried_proper inside s (OutOfTurns u) w h = tt
+  carried_proper inside s Invalid w h = h
 
 -- What is known of the forms, where this holds of states, by which callees the commutes of a transaction may have: the form stands
 -- where it may, its callee suits, and has a proper answer on any value with the arguments.
@@ -286,8 +277,13 @@ callee_known : (ks : List Known) (g : ℕ) (c : Callee) (n : ℕ) → SoundCalle
 callee_known ks g (CoreOp op) n h = h
 callee_known ks g (Function i) n h = record { function = h.function; found = (nth-take g ks i h.function h.found).1; arity = h.arity; pure = h.pure }
 
--- functions are sound, and states are such ones that this holds of some state whatever suits
-module _ (S : Type 0) (fx : Effects S) (Holds : Suits → Bool → S → Type 0) (forms : SoundForms S fx Holds) (start : S) (starts : (P : Suits) → Holds P false start) (functions : List PlainFunction) (sound : SoundFunctions [] functions) (n : ℕ) where
+-- a pure function may be called inside a transaction and outside
+free_at : (at : Bool) (k : Known) → (k.inside ≡ false) × (k.outside ≡ false) → MayCall (zone_of at) k
+free_at true k h = h.1
+free_at false k h = h.0
+
+-- functions are sound, and states are such ones that this holds of some state, inside a transaction or outside, whatever suits
+module _ (S : Type 0) (fx : Effects S) (Holds : Suits → Bool → S → Type 0) (forms : SoundForms S fx Holds) (at : Bool) (start : S) (starts : (P : Suits) → Holds P at start) (functions : List PlainFunction) (sound : SoundFunctions [] functions) (n : ℕ) where
   abbrev ks : List Known
   ks = known functions
 
@@ -318,12 +314,12 @@ module _ (S : Type 0) (fx : Effects S) (Holds : Suits → Bool → S → Type 0)
       let pure : is_pure (nth ks f) ≡ true = ap is_pure h.found ∙ h.pure in
       let free = known_free functions f h.function h.found h.pure in
       let q = quietly n functions b span (Function f) vs tt in
-      let law = callee_carried (λ d. fx) n false functions sound b span (Function f) vs start pure in
+      let law = callee_carried (λ d. fx) n at functions sound b span (Function f) vs start pure in
       let all : Suits = λ c k. Unit {0} in
-      let here : MeantAs (Holds all) false None Any (apply (at_depth b false) span (Function f) vs start) = calls all false f h.function below h.found (λ c k g. tt) free.0 vs h.arity start (starts all) in
+      let here : MeantAs (Holds all) at None Any (apply (at_depth b at) span (Function f) vs start) = calls all at f h.function below h.found (λ c k g. tt) (free_at at h.function free) vs h.arity start (starts all) in
       record {
         answer = q;
-        proper = carried_proper S (Holds all) start q law.1 (subst (λ x. MeantAs (Holds all) false None Any x) law.0 here);
+        proper = carried_proper S (Holds all) at start q law.1 (subst (λ x. MeantAs (Holds all) at None Any x) law.0 here);
         same = λ s. (callee_carried (λ d. fx) n inside functions sound b span (Function f) vs s pure).0;
       }
 
@@ -371,9 +367,9 @@ module _ (S : Type 0) (fx : Effects S) (Holds : Suits → Bool → S → Type 0)
   pub known_callees : CalleesProper S ks (at_depth (length functions))
   known_callees inside span c vs h = callees_proper (length functions) (length functions) (calls_below (length functions)) inside span c vs (known_below c (length vs) h) h
 
-  -- a sound thread's tree
-  pub thread_meant : (main : Tree) → SoundTree (known functions) in_thread 0 None main → MeantAs (Holds (λ c k. SoundCallee (known functions) c k)) false None Any (closed (eval fx (call_at (λ d. fx) n functions (length functions)) n false main [] start))
-  thread_meant main h =
+  -- a sound thread's tree, or a sound transaction's body with its locals
+  pub main_meant : (main : Tree) (env : List Value) → SoundTree (known functions) (zone_of at) (length env) None main → MeantAs (Holds (λ c k. SoundCallee (known functions) c k)) at None Any (closed (eval fx (call_at (λ d. fx) n functions (length functions)) n at main env start))
+  main_meant main env h =
       let own : Suits = λ c k. SoundCallee (known functions) c k in
-      closed_meant S (Holds own) false None (eval fx (at_depth (length functions)) n false main [] start)
-      (eval_meant S fx Holds forms ks (at_depth (length functions)) known_calls known_callees n own (λ c k q. q) main false 0 None h [] refl start (starts own))
+      closed_meant S (Holds own) at None (eval fx (at_depth (length functions)) n at main env start)
+      (eval_meant S fx Holds forms ks (at_depth (length functions)) known_calls known_callees n own (λ c k q. q) main at (length env) None h env refl start (starts own))

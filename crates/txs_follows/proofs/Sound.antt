@@ -35,11 +35,11 @@ use Rattle.txs_tree.specs.Transaction.{value_or, valued, redone}
 use Rattle.txs_tree.specs.Tree.{Mark, Tree, ThreadSource}
 use Rattle.txs_code.specs.ActorState.{ActorState, Replied, asks, StepResult, Continue, on_step, step_of, heard, value_there, newest_value, just_done, read_point, views, opened, commit_verdict, swap_verdict, send_verdict, begun, begin, fail, buffered_or, look, paired, viewed, view, commit, peek, SwapInHand, open_atom, close_swap, break_swap, reset_atom, sent, send_now, set_own, close_own, read_cell, assign_cell, send_action, print}
 use Rattle.txs_code.specs.Opening.{fresh}
-use Rattle.txs_follows.proofs.Meant.{Suits, MeantAs, where_inside, Any, IsProper, Proper, none_some, zone_of, bind_meant, SoundForms, thread_meant}
+use Rattle.txs_follows.proofs.Meant.{Suits, MeantAs, where_inside, Any, Proper, none_some, zone_of, bind_meant, SoundForms, main_meant}
 use Rattle.txs_follows.proofs.Quiet.{carried, Each, each_both, each_phase}
 use Rattle.txs_follows.proofs.Tries.{paired_valued}
 use Rattle.txs_follows.proofs.Worlds.{answered, answered_less, fit_splits, res_step, step_then}
-use Rattle.txs_follows.specs.Behaves.{source, IsMeant}
+use Rattle.txs_follows.specs.Behaves.{source, IsMeant, IsProper}
 use Rattle.txs_follows.specs.Follows.{IsEverMeant}
 use Rattle.txs_follows.specs.OnReplies.{res, telling, Start, Anew, Behind, concludes, lands_on, closing, attempt, retrying, tries, swap_concludes, swaps_on, on_replies}
 use Rattle.txs_follows.specs.RepliesFit.{Out, In, Viewed, WithSwap, ReplyFits, RepliesFit}
@@ -469,4 +469,4 @@ module _ (cells : List CellDefinition) where
 pub ever_meant : (p : ThreadSource) → SoundSource p → IsEverMeant p
 ever_meant p sound n todo es f =
     let suits : Suits = λ c k. SoundCallee (known p.functions) c k in
-    outside_meant p.cells suits (source p n todo) (thread_meant ActorState on_replies (Holds p.cells) (sound_forms p.cells) (fresh todo) (λ P. (es, f)) p.functions sound.functions n p.main sound.main)
+    outside_meant p.cells suits (source p n todo) (main_meant ActorState on_replies (Holds p.cells) (sound_forms p.cells) false (fresh todo) (λ P. (es, f)) p.functions sound.functions n p.main [] sound.main)

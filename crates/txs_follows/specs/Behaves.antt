@@ -13,8 +13,8 @@ use Rattle.txs_follows.specs.OnReplies.{on_replies}
 abbrev pub source : ThreadSource → ℕ → List Exchange → Completion ActorState Value
 source p n todo = closed (eval on_replies (call_at (λ d. on_replies) n p.functions (length p.functions)) n false p.main [] (fresh todo))
 
--- an answer of a program that was checked, on lawful replies
-abbrev pub IsMeant : Completion ActorState Value → Type 0
+-- an answer of a tree that was checked, on lawful replies
+abbrev pub IsMeant : {S : Type 0} → Completion S Value → Type 0
 IsMeant (Completes v s) = Unit {0}
 IsMeant (Recurs vs s) = ⊥
 IsMeant (Faults f s) = Unit {0}
@@ -22,6 +22,16 @@ IsMeant (Retries s) = ⊥
 IsMeant (Waits s) = Unit {0}
 IsMeant (OutOfTurns s) = Unit {0}
 IsMeant Invalid = ⊥
+
+-- an answer of a pure callee that was checked: a value, a fault, or a want of turns
+abbrev pub IsProper : {A : Type 0} → Completion (Unit {0}) A → Type 0
+IsProper (Completes a u) = Unit {0}
+IsProper (Recurs vs u) = ⊥
+IsProper (Faults f u) = Unit {0}
+IsProper (Retries u) = ⊥
+IsProper (Waits u) = ⊥
+IsProper (OutOfTurns u) = Unit {0}
+IsProper Invalid = ⊥
 
 -- an answer that more turns don't change
 abbrev pub HasEnded : Completion ActorState Value → Type 0

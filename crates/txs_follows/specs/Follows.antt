@@ -1,13 +1,19 @@
 -- What it is that code follows a thread.
-use Rattle.std.specs.Prelude.{ℕ, ◌≡◌, ◌≤◌, List}
+use Rattle.std.specs.Prelude.{ℕ, ◌≡◌, ◌≤◌, List, [], length, None}
 use Rattle.txs_asks.specs.Ask.{Exchange}
-use Rattle.txs_tree.specs.Sound.{SoundSource}
+use Rattle.txs_tree.specs.Known.{known}
+use Rattle.txs_tree.specs.Pure.{PureCallee, pure_meaning}
+use Rattle.txs_tree.specs.Sound.{SoundFunctions, SoundSource, SoundTree, in_dosync}
 use Rattle.txs_asks.specs.SeenEvent.{SeenEvent}
 use Rattle.txs_tree.specs.Thread.{thread_meaning}
-use Rattle.txs_tree.specs.Tree.{ThreadSource}
+use Rattle.txs_tree.specs.Transaction.{tx_meaning}
+use Rattle.txs_tree.specs.Tree.{Tree, PlainFunction, ThreadSource}
+use Rattle.txs_value.specs.Cells.{World}
+use Rattle.txs_value.specs.declared.op.Callee.{Callee}
+use Rattle.txs_value.specs.declared.value.Value.{Value}
 use Rattle.txs_code.specs.Machine.{ThreadCode}
 use Rattle.txs_code.specs.Opening.{target}
-use Rattle.txs_follows.specs.Behaves.{source, Behaves, IsMeant, HasEnded, outcome_of}
+use Rattle.txs_follows.specs.Behaves.{source, Behaves, IsMeant, IsProper, HasEnded, outcome_of}
 use Rattle.txs_follows.specs.EndsSo.{EndsSo}
 use Rattle.txs_follows.specs.RepliesFit.{Out, RepliesFit, Agrees, Explained, Consumed}
 
@@ -23,6 +29,19 @@ pub record Follows (code : ThreadCode) (p : ThreadSource) : Type 0 where
 -- no answer of a tree on replies that fit is invalid
 abbrev pub IsEverMeant : ThreadSource → Type 0
 IsEverMeant p = (n : ℕ) (todo : List Exchange) (es : List SeenEvent) → RepliesFit p.cells Out todo es → IsMeant (source p n todo)
+
+-- so it is of each sound thread's tree
+abbrev pub ThreadIsMeant : Type 0
+ThreadIsMeant = (p : ThreadSource) → SoundSource p → IsEverMeant p
+
+-- no answer of a sound transaction's body is invalid, on any world, where its locals are there
+abbrev pub TransactionIsMeant : Type 0
+TransactionIsMeant =
+    (functions : List PlainFunction) (n : ℕ) (body : Tree) (locals : List Value) (R : World) → SoundFunctions [] functions → SoundTree (known functions) in_dosync (length locals) None body → IsMeant (tx_meaning n functions (length functions) body locals R)
+
+-- a pure callee of sound functions gives a value or a fault, or needs turns, on as many values as it takes
+abbrev pub PureIsMeant : Type 0
+PureIsMeant = (functions : List PlainFunction) (n : ℕ) (callee : Callee) (vs : List Value) → SoundFunctions [] functions → PureCallee (known functions) callee (length vs) → IsProper (pure_meaning n functions callee vs)
 
 -- code that behaves as a sound thread's tree follows it
 abbrev pub SoundFollows : Type 0

@@ -6,12 +6,20 @@
 
 ghost use Rattle.txs_follows.specs.ActionsBehave.{SoundFollowsAgents};
 ghost use Rattle.txs_follows.specs.FollowsAll.{GeneratedFollows, SoundFollowsAll};
-ghost use Rattle.txs_follows.specs.Follows.{SoundFollows};
+ghost use Rattle.txs_follows.specs.Follows.{PureIsMeant, SoundFollows, ThreadIsMeant, TransactionIsMeant};
 ghost use Rattle.txs_follows.specs.RepliesFitTo.{FittingToFits, OneMoreFits};
 
 /// Code that behaves as a sound thread's tree does on any replies follows the thread's meaning.
 pub fn sound_code_follows()
     ensures { SoundFollows }
+{}
+
+/// No sound tree's meaning is invalid, whatever the bound on its loops: that of a thread on replies that fit events, that of a
+/// transaction's body on a world of refs, and that of a pure callee, which gives a value or a fault or needs turns.
+pub fn sound_is_meant()
+    ensures thread { ThreadIsMeant }
+    ensures transaction { TransactionIsMeant }
+    ensures callee { PureIsMeant }
 {}
 
 /// Exchanges that fit events and end in some phase fit those events.
