@@ -13,3 +13,4 @@ pub mod Roomy
 pub mod Ends
 pub mod Least
 pub mod IllTyped
+pub mod Fewest

@@ -99,11 +99,13 @@ IsWrongAlone n ps b Memory at = ⊥
 
 -- ---- the tests
 
+-- whether an instruction jumps to one of so many places, if it jumps
 abbrev pub jumps_within : ℕ → Instr → Bool
 jumps_within n (Jump to) = nat_lt to n
 jumps_within n (JumpFalse to) = nat_lt to n
 jumps_within n _ = true
 
+-- whether it names one of so many locals, if it names any
 abbrev pub has_local : ℕ → Instr → Bool
 has_local n (Local i) = nat_lt i n
 has_local n (Store i) = nat_lt i n
@@ -114,10 +116,12 @@ abbrev pub is_so_many : Option ℕ → ℕ → Bool
 is_so_many None n = true
 is_so_many (Some m) n = nat_eq m n
 
+-- whether an operation takes so many values, or a function has so many parameters, if it is there
 abbrev pub takes_so : List ℕ → Callee → ℕ → Bool
 takes_so ps (callee.Core op) n = takes op n
 takes_so ps (callee.Function f) n = is_so_many (nth ps f) n
 
+-- whether an operation or callee gets as many values as it takes, the cell's among them
 abbrev pub has_count : List ℕ → Instr → Bool
 has_count ps (Core op n) = takes op n
 has_count ps (Open open_form.Alter n) = true
@@ -126,20 +130,24 @@ has_count ps (Open (open_form.Swap c) n) = takes_so ps c (n + 1)
 has_count ps (Send c n) = takes_so ps c (n + 1)
 has_count ps _ = true
 
+-- whether a callee is an operation, or one of the first so many functions
 abbrev pub is_below : ℕ → Callee → Bool
 is_below n (callee.Core op) = true
 is_below n (callee.Function f) = nat_lt f n
 
+-- whether the one that an open names is
 abbrev pub named_is_below : ℕ → OpenForm → Bool
 named_is_below n open_form.Alter = true
 named_is_below n (open_form.Commute c) = is_below n c
 named_is_below n (open_form.Swap c) = is_below n c
 
+-- whether a callee is the one that an open names, where it names one
 abbrev pub is_named : OpenForm → Callee → Bool
 is_named open_form.Alter c = true
 is_named (open_form.Commute named) c = same_callee named c
 is_named (open_form.Swap named) c = same_callee named c
 
+-- whether two forms are the same
 abbrev pub same_form : UpdateForm → UpdateForm → Bool
 same_form update.Alter update.Alter = true
 same_form update.Alter update.Commute = false
@@ -179,9 +187,11 @@ opens_form form (Some _) = false
 abbrev pub is_behind : List Instr → ℕ → Bool
 is_behind is to = is_some (opens (before is to)) || is_some (opens (before_that is to))
 
+-- whether behind an open stand the operation or call of its callee, with one value more, and the close of its form
 abbrev pub is_followed : List ℕ → List Instr → ℕ → OpenForm → ℕ → Bool
 is_followed ps is at by n = applies ps by (n + 1) (nth is (at + 1)) && closes (form_of by) (nth is (at + 2))
 
+-- whether a call, an open, a close, a send or a jump stands in order
 abbrev pub in_order : ℕ → List ℕ → List Instr → ℕ → Instr → Bool
 in_order n ps is at (Jump to) = not (is_behind is to)
 in_order n ps is at (JumpFalse to) = not (is_behind is to)

@@ -65,13 +65,18 @@ kinds_before (suc n) (k ∷ ks) = k ∷ kinds_before n ks
 abbrev pub IsRoomFor : Marks → ℕ → Type 0
 IsRoomFor ms room = (p : ℕ) (m : Mark) → mark_at ms p ≡ Some m → m.depth ≤ room
 
--- A body whose paths were looked at: its marks are closed, a path comes to each, nothing is wrong there, and there is room.
+-- no room for that is less
+abbrev pub IsLeastRoom : Marks → ℕ → Type 0
+IsLeastRoom ms room = (other : ℕ) → IsRoomFor ms other → room ≤ other
+
+-- A body whose paths were looked at: its marks are closed, a path comes to each, nothing is wrong there, and there is room, as little as may be.
 pub record IsWalked (ks : List Kind) (thread : Bool) (ps : List ℕ) (is : List Instr) (kind : Kind) (room : ℕ) : Type 0 where
   pub marks : Marks
   pub closed : IsClosed ps is marks
   pub reached : AreReached ps is marks
   pub seen : IsSeen ks thread is marks (length is) kind
   pub roomy : IsRoomFor marks room
+  pub least : IsLeastRoom marks room
 
 -- why a body is refused for what its paths come to, where functions before it are of these kinds
 abbrev pub IsWrongOnPaths : List Kind → Bool → List ℕ → List Instr → VerifyErrorKind → ℕ → Type 0
@@ -143,6 +148,14 @@ pub data IsRefused (code : PlainCode) (e : VerifyError) : Type 0 where
 -- With no rooms for stacks is the code well typed.
 abbrev pub IsIllTyped : PlainCode → Type 0
 IsIllTyped code = (function_rooms thread_rooms : List ℕ) → WellTyped code function_rooms thread_rooms → ⊥
+
+-- none of these rooms is more than the other at its place
+abbrev pub AreAtMost : List ℕ → List ℕ → Type 0
+AreAtMost rooms others = (n a b : ℕ) → nth rooms n ≡ Some a → nth others n ≡ Some b → a ≤ b
+
+-- With no less room for a stack is the code well typed.
+abbrev pub AreLeastRooms : PlainCode → List ℕ → List ℕ → Type 0
+AreLeastRooms code function_rooms thread_rooms = (others other_threads : List ℕ) → WellTyped code others other_threads → AreAtMost function_rooms others × AreAtMost thread_rooms other_threads
 
 -- the error that a stop is, of a body
 abbrev pub stopped : Bool → ℕ → Stop → VerifyError

@@ -7,7 +7,7 @@ ghost use Rattle.txs_value.specs.Places.{nth};
 ghost use Rattle.txs_verify.specs.Alone.{IsRightBody, IsWrongAlone};
 ghost use Rattle.txs_verify.specs.Going.{AllJumpWithin};
 ghost use Rattle.txs_verify.specs.Marks.{mark_at};
-ghost use Rattle.txs_verify.specs.Verdict.{AreKinds, AreRightBodies, AreWalked, AreWalkedThreads, BodyInForm, IsInForm, IsRefused, IsRefusedAlone, IsIllTyped, IsRefusedFunction, IsRefusedOnPaths, IsRoomFor, IsWalked, IsWrongOnPaths, OrMemory, callable, name_of, stopped};
+ghost use Rattle.txs_verify.specs.Verdict.{AreKinds, AreRightBodies, AreWalked, AreWalkedThreads, AreLeastRooms, BodyInForm, IsInForm, IsRefused, IsRefusedAlone, IsIllTyped, IsRefusedFunction, IsRefusedOnPaths, IsLeastRoom, IsRoomFor, IsWalked, IsWrongOnPaths, OrMemory, callable, name_of, stopped};
 ghost use Rattle.txs_verify.specs.Walk.{WhereRefused};
 ghost use Rattle.txs_verify.specs.declared.walk.Mark.{Mark as AMark};
 
@@ -101,6 +101,7 @@ fn higher(room: u32, here: Option<Mark>) -> u32
     requires { (m : AMark) → here ≡ Some m → m.depth < 4294967295 }
     ensures kept { room ≤ result }
     ensures roomy { (m : AMark) → here ≡ Some m → m.depth ≤ result }
+    ensures least { (other : ℕ) → room ≤ other → ((m : AMark) → here ≡ Some m → m.depth ≤ other) → result ≤ other }
 {
     match here {
         Some(mark) => {
@@ -114,7 +115,8 @@ fn higher(room: u32, here: Option<Mark>) -> u32
 /// Room for what stands on the stack at each marked place.
 fn room_for(marks: &[Option<Mark>]) -> u32
     requires { (p : ℕ) (m : AMark) → mark_at marks.now p ≡ Some m → m.depth < 4294967295 }
-    ensures { IsRoomFor marks.now result }
+    ensures roomy { IsRoomFor marks.now result }
+    ensures least { IsLeastRoom marks.now result }
 {
     let mut room = 0;
     for at in 0..marks.len() {
@@ -282,10 +284,11 @@ fn walk_threads(
 }
 
 /// Looks at all instructions alone, in functions and then in threads; and then at the paths of functions and of threads. Code is well
-/// typed with the rooms that it answers, or it is refused for what is true of it, or there was no memory.
+/// typed with the rooms that it answers, and with none that are less, or it is refused for what is true of it, or there was no memory.
 pub fn verify_code(alloc: Global, code: &Code) -> Result<Rooms, VerifyError>
     requires { IsInForm code.now }
     ensures typed { IfOk result (λ rooms. WellTyped code.now rooms.functions.items rooms.threads.items) }
+    ensures least { IfOk result (λ rooms. AreLeastRooms code.now rooms.functions.items rooms.threads.items) }
     ensures refused { IfErr result (λ e. OrMemory e.kind (IsRefused code.now e)) }
     // No refused code is well typed.
     ensures ill_typed { IfErr result (λ e. OrMemory e.kind (IsIllTyped code.now)) }
@@ -315,6 +318,7 @@ pub fn verify_code(alloc: Global, code: &Code) -> Result<Rooms, VerifyError>
 pub fn verify(alloc: Global, code: Code) -> Result<(Code, Rooms), (Code, VerifyError)>
     requires { IsInForm code }
     ensures typed { IfOk result (λ r. WellTyped code r.1.functions.items r.1.threads.items) }
+    ensures least { IfOk result (λ r. AreLeastRooms code r.1.functions.items r.1.threads.items) }
     ensures kept { IfOk result (λ r. r.0 ≡ code) }
     ensures refused { IfErr result (λ r. OrMemory r.1.kind (IsRefused code r.1)) }
     ensures ill_typed { IfErr result (λ r. OrMemory r.1.kind (IsIllTyped code)) }

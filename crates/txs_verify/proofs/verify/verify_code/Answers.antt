@@ -1,5 +1,6 @@
 use Rattle.std.proofs.lemmas.Result.{err_from_is_err_and}
 use Rattle.txs_verify.proofs.Ends.{function_refused, thread_refused, all_typed}
+use Rattle.txs_verify.proofs.Fewest.{least_rooms}
 use Rattle.txs_verify.proofs.IllTyped.{ill_typed_or, ill_alone, ill_thread}
 use Rattle.txs_verify.proofs.verify.verify_code.Goals as goal
 
@@ -15,6 +16,9 @@ returns-in_err-walk_threads-clause-refused c =
 
 pub returns-clause-typed : goal.returns-clause-typed
 returns-clause-typed c = all_typed c.args.code.now c.functions-functions.result.now c.threads-threads.result.now c.functions-functions.ensures c.threads-threads.ensures c.in_ok-look_at_bodies.ensures.right c.in_ok-look_at_bodies-2.ensures.right c.walk_functions.new.kinds.items c.as_slice.result.now c.walk_functions.new.rooms.items c.walk_threads.new.rooms.items c.requires c.as_slice.ensures.value c.in_ok-walk_functions.ensures.walked c.in_ok-walk_functions.ensures.many c.in_ok-walk_threads.ensures.walked c.in_ok-walk_threads.ensures.many
+
+pub returns-clause-least : goal.returns-clause-least
+returns-clause-least c = least_rooms c.args.code.now c.functions-functions.result.now c.threads-threads.result.now c.functions-functions.ensures c.threads-threads.ensures c.walk_functions.new.kinds.items c.as_slice.result.now c.walk_functions.new.rooms.items c.walk_threads.new.rooms.items c.as_slice.ensures.value c.in_ok-walk_functions.ensures.walked c.in_ok-walk_functions.ensures.many c.in_ok-walk_threads.ensures.walked c.in_ok-walk_threads.ensures.many
 
 pub returns-in_err-look_at_bodies-clause-ill_typed : goal.returns-in_err-look_at_bodies-clause-ill_typed
 returns-in_err-look_at_bodies-clause-ill_typed c =
