@@ -1,5 +1,5 @@
 -- What a turn and an answer leave of an actor that keeps its asks.
-use Rattle.std.proofs.Common.{◌≡◌, ◌<◌, ℕ, List, [], ◌∷◌, ◌++◌, length, map, Option, Some, None, refl, sym, ap, subst, ◌∙◌, inl, inr}
+use Rattle.std.proofs.Common.{◌≡◌, ◌<◌, ℕ, zero, suc, List, [], ◌∷◌, ◌++◌, length, map, Option, Some, None, refl, sym, ap, subst, ◌∙◌, inl, inr}
 use Rattle.txs_asks.specs.declared.ask.Ask.{Ask}
 use Rattle.txs_asks.specs.declared.ask.Reply.{Reply}
 use Rattle.txs_asks.specs.declared.ask.Reply.TheVariants as reply
@@ -10,10 +10,12 @@ use Rattle.txs_code.specs.PlainCode.{PlainCode}
 use Rattle.txs_code.specs.WellTyped.{WellTyped}
 use Rattle.txs_actor.specs.Laws.{ActorsRun}
 use Rattle.txs_actor.specs.PlainActor.{PlainActor, CanGoOn, AttendsOn, Lives, MayAnswer, Stops, answered, unanswered, asked_for, is_running, applied_in, configuration_of, code_of, HasRun, HasCome}
-use Rattle.txs_actor.specs.Turns.{IsNew, TurnsFrom, Turns}
+use Rattle.txs_actor.specs.Turns.{IsNew, TurnsFrom, Turns, GoesOnAfter, TurnsOf}
 use Rattle.txs_actor.specs.declared.outcome.Turn.{Turn}
+use Rattle.txs_actor.specs.declared.outcome.Turn.TheVariants as turned
 use Rattle.txs_actor.specs.declared.state.Pending.{Pending}
 use Rattle.txs_actor.proofs.Following.{unstopped_if}
+use Rattle.txs_actor.proofs.Saying.{turn_says}
 use Rattle.txs_runs.specs.Lawful.{TypedStands}
 use Rattle.txs_runs.specs.Standing.{StandingCode}
 use Rattle.txs_runs.specs.Staged.{StagedCode, stage_of}
@@ -82,6 +84,46 @@ turn_played laws code es o a b r f t h =
             (turn_stops (λ y. WasStoppedAt (code_of code a.number) (map exchange_of es) y o) code a b r a.outcome t h.full x);
       },
     )
+
+-- and so do up to so many
+pub turns_played : ActorsRun → (code : PlainCode) (es : List Entry) (o : Option Ask) (n : ℕ) (a b : PlainActor) (r : Turn) → unanswered a ≡ None → TurnsOf code n a r b → HasPlayed code es o a → (b.number ≡ a.number) × HasPlayed code es o b
+turns_played laws code es o zero a b r f t h = (ap (λ (x : PlainActor). x.number) t.1, subst (HasPlayed code es o) (sym t.1) h)
+turns_played laws code es o (suc n) a b r f t h = go (λ c g x y. turns_played laws code es o n c b r g x y) t.0 t.1 t.2 t.3
+  where
+    go : ((c : PlainActor) → unanswered c ≡ None → TurnsOf code n c r b → HasPlayed code es o c → (b.number ≡ c.number) × HasPlayed code es o b)
+        → (s : Turn) (c : PlainActor) → Turns code a s c → GoesOnAfter s (TurnsOf code n c r b) ((r ≡ s) × (b ≡ c)) → (b.number ≡ a.number) × HasPlayed code es o b
+    go more turned.Went c u g =
+        let one = turn_played laws code es o a c turned.Went f u h in
+        let all = more c (turn_says code a c turned.Went a.outcome refl u) g one.1 in
+        (all.0 ∙ one.0, all.1)
+    go more (turned.Asks q) c u g =
+        let one = turn_played laws code es o a c (turned.Asks q) f u h in
+        (ap (λ (x : PlainActor). x.number) g.1 ∙ one.0, subst (HasPlayed code es o) (sym g.1) one.1)
+    go more (turned.Ended e) c u g =
+        let one = turn_played laws code es o a c (turned.Ended e) f u h in
+        (ap (λ (x : PlainActor). x.number) g.1 ∙ one.0, subst (HasPlayed code es o) (sym g.1) one.1)
+
+-- up to so many turns leave an actor its number
+pub turns_number : (code : PlainCode) (n : ℕ) (a b : PlainActor) (r : Turn) → TurnsOf code n a r b → b.number ≡ a.number
+turns_number code zero a b r t = ap (λ (x : PlainActor). x.number) t.1
+turns_number code (suc n) a b r t = go (λ c g. turns_number code n c b r g) t.0 t.1 t.2 t.3
+  where
+    go : ((c : PlainActor) → TurnsOf code n c r b → b.number ≡ c.number) → (s : Turn) (c : PlainActor) → Turns code a s c → GoesOnAfter s (TurnsOf code n c r b) ((r ≡ s) × (b ≡ c)) → b.number ≡ a.number
+    go more turned.Went c u g = more c g ∙ turn_number code a c turned.Went a.outcome u
+    go more (turned.Asks q) c u g = ap (λ (x : PlainActor). x.number) g.1 ∙ turn_number code a c (turned.Asks q) a.outcome u
+    go more (turned.Ended e) c u g = ap (λ (x : PlainActor). x.number) g.1 ∙ turn_number code a c (turned.Ended e) a.outcome u
+
+-- up to one turn is one
+pub one_turn : (code : PlainCode) (a b : PlainActor) (r : Turn) → TurnsOf code 1 a r b → Turns code a r b
+one_turn code a b r t = last t.0 t.1 t.2 t.3
+  where
+    same : (s : Turn) (c : PlainActor) → Turns code a s c → r ≡ s → b ≡ c → Turns code a r b
+    same s c u e f = subst (λ q. Turns code a q b) (sym e) (subst (Turns code a s) (sym f) u)
+
+    last : (s : Turn) (c : PlainActor) → Turns code a s c → GoesOnAfter s (TurnsOf code 0 c r b) ((r ≡ s) × (b ≡ c)) → Turns code a r b
+    last turned.Went c u g = same turned.Went c u g.0 g.1
+    last (turned.Asks q) c u g = same (turned.Asks q) c u g.0 g.1
+    last (turned.Ended o) c u g = same (turned.Ended o) c u g.0 g.1
 
 staged_append : (st mid end : Stage) (es fs : List Entry) → AreStaged st es mid → AreStaged mid fs end → AreStaged st (es ++ fs) end
 staged_append st mid end [] fs e h = subst (λ i. AreStaged i fs end) (sym e) h

@@ -1,13 +1,13 @@
 //! The comparison of what actors kept with what they shared.
 
-ghost use Rattle.std.specs.Prelude.{◌≡◌, ◌≤◌, ◌<◌, ◌↔◌, [], length, take, drop, false, IsTrue, IfOk, IfErr, OnOk};
+ghost use Rattle.std.specs.Prelude.{◌≡◌, ◌≤◌, ◌<◌, ◌↔◌, ◌⊎◌, [], length, take, drop, false, IsTrue, IfOk, IfErr, OnOk};
 ghost use Rattle.txs_machine.specs.Agents.{agents_of, AreExplainedBy};
 ghost use Rattle.txs_actor.specs.PlainActor.{agents_from, with_agent};
 ghost use Rattle.txs_machine.specs.RunOver.{places_of};
 ghost use Rattle.txs_machine.specs.Schedule.{IsExplainedBy};
 ghost use Rattle.txs_played.specs.Adds.{adds_event, kept_trace, IsNotedBehind};
 ghost use Rattle.txs_played.specs.Gather.{StoppedSo, IsPlayer, AreWhole, ArePlayed, ArePlayers, IsMadeFor, kept_by, Agrees, IsReportOf, AreReportsOf, AllHaveDone, AllHaveAttended};
-ghost use Rattle.txs_machine.specs.declared.runner.RunError.TheVariants.{JournalMismatch};
+ghost use Rattle.txs_machine.specs.declared.runner.RunError.TheVariants.{JournalMismatch, Memory};
 ghost use Rattle.txs_shared.specs.SharedState.{shared_of};
 
 use crate::played::Played;
@@ -249,6 +249,7 @@ pub fn gather(
     ensures explained { IfOk result (λ g. IsExplainedBy code.now (shared_of g.shared) g.report.threads.items) }
     ensures all_explained { IfOk result (λ g. AreExplainedBy code.now (shared_of g.shared) g.report.threads.items g.report.agents.items) }
     ensures differs { IfErr result (λ e. e ≡ JournalMismatch → Agrees code.now shared served played.entry.items → ⊥) }
+    ensures refusals { IfErr result (λ e. (e ≡ JournalMismatch) ⊎ (e ≡ Memory)) }
 {
     replay_runs();
     every_report_is_explained();

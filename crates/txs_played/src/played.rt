@@ -2,7 +2,7 @@
 
 ghost use Rattle.std.specs.Prelude.{◌≡◌, ◌≤◌, ◌<◌, ◌↔◌, [], length, map, true, false, Some, None, IsTrue, OnOk, IfOk};
 ghost use Rattle.txs_actor.specs.PlainActor.{HandsOut, Lives, MayAnswerIf, answered, unanswered};
-ghost use Rattle.txs_actor.specs.Turns.{IsNew, Turns};
+ghost use Rattle.txs_actor.specs.Turns.{IsNew, Turns, TurnsOf};
 ghost use Rattle.txs_actor.specs.declared.outcome.Turn.TheVariants as turned;
 ghost use Rattle.txs_asks.specs.declared.ask.Ask.{Ask as AnAsk};
 ghost use Rattle.txs_asks.specs.declared.event.Outcome.{Outcome as AnOutcome};
@@ -128,14 +128,16 @@ impl<'a> Played<'a> {
         }
     }
 
-    /// A turn of the actor. Where it asks, and there is no memory to keep the ask, it has ended so from then on.
-    pub fn turn(&mut self) -> Turn
+    /// Up to so many turns of the actor: an ask or an end is the last. Where it asks, and there is no memory to keep the ask, it has ended so from
+    /// then on.
+    #[tactic(auto, using(crate::proofs::Playing::turns_number))]
+    pub fn run(&mut self, budget: u64) -> Turn
         requires free { self.old.lost ≡ false → unanswered self.old.actor ≡ None }
         ensures kept { self.new.kept ≡ self.old.kept }
         ensures stopped { self.new.stopped ≡ self.old.stopped }
         ensures code { self.new.code ≡ self.old.code }
         ensures number { self.new.actor.number ≡ self.old.actor.number }
-        ensures turned { self.new.lost ≡ false → Turns self.old.code self.old.actor result self.new.actor }
+        ensures turned { self.new.lost ≡ false → TurnsOf self.old.code budget self.old.actor result self.new.actor }
         ensures went { result ≡ turned.Went → (self.new.lost ≡ false) × (unanswered self.new.actor ≡ None) }
         ensures asks { (q : AnAsk) → result ≡ turned.Asks q → (self.new.lost ≡ false) × (unanswered self.new.actor ≡ Some q) }
         ensures ended { (o : AnOutcome) → result ≡ turned.Ended o → self.new.lost ≡ false → self.new.actor.outcome ≡ Some o }
@@ -144,7 +146,7 @@ impl<'a> Played<'a> {
         if self.lost {
             return Turn::Ended(Outcome::Memory);
         }
-        match self.actor.turn(self.code) {
+        match self.actor.run(self.code, budget) {
             Turn::Went => Turn::Went,
             Turn::Ended(outcome) => Turn::Ended(outcome),
             Turn::Asks(ask) => match copy_kept(self.alloc, &mut self.kept, &ask) {
@@ -159,6 +161,22 @@ impl<'a> Played<'a> {
                 }
             },
         }
+    }
+
+    /// A turn of the actor. Where it asks, and there is no memory to keep the ask, it has ended so from then on.
+    #[tactic(auto, using(crate::proofs::Playing::one_turn))]
+    pub fn turn(&mut self) -> Turn
+        requires free { self.old.lost ≡ false → unanswered self.old.actor ≡ None }
+        ensures kept { self.new.kept ≡ self.old.kept }
+        ensures stopped { self.new.stopped ≡ self.old.stopped }
+        ensures code { self.new.code ≡ self.old.code }
+        ensures number { self.new.actor.number ≡ self.old.actor.number }
+        ensures turned { self.new.lost ≡ false → Turns self.old.code self.old.actor result self.new.actor }
+        ensures went { result ≡ turned.Went → (self.new.lost ≡ false) × (unanswered self.new.actor ≡ None) }
+        ensures asks { (q : AnAsk) → result ≡ turned.Asks q → (self.new.lost ≡ false) × (unanswered self.new.actor ≡ Some q) }
+        ensures ended { (o : AnOutcome) → result ≡ turned.Ended o → self.new.lost ≡ false → self.new.actor.outcome ≡ Some o }
+    {
+        self.run(1)
     }
 
     /// The actor goes on after the reply to its ask, which was served where its book had `at` events, and behind `number` asks of all
