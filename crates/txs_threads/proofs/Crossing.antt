@@ -1,0 +1,239 @@
+-- What goes to other threads, or is lent to them: what actors and the state that they share hold, down to values.
+use denote.RattleType.{RattleType}
+use denote.Ref.{NamedLft}
+use denote.Builtin
+use denote.Param.{param}
+use denote.Param.Send.{IsSend, IsSync, sendable, plain_send, plain_sync, recorded_send, recorded_sync, struct_send, struct_sync, enum_send, view_send, view_sync, shr_send, shr_slice_send}
+use denote.Struct.Declared as S
+use denote.Struct.Field.{shr_ref_field}
+use denote.Struct.Tuple.{TupleAt, type_at, field_at}
+use mir.Syntax.{Sym}
+use mathlib.Core.List.{List, [], ◌∷◌}
+use denote.Enum.Declared as E
+use Rattle.std.proofs.Crossing.{crosses}
+use Rattle.std.proofs.option.Option.TheSendSync as option
+use Rattle.std.proofs.vec.Vec.TheSendSync as vec
+use Rattle.std.proofs.alloc.Global.TheSendSync as global
+use Rattle.txs_value.proofs.listed.Listed.TheSendSync as listed
+use Rattle.txs_asks.proofs.event.Outcome.TheSendSync as outcome
+use Rattle.txs_value.proofs.value.Body.TheLaws.TheKnot as knot
+use Rattle.txs_code.proofs.code.Body.TheSendSync as body_sent
+use Rattle.txs_code.specs.contracts.code.Code as code_is
+use Rattle.txs_code.specs.contracts.code.Code.TheInside as code_in
+use Rattle.txs_code.specs.contracts.verified.Verified as verified_is
+use Rattle.txs_code.specs.contracts.verified.Verified.TheInside as verified_in
+use Rattle.txs_code.proofs.fusing.Fused.TheSendSync as fused_sent
+use Rattle.txs_played.specs.contracts.played.Played as played_is
+use Rattle.txs_played.specs.contracts.played.Played.TheInside as played_in
+use Rattle.txs_threads.specs.contracts.desk.Server as server_is
+use Rattle.txs_threads.specs.contracts.desk.Desk as desk_is
+use Rattle.txs_threads.proofs.desk.Actors.TheSendSync as actors_sent
+use Rattle.std.specs.contracts.sync.Mutex as mutex_is
+use Rattle.std.specs.contracts.alloc.Global as global_is
+use Rattle.std.specs.contracts.impls.GlobalAllocator.TheImpl as allocator
+use Rattle.std.proofs.sync.Mutex.TheSendSync as mutex
+use Rattle.std.below.std_heap.proofs.GlobalAllocator.TheSendSync as heap
+use Rattle.crossbeam_channel.specs.contracts.channel.Sender as sender_is
+use Rattle.crossbeam_channel.specs.contracts.channel.Receiver as receiver_is
+use Rattle.crossbeam_channel.proofs.channel.Receiver.TheSendSync as receiver
+use Rattle.crossbeam_channel.proofs.channel.Sender.TheSendSync as sender
+use Rattle.txs_threads.specs.contracts.run.Message as message_is
+use Rattle.txs_threads.proofs.run.Message.TheSendSync as message
+use Rattle.txs_value.specs.contracts.value.Value as value
+use Rattle.txs_value.specs.contracts.action.Action as action
+use Rattle.txs_value.proofs.value.CellId.TheSendSync as cell_id_sent
+use Rattle.txs_value.proofs.value.Name.TheSendSync as name_sent
+use Rattle.txs_value.proofs.fault.Fault.TheSendSync as fault_sent
+use Rattle.txs_value.proofs.fault.Span.TheSendSync as span_sent
+use Rattle.txs_value.proofs.op.Callee.TheSendSync as callee_sent
+use Rattle.txs_value.proofs.cell.ErrorMode.TheSendSync as error_mode_sent
+use Rattle.txs_asks.specs.contracts.ask.Ask as ask_is
+use Rattle.txs_asks.specs.contracts.ask.Reply as reply_is
+use Rattle.txs_asks.specs.contracts.event.EventKind as event_kind_is
+use Rattle.txs_asks.specs.contracts.event.Event as event_is
+use Rattle.txs_replay.specs.contracts.kept.Kept as kept_is
+use Rattle.txs_replay.specs.contracts.kept.KeptEntries as kept_entries_is
+use Rattle.txs_replay.specs.contracts.kept.KeptEntries.TheInside as kept_entries_in
+use Rattle.txs_frame.specs.contracts.frame.Commute as commute_is
+use Rattle.txs_frame.specs.contracts.frame.TxFrame as tx_frame_is
+use Rattle.txs_frame.specs.contracts.frame.TxFrame.TheInside as tx_frame_in
+use Rattle.txs_frame.specs.contracts.phase.Phase as phase_is
+use Rattle.txs_frame.specs.contracts.phase.Phase.TheInside as phase_in
+use Rattle.txs_stack.specs.contracts.stack.Stack as stack_is
+use Rattle.txs_stack.specs.contracts.stack.Stack.TheInside as stack_in
+use Rattle.txs_actor.specs.contracts.state.Origin as origin_is
+use Rattle.txs_actor.specs.contracts.state.Transaction as transaction_is
+use Rattle.txs_actor.specs.contracts.state.Pending as pending_is
+use Rattle.txs_actor.specs.contracts.actor.Actor as actor_is
+use Rattle.txs_actor.specs.contracts.actor.Actor.TheInside as actor_in
+use Rattle.txs_value.specs.contracts.cell.CellDefinition as cell_definition_is
+use Rattle.txs_world.specs.contracts.cell.StoreCell as store_cell_is
+use Rattle.txs_mail.specs.contracts.mailbox.Mailbox as mailbox_is
+use Rattle.txs_mail.specs.contracts.mailbox.Mailbox.TheInside as mailbox_in
+use Rattle.txs_world.specs.contracts.atom.AtomBook as atom_book_is
+use Rattle.txs_world.specs.contracts.atom.AtomBook.TheInside as atom_book_in
+use Rattle.txs_world.specs.contracts.store.Store as store_is
+use Rattle.txs_world.specs.contracts.store.Store.TheInside as store_in
+use Rattle.txs_shared.specs.contracts.state.SharedState as shared_state_is
+use Rattle.txs_shared.specs.contracts.state.SharedState.TheInside as shared_state_in
+
+pub value_send : IsSend value.the_row
+value_send = search (crosses, knot.crosses, sendable) depth 60 fits 20000
+
+pub value_field_send : IsSend (value.the_field).row
+value_field_send = search (crosses, knot.crosses, sendable) depth 60 fits 20000
+
+pub value_sync : IsSync value.the_row
+value_sync = search (crosses, knot.crosses, sendable) depth 60 fits 20000
+
+pub action_send : IsSend action.the_row
+action_send = search (value_send, crosses, sendable) depth 60 fits 20000
+
+pub action_field_send : IsSend (action.the_field).row
+action_field_send = search (value_send, crosses, sendable) depth 60 fits 20000
+
+pub ask_field_send : IsSend (ask_is.the_field).row
+ask_field_send = enum_send (E.shape ask_is.the_type) (tt, ((cell_id_sent.the_field_send, (plain_send _ _ _ _ _, tt)), (((search (listed.the_send, cell_id_sent.the_send, crosses, sendable) depth 60 fits 20000), tt), ((plain_send _ _ _ _ _, ((search (value_send, vec.the_send, listed.the_send, cell_id_sent.the_send, crosses, sendable) depth 60 fits 20000), ((search (listed.the_send, cell_id_sent.the_send, crosses, sendable) depth 60 fits 20000), (plain_send _ _ _ _ _, ((search (value_send, vec.the_send, listed.the_send, cell_id_sent.the_send, crosses, sendable) depth 60 fits 20000), ((search (action_send, listed.the_send, crosses, sendable) depth 60 fits 20000), tt)))))), ((plain_send _ _ _ _ _, (plain_send _ _ _ _ _, tt)), ((cell_id_sent.the_field_send, tt), ((action_field_send, tt), ((cell_id_sent.the_field_send, tt), ((cell_id_sent.the_field_send, ((search (value_send, fault_sent.the_send, crosses, sendable) depth 60 fits 20000), tt)), ((cell_id_sent.the_field_send, tt), ((cell_id_sent.the_field_send, ((search (plain_send, option.the_field_send, crosses, sendable) depth 60 fits 20000), (value_field_send, tt))), ((cell_id_sent.the_field_send, (plain_send _ _ _ _ _, tt)), tt))))))))))))
+
+pub ask_send : IsSend ask_is.the_row
+ask_send = recorded_send (ask_is.the_field).row _ _ (ask_is.the_type).to_one ask_field_send
+
+pub reply_field_send : IsSend (reply_is.the_field).row
+reply_field_send = enum_send (E.shape reply_is.the_type) ((plain_send _ _ _ _ _, tt), ((value_field_send, tt), ((plain_send _ _ _ _ _, ((search (value_send, listed.the_send, crosses, sendable) depth 60 fits 20000), tt)), (tt, ((cell_id_sent.the_field_send, tt), ((cell_id_sent.the_field_send, tt), ((cell_id_sent.the_field_send, tt), ((plain_send _ _ _ _ _, (action_field_send, (value_field_send, tt))), (tt, ((plain_send _ _ _ _ _, (value_field_send, tt)), (tt, (tt, tt))))))))))))
+
+pub reply_send : IsSend reply_is.the_row
+reply_send = recorded_send (reply_is.the_field).row _ _ (reply_is.the_type).to_one reply_field_send
+
+pub event_kind_field_send : IsSend (event_kind_is.the_field).row
+event_kind_field_send = enum_send (E.shape event_kind_is.the_type) ((cell_id_sent.the_field_send, tt), ((plain_send _ _ _ _ _, (plain_send _ _ _ _ _, ((search (value_send, vec.the_send, listed.the_send, cell_id_sent.the_send, crosses, sendable) depth 60 fits 20000), ((search (action_send, listed.the_send, crosses, sendable) depth 60 fits 20000), tt)))), ((plain_send _ _ _ _ _, (cell_id_sent.the_field_send, (plain_send _ _ _ _ _, tt))), ((plain_send _ _ _ _ _, (plain_send _ _ _ _ _, tt)), ((plain_send _ _ _ _ _, (plain_send _ _ _ _ _, (cell_id_sent.the_field_send, tt))), ((action_field_send, tt), ((cell_id_sent.the_field_send, tt), ((cell_id_sent.the_field_send, (plain_send _ _ _ _ _, ((search (value_send, fault_sent.the_send, crosses, sendable) depth 60 fits 20000), tt))), ((value_field_send, tt), ((plain_send _ _ _ _ _, tt), tt))))))))))
+
+pub event_kind_send : IsSend event_kind_is.the_row
+event_kind_send = recorded_send (event_kind_is.the_field).row _ _ (event_kind_is.the_type).to_one event_kind_field_send
+
+pub event_field_send : IsSend (event_is.the_field).row
+event_field_send = struct_send (S.shape event_is.the_type) (plain_send _ _ _ _ _, ((search (event_kind_field_send, crosses, sendable) depth 60 fits 20000), tt))
+
+pub event_send : IsSend event_is.the_row
+event_send = recorded_send (event_is.the_field).row _ _ (event_is.the_type).to_one event_field_send
+
+pub kept_field_send : IsSend (kept_is.the_field).row
+kept_field_send = struct_send (S.shape kept_is.the_type) ((search (ask_field_send, crosses, sendable) depth 60 fits 20000), ((search (reply_field_send, crosses, sendable) depth 60 fits 20000), (plain_send _ _ _ _ _, (plain_send _ _ _ _ _, tt))))
+
+pub kept_send : IsSend kept_is.the_row
+kept_send = recorded_send (kept_is.the_field).row _ _ (kept_is.the_type).to_one kept_field_send
+
+pub kept_entries_send : IsSend kept_entries_is.the_row
+kept_entries_send = view_send kept_entries_in.the_row _ _ _ _ (recorded_send (kept_entries_in.the_field).row _ _ (kept_entries_in.the_type).to_one (struct_send (S.shape kept_entries_in.the_type) ((search (kept_send, crosses, sendable) depth 60 fits 20000), tt)))
+
+pub commute_field_send : IsSend (commute_is.the_field).row
+commute_field_send = struct_send (S.shape commute_is.the_type) (cell_id_sent.the_field_send, ((search (callee_sent.the_field_send, crosses, sendable) depth 60 fits 20000), ((search (value_send, listed.the_send, crosses, sendable) depth 60 fits 20000), tt)))
+
+pub commute_send : IsSend commute_is.the_row
+commute_send = recorded_send (commute_is.the_field).row _ _ (commute_is.the_type).to_one commute_field_send
+
+pub tx_frame_send : IsSend tx_frame_is.the_row
+tx_frame_send = view_send tx_frame_in.the_row _ _ _ _ (recorded_send (tx_frame_in.the_field).row _ _ (tx_frame_in.the_type).to_one (struct_send (S.shape tx_frame_in.the_type) ((search (global.the_field_send, crosses, sendable) depth 60 fits 20000), ((search (value_field_send, plain_send, vec.the_send, crosses, sendable) depth 60 fits 20000), ((search (vec.the_send, cell_id_sent.the_send, crosses, sendable) depth 60 fits 20000), ((search (commute_send, vec.the_send, crosses, sendable) depth 60 fits 20000), ((search (action_send, vec.the_send, crosses, sendable) depth 60 fits 20000), tt)))))))
+
+pub phase_send : IsSend phase_is.the_row
+phase_send = view_send phase_in.the_row _ _ _ _ (recorded_send (phase_in.the_field).row _ _ (phase_in.the_type).to_one (struct_send (S.shape phase_in.the_type) ((search (global.the_field_send, crosses, sendable) depth 60 fits 20000), ((search (value_send, vec.the_send, cell_id_sent.the_send, crosses, sendable) depth 60 fits 20000), ((search (commute_send, vec.the_send, crosses, sendable) depth 60 fits 20000), (plain_send _ _ _ _ _, tt))))))
+
+pub stack_send : IsSend stack_is.the_row
+stack_send = view_send stack_in.the_row _ _ _ _ (recorded_send (stack_in.the_field).row _ _ (stack_in.the_type).to_one (struct_send (S.shape stack_in.the_type) ((search (plain_send, crosses, sendable) depth 60 fits 20000), ((search (plain_send, vec.the_send, crosses, sendable) depth 60 fits 20000), ((search (value_send, vec.the_send, crosses, sendable) depth 60 fits 20000), tt)))))
+
+pub origin_field_send : IsSend (origin_is.the_field).row
+origin_field_send = struct_send (S.shape origin_is.the_type) ((search (span_sent.the_field_send, crosses, sendable) depth 60 fits 20000), ((search (stack_send, crosses, sendable) depth 60 fits 20000), tt))
+
+pub origin_send : IsSend origin_is.the_row
+origin_send = recorded_send (origin_is.the_field).row _ _ (origin_is.the_type).to_one origin_field_send
+
+pub transaction_field_send : IsSend (transaction_is.the_field).row
+transaction_field_send = enum_send (E.shape transaction_is.the_type) (tt, (((search (plain_send, crosses, sendable) depth 60 fits 20000), tt), (((search (plain_send, crosses, sendable) depth 60 fits 20000), ((search (plain_send, crosses, sendable) depth 60 fits 20000), ((search (origin_field_send, crosses, sendable) depth 60 fits 20000), tt))), (((search (plain_send, crosses, sendable) depth 60 fits 20000), ((search (origin_field_send, crosses, sendable) depth 60 fits 20000), ((search (phase_send, crosses, sendable) depth 60 fits 20000), tt))), (((search (plain_send, crosses, sendable) depth 60 fits 20000), ((search (origin_field_send, crosses, sendable) depth 60 fits 20000), ((search (phase_send, crosses, sendable) depth 60 fits 20000), ((search (stack_send, crosses, sendable) depth 60 fits 20000), tt)))), ((cell_id_sent.the_field_send, ((search (plain_send, crosses, sendable) depth 60 fits 20000), ((search (origin_field_send, crosses, sendable) depth 60 fits 20000), tt))), ((cell_id_sent.the_field_send, ((search (action_send, option.the_field_send, crosses, sendable) depth 60 fits 20000), tt)), ((cell_id_sent.the_field_send, (action_field_send, ((search (stack_send, crosses, sendable) depth 60 fits 20000), tt))), tt))))))))
+
+pub transaction_send : IsSend transaction_is.the_row
+transaction_send = recorded_send (transaction_is.the_field).row _ _ (transaction_is.the_type).to_one transaction_field_send
+
+pub pending_field_send : IsSend (pending_is.the_field).row
+pending_field_send = enum_send (E.shape pending_is.the_type) (((search (plain_send, crosses, sendable) depth 60 fits 20000), ((search (origin_field_send, crosses, sendable) depth 60 fits 20000), tt)), ((cell_id_sent.the_field_send, tt), ((cell_id_sent.the_field_send, ((search (listed.the_send, cell_id_sent.the_send, crosses, sendable) depth 60 fits 20000), tt)), ((cell_id_sent.the_field_send, ((search (plain_send, crosses, sendable) depth 60 fits 20000), ((search (commute_send, option.the_field_send, crosses, sendable) depth 60 fits 20000), tt))), (((search (phase_send, crosses, sendable) depth 60 fits 20000), tt), ((cell_id_sent.the_field_send, (value_field_send, tt)), ((action_field_send, ((search (plain_send, crosses, sendable) depth 60 fits 20000), tt)), ((cell_id_sent.the_field_send, ((search (plain_send, crosses, sendable) depth 60 fits 20000), ((search (origin_field_send, crosses, sendable) depth 60 fits 20000), tt))), ((cell_id_sent.the_field_send, ((search (plain_send, crosses, sendable) depth 60 fits 20000), (value_field_send, tt))), (tt, (((search (fault_sent.the_field_send, crosses, sendable) depth 60 fits 20000), tt), ((cell_id_sent.the_field_send, ((search (plain_send, crosses, sendable) depth 60 fits 20000), ((search (fault_sent.the_field_send, crosses, sendable) depth 60 fits 20000), tt))), ((cell_id_sent.the_field_send, tt), ((cell_id_sent.the_field_send, ((search (value_send, fault_sent.the_send, crosses, sendable) depth 60 fits 20000), tt)), tt))))))))))))))
+
+pub pending_send : IsSend pending_is.the_row
+pending_send = recorded_send (pending_is.the_field).row _ _ (pending_is.the_type).to_one pending_field_send
+
+pub actor_send : IsSend actor_is.the_row
+actor_send = view_send actor_in.the_row _ _ _ _ (recorded_send (actor_in.the_field).row _ _ (actor_in.the_type).to_one (struct_send (S.shape actor_in.the_type) ((search (global.the_field_send, crosses, sendable) depth 60 fits 20000), ((search (plain_send, crosses, sendable) depth 60 fits 20000), ((search (stack_send, crosses, sendable) depth 60 fits 20000), ((search (plain_send, vec.the_send, crosses, sendable) depth 60 fits 20000), ((search (plain_send, crosses, sendable) depth 60 fits 20000), ((search (plain_send, crosses, sendable) depth 60 fits 20000), ((search (tx_frame_send, crosses, sendable) depth 60 fits 20000), ((search (commute_send, option.the_field_send, crosses, sendable) depth 60 fits 20000), ((search (transaction_field_send, crosses, sendable) depth 60 fits 20000), ((search (pending_send, option.the_field_send, crosses, sendable) depth 60 fits 20000), ((search (outcome.the_send, option.the_field_send, crosses, sendable) depth 60 fits 20000), ((search (plain_send, crosses, sendable) depth 60 fits 20000), ((search (plain_send, crosses, sendable) depth 60 fits 20000), tt)))))))))))))))
+
+pub cell_definition_field_send : IsSend (cell_definition_is.the_field).row
+cell_definition_field_send = struct_send (S.shape cell_definition_is.the_type)
+    (search (value_field_send, name_sent.the_send, error_mode_sent.the_field_send, crosses, sendable) depth 60 fits 20000)
+
+pub cell_definition_send : IsSend cell_definition_is.the_row
+cell_definition_send = recorded_send (cell_definition_is.the_field).row _ _ (cell_definition_is.the_type).to_one cell_definition_field_send
+
+pub store_cell_field_send : IsSend (store_cell_is.the_field).row
+store_cell_field_send = struct_send (S.shape store_cell_is.the_type)
+    (search (value_field_send, plain_send, crosses, sendable) depth 60 fits 20000)
+
+pub store_cell_send : IsSend store_cell_is.the_row
+store_cell_send = recorded_send (store_cell_is.the_field).row _ _ (store_cell_is.the_type).to_one store_cell_field_send
+
+pub mailbox_send : IsSend mailbox_is.the_row
+mailbox_send = view_send mailbox_in.the_row _ _ _ _ (recorded_send (mailbox_in.the_field).row _ _ (mailbox_in.the_type).to_one (struct_send (S.shape mailbox_in.the_type) ((search (action_send, crosses, sendable) depth 60 fits 20000), ((search (plain_send, crosses, sendable) depth 60 fits 20000), ((search (plain_send, crosses, sendable) depth 60 fits 20000), ((search (plain_send, crosses, sendable) depth 60 fits 20000), tt))))))
+
+pub atom_book_send : IsSend atom_book_is.the_row
+atom_book_send = view_send atom_book_in.the_row _ _ _ _ (recorded_send (atom_book_in.the_field).row _ _ (atom_book_in.the_type).to_one (struct_send (S.shape atom_book_in.the_type) (cell_id_sent.the_field_send, (value_field_send, ((search (value_send, option.the_field_send, crosses, sendable) depth 60 fits 20000), ((search (plain_send, crosses, sendable) depth 60 fits 20000), ((search (event_send, plain_send, vec.the_send, crosses, sendable) depth 60 fits 20000), tt)))))))
+
+pub store_send : IsSend store_is.the_row
+store_send = view_send store_in.the_row _ _ _ _ (recorded_send (store_in.the_field).row _ _ (store_in.the_type).to_one (struct_send (S.shape store_in.the_type) ((search (global.the_field_send, crosses, sendable) depth 60 fits 20000), ((search (store_cell_send, vec.the_send, crosses, sendable) depth 60 fits 20000), ((search (plain_send, crosses, sendable) depth 60 fits 20000), ((search (value_field_send, plain_send, vec.the_send, crosses, sendable) depth 60 fits 20000), ((search (mailbox_send, plain_send, option.the_field_send, vec.the_send, fault_sent.the_send, crosses, sendable) depth 60 fits 20000), ((search (event_send, plain_send, vec.the_send, crosses, sendable) depth 60 fits 20000), ((search (value_send, vec.the_send, cell_id_sent.the_send, crosses, sendable) depth 60 fits 20000), ((search (action_send, crosses, sendable) depth 60 fits 20000), tt))))))))))
+
+pub shared_state_send : IsSend shared_state_is.the_row
+shared_state_send = view_send shared_state_in.the_row _ _ _ _ (recorded_send (shared_state_in.the_field).row _ _ (shared_state_in.the_type).to_one (struct_send (S.shape shared_state_in.the_type) ((search (cell_definition_send, vec.the_send, crosses, sendable) depth 60 fits 20000), ((search (store_send, crosses, sendable) depth 60 fits 20000), ((search (atom_book_send, vec.the_send, crosses, sendable) depth 60 fits 20000), ((search (plain_send, vec.the_send, crosses, sendable) depth 60 fits 20000), tt))))))
+
+-- ---- what is lent to other threads
+
+pub value_field_sync : IsSync (value.the_field).row
+value_field_sync = search (crosses, knot.crosses, sendable) depth 60 fits 20000
+
+pub cell_definition_sync : IsSync cell_definition_is.the_row
+cell_definition_sync = recorded_sync (cell_definition_is.the_field).row _ _ (cell_definition_is.the_type).to_one (struct_sync (S.shape cell_definition_is.the_type) (search (value_field_sync, name_sent.the_sync, error_mode_sent.the_field_sync, crosses, sendable) depth 60 fits 20000))
+
+pub code_sync : IsSync code_is.the_row
+code_sync = view_sync code_in.the_row _ _ _ _ (recorded_sync (code_in.the_field).row _ _ (code_in.the_type).to_one (struct_sync (S.shape code_in.the_type) (search (vec.the_sync, cell_definition_sync, crosses, sendable) depth 60 fits 20000, (search (value_sync, vec.the_sync, crosses, sendable) depth 60 fits 20000, (search (vec.the_sync, body_sent.the_sync, crosses, sendable) depth 60 fits 20000, (search (vec.the_sync, body_sent.the_sync, crosses, sendable) depth 60 fits 20000, tt))))))
+
+pub verified_sync : IsSync verified_is.the_row
+verified_sync = view_sync verified_in.the_row _ _ _ _ (recorded_sync (verified_in.the_field).row _ _ (verified_in.the_type).to_one (struct_sync (S.shape verified_in.the_type) (code_sync, (search (plain_sync, vec.the_sync, crosses, sendable) depth 60 fits 20000, (search (plain_sync, vec.the_sync, crosses, sendable) depth 60 fits 20000, (search (vec.the_sync, listed.the_sync, fused_sent.the_sync, crosses, sendable) depth 60 fits 20000, (search (vec.the_sync, listed.the_sync, fused_sent.the_sync, crosses, sendable) depth 60 fits 20000, tt)))))))
+
+-- ---- actors, and what lies under the lock
+
+module _ (a : NamedLft) where
+  pub played_send : IsSend (played_is.the_row a)
+  played_send = view_send (played_in.the_row a) _ _ _ _ (recorded_send (played_in.the_field a).row _ _ (played_in.the_type a).to_one (struct_send (S.shape (played_in.the_type a)) (search (global.the_field_send, crosses, sendable) depth 60 fits 20000, (shr_send _ _ verified_is.the_row verified_sync, (shr_slice_send _ _ Builtin.bool (plain_sync _ _ _ _ _), (actor_send, (search (ask_send, option.the_field_send, crosses, sendable) depth 60 fits 20000, (kept_entries_send, (search (ask_send, option.the_field_send, crosses, sendable) depth 60 fits 20000, (plain_send _ _ _ _ _, tt))))))))))
+
+pub server_field_send : IsSend (server_is.the_field).row
+server_field_send = struct_send (S.shape server_is.the_type) (shared_state_send, (plain_send _ _ _ _ _, tt))
+
+module _ (P : RattleType) (p : IsSend P) where
+  pub desk_send : IsSend (desk_is.the_row P)
+  desk_send = recorded_send (desk_is.the_field P).row _ _ (desk_is.the_type P).to_one (struct_send (S.shape (desk_is.the_type P)) (server_field_send, (actors_sent.the_field_send P p, tt)))
+
+-- what a worker holds: the runtime, what lies under the lock, both ends of the channel, and the gate, each lent
+module _ (R P G : RattleType) (r : IsSync (param 0 R)) (p : IsSend (param 1 P)) (g : IsSync (param 2 G)) where
+  desk_shared : IsSync (mutex_is.the_row (desk_is.the_row (param 1 P)))
+  desk_shared = mutex.the_sync (desk_is.the_row (param 1 P)) (desk_send (param 1 P) p)
+
+  message_sent : IsSend (message_is.the_row (param 1 P))
+  message_sent = search (message.the_send, p, crosses, sendable) depth 60 fits 20000
+
+  sender_shared : IsSync (sender_is.the_row (message_is.the_row (param 1 P)) global_is.the_row allocator.ghosts)
+  sender_shared = search (sender.the_sync, message_sent, global.the_send, global.the_sync, heap.the_frees, crosses, sendable) depth 60 fits 20000
+
+  receiver_shared : IsSync (receiver_is.the_row (message_is.the_row (param 1 P)) global_is.the_row allocator.ghosts)
+  receiver_shared = search (receiver.the_sync, message_sent, global.the_send, global.the_sync, heap.the_frees, crosses, sendable) depth 60 fits 20000
+
+  abbrev pub worker_fields : NamedLft → NamedLft → NamedLft → NamedLft → NamedLft → List RattleType
+  worker_fields a b c d e =
+      (shr_ref_field a (param 0 R) tt).row ∷ (shr_ref_field b (mutex_is.the_row (desk_is.the_row (param 1 P))) tt).row
+      ∷ (shr_ref_field c (sender_is.the_row (message_is.the_row (param 1 P)) global_is.the_row allocator.ghosts) tt).row
+      ∷ (shr_ref_field d (receiver_is.the_row (message_is.the_row (param 1 P)) global_is.the_row allocator.ghosts) tt).row ∷ (shr_ref_field e (param 2 G) tt).row ∷ []
+
+  pub worker_send : (n : Sym) (a b c d e : NamedLft) → IsSend (TupleAt n (worker_fields a b c d e))
+  worker_send n a b c d e =
+      recorded_send (field_at n (worker_fields a b c d e)).row _ _ (type_at n (worker_fields a b c d e)).to_one (struct_send (S.shape (type_at n (worker_fields a b c d e))) (shr_send _ _ _ r, (shr_send _ _ _ desk_shared, (shr_send _ _ _ sender_shared, (shr_send _ _ _ receiver_shared, (shr_send _ _ _ g, tt))))))

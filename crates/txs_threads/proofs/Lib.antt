@@ -1,0 +1,4 @@
+pub mod Agents
+pub mod Crossing
+pub mod Ended
+pub mod Mail

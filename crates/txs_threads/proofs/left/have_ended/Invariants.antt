@@ -1,0 +1,6 @@
+use Rattle.std.proofs.Common.{drop}
+use Rattle.txs_threads.specs.Run.{AllEnded}
+use Rattle.txs_threads.proofs.left.have_ended.Given as goal
+
+abbrev pub invariant-loop-thread : goal.invariant-loop-thread
+invariant-loop-thread l = AllEnded (drop l.thread-index l.threads) → AllEnded l.threads

@@ -1,0 +1,222 @@
+//! What lies under the one lock.
+
+ghost use Rattle.std.specs.Prelude.{◌≡◌, ◌↔◌, IfSome, IsTrue, None};
+ghost use Rattle.txs_shared.specs.SharedState.{is_lawful, answer_to, Answers};
+
+use crate::player::Player;
+use std::mem;
+use txs_asks::{Ask, Event, EventKind, Reply};
+use txs_replay::replay::is_exchanged;
+use txs_shared::SharedState;
+use txs_value::CellId;
+
+/// What all actors share, and how many of their asks were served and kept so far.
+#[derive(Drop)]
+pub struct Server {
+    pub shared: SharedState,
+    pub served: u64,
+}
+
+/// An answer, with the place of its book and behind how many asks of all actors it was served.
+#[derive(Drop)]
+pub struct Served {
+    pub reply: Reply,
+    pub at: u32,
+    pub number: u64,
+}
+
+impl Server {
+    /// Serves an ask, if the actor may ask it: one event of its book, or one answer without an event. Else all is left as it is.
+    pub fn serve(&mut self, actor: u16, ask: Ask) -> Option<Served>
+        ensures served { IfSome result (λ v. Answers self.old.shared ask (answer_to self.old.shared actor ask) v.reply self.new.shared) }
+        ensures refused { result ≡ None → self.new.shared ≡ self.old.shared }
+    {
+        if !self.shared.lawful(actor, &ask) {
+            drop(ask);
+            return None;
+        }
+        let events = self.shared.numbered_events(self.shared.book_for(&ask));
+        let at = u32::try_from(events.len()).unwrap_or(u32::MAX);
+        let number = self.served;
+        let reply = self.shared.serve(actor, ask);
+        if is_exchanged(&reply) {
+            self.served = self.served.saturating_add(1);
+        }
+        Some(Served { reply, at, number })
+    }
+
+    /// Whether an action waits for the agent of this actor.
+    #[tactic(auto, using(crate::proofs::Mail::taker_is_agent))]
+    fn has_mail(&self, actor: u16, agent: CellId) -> bool {
+        if !self.shared.lawful(actor, &Ask::Take { agent }) {
+            return false;
+        }
+        self.shared.failure(agent).is_none() && self.shared.waiting(agent) > 0
+    }
+}
+
+/// The actors that no worker has in hand.
+#[derive(Drop)]
+pub struct Actors<P> {
+    /// Those that wait to be handed to a worker, the next one last: at first those of the threads, and then agents that were woken.
+    pub ready: Vec<P>,
+    /// Agents for which nothing waits, each at the number of its cell.
+    pub parked: Vec<Option<P>>,
+    /// Those that are turned no more. There is room for all actors.
+    pub down: Vec<P>,
+    /// How many of all actors are neither parked nor down.
+    pub live: usize,
+}
+
+impl<P: Player> Actors<P> {
+    /// One is live no more: whether it was the last.
+    fn one_less(&mut self) -> bool {
+        self.live = self.live.saturating_sub(1);
+        self.live == 0
+    }
+
+    /// An actor is put down: whether it was the last that was live.
+    fn put(&mut self, played: P) -> bool {
+        let _ = self.down.push(played);
+        self.one_less()
+    }
+
+    /// An agent's actor is parked: whether it was the last that was live.
+    fn park(&mut self, agent: CellId, played: P) -> bool {
+        let number = usize::from(agent.number);
+        if number >= self.parked.len() {
+            return self.put(played);
+        }
+        drop(mem::replace(&mut self.parked[number], Some(played)));
+        self.one_less()
+    }
+
+    /// Wakes an agent's actor, if it is parked: whether it was.
+    fn wake(&mut self, agent: CellId) -> bool {
+        let number = usize::from(agent.number);
+        if number >= self.parked.len() {
+            return false;
+        }
+        let Some(played) = self.parked[number].take() else {
+            return false;
+        };
+        self.live = self.live.saturating_add(1);
+        let _ = self.ready.push(played);
+        true
+    }
+}
+
+/// What became of an agent's actor that was to be parked.
+#[derive(Drop)]
+pub enum Parking<P> {
+    /// Something waits for it by now.
+    Again(P),
+    /// It is parked.
+    Parked,
+    /// It is parked, and was the last that was live.
+    Last,
+}
+
+/// What came of an ask, and whether agents were woken by it, which are ready.
+#[derive(Drop)]
+pub struct Step {
+    pub served: Option<Served>,
+    pub woke: bool,
+}
+
+/// What lies under the lock: the state that asks are served from, and the actors that no worker has in hand.
+#[derive(Drop)]
+pub struct Desk<P> {
+    pub server: Server,
+    pub actors: Actors<P>,
+}
+
+/// Whether an ask puts actions into mailboxes, where it is done.
+fn sends_actions(ask: &Ask) -> bool {
+    match ask {
+        Ask::Send { .. } => true,
+        Ask::Commit { sends, .. } => !sends.as_slice().is_empty(),
+        _ => false,
+    }
+}
+
+/// Whether what was asked is done.
+fn is_done(served: &Option<Served>) -> bool {
+    match served {
+        Some(served) => matches!(served.reply, Reply::Done),
+        None => false,
+    }
+}
+
+/// Wakes the agents to which an event sent actions: whether one was parked.
+fn wake_by<P: Player>(actors: &mut Actors<P>, event: &Event) -> bool {
+    match &event.kind {
+        EventKind::Send { action } => actors.wake(action.agent),
+        EventKind::Commit { sends, .. } => {
+            let mut woke = false;
+            for action in sends.as_slice() {
+                woke |= actors.wake(action.agent);
+            }
+            woke
+        }
+        _ => false,
+    }
+}
+
+impl<P: Player> Desk<P> {
+    /// Serves an ask, if the actor may ask it, and wakes the agents to which it sent actions, in one step.
+    pub fn serve(&mut self, actor: u16, ask: Ask) -> Step
+        ensures served { IfSome result.served (λ v. Answers self.old.server.shared ask (answer_to self.old.server.shared actor ask) v.reply self.new.server.shared) }
+        ensures refused { result.served ≡ None → self.new.server.shared ≡ self.old.server.shared }
+    {
+        let sends = sends_actions(&ask);
+        let served = self.server.serve(actor, ask);
+        let woke = sends && is_done(&served) && self.wake();
+        Step { served, woke }
+    }
+
+    /// Wakes the agents to which the store's last event sent actions: whether one was parked.
+    fn wake(&mut self) -> bool
+        ensures { self.new.server ≡ self.old.server }
+    {
+        match self.server.shared.events().last() {
+            Some(event) => wake_by(&mut self.actors, event),
+            None => false,
+        }
+    }
+
+    /// Whether no actor is live.
+    pub fn is_over(&self) -> bool
+        ensures { IsTrue result ↔ (self.now.actors.live ≡ 0) }
+    {
+        self.actors.live == 0
+    }
+
+    /// The next actor that is ready. What is shared stays as it is.
+    pub fn next(&mut self) -> Option<P>
+        ensures { self.new.server ≡ self.old.server }
+    {
+        self.actors.ready.pop()
+    }
+
+    /// An actor is put down: whether it was the last that was live. What is shared stays as it is.
+    pub fn put(&mut self, played: P) -> bool
+        ensures { self.new.server ≡ self.old.server }
+    {
+        self.actors.put(played)
+    }
+
+    /// An agent's actor that found nothing to do is parked, unless something waits for it by now. What is shared stays as it is.
+    pub fn park(&mut self, agent: CellId, played: P) -> Parking<P>
+        ensures { self.new.server ≡ self.old.server }
+    {
+        if self.server.has_mail(played.place(), agent) {
+            return Parking::Again(played);
+        }
+        if self.actors.park(agent, played) {
+            Parking::Last
+        } else {
+            Parking::Parked
+        }
+    }
+}

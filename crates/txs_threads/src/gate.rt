@@ -1,0 +1,70 @@
+//! What a worker passes between an actor's steps.
+
+use txs_asks::Ask;
+
+/// Which ask was answered.
+#[derive(Clone, Copy, Debug, PartialEq, Eq)]
+pub enum AskKind {
+    Begin,
+    Look,
+    View,
+    Commit,
+    Fail,
+    Peek,
+    Send,
+    Take,
+    Finish,
+    OpenAt,
+    CloseAt,
+    Broke,
+}
+
+/// Where an actor is.
+#[derive(Clone, Copy, Debug, PartialEq, Eq)]
+pub enum Moment {
+    /// Before some turns: as many as the gate allows, or up to an ask or its end.
+    Local,
+    /// After an ask of this kind was served.
+    Answered(AskKind),
+}
+
+/// What a worker calls for each actor that it runs, outside every lock: with `Local` before its turns, and with `Answered` after
+/// each ask that was served.
+pub trait Gate: Sync {
+    /// How many turns an actor makes at most between two calls of `pass` with `Local`. Where nothing is said, one; none counts as one.
+    fn most_turns(&self) -> u64 {
+        1
+    }
+
+    fn pass(&self, actor: u16, moment: Moment);
+}
+
+/// Lets all pass, and all turns up to an ask at once.
+#[derive(Drop)]
+pub struct OpenGate;
+
+impl Gate for OpenGate {
+    fn most_turns(&self) -> u64 {
+        u64::MAX
+    }
+
+    fn pass(&self, _actor: u16, _moment: Moment) {}
+}
+
+/// Of which kind an ask is.
+pub(crate) fn kind_of(ask: &Ask) -> AskKind {
+    match ask {
+        Ask::Begin => AskKind::Begin,
+        Ask::Look { .. } => AskKind::Look,
+        Ask::View { .. } => AskKind::View,
+        Ask::Commit { .. } => AskKind::Commit,
+        Ask::Fail { .. } => AskKind::Fail,
+        Ask::Peek { .. } => AskKind::Peek,
+        Ask::Send { .. } => AskKind::Send,
+        Ask::Take { .. } => AskKind::Take,
+        Ask::Finish { .. } => AskKind::Finish,
+        Ask::OpenAt { .. } => AskKind::OpenAt,
+        Ask::CloseAt { .. } => AskKind::CloseAt,
+        Ask::Broke { .. } => AskKind::Broke,
+    }
+}

@@ -1,0 +1,15 @@
+//! Actors that several worker threads run over one shared state. Promises that each program that the code follows explains a report,
+//! whatever the workers did.
+#![tactic(auto)]
+
+mod actors;
+mod desk;
+pub mod gate;
+mod left;
+mod player;
+mod run;
+
+pub use gate::{AskKind, Gate, Moment, OpenGate};
+pub use run::run_threads;
+pub use txs_machine::RunError;
+pub use txs_played::{Gathered, Played, gather};

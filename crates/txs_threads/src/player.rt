@@ -1,0 +1,66 @@
+//! What workers know of an actor.
+
+use crate::desk::Served;
+use txs_actor::Turn;
+use txs_asks::Reply;
+use txs_played::Played;
+
+/// What an actor that asked is to do next.
+#[derive(Clone, Copy, PartialEq, Eq)]
+pub enum Next {
+    /// It goes on.
+    GoesOn,
+    /// Its transaction runs again.
+    Again,
+    /// Nothing waits for it.
+    Idle,
+    /// It asked what it may not ask, or was answered what no ask of its kind is: it is turned no more.
+    Broken,
+}
+
+/// An actor, as workers turn it and hand it on. They know nothing else of it, so that nothing of what they do is proved again for all that an actor holds.
+pub trait Player: Drop {
+    /// Its number among all actors.
+    fn place(&self) -> u16;
+
+    /// Up to so many turns, or nothing where it waits for a reply: an ask or an end is the last.
+    fn run(&mut self, budget: u64) -> Option<Turn>;
+
+    /// Hands it the answer to its ask, if it is one that the ask may have.
+    fn hear(&mut self, served: Option<Served>) -> Next;
+}
+
+/// What an actor does after a reply that its ask may have.
+fn next_after(reply: &Reply) -> Next {
+    match reply {
+        Reply::Retry(_) => Next::Again,
+        Reply::Idle => Next::Idle,
+        _ => Next::GoesOn,
+    }
+}
+
+impl<'a> Player for Played<'a> {
+    fn place(&self) -> u16 {
+        self.number()
+    }
+
+    fn run(&mut self, budget: u64) -> Option<Turn> {
+        if self.is_asking() {
+            return None;
+        }
+        Some(Played::run(self, budget))
+    }
+
+    fn hear(&mut self, served: Option<Served>) -> Next {
+        let Some(Served { reply, at, number }) = served else {
+            return Next::Broken;
+        };
+        if !self.may_answer(&reply) {
+            drop(reply);
+            return Next::Broken;
+        }
+        let next = next_after(&reply);
+        self.answer(number, at, reply);
+        next
+    }
+}
