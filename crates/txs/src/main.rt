@@ -2,13 +2,23 @@
 //! `txs build [FILE] --out F`.
 #![tactic(auto)]
 
+ghost use Rattle.std.specs.Thread.{IsSync};
+ghost use Rattle.txs_tell_threads.specs.Runner.{IsRunnable, RunsLawfully};
+
+use std::alloc::Global;
 use std::fs::File;
 use std::io::{ErrorKind, Read, Write};
 use std::process::ExitCode;
+use std::sync::Wait;
+use std::thread::Threads;
 use std::{env, fs, io};
-use txs_play::play_words;
+use txs_code::Verified;
+use txs_machine::{Report, RunError};
+use txs_play::play_with;
+use txs_shared::SharedState;
 use txs_tell::told::{DONE, UNUSABLE};
 use txs_tell::write_told;
+use txs_threads::{Gathered, OpenGate, run_threads};
 use txs_words::{Words, parse_words};
 
 /// The reader of a file that can't be opened.
@@ -36,8 +46,10 @@ fn file_of(words: &Words) -> Option<&str> {
         Words::Check { file, .. }
         | Words::Listing { file, .. }
         | Words::Build { file, .. }
+        | Words::Work { file, .. }
         | Words::Run { file, .. }
         | Words::ListCode { file }
+        | Words::WorkCode { file, .. }
         | Words::RunCode { file, .. } => match file {
             Some(name) => Some(name.as_str()),
             None => None,
@@ -47,22 +59,36 @@ fn file_of(words: &Words) -> Option<&str> {
 }
 
 /// Plays the words on their file or on standard input, over this writer.
-fn play_on<W: Write>(rt: &HostRuntime, words: &Words, writer: &mut W) -> u8 {
+fn play_on<
+    X: Fn(Global, &Verified, usize, u64) -> Result<(SharedState, Report), RunError>,
+    W: Write,
+>(rt: &HostRuntime, runner: &X, words: &Words, writer: &mut W) -> u8
+    requires call { (a : _) (code : _) (n : _) (steps : _) → IsRunnable code.now → X.pre runner.now a code n steps }
+    requires ran { (a : _) (code : _) (n : _) (steps : _) (r : _) → X.post runner.now a code n steps r → RunsLawfully code.now r }
+{
     let alloc = rt.alloc();
     let mut faults = rt.stderr();
     let Some(name) = file_of(words) else {
-        return play_words(alloc, words, &mut rt.stdin(), writer, &mut faults);
+        return play_with(alloc, runner, words, &mut rt.stdin(), writer, &mut faults);
     };
     match File::open(rt, name) {
-        Ok(mut file) => play_words(alloc, words, &mut file, writer, &mut faults),
-        Err(_) => play_words(alloc, words, &mut Unreadable, writer, &mut faults),
+        Ok(mut file) => play_with(alloc, runner, words, &mut file, writer, &mut faults),
+        Err(_) => play_with(alloc, runner, words, &mut Unreadable, writer, &mut faults),
     }
 }
 
 /// Plays words whose code goes to a file. That is written where all went well, and else left as it is.
-fn build_to(rt: &HostRuntime, words: &Words, out: &str) -> u8 {
+fn build_to<X: Fn(Global, &Verified, usize, u64) -> Result<(SharedState, Report), RunError>>(
+    rt: &HostRuntime,
+    runner: &X,
+    words: &Words,
+    out: &str,
+) -> u8
+    requires call { (a : _) (code : _) (n : _) (steps : _) → IsRunnable code.now → X.pre runner.now a code n steps }
+    requires ran { (a : _) (code : _) (n : _) (steps : _) (r : _) → X.post runner.now a code n steps r → RunsLawfully code.now r }
+{
     let mut code = Vec::new(rt.alloc());
-    let status = play_on(rt, words, &mut code);
+    let status = play_on(rt, runner, words, &mut code);
     if status != DONE {
         return status;
     }
@@ -79,16 +105,44 @@ fn build_to(rt: &HostRuntime, words: &Words, out: &str) -> u8 {
 }
 
 /// Plays the words.
-fn play_all(rt: &HostRuntime, words: &Words) -> u8 {
+fn play_all<X: Fn(Global, &Verified, usize, u64) -> Result<(SharedState, Report), RunError>>(
+    rt: &HostRuntime,
+    runner: &X,
+    words: &Words,
+) -> u8
+    requires call { (a : _) (code : _) (n : _) (steps : _) → IsRunnable code.now → X.pre runner.now a code n steps }
+    requires ran { (a : _) (code : _) (n : _) (steps : _) (r : _) → X.post runner.now a code n steps r → RunsLawfully code.now r }
+{
     match words {
-        Words::Build { out, .. } => build_to(rt, words, out.as_str()),
-        _ => play_on(rt, words, &mut io::writer(rt)),
+        Words::Build { out, .. } => build_to(rt, runner, words, out.as_str()),
+        _ => play_on(rt, runner, words, &mut io::writer(rt)),
     }
+}
+
+/// Plays the words; where they ask for workers, these are started with this handle.
+fn play_by_workers<T: Threads + Wait + Sync>(rt: &HostRuntime, threads: &T, words: &Words) -> u8 {
+    play_all(
+        rt,
+        &|alloc: Global, code: &Verified, workers: usize, steps: u64| -> Result<
+            (SharedState, Report),
+            RunError,
+        >
+            requires sync { IsSync T.row }
+            requires few { IsRunnable code.now }
+            ensures { RunsLawfully code.now result }
+        {
+            let Gathered { shared, report } = run_threads(
+                threads, alloc, code, workers, steps, &OpenGate,
+            )?;
+            Ok((shared, report))
+        },
+        words,
+    )
 }
 
 fn main(rt: HostRuntime) -> io::Result<ExitCode> {
     let args = args_of(&rt)?;
     let words = parse_words(rt.alloc(), args.as_slice())?;
-    let status = play_all(&rt, &words);
+    let status = play_by_workers(&rt, &rt, &words);
     Ok(ExitCode::from(status))
 }

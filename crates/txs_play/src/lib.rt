@@ -3,5 +3,7 @@
 #![tactic(auto)]
 
 pub mod program;
+pub mod workers;
 
 pub use program::{play, play_words};
+pub use workers::play_with;

@@ -13,7 +13,7 @@ use txs_tell_code::{CodeUse, play_code, schedule_code};
 use txs_words::{Words, parse_words};
 
 /// The name under which lines are explained, where they are: that of the file, or `-` for standard input.
-fn explained_as(explain: bool, file: &Option<String>) -> Option<&str>
+pub(crate) fn explained_as(explain: bool, file: &Option<String>) -> Option<&str>
     ensures { text_in result ≡ explained_as explain file.now }
 {
     if !explain {
@@ -53,6 +53,19 @@ pub fn play_words<R: Read, W: Write, F: Write>(
             let name = explained_as(*explain, file);
             play_script(alloc, Use::Build, name, reader, writer, faults)
         }
+        Words::Work {
+            file,
+            steps,
+            cells,
+            events,
+            explain,
+            ..
+        } => {
+            let name = explained_as(*explain, file);
+            play_schedule(
+                alloc, "", *steps, *cells, *events, name, reader, writer, faults,
+            )
+        }
         Words::Run {
             file,
             turns,
@@ -75,6 +88,12 @@ pub fn play_words<R: Read, W: Write, F: Write>(
             )
         }
         Words::ListCode { .. } => play_code(alloc, CodeUse::Listing, reader, writer, faults),
+        Words::WorkCode {
+            steps,
+            cells,
+            events,
+            ..
+        } => schedule_code(alloc, "", *steps, *cells, *events, reader, writer, faults),
         Words::RunCode {
             turns,
             steps,

@@ -17,7 +17,7 @@ use txs_tell::write_told;
 ///
 /// # Errors
 /// `Failed` where a call of the reader fails, but for one that was interrupted; `Memory` where the bytes don't fit into memory.
-fn read_all<R: Read>(alloc: Global, reader: &mut R) -> Result<Vec<u8>, ReadFault>
+pub fn read_all<R: Read>(alloc: Global, reader: &mut R) -> Result<Vec<u8>, ReadFault>
     ensures { IfOk result (λ bytes. IfSome (R.remaining reader.old) (λ input. bytes.items ≡ input)) }
 {
     let mut bytes = Vec::new(alloc);

@@ -85,7 +85,7 @@ fn tell_cells(
 }
 
 /// Appends what is told behind a run: the lines of the code's cells, and of the events, where they are wanted.
-fn tell_book(
+pub fn tell_book(
     told: &mut Told,
     cells: bool,
     events: bool,
@@ -104,7 +104,7 @@ fn tell_book(
 }
 
 /// What stands in place of a script: nothing, and no line is explained.
-fn no_script<'a>() -> Script<'a>
+pub fn no_script<'a>() -> Script<'a>
     ensures { script_of result ≡ no_script }
 {
     Script {

@@ -7,6 +7,9 @@ use std::alloc::{AllocError, Global};
 /// How many steps an actor makes at most, where the words don't say it.
 const DEFAULT_STEPS: u64 = 100_000_000;
 
+/// How many workers there are, where the words don't say it.
+const DEFAULT_WORKERS: u64 = 4;
+
 /// What the words ask for.
 #[derive(Drop)]
 pub enum Words {
@@ -27,9 +30,18 @@ pub enum Words {
         out: String,
         explain: bool,
     },
-    /// To run a script: its file, where it is named, the list of plays that come before the rounds (empty
-    /// for `run`), how many steps an actor makes at most, whether the cells and the events are printed, and
-    /// whether refusals, faults and stops are explained.
+    /// To run a script by workers: its file, where it is named, how many workers there are, how many steps an actor makes at most, whether
+    /// the cells and the events are printed, and whether refusals, faults and stops are explained.
+    Work {
+        file: Option<String>,
+        workers: u64,
+        steps: u64,
+        cells: bool,
+        events: bool,
+        explain: bool,
+    },
+    /// To run a script by a schedule: its file, where it is named, the list of plays that come before the rounds, and the rest as for
+    /// workers.
     Run {
         file: Option<String>,
         turns: String,
@@ -42,7 +54,15 @@ pub enum Words {
     ListCode {
         file: Option<String>,
     },
-    /// To run code: the file of its byte form, where it is named, and the rest as for a script.
+    /// To run code by workers: the file of its byte form, where it is named, and the rest as for a script.
+    WorkCode {
+        file: Option<String>,
+        workers: u64,
+        steps: u64,
+        cells: bool,
+        events: bool,
+    },
+    /// To run code by a schedule: the file of its byte form, where it is named, and the rest as for a script.
     RunCode {
         file: Option<String>,
         turns: String,
@@ -112,10 +132,20 @@ fn with_lines<'a>(alloc: Global, command: Command<'a>) -> Result<Command<'a>, Al
     command.arg(cells)?.arg(events)
 }
 
+/// The option of how many workers run a script or code.
+fn workers_arg<'a>(alloc: Global) -> Arg<'a> {
+    Arg::new(alloc, "workers")
+        .long("workers")
+        .help("How many workers run the threads at once")
+        .action(ArgAction::Set)
+        .value_parser(value_parser!(u64).range(1..=64))
+}
+
 /// The command that runs.
 fn run_command<'a>(alloc: Global) -> Result<Command<'a>, AllocError> {
     let command = Command::new(alloc, "run")
         .about("Runs a script")
+        .arg(workers_arg(alloc))?
         .arg(steps_arg(alloc))?;
     with_lines(alloc, command)?
         .arg(code_arg(alloc)?)?
@@ -194,14 +224,6 @@ fn named_file(alloc: Global, matches: &ArgMatches<'_>) -> Result<Option<String>,
     }
 }
 
-/// The list of plays that a command's words give; `run` has none.
-fn given_turns(alloc: Global, name: &str, words: &ArgMatches<'_>) -> Result<String, AllocError> {
-    if name != "schedule" {
-        return Ok(String::new(alloc));
-    }
-    String::from_str(alloc, words.get_str("turns").unwrap_or(""))
-}
-
 /// What words ask for that are to list a script's code, or code.
 fn listing_words(file: Option<String>, code: bool, explain: bool) -> Words {
     if code {
@@ -210,19 +232,42 @@ fn listing_words(file: Option<String>, code: bool, explain: bool) -> Words {
     Words::Listing { file, explain }
 }
 
-/// What words ask for that are to run a script, or code.
-fn run_words(
+/// What words ask for that are to run a script, or code, by workers.
+fn work_words(words: &ArgMatches<'_>, file: Option<String>, code: bool) -> Words {
+    let workers = words.get_one::<u64>("workers").unwrap_or(DEFAULT_WORKERS);
+    let steps = words.get_one::<u64>("steps").unwrap_or(DEFAULT_STEPS);
+    let cells = words.get_flag("cells");
+    let events = words.get_flag("events");
+    if code {
+        return Words::WorkCode {
+            file,
+            workers,
+            steps,
+            cells,
+            events,
+        };
+    }
+    Words::Work {
+        file,
+        workers,
+        steps,
+        cells,
+        events,
+        explain: words.get_flag("explain"),
+    }
+}
+
+/// What words ask for that are to run a script, or code, by a schedule.
+fn schedule_words(
     alloc: Global,
-    name: &str,
     words: &ArgMatches<'_>,
     file: Option<String>,
     code: bool,
 ) -> Result<Words, AllocError> {
+    let turns = String::from_str(alloc, words.get_str("turns").unwrap_or(""))?;
     let steps = words.get_one::<u64>("steps").unwrap_or(DEFAULT_STEPS);
     let cells = words.get_flag("cells");
     let events = words.get_flag("events");
-    let explain = words.get_flag("explain");
-    let turns = given_turns(alloc, name, words)?;
     if code {
         return Ok(Words::RunCode {
             file,
@@ -238,7 +283,7 @@ fn run_words(
         steps,
         cells,
         events,
-        explain,
+        explain: words.get_flag("explain"),
     })
 }
 
@@ -260,7 +305,10 @@ fn asked(alloc: Global, matches: &ArgMatches<'_>) -> Result<Words, AllocError> {
     if name == "dis" {
         return Ok(listing_words(file, code, explain));
     }
-    run_words(alloc, name, words, file, code)
+    if name == "run" {
+        return Ok(work_words(words, file, code));
+    }
+    schedule_words(alloc, words, file, code)
 }
 
 /// The text of what isn't run: help, or a usage fault.

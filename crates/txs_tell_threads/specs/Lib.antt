@@ -1,0 +1,3 @@
+pub mod CodeWorkersTold
+pub mod WorkersTold
+pub mod Runner

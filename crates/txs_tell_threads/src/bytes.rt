@@ -1,0 +1,61 @@
+//! Plays code in its byte form by workers: reads it, runs it, and writes what is told of it.
+
+ghost use Rattle.std.specs.Prelude.{IfOk, IfSome};
+ghost use Rattle.txs_tell.specs.Lent.{told_of};
+ghost use Rattle.txs_tell.specs.Told.{Told as PlainTold, Written};
+ghost use Rattle.txs_tell_threads.specs.CodeWorkersTold.{StreamWorkedCodeTells};
+ghost use Rattle.txs_tell_threads.specs.Runner.{IsRunnable, RunsLawfully};
+
+use crate::code::work_code;
+use crate::script::Working;
+use std::alloc::{AllocError, Global};
+use std::io::{Read, Write};
+use txs_code::Verified;
+use txs_machine::{Report, RunError};
+use txs_shared::SharedState;
+use txs_tell::streams::ReadFault;
+use txs_tell::told::{SPENT, Told, UNUSABLE, complaint};
+use txs_tell::write_told;
+use txs_tell_code::play::read_all;
+
+/// Reads the bytes and has their code run.
+fn work_bytes<
+    X: Fn(Global, &Verified, usize, u64) -> Result<(SharedState, Report), RunError>,
+    R: Read,
+>(alloc: Global, runner: &X, working: Working, reader: &mut R) -> Result<Told, AllocError>
+    requires call { (a : _) (code : _) (n : _) (steps : _) → IsRunnable code.now → X.pre runner.now a code n steps }
+    requires ran { (a : _) (code : _) (n : _) (steps : _) (r : _) → X.post runner.now a code n steps r → RunsLawfully code.now r }
+    ensures { IfOk result (λ t. IfSome (R.remaining reader.old) (λ input. StreamWorkedCodeTells input working.cells working.events (told_of t))) }
+{
+    match read_all(alloc, reader) {
+        Ok(bytes) => work_code(alloc, runner, bytes.as_slice(), working),
+        Err(ReadFault::Failed) => complaint(alloc, UNUSABLE, "read failed"),
+        Err(ReadFault::Memory) => Err(AllocError),
+    }
+}
+
+/// Has the code whose byte form the reader has run by workers, and writes what is told of it. Answers the status: 0 where all ended, 1 for bytes
+/// that are refused, 2 for a stream that couldn't be read or written, 3 for a thread or an agent that failed, 4 for want of steps or memory, or a
+/// run without a report; the highest that applies.
+pub fn play_code_workers<
+    X: Fn(Global, &Verified, usize, u64) -> Result<(SharedState, Report), RunError>,
+    R: Read,
+    W: Write,
+    F: Write,
+>(alloc: Global, runner: &X, working: Working, reader: &mut R, writer: &mut W, faults: &mut F) -> u8
+    requires call { (a : _) (code : _) (n : _) (steps : _) → IsRunnable code.now → X.pre runner.now a code n steps }
+    requires ran { (a : _) (code : _) (n : _) (steps : _) (r : _) → X.post runner.now a code n steps r → RunsLawfully code.now r }
+    ensures { IfSome (R.remaining reader.old) (λ input. (t : PlainTold) × StreamWorkedCodeTells input working.cells working.events t
+        × Written (W.contents writer.old) (W.contents writer.new) (F.contents faults.old) (F.contents faults.new) t result) }
+{
+    match work_bytes(alloc, runner, working, reader) {
+        Ok(told) => write_told(
+            told.output.as_slice(),
+            told.errors.as_slice(),
+            told.status,
+            writer,
+            faults,
+        ),
+        Err(_) => write_told(&[], b"out of memory\n", SPENT, writer, faults),
+    }
+}

@@ -1,0 +1,57 @@
+//! What is told of code in its byte form whose threads and agents workers run.
+
+ghost use Rattle.std.specs.Prelude.{IfOk};
+ghost use Rattle.txs_tell.specs.Lent.{told_of};
+ghost use Rattle.txs_tell_threads.specs.CodeWorkersTold.{WorkedCodeTells};
+ghost use Rattle.txs_tell_threads.specs.Runner.{IsRunnable, RunsLawfully};
+
+use crate::alone::run_all;
+use crate::script::{Working, of_failure};
+use std::alloc::{AllocError, Global};
+use txs_code::Verified;
+use txs_load::law::form_is_taken;
+use txs_load::load::load_verified;
+use txs_machine::{Report, RunError};
+use txs_shared::SharedState;
+use txs_tell::script::of_report;
+use txs_tell::told::Told;
+use txs_tell_code::lines::refused;
+use txs_tell_code::usage::{no_script, tell_book};
+
+/// Runs the threads and agents of the code that the bytes are the form of by workers, and tells of its cells and events where they are wanted.
+pub fn work_code<X: Fn(Global, &Verified, usize, u64) -> Result<(SharedState, Report), RunError>>(
+    alloc: Global,
+    runner: &X,
+    bytes: &[u8],
+    working: Working,
+) -> Result<Told, AllocError>
+    requires call { (a : _) (code : _) (n : _) (steps : _) → IsRunnable code.now → X.pre runner.now a code n steps }
+    requires ran { (a : _) (code : _) (n : _) (steps : _) (r : _) → X.post runner.now a code n steps r → RunsLawfully code.now r }
+    ensures { IfOk result (λ t. WorkedCodeTells bytes.now working.cells working.events (told_of t)) }
+{
+    let code = match load_verified(alloc, bytes) {
+        Ok(code) => code,
+        Err(error) => {
+            let told = refused(alloc, error)?;
+            return Ok(told);
+        }
+    };
+    form_is_taken(code.code());
+    let (shared, report) = match run_all(alloc, runner, &code, working) {
+        Ok(ran) => ran,
+        Err(RunError::Memory) => return Err(AllocError),
+        Err(failure) => {
+            let told = of_failure(alloc, failure)?;
+            return Ok(told);
+        }
+    };
+    let mut told = of_report(alloc, no_script(), code.code().cells(), &report, &shared)?;
+    tell_book(
+        &mut told,
+        working.cells,
+        working.events,
+        code.code(),
+        &shared,
+    )?;
+    Ok(told)
+}
