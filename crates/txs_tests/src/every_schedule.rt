@@ -85,7 +85,7 @@ const THREE: &[&str] = &["0", "1", "2"];
 const TURNS: &[&str] = &["0", "1", "t0", "t1"];
 
 /// Scripts of two threads, and all ends that their runs may have.
-const OF_TWO: [(&str, &[&str]); 11] = [
+const OF_TWO: [(&str, &[&str]); 12] = [
     (
         "(def r (ref 0)) (future (dosync (alter r inc))) (future (dosync (alter r inc)))",
         &["r 2\n"],
@@ -135,6 +135,11 @@ const OF_TWO: [(&str, &[&str]); 11] = [
             "r 6\ns 5\n",
             "r 0\ns 0\nthread 1 failed: DivideByZero at 105..116\n",
         ],
+    ),
+    // what commutes is never lost, whether it is made again or not
+    (
+        "(def c (ref 0)) (future (dosync (commute c inc))) (future (dosync (commute c inc)))",
+        &["c 2\n"],
     ),
 ];
 
