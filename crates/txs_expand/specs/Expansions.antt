@@ -29,6 +29,7 @@ hidden at = leaf (symbol []) at
 abbrev pub three : Form → Form → Form → Forms
 three a b c = first a (first b (first c no_forms))
 
+-- two forms in a row
 abbrev pub two : Form → Form → Forms
 two a b = first a (first b no_forms)
 
@@ -70,6 +71,7 @@ abbrev pub or_same : Option Form → Form → Form
 or_same (Some expanded) form = expanded
 or_same None form = form
 
+-- the same where a list has such a name at its head
 abbrev pub expansion_by : Option FormName → Forms → Span → Option Form
 expansion_by (Some f) args at = expansion f args at
 expansion_by None args at = None

@@ -69,6 +69,7 @@ IsQuoted (leaf (symbol name) at) = ⊥
 IsQuoted (leaf x at) = Unit {0}
 IsQuoted (group b fs at) = ⊥
 
+-- a form without parts, as the definition sees it
 abbrev pub whole_leaf : Whole → Leaf
 whole_leaf (whole.Name name) = symbol name.now
 whole_leaf (whole.Literal f) = leaf_of (tree f.now)
@@ -76,6 +77,7 @@ whole_leaf whole.Nil = nil
 whole_leaf whole.Truth = truth true
 whole_leaf (whole.Hidden n) = symbol []
 
+-- it can be told so: a literal has no parts, and a hidden local is the nearest one without a name
 abbrev pub WholeFits : Scope → Whole → Type 0
 WholeFits scope (whole.Name name) = Unit {0}
 WholeFits scope (whole.Literal f) = IsQuoted (tree f.now)
@@ -93,6 +95,7 @@ special_form at (special.Choice turned c a b) = spec.choice turned (part_form at
 special_form at (special.Binding is_loop pairs fs) = spec.binding is_loop (plain pairs.now) (body (plain fs.now) at)
 special_form at (special.Hidden is_or f rest) = spec.binding false (two (hidden at) (tree f.now)) (body (first (hidden_choice is_or (plain rest.now) at) no_forms) at)
 
+-- a special form can be told so: each part of it that an expansion made can
 abbrev pub SpecialFits : Scope → Special → Type 0
 SpecialFits scope (special.Row k fs) = Unit {0}
 SpecialFits scope (special.Single k p) = PartFits scope p
@@ -101,11 +104,13 @@ SpecialFits scope (special.Choice turned c a b) = PartFits scope c × PartFits s
 SpecialFits scope (special.Binding is_loop pairs fs) = Unit {0}
 SpecialFits scope (special.Hidden is_or f rest) = Unit {0}
 
+-- what a form is once it is expanded, as the definition sees it
 abbrev pub core_form : Span → Core → spec.Core
 core_form at (core.Whole w) = spec.whole (whole_leaf w)
 core_form at (core.Parted s) = spec.parted (special_form at s)
 core_form at (core.Changing k r f fs) = spec.parted (spec.changing k (tree r.now) (tree f.now) (plain fs.now))
 
+-- it can be told so
 abbrev pub CoreFits : Scope → Core → Type 0
 CoreFits scope (core.Whole w) = WholeFits scope w
 CoreFits scope (core.Parted s) = SpecialFits scope s

@@ -63,5 +63,6 @@ pub record RunsNothing (m : PlainMailbox) (cs : List Call) : Type 0 where
   pub failed : (called_all cs m).has_failed ≡ true
   pub actions : (called_all cs m).actions ≡ m.actions ++ all_put cs
 
+-- so it is of each mailbox that has failed, by any calls that may come
 abbrev pub FailedRunsNothing : Type 0
 FailedRunsNothing = (m : PlainMailbox) (cs : List Call) → IsMailbox m → m.has_failed ≡ true → may_call_all cs m ≡ true → RunsNothing m cs

@@ -15,9 +15,11 @@ pub record PlainInbox : Type 0 where
   pub fault : Option Fault
   pub acts : ℕ
 
+-- an inbox of the store, without its room
 abbrev pub plain_inbox : Inbox → PlainInbox
 plain_inbox b = record { mailbox = b.mailbox.plain; fault = b.fault; acts = b.acts }
 
+-- each of these
 abbrev pub plain_inboxes : List Inbox → List PlainInbox
 plain_inboxes bs = map plain_inbox bs
 
