@@ -45,9 +45,9 @@ def warm_clojure(path, warm, runs):
     return int(done.stdout) / 1e9
 
 
-def txs(path):
-    """The whole command."""
-    return timed([TXS, "run", "--steps", STEPS, path])
+def txs(path, workers=4):
+    """The whole command, by so many workers."""
+    return timed([TXS, "run", "--steps", STEPS, "--workers", str(workers), path])
 
 
 def counted(path):

@@ -1,24 +1,26 @@
 #!/usr/bin/env python3
-"""threads.py [--only contended,transfers,readers,swaps,sends] [--runs R] [--warm W] [--growth]
-Runs scripts of eight threads in txs, by rounds, and in real Clojure with as many threads, and compares what they print.
-`@N@` in a script is how many transactions, swaps or sends each of them makes.
+"""threads.py [--only contended,transfers,readers,swaps,sends,disjoint] [--runs R] [--warm W] [--growth]
+Runs scripts of eight threads in txs, by four workers and by one, and in real Clojure with as many threads, and compares what they print.
+`@N@` in a script is how many transactions, swaps, sends or rounds each of them makes.
   clj warm   best time inside one JVM, after W runs of the same compiled code
   txs        best wall time of `txs run`, from its start to its end
 With --growth the nanoseconds of a commit by one thread are told instead, as commits and refs beside it grow, and those of a send
 with its action."""
 import argparse, tempfile
 import beside
-SIZES = {"contended": 1200, "transfers": 25000, "readers": 25000, "swaps": 25000, "sends": 12000}
+SIZES = {"contended": 1200, "transfers": 25000, "readers": 25000, "swaps": 25000, "sends": 12000, "disjoint": 2000000}
 
 
 def compared(folder, name, runs, warm):
     path = beside.filled(folder, name, SIZES[name], accounts=900)
     ours = [beside.txs(path) for _ in range(runs)]
+    alone = [beside.txs(path, 1) for _ in range(runs)]
     _, _, printed, _ = beside.whole_clojure(path)
-    best, theirs = min(it[0] for it in ours), beside.warm_clojure(path, warm, runs)
-    same = {(it[2], it[3]) for it in ours} == {(printed, "")}
-    print("%-10s %9d %11.4f %8.4f %12.2f  %s" % (name, 8 * SIZES[name], theirs, best, best / theirs,
-                                                "same" if same else "DIFFER " + ours[0][3]), flush=True)
+    best, one, theirs = min(it[0] for it in ours), min(it[0] for it in alone), beside.warm_clojure(path, warm, runs)
+    same = {(it[2], it[3]) for it in ours + alone} == {(printed, "")}
+    memory = max(it[1] for it in ours) // 1024
+    print("%-10s %9d %11.4f %8.4f %12.2f %10.4f %8.2f %6d  %s" % (
+        name, 8 * SIZES[name], theirs, best, best / theirs, one, best / one, memory, "same" if same else "DIFFER " + ours[0][3]), flush=True)
 
 
 def growth(folder, runs):
@@ -51,7 +53,7 @@ def main():
         if a.growth:
             growth(folder, a.runs)
             return
-        print("%-10s %9s %11s %8s %12s  %s" % ("script", "done", "clj warm s", "txs s", "txs by warm", "printed"))
+        print("%-10s %9s %11s %8s %12s %10s %8s %6s  %s" % ("script", "done", "clj warm s", "txs s", "txs by warm", "one wkr s", "4 by 1", "txs MB", "printed"))
         for name in SIZES:
             if not a.only or name in a.only.split(","):
                 compared(folder, name, a.runs, a.warm)
