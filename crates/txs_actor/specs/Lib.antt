@@ -1,4 +1,5 @@
 pub mod Effect
+pub mod Kept
 pub mod Laws
 pub mod Paces
 pub mod PlainActor

@@ -7,6 +7,7 @@
 pub mod actor;
 pub mod answer;
 mod attend;
+pub mod kept;
 pub mod law;
 pub mod outcome;
 mod pace;

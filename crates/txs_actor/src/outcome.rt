@@ -2,7 +2,7 @@
 
 use crate::state::Pending;
 use txs_asks::{Ask, Outcome};
-use txs_value::{Fault, FaultKind};
+use txs_value::{CellId, Fault, FaultKind};
 
 /// What a turn came to.
 #[derive(Drop)]
@@ -28,6 +28,25 @@ pub(crate) enum Moved {
     Faults(FaultKind),
     /// A fault of another place.
     Falls(Fault),
+    /// There was no memory.
+    Memory,
+}
+
+/// What most instructions on cells or the transaction come to, in few words.
+#[derive(Clone, Copy)]
+pub(crate) enum Quick {
+    /// The next instruction follows.
+    On,
+    /// A cell's value has to be asked for.
+    Reads(CellId),
+    /// A ref's value has to be asked for, which goes below so many arguments.
+    Opens(CellId, u16),
+    /// A transaction begins, which may run again so many times.
+    Begins(u16),
+    /// The transaction ends, with no commutes.
+    Commits,
+    /// A fault of the instruction.
+    Faults(FaultKind),
     /// There was no memory.
     Memory,
 }

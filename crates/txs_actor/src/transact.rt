@@ -1,24 +1,26 @@
 //! Instructions on cells and the transaction of an actor.
 
-ghost use Rattle.std.specs.Prelude.{ℕ, ◌+◌, ◌++◌, ◌∷◌, [], List, ◌≡◌, ◌<◌, ◌≤◌, ◌^◌, length, true, Ok, Some, Option, IfOk};
+ghost use Rattle.std.specs.Prelude.{ℕ, ◌+◌, ◌++◌, ◌∷◌, [], List, ◌≡◌, ◌<◌, ◌≤◌, ◌^◌, ◌↔◌, length, true, Ok, None, Some, Option, IfOk, IfSome, IsTrue};
 ghost use Rattle.txs_asks.specs.Ask.{buffered};
-ghost use Rattle.txs_code.specs.ActorState.{kept_open};
 ghost use Rattle.txs_frame.specs.Frame.{Work, commuted};
 ghost use Rattle.txs_frame.specs.Phase.{next_arguments};
 ghost use Rattle.txs_operations.specs.Core.{Answers, core, takes};
 ghost use Rattle.txs_frame.specs.declared.frame.Commute.{Commute as ACommute};
 ghost use Rattle.txs_value.specs.Forms.{rule, cell_of};
+ghost use Rattle.txs_value.specs.declared.fault.Span.{Span as ASpan};
 ghost use Rattle.txs_value.specs.declared.value.CellId.{CellId as ACell};
 ghost use Rattle.txs_value.specs.declared.value.Value.{Value as AValue};
 ghost use Rattle.txs_value.specs.declared.form.CellForm.TheVariants as form;
 ghost use Rattle.txs_value.specs.declared.form.UpdateForm.TheVariants as update;
-ghost use Rattle.txs_actor.specs.Effect.{Comes, CanMove, effect, reads, ensures, update_of, opens, sets, resets, sends, swaps, swapped, closes, begins, settles, applying, goes_through, ends, Operates, LeftApply, IsForRefs};
+ghost use Rattle.txs_actor.specs.Effect.{Comes, ComesQuickly, IsRare, CanMove, effect, reads, ensures, update_of, opens, sets, resets, sends, swaps, swapped, closes, begins, settles, applying, goes_through, ends, Operates, LeftApply, IsForRefs};
+ghost use Rattle.txs_actor.specs.declared.state.Origin.{Origin as AnOrigin};
 ghost use Rattle.txs_actor.specs.declared.state.Transaction.{Transaction as ATransaction};
 ghost use Rattle.txs_actor.specs.PlainActor.{is_running, depth_in, IsUnapplied, IsSwapping};
 ghost use Rattle.txs_stack.specs.PlainFrame.{PlainStack};
 ghost use Rattle.txs_stack.specs.Values.{below, topmost};
 
-use crate::outcome::Moved;
+use crate::kept::{Ending, KeptTransaction};
+use crate::outcome::{Moved, Quick};
 use crate::state::{Origin, Pending, Transaction};
 use std::alloc::{AllocError, Global};
 use std::mem;
@@ -31,9 +33,6 @@ use txs_value::{
     UpdateForm, Value, copy_value, copy_values,
 };
 
-/// How often a transaction may run again.
-const RERUNS: u16 = 9_999;
-
 /// Whether a transaction runs.
 #[inline(always)]
 pub(crate) fn is_running(tx: &Transaction) -> bool
@@ -43,6 +42,17 @@ pub(crate) fn is_running(tx: &Transaction) -> bool
         tx,
         Transaction::Running { .. } | Transaction::Applying { .. } | Transaction::Evaluating { .. }
     )
+}
+
+/// Whether a transaction runs, which may be kept apart.
+#[inline(always)]
+pub(crate) fn runs(tx: &KeptTransaction) -> bool
+    ensures { result ≡ is_running tx.now }
+{
+    match tx.whole() {
+        None => true,
+        Some(whole) => is_running(whole),
+    }
 }
 
 /// The transaction's own value of the ref with this number, if it has one: the frame goes on sharing it.
@@ -56,23 +66,34 @@ fn own_value(frame: &TxFrame, number: u16) -> Result<Option<Value>, AllocError>
     }
 }
 
+/// No commute is open any more.
+#[inline(always)]
+pub(crate) fn shut(commuting: &mut Option<Commute>)
+    ensures { commuting.new ≡ None }
+{
+    let Some(_) = commuting else {
+        return;
+    };
+    drop(mem::replace(commuting, None));
+}
+
 /// The value of the cell at the top.
 #[inline(always)]
-fn deref(stack: &mut Stack, tx: &Transaction, frame: &TxFrame) -> Moved
+fn deref(stack: &mut Stack, tx: &KeptTransaction, frame: &TxFrame) -> Quick
     requires room { (0 < length stack.old.values) × (length stack.old.values ≤ stack.old.room) }
-    ensures comes { (k : Option ACommute) → Comes result stack.new.values tx.now frame.now k frame.now k (reads (is_running tx.now) stack.old.values tx.now frame.now k) }
+    ensures comes { (from : AnOrigin) (k : Option ACommute) → ComesQuickly result from stack.new.values tx.now frame.now k frame.now k (reads (is_running tx.now) stack.old.values tx.now frame.now k) }
     ensures rest { stack.new ≡ record stack.old { values = stack.new.values } }
 {
-    let inside = is_running(tx);
+    let inside = runs(tx);
     match CellForm::Look(LookForm::Deref).cell_of(inside, stack.last()) {
-        Err(kind) => Moved::Faults(kind),
-        Ok(cell) if !inside => Moved::Asks(Pending::Read(cell)),
+        Err(kind) => Quick::Faults(kind),
+        Ok(cell) if !inside => Quick::Reads(cell),
         Ok(cell) => match own_value(frame, cell.number) {
-            Err(_) => Moved::Memory,
-            Ok(None) => Moved::Asks(Pending::Read(cell)),
+            Err(_) => Quick::Memory,
+            Ok(None) => Quick::Reads(cell),
             Ok(Some(value)) => {
                 stack.replace_last(value);
-                Moved::On
+                Quick::On
             }
         },
     }
@@ -117,32 +138,11 @@ fn copy_topmost(alloc: Global, stack: &Stack, n: usize) -> Result<Listed<Value>,
     Ok(Listed::from_vec(copies))
 }
 
-/// The commute of a ref that is open once its value stands below the n values at the top, where it is one.
-#[inline(always)]
-fn opening(
-    alloc: Global,
-    callee: Option<Callee>,
-    cell: CellId,
-    stack: &Stack,
-    n: usize,
-) -> Result<Option<Commute>, AllocError>
-    requires { n ≤ length stack.now.values }
-    ensures { IfOk result (λ kept. kept ≡ kept_open (update_of callee) cell (topmost n stack.now.values)) }
-{
-    match callee {
-        None => Ok(None),
-        Some(callee) => {
-            let args = copy_topmost(alloc, stack, n)?;
-            Ok(Some(Commute { cell, callee, args }))
-        }
-    }
-}
-
 /// The value of the ref below n arguments. A commute is open then, with copies of these.
-#[inline(always)]
+#[inline(never)]
 fn open(
     alloc: Global,
-    callee: Option<Callee>,
+    callee: Callee,
     n: u16,
     stack: &mut Stack,
     tx: &Transaction,
@@ -150,16 +150,21 @@ fn open(
     commuting: &mut Option<Commute>,
 ) -> Moved
     requires room { (n < length stack.old.values) × (length stack.old.values < stack.old.room) }
-    ensures comes { Comes result stack.new.values tx.now frame.now commuting.new frame.now commuting.old (opens (update_of callee) n stack.old.values tx.now frame.now commuting.old) }
+    ensures comes { Comes result stack.new.values tx.now frame.now commuting.new frame.now commuting.old (opens (update_of (Some callee)) n stack.old.values tx.now frame.now commuting.old) }
     ensures rest { stack.new ≡ record stack.old { values = stack.new.values } }
 {
     let cell = match CellForm::Update(UpdateForm::Alter).cell_of(true, stack.under(n as usize)) {
         Err(kind) => return Moved::Faults(kind),
         Ok(cell) => cell,
     };
-    let Ok(kept) = opening(alloc, callee, cell, stack, n as usize) else {
+    let Ok(further) = copy_topmost(alloc, stack, n as usize) else {
         return Moved::Memory;
     };
+    let kept = Some(Commute {
+        cell,
+        callee,
+        args: further,
+    });
     match own_value(frame, cell.number) {
         Err(_) => Moved::Memory,
         Ok(None) => Moved::Asks(Pending::Open(cell, n, kept)),
@@ -171,27 +176,54 @@ fn open(
     }
 }
 
+/// A ref's value goes between the ref and the n arguments at the top, and no commute is open.
+#[inline(always)]
+fn open_to_alter(
+    n: u16,
+    stack: &mut Stack,
+    frame: &TxFrame,
+    commuting: &mut Option<Commute>,
+) -> Quick
+    requires room { (n < length stack.old.values) × (length stack.old.values < stack.old.room) }
+    ensures comes { (from : AnOrigin) (tx : ATransaction) → ComesQuickly result from stack.new.values tx frame.now commuting.new frame.now commuting.old (opens (update_of None) n stack.old.values tx frame.now commuting.old) }
+    ensures rest { stack.new ≡ record stack.old { values = stack.new.values } }
+{
+    let cell = match CellForm::Update(UpdateForm::Alter).cell_of(true, stack.under(n as usize)) {
+        Err(kind) => return Quick::Faults(kind),
+        Ok(cell) => cell,
+    };
+    match own_value(frame, cell.number) {
+        Err(_) => Quick::Memory,
+        Ok(None) => Quick::Opens(cell, n),
+        Ok(Some(value)) => {
+            stack.insert_under(n as usize, value);
+            shut(commuting);
+            Quick::On
+        }
+    }
+}
+
 /// The last value becomes that of the ref below it, where the form takes refs.
 #[inline(always)]
-fn set(form: CellForm, stack: &mut Stack, tx: &Transaction, frame: &mut TxFrame) -> Moved
+fn set(form: CellForm, stack: &mut Stack, frame: &mut TxFrame) -> Quick
     requires refs { IsForRefs form }
     requires room { (1 < length stack.old.values) × (length stack.old.values ≤ stack.old.room) }
-    ensures comes { (k : Option ACommute) → Comes result stack.new.values tx.now frame.new k frame.old k (sets form stack.old.values tx.now frame.old k) }
+    ensures comes { (from : AnOrigin) (tx : ATransaction) (k : Option ACommute) → ComesQuickly result from stack.new.values tx frame.new k frame.old k (sets form stack.old.values tx frame.old k) }
     ensures rest { stack.new ≡ record stack.old { values = stack.new.values } }
 {
     let cell = match form.cell_of(true, stack.under(1)) {
-        Err(kind) => return Moved::Faults(kind),
+        Err(kind) => return Quick::Faults(kind),
         Ok(cell) => cell,
     };
     let Ok(value) = copy_value(stack.last()) else {
-        return Moved::Memory;
+        return Quick::Memory;
     };
     match frame.set(cell, value) {
-        Err(SetError::SetAfterCommute) => Moved::Faults(FaultKind::SetAfterCommute),
-        Err(SetError::Memory) => Moved::Memory,
+        Err(SetError::SetAfterCommute) => Quick::Faults(FaultKind::SetAfterCommute),
+        Err(SetError::Memory) => Quick::Memory,
         Ok(()) => {
             stack.drop_under();
-            Moved::On
+            Quick::On
         }
     }
 }
@@ -301,23 +333,18 @@ fn keep(
     }
 }
 
-/// The close of an update: the ref is set, or the commute that was open is kept.
+/// The close of an update, where no commute is open: the ref is set.
 #[inline(always)]
-fn close(
-    alloc: Global,
-    stack: &mut Stack,
-    tx: &Transaction,
-    frame: &mut TxFrame,
-    commuting: &mut Option<Commute>,
-) -> Moved
+fn close(stack: &mut Stack, frame: &mut TxFrame, commuting: &Option<Commute>) -> Option<Quick>
     requires room { (1 < length stack.old.values) × (length stack.old.values ≤ stack.old.room) }
-    ensures comes { Comes result stack.new.values tx.now frame.new commuting.new frame.old commuting.old (closes stack.old.values tx.now frame.old commuting.old) }
+    ensures comes { (from : AnOrigin) (tx : ATransaction) → IfSome result (λ q. ComesQuickly q from stack.new.values tx frame.new commuting.now frame.old commuting.now (closes stack.old.values tx frame.old commuting.now)) }
     ensures rest { stack.new ≡ record stack.old { values = stack.new.values } }
+    ensures rare { result ≡ None → ((o : ACommute) × (commuting.now ≡ Some o)) × (stack.new ≡ stack.old) × (frame.new ≡ frame.old) }
 {
     if commuting.is_some() {
-        return keep(alloc, stack, tx, frame, commuting);
+        return None;
     }
-    set(CellForm::Update(UpdateForm::Alter), stack, tx, frame)
+    Some(set(CellForm::Update(UpdateForm::Alter), stack, frame))
 }
 
 /// The atom below n arguments is asked for its value, outside transactions: a swap goes again from here.
@@ -354,31 +381,38 @@ fn close_swap(stack: &Stack, tx: &Transaction) -> Moved
 
 /// A transaction begins, or joins the one that runs.
 #[inline(always)]
-#[tactic(auto, unfolding(txs_value::specs::Limits::reruns))]
-fn begin(alloc: Global, span: Span, stack: &Stack, tx: &mut Transaction) -> Moved
+fn begin(tx: &mut KeptTransaction) -> Quick
     requires counted { depth_in tx.old < 2 ^ 64 }
     requires unapplied { IsUnapplied tx.old }
-    ensures { (w : Work) (k : Option ACommute) → Comes result stack.now.values tx.new w k w k (begins (record { span = span; stack = stack.now }) stack.now.values w k tx.old) }
+    ensures { (from : AnOrigin) (w : Work) (k : Option ACommute) → ComesQuickly result from from.stack.values tx.new w k w k (begins from from.stack.values w k tx.old) }
 {
-    let left = match tx {
-        Transaction::Running { inner, .. } => {
-            *inner += 1;
-            return Moved::On;
-        }
-        Transaction::Outside => RERUNS,
-        Transaction::Restarting { left } => *left,
-        Transaction::Applying { .. }
-        | Transaction::Evaluating { .. }
-        | Transaction::Swapping { .. }
-        | Transaction::Attending { .. }
-        | Transaction::Acting { .. } => unreachable!(),
-    };
-    match stack.copy(alloc) {
-        Ok(stack) => Moved::Asks(Pending::Begin {
-            left,
-            from: Origin { span, stack },
-        }),
-        Err(_) => Moved::Memory,
+    match tx.begin() {
+        None => Quick::On,
+        Some(left) => Quick::Begins(left),
+    }
+}
+
+/// Whether a transaction has commuted refs that it didn't set, if there is memory to tell.
+fn has_commuted(frame: &TxFrame) -> Result<bool, AllocError>
+    ensures { IfOk result (λ b. IsTrue b ↔ (0 < length (commuted frame.now))) }
+{
+    Ok(!frame.commuted()?.is_empty())
+}
+
+/// A transaction with no commutes ends, or leaves the one that runs.
+#[inline(always)]
+fn end_plainly(tx: &mut KeptTransaction, frame: &TxFrame) -> Option<Quick>
+    ensures comes { (from : AnOrigin) (vs : List AValue) (k : Option ACommute) → IfSome result (λ q. ComesQuickly q from vs tx.new frame.now k frame.now k (ends vs frame.now k tx.old)) }
+    ensures rare { result ≡ None → tx.new ≡ tx.old }
+{
+    match tx.end() {
+        Ending::Inner => Some(Quick::On),
+        Ending::Other => None,
+        Ending::Commits => match has_commuted(frame) {
+            Err(_) => Some(Quick::Memory),
+            Ok(true) => None,
+            Ok(false) => Some(Quick::Commits),
+        },
     }
 }
 
@@ -455,9 +489,34 @@ fn end(alloc: Global, tx: &mut Transaction, frame: &TxFrame) -> Moved
     }
 }
 
-/// An instruction on cells or the transaction.
+/// An instruction on cells or the transaction, if it is one of those that most are: else nothing is done.
 #[inline(always)]
 pub(crate) fn transact(
+    instr: Instr,
+    stack: &mut Stack,
+    tx: &mut KeptTransaction,
+    frame: &mut TxFrame,
+    commuting: &mut Option<Commute>,
+) -> Option<Quick>
+    requires { CanMove stack.old.values stack.old.room tx.old instr }
+    ensures comes { (span : ASpan) → IfSome result (λ q. ComesQuickly q (record { span = span; stack = stack.old }) stack.new.values tx.new frame.new commuting.new frame.old commuting.old (effect (record { span = span; stack = stack.old }) stack.old.values tx.old frame.old commuting.old instr)) }
+    ensures rest { stack.new ≡ record stack.old { values = stack.new.values } }
+    ensures rare { result ≡ None → IsRare commuting.old instr × (stack.new ≡ stack.old) × (tx.new ≡ tx.old) × (frame.new ≡ frame.old) × (commuting.new ≡ commuting.old) }
+{
+    match instr {
+        Instr::Look(LookForm::Deref) => Some(deref(stack, tx, frame)),
+        Instr::Put(PutForm::RefSet) => Some(set(CellForm::Put(PutForm::RefSet), stack, frame)),
+        Instr::TxBegin => Some(begin(tx)),
+        Instr::TxEnd => end_plainly(tx, frame),
+        Instr::Open(OpenForm::Alter, n) => Some(open_to_alter(n, stack, frame, commuting)),
+        Instr::Close(UpdateForm::Alter | UpdateForm::Commute) => close(stack, frame, commuting),
+        _ => None,
+    }
+}
+
+/// One of the others.
+#[inline(never)]
+pub(crate) fn transact_rarely(
     alloc: Global,
     instr: Instr,
     span: Span,
@@ -466,25 +525,22 @@ pub(crate) fn transact(
     frame: &mut TxFrame,
     commuting: &mut Option<Commute>,
 ) -> Moved
-    requires { CanMove stack.old.values stack.old.room tx.old instr }
+    requires can { CanMove stack.old.values stack.old.room tx.old instr }
+    requires rare { IsRare commuting.old instr }
     ensures comes { Comes result stack.new.values tx.new frame.new commuting.new frame.old commuting.old (effect (record { span = span; stack = stack.old }) stack.old.values tx.old frame.old commuting.old instr) }
     ensures rest { stack.new ≡ record stack.old { values = stack.new.values } }
 {
     match instr {
-        Instr::Look(LookForm::Deref) => deref(stack, tx, frame),
         Instr::Look(LookForm::Ensure) => ensure(stack, tx, frame),
-        Instr::Put(PutForm::RefSet) => set(CellForm::Put(PutForm::RefSet), stack, tx, frame),
         Instr::Put(PutForm::Reset) => reset(stack),
         Instr::Send(callee, n) => send(alloc, callee, n, span, stack, tx, frame),
-        Instr::TxBegin => begin(alloc, span, stack, tx),
         Instr::TxEnd => end(alloc, tx, frame),
-        Instr::Open(OpenForm::Alter, n) => open(alloc, None, n, stack, tx, frame, commuting),
         Instr::Open(OpenForm::Commute(callee), n) => {
-            open(alloc, Some(callee), n, stack, tx, frame, commuting)
+            open(alloc, callee, n, stack, tx, frame, commuting)
         }
         Instr::Open(OpenForm::Swap(_), n) => open_swap(alloc, n, span, stack),
         Instr::Close(UpdateForm::Alter | UpdateForm::Commute) => {
-            close(alloc, stack, tx, frame, commuting)
+            keep(alloc, stack, tx, frame, commuting)
         }
         Instr::Close(UpdateForm::Swap) => close_swap(stack, tx),
         _ => unreachable!(),

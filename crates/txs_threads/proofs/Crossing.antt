@@ -64,6 +64,12 @@ use Rattle.txs_stack.specs.contracts.stack.Stack.TheInside as stack_in
 use Rattle.txs_actor.specs.contracts.state.Origin as origin_is
 use Rattle.txs_actor.specs.contracts.state.Transaction as transaction_is
 use Rattle.txs_actor.specs.contracts.state.Pending as pending_is
+use Rattle.txs_actor.specs.contracts.kept.KeptTransaction as kept_transaction_is
+use Rattle.txs_actor.specs.contracts.kept.KeptTransaction.TheInside as kept_transaction_in
+use Rattle.txs_actor.specs.contracts.kept.KeptPending as kept_pending_is
+use Rattle.txs_actor.specs.contracts.kept.KeptPending.TheInside as kept_pending_in
+use Rattle.txs_actor.proofs.kept.Standing.TheSendSync as standing_sent
+use Rattle.txs_actor.proofs.kept.Wanted.TheSendSync as wanted_sent
 use Rattle.txs_actor.specs.contracts.actor.Actor as actor_is
 use Rattle.txs_actor.specs.contracts.actor.Actor.TheInside as actor_in
 use Rattle.txs_value.specs.contracts.cell.CellDefinition as cell_definition_is
@@ -158,8 +164,14 @@ pending_field_send = enum_send (E.shape pending_is.the_type) (((search (plain_se
 pub pending_send : IsSend pending_is.the_row
 pending_send = recorded_send (pending_is.the_field).row _ _ (pending_is.the_type).to_one pending_field_send
 
+pub kept_transaction_send : IsSend kept_transaction_is.the_row
+kept_transaction_send = view_send kept_transaction_in.the_row _ _ _ _ (recorded_send (kept_transaction_in.the_field).row _ _ (kept_transaction_in.the_type).to_one (struct_send (S.shape kept_transaction_in.the_type) ((search (global.the_field_send, crosses, sendable) depth 60 fits 20000), ((search (standing_sent.the_send, option.the_field_send, crosses, sendable) depth 60 fits 20000), ((search (origin_field_send, crosses, sendable) depth 60 fits 20000), ((search (transaction_field_send, crosses, sendable) depth 60 fits 20000), tt))))))
+
+pub kept_pending_send : IsSend kept_pending_is.the_row
+kept_pending_send = view_send kept_pending_in.the_row _ _ _ _ (recorded_send (kept_pending_in.the_field).row _ _ (kept_pending_in.the_type).to_one (struct_send (S.shape kept_pending_in.the_type) ((search (global.the_field_send, crosses, sendable) depth 60 fits 20000), ((search (wanted_sent.the_field_send, crosses, sendable) depth 60 fits 20000), ((search (origin_field_send, crosses, sendable) depth 60 fits 20000), ((search (pending_send, option.the_field_send, crosses, sendable) depth 60 fits 20000), tt))))))
+
 pub actor_send : IsSend actor_is.the_row
-actor_send = view_send actor_in.the_row _ _ _ _ (recorded_send (actor_in.the_field).row _ _ (actor_in.the_type).to_one (struct_send (S.shape actor_in.the_type) ((search (global.the_field_send, crosses, sendable) depth 60 fits 20000), ((search (plain_send, crosses, sendable) depth 60 fits 20000), ((search (stack_send, crosses, sendable) depth 60 fits 20000), ((search (plain_send, vec.the_send, crosses, sendable) depth 60 fits 20000), ((search (plain_send, crosses, sendable) depth 60 fits 20000), ((search (plain_send, crosses, sendable) depth 60 fits 20000), ((search (tx_frame_send, crosses, sendable) depth 60 fits 20000), ((search (commute_send, option.the_field_send, crosses, sendable) depth 60 fits 20000), ((search (transaction_field_send, crosses, sendable) depth 60 fits 20000), ((search (pending_send, option.the_field_send, crosses, sendable) depth 60 fits 20000), ((search (outcome.the_send, option.the_field_send, crosses, sendable) depth 60 fits 20000), ((search (plain_send, crosses, sendable) depth 60 fits 20000), ((search (plain_send, crosses, sendable) depth 60 fits 20000), tt)))))))))))))))
+actor_send = view_send actor_in.the_row _ _ _ _ (recorded_send (actor_in.the_field).row _ _ (actor_in.the_type).to_one (struct_send (S.shape actor_in.the_type) ((search (global.the_field_send, crosses, sendable) depth 60 fits 20000), ((search (plain_send, crosses, sendable) depth 60 fits 20000), ((search (stack_send, crosses, sendable) depth 60 fits 20000), ((search (plain_send, vec.the_send, crosses, sendable) depth 60 fits 20000), ((search (plain_send, crosses, sendable) depth 60 fits 20000), ((search (plain_send, crosses, sendable) depth 60 fits 20000), ((search (tx_frame_send, crosses, sendable) depth 60 fits 20000), ((search (commute_send, option.the_field_send, crosses, sendable) depth 60 fits 20000), ((search (kept_transaction_send, crosses, sendable) depth 60 fits 20000), ((search (kept_pending_send, crosses, sendable) depth 60 fits 20000), ((search (outcome.the_send, option.the_field_send, crosses, sendable) depth 60 fits 20000), ((search (plain_send, crosses, sendable) depth 60 fits 20000), ((search (plain_send, crosses, sendable) depth 60 fits 20000), tt)))))))))))))))
 
 pub cell_definition_field_send : IsSend (cell_definition_is.the_field).row
 cell_definition_field_send = struct_send (S.shape cell_definition_is.the_type)
