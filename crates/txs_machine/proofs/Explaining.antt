@@ -221,7 +221,7 @@ thread_explained by code k limit books x r h rep p t same follows e =
 
 -- what is shared stands: so do its books
 pub books_stand : (cells : List CellDefinition) (threads : ℕ) (sh : Shared) → SharedStands cells threads sh → BooksStand cells threads sh
-books_stand cells threads sh h = record { legal = h.store.legal; undisturbed = h.store.undisturbed; atoms = h.atoms }
+books_stand cells threads sh h = record { legal = h.store.legal; undisturbed = h.store.undisturbed; atoms = h.atoms; by_threads = h.by_threads }
 
 -- each program that the code follows explains the run
 pub all_explained : Known → (code : PlainCode) (limit : ℕ) (sh : Shared) (xs : List Player) (rs : List ThreadReport) → length xs ≡ length code.threads → SharedStands code.cells (length code.threads) sh

@@ -1,5 +1,5 @@
 -- What serving an ask does to the books: it adds an event of the actor at most, and keeps what holds of what is shared.
-use Rattle.std.proofs.Common.{◌≡◌, ℕ, zero, suc, Bool, true, false, not, ◌&&◌, ◌==◌, nat_lt, List, [], ◌∷◌, ◌++◌, if◌then◌else◌, length, Option, Some, None, refl, sym, ap, ◌∙◌, subst, arith}
+use Rattle.std.proofs.Common.{◌≡◌, ◌<◌, ℕ, zero, suc, Bool, true, false, not, ◌&&◌, ◌==◌, nat_lt, List, [], ◌∷◌, ◌++◌, if◌then◌else◌, length, Option, Some, None, refl, sym, ap, ◌∙◌, subst, arith}
 use Rattle.std.proofs.lemmas.Bool.{false≢true, ltb-false}
 use Rattle.std.proofs.lemmas.Bool.Decides.{nat_tests}
 use Rattle.txs_asks.specs.Ask.{Writes}
@@ -27,6 +27,7 @@ use Rattle.txs_world.specs.Laws.{ServeKeeps, StoreStands}
 use Rattle.txs_world.specs.Store.{store_with, takes, next_action, Served, served, adds, event_of, cells_of, is_lawful, looks, commits, sends_to, merged, serve, taken_after}
 use Rattle.txs_runs.specs.Shared.{Shared, store_of, atom_of, is_atom, has_atom, book_for, serve_on, may_ask, shared_after}
 use Rattle.txs_runs.specs.Told.{IsExchanged}
+use Rattle.txs_runs.specs.Explains.{AreThreads}
 use Rattle.txs_runs.specs.Invariant.{SharedStands}
 use Rattle.txs_runs.proofs.Fits.{added}
 use Rattle.txs_runs.proofs.Growing.{IsFull, Serves}
@@ -198,6 +199,18 @@ closes_legal : (b : Bool) (c : CellId) (a : ℕ) (v : Value) (book : List Event)
 closes_legal true c a v book l = l
 closes_legal false c a v book l = adds_legal c a book (event.Swap v) reply.Done tt l
 
+-- an event of a thread comes to a book of threads, or none
+adds_thread : (threads a : ℕ) (book : List Event) (kind : EventKind) (r : Reply) → a < threads → AreThreads threads book → AreThreads threads (adds a kind r book).book
+adds_thread threads a book kind r k l = go (nat_lt (length book) most_events)
+  where
+    go : (b : Bool) → AreThreads threads (added b a kind r book).book
+    go false = l
+    go true = each_more (λ done x. x.actor < threads) [] book (event_of a kind) l k
+
+closes_thread : (b : Bool) (c : CellId) (threads a : ℕ) (v : Value) (book : List Event) → a < threads → AreThreads threads book → AreThreads threads (closes_at b a c v book).book
+closes_thread true c threads a v book k l = l
+closes_thread false c threads a v book k l = adds_thread threads a book (event.Swap v) reply.Done k l
+
 -- ---- what is shared
 
 module _ (keeps : ServeKeeps) (cells : List CellDefinition) (threads : ℕ) (sh : Shared) (a : ℕ) (st : SharedStands cells threads sh) where
@@ -207,6 +220,8 @@ module _ (keeps : ServeKeeps) (cells : List CellDefinition) (threads : ℕ) (sh 
     store = subst (λ n. StoreStands (store_with (cells_of cells) threads (if 0 == n then v.book else sh.books 0) (taken_after q v.reply sh.taken))) (sym h) (keeps (store_of cells threads sh) a q may st.store);
     atoms = λ c hc. subst (λ n. LegalAtom c (if home cells c == n then v.book else sh.books (home cells c))) (sym h)
         (subst (λ (b : Bool). LegalAtom c (if b then v.book else sh.books (home cells c))) (sym (not_store c hc)) (st.atoms c hc));
+    by_threads = λ c hc. subst (λ n. AreThreads threads (if home cells c == n then v.book else sh.books (home cells c))) (sym h)
+        (subst (λ (b : Bool). AreThreads threads (if b then v.book else sh.books (home cells c))) (sym (not_store c hc)) (st.by_threads c hc));
   }
     where
       v : Served
@@ -223,12 +238,13 @@ module _ (keeps : ServeKeeps) (cells : List CellDefinition) (threads : ℕ) (sh 
       not_store c hc = not_zero (home cells c) (atoms_below cells c.number) (atom_home cells c (and_both (is_atom c) (has_cell (cells_of cells) c) hc).0)
 
   -- an atom's book served it
-  by_atom : (q : Ask) (c : CellId) → has_atom cells c ≡ true → book_for cells q ≡ home cells c → ((r : Reply) → taken_after q r sh.taken ≡ sh.taken) → (v : Served) → LegalAtom c v.book → SharedStands cells threads (shared_after cells q v sh)
-  by_atom q c hc h same v l = record {
+  by_atom : (q : Ask) (c : CellId) → has_atom cells c ≡ true → book_for cells q ≡ home cells c → ((r : Reply) → taken_after q r sh.taken ≡ sh.taken) → (v : Served) → LegalAtom c v.book → AreThreads threads v.book → SharedStands cells threads (shared_after cells q v sh)
+  by_atom q c hc h same v l m = record {
     store = subst (λ n. StoreStands (store_with (cells_of cells) threads (if 0 == n then v.book else sh.books 0) (taken_after q v.reply sh.taken))) (sym h)
         (subst (λ (b : Bool). StoreStands (store_with (cells_of cells) threads (if b then v.book else sh.books 0) (taken_after q v.reply sh.taken))) (sym (not_atom (home cells c) (atoms_below cells c.number) (atom_home cells c (and_both (is_atom c) (has_cell (cells_of cells) c) hc).0)))
         (subst (λ t. StoreStands (store_with (cells_of cells) threads (sh.books 0) t)) (sym (same v.reply)) st.store));
     atoms = λ d hd. subst (λ n. LegalAtom d (if home cells d == n then v.book else sh.books (home cells d))) (sym h) (of d hd (home cells d == home cells c) refl);
+    by_threads = λ d hd. subst (λ n. AreThreads threads (if home cells d == n then v.book else sh.books (home cells d))) (sym h) (of_threads d hd (home cells d == home cells c));
   }
     where
       not_atom : (n m : ℕ) → n ≡ suc m → (0 == n) ≡ false
@@ -242,6 +258,13 @@ module _ (keeps : ServeKeeps) (cells : List CellDefinition) (threads : ℕ) (sh 
       of d hd true e = subst (λ i. LegalAtom i v.book) (one_book cells c d hc hd (sym (numbers (home cells d) (home cells c) e))) l
       of d hd false e = st.atoms d hd
 
+      of_threads : (d : CellId) → has_atom cells d ≡ true → (b : Bool) → AreThreads threads (if b then v.book else sh.books (home cells d))
+      of_threads d hd true = m
+      of_threads d hd false = st.by_threads d hd
+
+  a_thread : (b : Bool) → (nat_lt a threads && b) ≡ true → a < threads
+  a_thread b h = let k = (and_both (nat_lt a threads) b h).0 in grind (arith, nat_tests, k)
+
   tested : (b : Bool) → (nat_lt a threads && b) ≡ true → b ≡ true
   tested b h = (and_both (nat_lt a threads) b h).1
 
@@ -250,6 +273,7 @@ module _ (keeps : ServeKeeps) (cells : List CellDefinition) (threads : ℕ) (sh 
   at_peek c u true e may =
       let hc = both e (tested (has_cell (cells_of cells) c) may) in
       by_atom (ask.Peek c) c hc refl (λ r. refl) (adds a (event.Read c) (reply.Is u) (sh.books (home cells c))) (adds_legal c a (sh.books (home cells c)) (event.Read c) (reply.Is u) refl (st.atoms c hc))
+      (adds_thread threads a (sh.books (home cells c)) (event.Read c) (reply.Is u) (a_thread (has_cell (cells_of cells) c) may) (st.by_threads c hc))
     where
       both : is_atom c ≡ true → has_cell (cells_of cells) c ≡ true → has_atom cells c ≡ true
       both p q = rw (p, q) refl
@@ -271,13 +295,16 @@ module _ (keeps : ServeKeeps) (cells : List CellDefinition) (threads : ℕ) (sh 
   serving_stands (ask.Send x) may = by_store (ask.Send x) refl may
   serving_stands (ask.Take g) may = by_store (ask.Take g) refl may
   serving_stands (ask.Finish g new) may = by_store (ask.Finish g new) refl may
-  serving_stands (ask.OpenAt c) may = by_atom (ask.OpenAt c) c (tested (has_atom cells c) may) refl (λ r. refl) (serve_on cells a (ask.OpenAt c) (sh.books (home cells c))) (st.atoms c (tested (has_atom cells c) may))
+  serving_stands (ask.OpenAt c) may = by_atom (ask.OpenAt c) c (tested (has_atom cells c) may) refl (λ r. refl) (serve_on cells a (ask.OpenAt c) (sh.books (home cells c))) (st.atoms c (tested (has_atom cells c) may)) (st.by_threads c (tested (has_atom cells c) may))
   serving_stands (ask.CloseAt c None v) may =
       let hc = (and_both (has_atom cells c) true (tested (has_atom cells c && true) may)).0 in
       by_atom (ask.CloseAt c None v) c hc refl (λ r. refl) (serve_on cells a (ask.CloseAt c None v) (sh.books (home cells c))) (closes_legal false c a v (sh.books (home cells c)) (st.atoms c hc))
+      (closes_thread false c threads a v (sh.books (home cells c)) (a_thread (has_atom cells c && true) may) (st.by_threads c hc))
   serving_stands (ask.CloseAt c (Some p) v) may =
       let hc = (and_both (has_atom cells c) (may_name true (sh.books (home cells c)) a p) (tested (has_atom cells c && may_name true (sh.books (home cells c)) a p) may)).0 in
       by_atom (ask.CloseAt c (Some p) v) c hc refl (λ r. refl) (serve_on cells a (ask.CloseAt c (Some p) v) (sh.books (home cells c))) (closes_legal (swapped_since p (sh.books (home cells c))) c a v (sh.books (home cells c)) (st.atoms c hc))
+      (closes_thread (swapped_since p (sh.books (home cells c))) c threads a v (sh.books (home cells c)) (a_thread (has_atom cells c && may_name true (sh.books (home cells c)) a p) may) (st.by_threads c hc))
   serving_stands (ask.Broke c p) may =
       let h = and_both (has_atom cells c) (may_name true (sh.books (home cells c)) a p) (tested (has_atom cells c && may_name true (sh.books (home cells c)) a p) may) in
       by_atom (ask.Broke c p) c h.0 refl (λ r. refl) (serve_on cells a (ask.Broke c p) (sh.books (home cells c))) (adds_legal c a (sh.books (home cells c)) (event.Broke p) reply.Done h.1 (st.atoms c h.0))
+      (adds_thread threads a (sh.books (home cells c)) (event.Broke p) reply.Done (a_thread (has_atom cells c && may_name true (sh.books (home cells c)) a p) may) (st.by_threads c h.0))

@@ -40,7 +40,7 @@ FreshStands = (cells : List CellDefinition) (threads : ℕ) → StoreStands (sto
 
 pub opening_holds : FreshStands → OpeningHolds
 opening_holds fresh cells threads codes = record {
-  shared = record { store = fresh cells threads; atoms = λ c h. record { few = omega arith; each = tt } };
+  shared = record { store = fresh cells threads; atoms = λ c h. record { few = omega arith; each = tt }; by_threads = λ c h. tt };
   actors = λ a known. record { stage = Idle; ran = refl; told = record { hold = tt; staged = refl; traced = λ n. refl }; staged = (refl, refl) };
 }
 
@@ -119,7 +119,7 @@ actor_explained by cells threads code books a x k =
     }
 
 books_stand : (cells : List CellDefinition) (threads : ℕ) (st : State) → SharedStands cells threads st.shared → BooksStand cells threads st.shared
-books_stand cells threads st h = record { legal = h.store.legal; undisturbed = h.store.undisturbed; atoms = h.atoms }
+books_stand cells threads st h = record { legal = h.store.legal; undisturbed = h.store.undisturbed; atoms = h.atoms; by_threads = h.by_threads }
 
 pub invariant_explains : Lower → InvariantExplains
 invariant_explains by cells threads codes st h = record {

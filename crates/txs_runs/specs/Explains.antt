@@ -1,5 +1,5 @@
 -- What it is that the threads' sources explain a run over the shared state.
-use Rattle.std.specs.Prelude.{◌≡◌, ℕ, true, List, [], ◌∷◌, length, map, take, Option, Some, None}
+use Rattle.std.specs.Prelude.{◌≡◌, ◌<◌, ℕ, true, List, [], ◌∷◌, length, map, take, Option, Some, None}
 use Rattle.txs_asks.specs.declared.ask.Ask.TheVariants as ask
 use Rattle.txs_asks.specs.declared.ask.Ask.{Ask}
 use Rattle.txs_asks.specs.declared.ask.Reply.{Reply}
@@ -17,7 +17,7 @@ use Rattle.txs_follows.specs.Follows.{Follows}
 use Rattle.txs_follows.specs.FollowsAll.{source_of, FollowsAll}
 use Rattle.txs_follows.specs.RepliesFit.{Out, RepliesFit, Explained}
 use Rattle.txs_world.specs.Atom.{LegalAtom}
-use Rattle.txs_world.specs.Book.{Legal, Undisturbed, Untouched, cells_in}
+use Rattle.txs_world.specs.Book.{Each, Legal, Undisturbed, Untouched, cells_in}
 use Rattle.txs_world.specs.Store.{cells_of}
 use Rattle.txs_runs.specs.Shared.{Shared, has_atom}
 use Rattle.txs_runs.specs.Told.{Entry, exchange_of, trace_of, TraceHolds, history_of}
@@ -51,11 +51,16 @@ pub record ActorExplained (cells : List CellDefinition) (code : ThreadCode) (boo
   pub undisturbed : CommitsUndisturbed books x.entries
   pub means : (p : ThreadSource) → p.cells ≡ cells → Follows code p → Explained (outcome_at x.at) (thread_meaning p x.turns (history_of cells books a x.entries))
 
--- the books of a run are legal, and no ref that a commit wrote was written between its view and its place
+-- a book whose events are those of threads, of which there are so many
+abbrev pub AreThreads : ℕ → List Event → Type 0
+AreThreads threads book = Each (λ done e. e.actor < threads) [] book
+
+-- the books of a run are legal, no ref that a commit wrote was written between its view and its place, and what is done with atoms is done by threads
 pub record BooksStand (cells : List CellDefinition) (threads : ℕ) (sh : Shared) : Type 0 where
   pub legal : Legal (cells_of cells) threads (sh.books 0)
   pub undisturbed : Undisturbed (sh.books 0)
   pub atoms : (c : CellId) → has_atom cells c ≡ true → LegalAtom c (sh.books (home cells c))
+  pub by_threads : (c : CellId) → has_atom cells c ≡ true → AreThreads threads (sh.books (home cells c))
 
 -- A run is explained: its books are legal, and each actor whose code asks in its stages is explained.
 pub record Explains (cells : List CellDefinition) (threads : ℕ) (codes : ℕ → ThreadCode) (st : State) : Type 0 where

@@ -12,7 +12,7 @@ use Rattle.txs_runs.specs.Shared.{Shared, store_of, has_atom}
 use Rattle.txs_runs.specs.Stages.{Stage}
 use Rattle.txs_runs.specs.Told.{exchange_of, ToldBy}
 use Rattle.txs_runs.specs.Staged.{StagedCode, IsStaged}
-use Rattle.txs_runs.specs.Explains.{Explains}
+use Rattle.txs_runs.specs.Explains.{AreThreads, Explains}
 use Rattle.txs_runs.specs.Run.{Actor, State, Play, opens, play}
 
 -- An actor is where its code comes to on what it was told, which are the books' words, and it has consumed it.
@@ -22,10 +22,12 @@ pub record ActorInvariant (cells : List CellDefinition) (threads : ℕ) (code : 
   pub told : ToldBy cells threads books a x.entries stage
   pub staged : IsStaged stage x.at
 
--- what is shared stands: the store's book is legal and its commits undisturbed, actions that are taken wait, and the atoms' books are legal
+-- what is shared stands: the store's book is legal and its commits undisturbed, actions that are taken wait, and the atoms' books are legal, with
+-- events of threads alone
 pub record SharedStands (cells : List CellDefinition) (threads : ℕ) (sh : Shared) : Type 0 where
   pub store : StoreStands (store_of cells threads sh)
   pub atoms : (c : CellId) → has_atom cells c ≡ true → LegalAtom c (sh.books (home cells c))
+  pub by_threads : (c : CellId) → has_atom cells c ≡ true → AreThreads threads (sh.books (home cells c))
 
 -- what holds between plays
 pub record RunInvariant (cells : List CellDefinition) (threads : ℕ) (codes : ℕ → ThreadCode) (st : State) : Type 0 where

@@ -41,7 +41,7 @@ opened cells threads = ap (λ (b : ℕ → List Event). record { books = b; take
     none_in (suc n) = none_at 0 cells n
 
 pub untouched_stands : (cells : List CellDefinition) (threads : ℕ) → SharedStands cells threads (untouched cells)
-untouched_stands cells threads = record { store = fresh_stands cells threads; atoms = λ c h. record { few = omega arith; each = tt } }
+untouched_stands cells threads = record { store = fresh_stands cells threads; atoms = λ c h. record { few = omega arith; each = tt }; by_threads = λ c h. tt }
 
 pub opened_shared : (cells own : List CellDefinition) (threads : ℕ) (store : PlainStore) (atoms : List PlainAtom) → own ≡ cells → store ≡ new_store cells threads → atoms ≡ atoms_of 0 cells → shared_of (state_of own store atoms) ≡ untouched cells
 opened_shared cells own threads store atoms c s a =
