@@ -3,7 +3,7 @@ pub mod Followed
 pub mod Lawfully
 pub mod Playing
 pub mod RunOver
-pub mod Runner
+pub mod ErrorName
 pub mod Running
 pub mod Schedule
 pub mod Serving

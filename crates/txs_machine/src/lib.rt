@@ -7,12 +7,12 @@ mod agents;
 pub mod law;
 mod player;
 pub mod run;
-pub mod runner;
+pub mod run_error;
 pub mod schedule;
 
 pub use law::{actors_explained, actors_follow};
 pub use player::Place;
 pub use run::{Ran, run_thread};
-pub use runner::{RunError, Runner};
+pub use run_error::RunError;
 pub use schedule::{Play, Report, ScheduleError, ThreadReport, run_schedule};
 pub use txs_actor::{Actor, Turn, actors_run, may_answer};

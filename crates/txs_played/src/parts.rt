@@ -7,7 +7,7 @@ ghost use Rattle.txs_machine.specs.RunOver.{places_of};
 ghost use Rattle.txs_machine.specs.Schedule.{IsExplainedBy};
 ghost use Rattle.txs_played.specs.Adds.{adds_event, kept_trace, IsNotedBehind};
 ghost use Rattle.txs_played.specs.Gather.{StoppedSo, IsPlayer, AreWhole, ArePlayed, ArePlayers, IsMadeFor, kept_by, Agrees, IsReportOf, AreReportsOf, AllHaveDone, AllHaveAttended};
-ghost use Rattle.txs_machine.specs.declared.runner.RunError.TheVariants.{JournalMismatch, Memory};
+ghost use Rattle.txs_machine.specs.declared.run_error.RunError.TheVariants.{JournalMismatch, Memory};
 ghost use Rattle.txs_shared.specs.SharedState.{shared_of};
 
 use crate::played::Played;

@@ -3,8 +3,8 @@ use Rattle.std.specs.Prelude.{◌≡◌, ℕ, Bool, List, [], ◌++◌, codes}
 use Rattle.txs_code.specs.PlainCode.{PlainCode}
 use Rattle.txs_load.specs.Load.{IsFormOf, IsRefusal}
 use Rattle.txs_load.specs.declared.error.LoadError.{LoadError}
-use Rattle.txs_machine.specs.Runner.{error_name}
-use Rattle.txs_machine.specs.declared.runner.RunError.{RunError}
+use Rattle.txs_machine.specs.ErrorName.{error_name}
+use Rattle.txs_machine.specs.declared.run_error.RunError.{RunError}
 use Rattle.txs_machine.specs.declared.schedule.Report.{Report}
 use Rattle.txs_shared.specs.SharedState.{PlainShared, numbered_book}
 use Rattle.txs_tell.specs.Lines.{all_printed}

@@ -5,7 +5,7 @@ use Rattle.txs_code.specs.PlainCode.{PlainCode}
 use Rattle.txs_machine.specs.Agents.{agents_of, AgentHasDone, AreDrained, AreExplainedBy}
 use Rattle.txs_machine.specs.RunOver.{IsStateOf, books_of}
 use Rattle.txs_machine.specs.Schedule.{HasDone, HaveEnded}
-use Rattle.txs_machine.specs.declared.runner.RunError.{RunError}
+use Rattle.txs_machine.specs.declared.run_error.RunError.{RunError}
 use Rattle.txs_machine.specs.declared.schedule.Report.{Report}
 use Rattle.txs_machine.specs.declared.schedule.ThreadReport.{ThreadReport}
 use Rattle.txs_shared.specs.SharedState.{PlainShared, shared_of}

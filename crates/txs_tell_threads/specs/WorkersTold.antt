@@ -3,10 +3,10 @@ use Rattle.std.specs.Prelude.{◌≡◌, ℕ, Bool, List, [], ◌++◌, codes}
 use Rattle.txs_code.specs.PlainCode.{PlainCode}
 use Rattle.txs_compile.specs.Compiled.{IsProgramOf}
 use Rattle.txs_machine.specs.Agents.{AreDrained, ExplainsAll}
-use Rattle.txs_machine.specs.Runner.{error_name}
+use Rattle.txs_machine.specs.ErrorName.{error_name}
 use Rattle.txs_machine.specs.RunOver.{IsStateOf}
 use Rattle.txs_machine.specs.Schedule.{HaveEnded}
-use Rattle.txs_machine.specs.declared.runner.RunError.{RunError}
+use Rattle.txs_machine.specs.declared.run_error.RunError.{RunError}
 use Rattle.txs_machine.specs.declared.schedule.ThreadReport.{ThreadReport}
 use Rattle.txs_shared.specs.SharedState.{PlainShared, shared_of, numbered_book}
 use Rattle.txs_tell.specs.Lines.{Script, all_printed}

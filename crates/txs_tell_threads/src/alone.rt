@@ -1,7 +1,7 @@
 //! Code whose one actor has nobody to run beside goes on in turn, and starts no worker.
 
 ghost use Rattle.std.specs.Prelude.{◌≡◌, ◌≤◌, length, IsTrue, IfOk, IfErr};
-ghost use Rattle.txs_machine.specs.declared.runner.RunError.TheVariants.{Memory};
+ghost use Rattle.txs_machine.specs.declared.run_error.RunError.TheVariants.{Memory};
 ghost use Rattle.txs_tell_threads.specs.Runner.{IsRunnable, RunsLawfully};
 
 use crate::script::Working;

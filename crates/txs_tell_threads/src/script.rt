@@ -1,7 +1,7 @@
 //! What is told of a script whose threads and agents workers run.
 
 ghost use Rattle.std.specs.Prelude.{◌≡◌, ◌++◌, [], codes, IfOk};
-ghost use Rattle.txs_machine.specs.Runner.{error_name};
+ghost use Rattle.txs_machine.specs.ErrorName.{error_name};
 ghost use Rattle.txs_tell.specs.Lent.{script_of, told_of};
 ghost use Rattle.txs_tell_threads.specs.Runner.{IsRunnable, RunsLawfully};
 ghost use Rattle.txs_tell_threads.specs.WorkersTold.{WorkedTells};

@@ -4,7 +4,7 @@ ghost use Rattle.std.specs.Prelude.{◌≡◌, ◌↔◌, ◌⊎◌, ℕ, length
 ghost use Rattle.txs_machine.specs.Agents.{agents_of, AreDrained, AreExplainedBy};
 ghost use Rattle.txs_machine.specs.RunOver.{IsStateOf};
 ghost use Rattle.txs_machine.specs.Schedule.{HaveEnded, IsExplainedBy};
-ghost use Rattle.txs_machine.specs.declared.runner.RunError.TheVariants.{JournalMismatch, Memory};
+ghost use Rattle.txs_machine.specs.declared.run_error.RunError.TheVariants.{JournalMismatch, Memory};
 ghost use Rattle.txs_played.specs.Gather.{AllHaveDone, AllHaveAttended};
 ghost use Rattle.txs_shared.specs.SharedState.{shared_of};
 ghost use Rattle.txs_threads.specs.Run.{AllEnded, AreAgents, IsDrained, AllDrained};

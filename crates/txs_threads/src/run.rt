@@ -5,7 +5,7 @@ ghost use Rattle.std.specs.Thread.{IsSend, IsSync};
 ghost use Rattle.txs_machine.specs.Agents.{agents_of, AreDrained, AreExplainedBy};
 ghost use Rattle.txs_machine.specs.RunOver.{IsStateOf};
 ghost use Rattle.txs_machine.specs.Schedule.{HaveEnded, IsExplainedBy};
-ghost use Rattle.txs_machine.specs.declared.runner.RunError.TheVariants.{NoThread, JournalMismatch, Memory};
+ghost use Rattle.txs_machine.specs.declared.run_error.RunError.TheVariants.{NoThread, JournalMismatch, Memory};
 ghost use Rattle.txs_played.specs.Callees.{ArePure};
 ghost use Rattle.txs_played.specs.Gather.{AllHaveDone, AllHaveAttended};
 ghost use Rattle.txs_shared.specs.SharedState.{shared_of};
