@@ -22,7 +22,7 @@ use Rattle.txs_value.specs.declared.op.Op.{Op}
 use Rattle.txs_value.specs.declared.value.CellId.{CellId}
 use Rattle.txs_value.specs.declared.value.Value.{Value}
 use Rattle.txs_code.specs.ActorState.{StepResult, step_of, Taken, finish}
-use Rattle.txs_code.specs.Machine.{PlainBody, ThreadCode, Frame, to_stack, locals_of, nils, agent_code, Configuration, Turned, Asking, Unfinished, turn, on, started, told, first_place, runs_callee}
+use Rattle.txs_code.specs.Machine.{PlainInstr, PlainBody, ThreadCode, fetch, Frame, to_stack, locals_of, nils, agent_code, Configuration, Turned, Asking, Unfinished, turn, on, started, told, first_place, runs_callee}
 use Rattle.txs_code.specs.Machine as machine
 use Rattle.txs_code.specs.PlainCode.{PlainCode, CodeBody, parameters_of, function_codes}
 use Rattle.txs_code.specs.WellTyped.{FunctionKind, plain, a_function, IsTable, IsStaging, IsPureFunction, WellTypedFunctions, WellTyped}
@@ -32,7 +32,7 @@ use Rattle.txs_stack.specs.Ready.{Ready}
 use Rattle.txs_stack.specs.Values.{stack_in}
 use Rattle.txs_stack.proofs.Lists.{length_nils}
 use Rattle.txs_actor.specs.Paces.{MayStep, IsOver}
-use Rattle.txs_actor.specs.PlainActor.{PlainActor, state_of, configuration_of, code_of, IsActorOf, attending, ask_for, is_running, applied_in, asked_for, unanswered, MayAnswerIf, stops_as, stands_at, answered, answered_if, answered_for, attends_anew, kind_or_pure, owner_of, functions_of, setting_of, CalledIn, IsSwapping, IsPureBody, BeganBy, CanApply, AllApply, OpenApplies, ActsFor, AsksWell, GoesOn, CanGoOn, Runs, attending_at, MayRun, HandsOut, AttendsAt, waits, has_taken, has_value, AttendsFor, AttendsOn, Attends, Lives, Awaits}
+use Rattle.txs_actor.specs.PlainActor.{PlainActor, state_of, configuration_of, code_of, IsActorOf, attending, ask_for, is_running, applied_in, asked_for, unanswered, MayAnswerIf, stops_as, stands_at, answered, answered_if, answered_for, attends_anew, kind_or_pure, owner_of, functions_of, setting_of, CalledIn, IsSwapping, IsPureBody, BeganBy, CanApply, AllApply, OpenApplies, ActsFor, AsksWell, GoesOn, CanGoOn, Runs, attending_at, MayRun, HandsOut, MayBreak, BreaksAt, AttendsAt, waits, has_taken, has_value, AttendsFor, AttendsOn, Attends, Lives, Awaits}
 use Rattle.txs_actor.specs.Turns.{IsNew, OneStep, Answers, Moves, TurnsFrom, Turns, AsksFor, Needs, TakesAnswer, IsAttending, OperatedAs, Operates, begins_acting, BeginsActing, CanApplyFor, AppliesFor, CanAttend, AttendsSo}
 use Rattle.txs_actor.specs.declared.outcome.Turn.{Turn}
 use Rattle.txs_actor.specs.declared.outcome.Turn.TheVariants as turned
@@ -148,11 +148,18 @@ module _ (d : PlainCode) (function_rooms thread_rooms : List ℕ) (typed : WellT
     abbrev Comes : ℕ → Option Action → List Value → Turn → PlainActor → Type 0
     Comes at o vs r c = Turns d (own at o vs s None) r c × Lives d c
 
+    -- the agent's own instruction at this place may want memory
+    abbrev Breaks : ℕ → Type 0
+    Breaks at = (i : PlainInstr) × (fetch ac 0 at ≡ Some i) × MayBreak i
+
+    breaks_in : (at : ℕ) (o : Option Action) (vs : List Value) → Breaks at → BreaksAt (code_of d n) (configuration_of (own at o vs s None))
+    breaks_in at o vs h = subst (λ (t : ThreadCode). BreaksAt t (configuration_of (own at o vs s None))) (sym actor) h
+
     -- want of memory, in an action or where one is handed in
-    no_memory : (at : ℕ) (o : Option Action) (vs us : List Value) → 0 < at → (x : Outcome) (c : PlainActor) → x ≡ outcome.Memory → c ≡ stops_as (own at o us (s + 1) None) outcome.Memory → Comes at o vs (turned.Ended x) c
-    no_memory at o vs us some_at x c e h =
+    no_memory : (at : ℕ) (o : Option Action) (vs us : List Value) → Breaks at → (x : Outcome) (c : PlainActor) → x ≡ outcome.Memory → c ≡ stops_as (own at o us (s + 1) None) outcome.Memory → Comes at o vs (turned.Ended x) c
+    no_memory at o vs us breaks x c e h =
         let b = stops_as (own at o us (s + 1) None) outcome.Memory in
-        let t : Turns d (own at o vs s None) (turned.Ended outcome.Memory) b = moves_so d (own at o vs s None) b (turned.Ended outcome.Memory) refl lt (refl, record { number = refl; outcome = refl; unanswered = refl; counted = refl; limited = refl }, inr some_at) in (
+        let t : Turns d (own at o vs s None) (turned.Ended outcome.Memory) b = moves_so d (own at o vs s None) b (turned.Ended outcome.Memory) refl lt (refl, record { number = refl; outcome = refl; unanswered = refl; counted = refl; limited = refl }, breaks_in at o vs breaks) in (
           subst (λ (y : Outcome). Turns d (own at o vs s None) (turned.Ended y) c) (sym e) (subst (λ (y : PlainActor). Turns d (own at o vs s None) (turned.Ended outcome.Memory) y) (sym h) t),
           subst (λ (y : PlainActor). Lives d y) (sym h) (inr (stopped_by at o us (s + 1) outcome.Memory)),
         )
@@ -186,12 +193,12 @@ module _ (d : PlainCode) (function_rooms thread_rooms : List ℕ) (typed : WellT
         )
 
     -- it hands in what an action came to
-    hands_one : (at : ℕ) (x : Action) (v : Value) (new : Result Value Fault) → 0 < at
+    hands_one : (at : ℕ) (x : Action) (v : Value) (new : Result Value Fault) → Breaks at
         → ((xs : List Exchange) → turn ac (at_own at (Some x) (v ∷ []) xs) ≡ told (finish g new (stated xs was p seen done kept)) (λ s1. Unfinished (first_place [] s1)))
         → (r : Turn) (c : PlainActor) → AsksFor (own at (Some x) [] (s + 1) None) (pending.Finish g new) r c → Comes at (Some x) (v ∷ []) r c
-    hands_one at x v new some_at w turned.Went c h = absurd h
-    hands_one at x v new some_at w (turned.Ended y) c h = no_memory at (Some x) (v ∷ []) [] some_at y c h.1 h.2
-    hands_one at x v new some_at w (turned.Asks q) c h =
+    hands_one at x v new breaks w turned.Went c h = absurd h
+    hands_one at x v new breaks w (turned.Ended y) c h = no_memory at (Some x) (v ∷ []) [] breaks y c h.1 h.2
+    hands_one at x v new breaks w (turned.Asks q) c h =
         let b = own at (Some x) [] (s + 1) (Some (pending.Finish g new)) in
         let k = finishes n 0 [] 0 at [] was p seen done kept (s + 1) limit room g new (Attending g (Some x)) refl in
         let awaits : Awaits (code_of d n) (configuration_of (own at (Some x) (v ∷ []) s None)) b (ask.Finish g new) = record {
@@ -207,7 +214,7 @@ module _ (d : PlainCode) (function_rooms thread_rooms : List ℕ) (typed : WellT
 
     -- the value of an action
     gives_one : (x : Action) (v : Value) (r : Turn) (c : PlainActor) → AsksFor (own 2 (Some x) [] (s + 1) None) (pending.Finish g (Ok v)) r c → Comes 2 (Some x) (v ∷ []) r c
-    gives_one x v r c h = hands_one 2 x v (Ok v) (omega arith) (λ xs. refl) r c h
+    gives_one x v r c h = hands_one 2 x v (Ok v) (machine.FinishOf g, refl, tt) (λ xs. refl) r c h
 
     -- ---- an action that is run
 
@@ -222,13 +229,13 @@ module _ (d : PlainCode) (function_rooms thread_rooms : List ℕ) (typed : WellT
           (runs_it (callee.Core op) e [] ∙ ap (λ (y : Answer). machine.gives (at_own 1 (Some x) (v ∷ []) []) [] (step_of y x.span (stated [] was p seen done kept))) q)
           (record { number = refl; outcome = refl; unanswered = refl; counted = refl; limited = refl }) (inr (attends_by 2 (Some x) (w ∷ []) (s + 1) None (has_value x w refl)))
       operated op e (Err k) q r c h =
-          hands_one 1 x v (Err (fault_at k x.span)) (omega arith)
+          hands_one 1 x v (Err (fault_at k x.span)) (machine.RunOf, refl, tt)
           (λ xs. runs_it (callee.Core op) e xs ∙ ap (λ (y : Answer). machine.gives (at_own 1 (Some x) (v ∷ []) xs) [] (step_of y x.span (stated xs was p seen done kept))) q) r c h
 
       operates : (op : Op) → x.callee ≡ callee.Core op → (r : Turn) (c : PlainActor) → Operates (own 1 (Some x) (v ∷ []) (s + 1) None) op r c → Comes 1 (Some x) (v ∷ []) r c
       operates op e r c (inl h) = operated op e (core op (v ∷ x.args)) refl r c h
       operates op e r c (inr h) =
-          let m = no_memory 1 (Some x) (v ∷ []) [] (omega arith) outcome.Memory c refl h.1 in
+          let m = no_memory 1 (Some x) (v ∷ []) [] (machine.RunOf, refl, tt) outcome.Memory c refl h.1 in
           (subst (λ (y : Turn). Turns d (own 1 (Some x) (v ∷ []) s None) y c) (sym h.0) m.0, m.1)
 
       -- the function of the action
@@ -285,7 +292,7 @@ module _ (d : PlainCode) (function_rooms thread_rooms : List ℕ) (typed : WellT
           (record { number = refl; outcome = refl; unanswered = refl; counted = refl; limited = refl })
           (inl (record { kinds = typed.kinds; rooms = function_rooms; functions = typed.functions; body = b1; is = i.2; goes = begins_goes f can.0 b1 i.2 within many i.1 i.3 }))
       begins_one f e (turned.Asks q) c h = absurd h
-      begins_one f e (turned.Ended y) c h = no_memory 1 (Some x) (v ∷ []) [] (omega arith) y c h.0 h.1
+      begins_one f e (turned.Ended y) c h = no_memory 1 (Some x) (v ∷ []) [] (machine.RunOf, refl, tt) y c h.0 h.1
 
       runs_one : (f : Callee) → x.callee ≡ f → (r : Turn) (c : PlainActor) → AppliesFor d (own 1 (Some x) (v ∷ []) (s + 1) None) (Some f) r c → Comes 1 (Some x) (v ∷ []) r c
       runs_one (callee.Core op) e r c h = operates op e r c h
