@@ -2,6 +2,7 @@ pub mod Ascending
 pub mod Behind
 pub mod Bodies
 pub mod Earliest
+pub mod Faults
 pub mod First
 pub mod FirstForm
 pub mod Fitting
@@ -16,4 +17,7 @@ pub mod Renaming
 pub mod Shapes
 pub mod Spreads
 pub mod Told
+pub mod Tops
+pub mod Treeless
+pub mod Undefined
 pub mod Windows

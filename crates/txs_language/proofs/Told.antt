@@ -98,11 +98,11 @@ module _ (by : Resolver) (sees : Sees by) (at : Span) (n : ℕ) (G : Type 0) (la
       (value_told p inner told low (with_local name scope) h.0 hi rest (omega (arith, le, ge)) h.3 k)))
 
 -- the scope behind bindings
-abbrev ScopeIs : Scope → Answer Bound → Type 0
+abbrev pub ScopeIs : Scope → Answer Bound → Type 0
 ScopeIs inner (Ok b) = b.scope ≡ inner
 ScopeIs inner (Err e) = Unit {0}
 
-behind_is : (by : Resolver) (inner scope : Scope) (fs : Forms) → IsBehind inner scope fs → ScopeIs inner (named_bindings by scope fs)
+pub behind_is : (by : Resolver) (inner scope : Scope) (fs : Forms) → IsBehind inner scope fs → ScopeIs inner (named_bindings by scope fs)
 behind_is by inner _ _ behind_none = refl
 behind_is by inner scope _ (behind_one _ binder value rest name is k) = step (behind_is by inner (with_local name scope) rest k) (by scope true value)
   where

@@ -1,3 +1,4 @@
+pub mod Faults
 pub mod FirstForm
 pub mod Levels
 pub mod Logic

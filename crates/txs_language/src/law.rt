@@ -14,7 +14,7 @@ ghost use Rattle.txs_reader.specs.Tree.{Tree as Form, Trees as Forms, first, lea
 ghost use Rattle.txs_reader.specs.Tree.{none as no_forms};
 ghost use Rattle.txs_expand.specs.Expansions.{body, list};
 ghost use Rattle.txs_expand.specs.Expressions.{are_pairs, named};
-ghost use Rattle.txs_resolve.specs.Names.{State, step, Resolves, ResolveStops};
+ghost use Rattle.txs_resolve.specs.Names.{State, nothing, step, steps, Resolves, ResolveStops};
 ghost use Rattle.txs_expand.specs.declared.error.ResolveError.{ResolveError};
 ghost use Rattle.txs_tree.specs.Known.{known, levels};
 ghost use Rattle.txs_tree.specs.Meaning.{Completion, Effects, eval};
@@ -26,6 +26,7 @@ ghost use Rattle.txs_value.specs.declared.fault.Span.{Span};
 ghost use Rattle.txs_value.specs.declared.op.Op.{Op};
 ghost use Rattle.txs_value.specs.declared.value.Value.{Value};
 ghost use Rattle.txs_value.specs.declared.value.Value.TheVariants.{Nil, Truth};
+ghost use Rattle.txs_language.specs.Faults.{FaultAtTop, FaultInForm, FaultInScript};
 ghost use Rattle.txs_language.specs.FirstForm.{StopsAt};
 ghost use Rattle.txs_language.specs.Levels.{IfGives, Limited, ScopeBehind};
 ghost use Rattle.txs_language.specs.Logic.{AndDoes, OrDoes, and_tree, or_tree};
@@ -55,6 +56,30 @@ pub fn what_ends_before_a_refusal_is_resolved()
         → StandsIn room scope part k outer form → (place part).to ≤ e.at.from → HasTree room scope part }
     ensures bodies { (room k : ℕ) (scope outer : Scope) (wanted : Bool) (part : Form) (at : Span) (from : ℕ) (forms : Forms) (e : ResolveError) → at.from < from → NestIn from at.to forms
         → named k outer wanted (body forms at) ≡ Err e → StandsIn room scope part k outer (body forms at) → (place part).to ≤ e.at.from → HasTree room scope part }
+{}
+
+/// A refusal of names is of a form that has the fault: its kind is that of the fault, and its place that of what is wrong in the form.
+/// So of any form, and of a script, whose first refused form has the fault, or a form in the body that it defines.
+pub fn a_refusal_is_of_a_form_with_that_fault()
+    ensures in_form { (k : ℕ) (outer : Scope) (wanted : Bool) (form : Form) (e : ResolveError) → named k outer wanted form ≡ Err e → FaultInForm k outer form e }
+    ensures in_script { (forms : List Form) (e : ResolveError) → ResolveStops forms e → FaultInScript forms e }
+{}
+
+/// What has a fault is refused, be it a form in which one has a fault, or one of the top level. So the refused are exactly those with a fault.
+pub fn what_has_a_fault_is_refused()
+    ensures in_form { (k : ℕ) (outer : Scope) (wanted : Bool) (form : Form) (e : ResolveError) → FaultInForm k outer form e → (t : Tree) → named k outer wanted form ≢ Ok t }
+    ensures at_top { (s : State) (form : Form) (e : ResolveError) → FaultAtTop s e form → (t : State) → step s form ≢ Ok t }
+{}
+
+/// No fault stands before a refusal of names: in what ends before its place no form has one. Of a written form, whose parts stand in order,
+/// and of the body of a function or of a future; and of a script's forms none has one that stands before the first that is refused.
+pub fn no_fault_stands_before_a_refusal()
+    ensures written { (room k : ℕ) (scope outer : Scope) (wanted : Bool) (part form : Form) (e : ResolveError) → Nests form → named k outer wanted form ≡ Err e
+        → StandsIn room scope part k outer form → (place part).to ≤ e.at.from → (d : ResolveError) → FaultInForm room scope part d → ⊥ }
+    ensures bodies { (room k : ℕ) (scope outer : Scope) (wanted : Bool) (part : Form) (at : Span) (from : ℕ) (forms : Forms) (e : ResolveError) → at.from < from → NestIn from at.to forms
+        → named k outer wanted (body forms at) ≡ Err e → StandsIn room scope part k outer (body forms at) → (place part).to ≤ e.at.from → (d : ResolveError) → FaultInForm room scope part d → ⊥ }
+    ensures script { (forms : List Form) (e : ResolveError) (stop : StopsAt forms e) (before behind : List Form) (form : Form) (s : State) → stop.before ≡ before ++ form ∷ behind → steps nothing before ≡ Ok s
+        → (d : ResolveError) → FaultAtTop s d form → ⊥ }
 {}
 
 /// The refusal of a script's program is the first in its text: no form with a fault begins before it.
