@@ -60,6 +60,10 @@ impl CodeErrorKind {
 }
 
 impl Display for CodeErrorKind {
+    ghost use Rattle.std.specs.Prelude.{Some};
+
+    ghost output = { λ k. Some (code_error_name k) };
+
     fn fmt<W: Write>(&self, f: &mut Formatter<W>) -> fmt::Result {
         f.write_str(self.name())
     }

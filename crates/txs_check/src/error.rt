@@ -68,6 +68,10 @@ impl CheckErrorKind {
 }
 
 impl Display for CheckErrorKind {
+    ghost use Rattle.std.specs.Prelude.{Some};
+
+    ghost output = { λ k. Some (check_name k) };
+
     fn fmt<W: Write>(&self, f: &mut Formatter<W>) -> fmt::Result {
         f.write_str(self.name())
     }

@@ -69,6 +69,10 @@ impl Debug for ResolveErrorKind {
 }
 
 impl Display for ResolveErrorKind {
+    ghost use Rattle.std.specs.Prelude.{Some};
+
+    ghost output = { λ k. Some (report_name k) };
+
     fn fmt<W: Write>(&self, f: &mut Formatter<W>) -> fmt::Result {
         f.write_str(self.name())
     }

@@ -73,6 +73,10 @@ impl ReadErrorKind {
 }
 
 impl Display for ReadErrorKind {
+    ghost use Rattle.std.specs.Prelude.{Some};
+
+    ghost output = { λ k. Some (report_name k) };
+
     fn fmt<W: Write>(&self, f: &mut Formatter<W>) -> fmt::Result {
         f.write_str(self.name())
     }
