@@ -1,4 +1,5 @@
 pub mod ActorState
+pub mod FormAsks
 pub mod Fused
 pub mod Laws
 pub mod Machine

@@ -9,6 +9,7 @@ use Rattle.txs_value.specs.declared.form.PutForm.TheVariants.{RefSet, Reset}
 use Rattle.txs_value.specs.declared.form.UpdateForm.TheVariants.{Alter, Commute, Swap}
 use Rattle.txs_value.specs.declared.form.Standing.{Standing}
 use Rattle.txs_value.specs.declared.form.Standing.TheVariants.{Anywhere, Inside, Outside}
+use Rattle.txs_value.specs.declared.form.FormAsk.TheVariants.{Nothing, ItsValue, Replacing, Swapping, Sending}
 use Rattle.txs_value.specs.declared.form.FormRule.{FormRule}
 use Rattle.txs_value.specs.declared.value.CellId.{CellId}
 use Rattle.txs_value.specs.declared.value.CellKind.{CellKind}
@@ -16,16 +17,17 @@ use Rattle.txs_value.specs.declared.value.CellKind.TheVariants.{Ref, Atom, Agent
 use Rattle.txs_value.specs.declared.value.Value.{Value}
 use Rattle.txs_value.specs.declared.value.Value.TheVariants.{Cell}
 
--- The table of forms on cells: the kind of cell that a form takes (none: any), where it may stand, and the fault of anything else.
+-- The table of forms on cells: the kind of cell that a form takes (none: any), where it may stand, the fault of anything else, and what
+-- the form asks of the shared state.
 abbrev pub rule : CellForm → FormRule
-rule (Look Deref) = record { takes = None; stands = Anywhere; fault = NotACell }
-rule (Look Ensure) = record { takes = Some Ref; stands = Inside; fault = NotARef }
-rule (Put RefSet) = record { takes = Some Ref; stands = Inside; fault = NotARef }
-rule (Put Reset) = record { takes = Some Atom; stands = Outside; fault = NotAnAtom }
-rule (Update Alter) = record { takes = Some Ref; stands = Inside; fault = NotARef }
-rule (Update Commute) = record { takes = Some Ref; stands = Inside; fault = NotARef }
-rule (Update Swap) = record { takes = Some Atom; stands = Outside; fault = NotAnAtom }
-rule Send = record { takes = Some Agent; stands = Anywhere; fault = NotAnAgent }
+rule (Look Deref) = record { takes = None; stands = Anywhere; fault = NotACell; asks = ItsValue }
+rule (Look Ensure) = record { takes = Some Ref; stands = Inside; fault = NotARef; asks = ItsValue }
+rule (Put RefSet) = record { takes = Some Ref; stands = Inside; fault = NotARef; asks = Nothing }
+rule (Put Reset) = record { takes = Some Atom; stands = Outside; fault = NotAnAtom; asks = Replacing }
+rule (Update Alter) = record { takes = Some Ref; stands = Inside; fault = NotARef; asks = ItsValue }
+rule (Update Commute) = record { takes = Some Ref; stands = Inside; fault = NotARef; asks = ItsValue }
+rule (Update Swap) = record { takes = Some Atom; stands = Outside; fault = NotAnAtom; asks = Swapping }
+rule Send = record { takes = Some Agent; stands = Anywhere; fault = NotAnAgent; asks = Sending }
 
 -- whether a form may stand here; the truth value tells whether a transaction is running
 abbrev pub may_stand : Standing → Bool → Bool

@@ -1,7 +1,10 @@
 //! The forms on cells, in families, and the table of what each of them takes and where it may stand.
 
-ghost use Rattle.std.specs.Prelude.{◌≡◌, ◌↔◌, IsTrue};
+ghost use Rattle.std.specs.Prelude.{◌≡◌, ◌↔◌, IsTrue, Some};
 ghost use Rattle.txs_value.specs.Forms.{cell_of, may_stand, rule, same_kind};
+ghost use Rattle.txs_value.specs.declared.fault.FaultKind.TheVariants.{NotARef, NotAnAtom};
+ghost use Rattle.txs_value.specs.declared.form.Standing.TheVariants.{Inside, Outside};
+ghost use Rattle.txs_value.specs.declared.value.CellKind.TheVariants.{Ref, Atom};
 
 use crate::fault::FaultKind;
 use crate::value::{CellId, CellKind, Value};
@@ -59,22 +62,54 @@ pub enum Standing {
     Outside,
 }
 
-/// What a form takes: the kind of cell, any where there is none; where it may stand; and the fault of anything else.
+/// What a form asks of the shared state before it gives its value. What a transaction asks where it begins and ends, it asks
+/// for all its forms together.
+#[derive(Clone, Copy, PartialEq, Eq)]
+pub enum FormAsk {
+    /// Nothing, since the transaction keeps what it says.
+    Nothing,
+    /// A cell's value: that of a ref at the transaction's read point, unless it has one of its own; outside the newest.
+    ItsValue,
+    /// That an atom gets a value, whatever it holds.
+    Replacing,
+    /// An atom's value and its place, and then that it gets another, if it is still as it was there; or, where the callee
+    /// faults, that the swap is over.
+    Swapping,
+    /// That an action is sent; in a transaction nothing, which keeps it up to its end.
+    Sending,
+}
+
+/// What a form takes: the kind of cell, any where there is none; where it may stand; the fault of anything else; and what it
+/// asks of the shared state.
 #[derive(Clone, Copy)]
 pub struct FormRule {
     pub takes: Option<CellKind>,
     pub stands: Standing,
     pub fault: FaultKind,
+    pub asks: FormAsk,
 }
 
-/// The rule of this kind of cell, place and fault.
-fn rule_of(takes: Option<CellKind>, stands: Standing, fault: FaultKind) -> FormRule
-    ensures { result ≡ record { takes = takes; stands = stands; fault = fault } }
+/// The rule of forms on refs, which stand in transactions alone.
+fn rule_of_ref(asks: FormAsk) -> FormRule
+    ensures { result ≡ record { takes = Some Ref; stands = Inside; fault = NotARef; asks = asks } }
 {
     FormRule {
-        takes,
-        stands,
-        fault,
+        takes: Some(CellKind::Ref),
+        stands: Standing::Inside,
+        fault: FaultKind::NotARef,
+        asks,
+    }
+}
+
+/// The rule of forms on atoms, which stand outside transactions alone.
+fn rule_of_atom(asks: FormAsk) -> FormRule
+    ensures { result ≡ record { takes = Some Atom; stands = Outside; fault = NotAnAtom; asks = asks } }
+{
+    FormRule {
+        takes: Some(CellKind::Atom),
+        stands: Standing::Outside,
+        fault: FaultKind::NotAnAtom,
+        asks,
     }
 }
 
@@ -83,26 +118,26 @@ impl CellForm {
     pub fn rule(self) -> FormRule
         ensures { result ≡ rule self }
     {
-        let (ref_kind, atom_kind) = (Some(CellKind::Ref), Some(CellKind::Atom));
         match self {
-            CellForm::Look(LookForm::Deref) => rule_of(
-                None,
-                Standing::Anywhere,
-                FaultKind::NotACell,
-            ),
+            CellForm::Look(LookForm::Deref) => FormRule {
+                takes: None,
+                stands: Standing::Anywhere,
+                fault: FaultKind::NotACell,
+                asks: FormAsk::ItsValue,
+            },
             CellForm::Look(LookForm::Ensure)
-            | CellForm::Put(PutForm::RefSet)
             | CellForm::Update(UpdateForm::Alter | UpdateForm::Commute) => {
-                rule_of(ref_kind, Standing::Inside, FaultKind::NotARef)
+                rule_of_ref(FormAsk::ItsValue)
             }
-            CellForm::Put(PutForm::Reset) | CellForm::Update(UpdateForm::Swap) => {
-                rule_of(atom_kind, Standing::Outside, FaultKind::NotAnAtom)
-            }
-            CellForm::Send => rule_of(
-                Some(CellKind::Agent),
-                Standing::Anywhere,
-                FaultKind::NotAnAgent,
-            ),
+            CellForm::Put(PutForm::RefSet) => rule_of_ref(FormAsk::Nothing),
+            CellForm::Put(PutForm::Reset) => rule_of_atom(FormAsk::Replacing),
+            CellForm::Update(UpdateForm::Swap) => rule_of_atom(FormAsk::Swapping),
+            CellForm::Send => FormRule {
+                takes: Some(CellKind::Agent),
+                stands: Standing::Anywhere,
+                fault: FaultKind::NotAnAgent,
+                asks: FormAsk::Sending,
+            },
         }
     }
 

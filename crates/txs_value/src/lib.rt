@@ -26,7 +26,7 @@ pub use cell::{CellDefinition, ErrorMode};
 pub use copy::{copy_value, copy_values};
 pub use equal::same;
 pub use fault::{Fault, FaultKind, Span, Stop};
-pub use form::{CellForm, FormRule, LookForm, PutForm, Standing, UpdateForm};
+pub use form::{CellForm, FormAsk, FormRule, LookForm, PutForm, Standing, UpdateForm};
 pub use listed::Listed;
 pub use op::{Callee, Op};
 pub use print::{write_line, write_text};
