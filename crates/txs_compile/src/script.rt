@@ -8,6 +8,7 @@ ghost use Rattle.txs_code.specs.PlainCode.{function_codes};
 ghost use Rattle.txs_follows.specs.FollowsAgent.{FollowsAgents};
 ghost use Rattle.txs_follows.specs.FollowsAll.{FollowsAll};
 ghost use Rattle.txs_follows.specs.Sends.{CodesSendSound};
+ghost use Rattle.txs_gen.specs.Generated.{IsCodeOf};
 ghost use Rattle.txs_gen.specs.OwnCells.{ProgramNamesOwnCells};
 ghost use Rattle.txs_reader.specs.Script.{Reads};
 ghost use Rattle.txs_reader.specs.Tree.{trees};
@@ -75,7 +76,7 @@ fn program_of_forms(alloc: Global, bytes: &[u8], forms: &[Form]) -> Result<Progr
     }
 }
 
-/// Compiles a script: its program, and code that follows the program.
+/// Compiles a script: its program, and the code of that program, which follows it.
 ///
 /// # Errors
 /// `Read` where the script isn't read, with the first refusal from left to right; `Resolve` where its names don't resolve,
@@ -83,6 +84,7 @@ fn program_of_forms(alloc: Global, bytes: &[u8], forms: &[Form]) -> Result<Progr
 /// there was no memory for one of them.
 pub fn compile(alloc: Global, bytes: &[u8]) -> Result<(Program, Verified), CompileError>
     ensures program { IfOk result (λ c. IsProgramOf bytes.now (program_of c.0)) }
+    ensures generated { IfOk result (λ c. IsCodeOf c.1 (program_of c.0)) }
     ensures code { IfOk result (λ c. FollowsAll (codes_of c.1) (program_of c.0)) }
     ensures agents { IfOk result (λ c. FollowsAgents (function_codes c.1) (program_of c.0).functions) }
     ensures sends { IfOk result (λ c. CodesSendSound (program_of c.0).functions (codes_of c.1)) }

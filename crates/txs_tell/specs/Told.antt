@@ -11,6 +11,7 @@ use Rattle.txs_disasm.specs.Listing.{listing}
 use Rattle.txs_follows.specs.FollowsAgent.{FollowsAgents}
 use Rattle.txs_follows.specs.FollowsAll.{FollowsAll}
 use Rattle.txs_follows.specs.Sends.{CodesSendSound}
+use Rattle.txs_gen.specs.Generated.{IsCodeOf}
 use Rattle.txs_machine.specs.Agents.{actors_of, AgentsAreDone, AreDrained, AreExplainedBy, ExplainsAll}
 use Rattle.txs_machine.specs.RunOver.{IsStateOf, books_of}
 use Rattle.txs_machine.specs.Schedule.{AreDone, HaveEnded, IsExplainedBy, all_named}
@@ -95,10 +96,11 @@ pub record FormTold (code : PlainCode) (t : Told) : Type 0 where
 
 -- ---- what is told of a script
 
--- A script is compiled to a program and its code: the script is that program, each thread of the code follows the program's, its functions follow the
--- actions of agents, it sends only what the program may send, and it has the program's cells.
+-- A script is compiled to a program and its code: the script is that program, the code is that of its trees, each thread of the code follows the
+-- program's, its functions follow the actions of agents, it sends only what the program may send, and it has the program's cells.
 pub record IsCompiled (text : List ℕ) (p : PlainProgram) (code : PlainCode) : Type 0 where
   pub program : IsProgramOf text p
+  pub generated : IsCodeOf code p
   pub follows : FollowsAll (codes_of code) p
   pub agents : FollowsAgents (function_codes code) p.functions
   pub sends : CodesSendSound p.functions (codes_of code)

@@ -20,7 +20,7 @@ returns-in_default c =
     subst (λ (o : Option owned.Told). RunAnswers code (script_of c.args.script) c.args.plays.now c.args.steps c.run_code.new.shared (option_map told_of o)) c.in_default.is c.in_ok-told.ensures.told
     in
     let t = c.in_ok-told-2.ensures in
-    let compiled : IsCompiled c.args.script.text.now (program_of c.in-Ok.compiled.0) code = record { program = of.program; follows = of.code; agents = of.agents; sends = of.sends; same = of.cells } in
+    let compiled : IsCompiled c.args.script.text.now (program_of c.in-Ok.compiled.0) code = record { program = of.program; generated = of.generated; follows = of.code; agents = of.agents; sends = of.sends; same = of.cells } in
     of_no_actor c.args.plays.now c.args.steps c.args.cells c.args.events (program_of c.in-Ok.compiled.0) code compiled unnamed t.output t.errors t.status
 
 pub returns : goal.returns
@@ -31,6 +31,6 @@ returns c =
     subst (λ (o : Option owned.Told). RunAnswers code (script_of c.args.script) c.args.plays.now c.args.steps c.run_code.new.shared (option_map told_of o)) c.in-Some.is c.in_ok-told.ensures.told
     in
     let t = c.in_ok-tell_book.ensures in
-    let compiled : IsCompiled c.args.script.text.now (program_of c.in-Ok.compiled.0) code = record { program = of.program; follows = of.code; agents = of.agents; sends = of.sends; same = of.cells } in
+    let compiled : IsCompiled c.args.script.text.now (program_of c.in-Ok.compiled.0) code = record { program = of.program; generated = of.generated; follows = of.code; agents = of.agents; sends = of.sends; same = of.cells } in
     let explained = ran.1.all_explained (program_of c.in-Ok.compiled.0) (sym of.cells) of.code of.agents of.sends in
     of_run c.args.plays.now c.args.steps c.args.cells c.args.events (told_of c.in-Some.told) (program_of c.in-Ok.compiled.0) code c.run_code.new.shared compiled c.run_code.ensures.of ran.0 ran.1 explained t.output t.errors t.status

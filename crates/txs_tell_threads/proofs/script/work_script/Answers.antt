@@ -38,7 +38,7 @@ returns g c =
     let t = c.in_ok-told.ensures in
     let book = c.in_ok-tell_book.ensures in
     let told = told_of c.tell_book.new.told in
-    let compiled : IsCompiled c.args.script.text.now (program_of c.in-Ok.compiled.0) code = record { program = of.program; follows = of.code; agents = of.agents; sends = of.sends; same = of.cells } in
+    let compiled : IsCompiled c.args.script.text.now (program_of c.in-Ok.compiled.0) code = record { program = of.program; generated = of.generated; follows = of.code; agents = of.agents; sends = of.sends; same = of.cells } in
     of_run (program_of c.in-Ok.compiled.0) code compiled
     (record {
       shared = ran.0;
