@@ -1,16 +1,15 @@
 -- No refusal is true of well-typed code.
 use Rattle.std.proofs.Common.{arith, inl, inr, ◌≡◌, ◌⊎◌, ◌∙◌, ℕ, zero, suc, ◌+◌, ◌<◌, ◌≤◌, List, [], ◌∷◌, length, Bool, true, false, Option, Some, None, refl, sym, ap, subst}
-use Rattle.txs_operations.specs.Core.{takes}
 use Rattle.txs_value.specs.Places.{nth}
 use Rattle.txs_value.specs.declared.op.Callee.{Callee}
 use Rattle.txs_value.specs.declared.op.Callee.TheVariants as callee
 use Rattle.txs_value.specs.declared.value.Value.{Value}
 use Rattle.txs_code.specs.PlainCode.{CodeBody, PlainCode, parameters_of}
-use Rattle.txs_code.specs.WellTyped.{FunctionKind, Functions, Owner, a_thread, a_function, CalleeTakes, NamedTakes, IsLawful, IsPureFunction, Stage, plain, opened, applied, Stages, FitsStage, WellTypedBody, WellTypedFunctions, WellTypedThreads, WellTyped}
+use Rattle.txs_code.specs.WellTyped.{FunctionKind, Functions, Owner, a_thread, a_function, CalleeTakes, NamedTakes, IsLawful, IsPureFunction, Stage, plain, opened, applied, Stages, FitsStage, WellTypedBody, WellTyped}
 use Rattle.txs_code.specs.declared.instr.OpenForm.{OpenForm}
 use Rattle.txs_code.specs.declared.instr.OpenForm.TheVariants as open_form
 use Rattle.txs_code.specs.declared.instr.Instr.{Instr}
-use Rattle.txs_code.specs.declared.instr.Instr.TheVariants.{Const, Local, Store, Pop, Jump, JumpFalse, Core, Call, Return, Vector, Print, Look, Put, TxBegin, TxEnd, Open, Close, Send, Halt}
+use Rattle.txs_code.specs.declared.instr.Instr.TheVariants.{Local, Store, Jump, JumpFalse, Core, Call, Return, Open, Close, Send, Halt}
 use Rattle.txs_verify.specs.declared.error.VerifyError.{VerifyError}
 use Rattle.txs_verify.specs.declared.error.VerifyErrorKind.{VerifyErrorKind}
 use Rattle.txs_verify.specs.declared.error.VerifyErrorKind.TheVariants.{JumpOut, StackLow, StackDiffers, LocalOut, ArityWrong, CallOrder, TxNesting, FallsOff, Memory}
@@ -20,10 +19,10 @@ use Rattle.txs_verify.specs.Going.{JumpsWithin}
 use Rattle.txs_verify.specs.Paths.{EndsWell, opens, before, before_that, stage_behind, stage_for}
 use Rattle.txs_verify.specs.Refused.{BreaksOff, IsMet}
 use Rattle.txs_verify.specs.Standing.{IsEnd, EndsSo, IsImpureCallee, NestsWrongly, ends_within, outside_within, inside_without, sends_impure, opens_impure, StandsWrongly, or_pure, kind_of}
-use Rattle.txs_verify.specs.Verdict.{callable, AreKinds, AreRightBodies, IsWrongOnPaths, IsRefusedAlone, IsRefusedOnPaths, IsRefusedFunction, IsRefused, in_a_function, in_a_thread, on_paths_of_a_function, on_paths_of_a_thread, IsIllTyped, OrMemory}
+use Rattle.txs_verify.specs.Verdict.{AreKinds, AreRightBodies, IsWrongOnPaths, IsRefusedAlone, IsRefusedOnPaths, IsRefusedFunction, IsRefused, in_a_function, in_a_thread, on_paths_of_a_function, on_paths_of_a_thread, IsIllTyped, OrMemory}
 use Rattle.txs_verify.proofs.Ends.{or_map, or_memory}
 use Rattle.txs_verify.proofs.Least.{AreBelow, AreAllKinds, MayBeKind, met_may, typed_function, all_are_kinds, all_below, typed_thread}
-use Rattle.txs_verify.proofs.Never.{IsRight, right_at, staged_at, never_low, never_two_depths, never_two_nestings, never_ends_nothing, never_past}
+use Rattle.txs_verify.proofs.Never.{right_at, staged_at, never_low, never_two_depths, never_two_nestings, never_ends_nothing, never_past}
 use Rattle.txs_verify.proofs.Roomy.{nth_less}
 
 some_is : {A : Type 0} (x y : A) → Some x ≡ Some y → x ≡ y

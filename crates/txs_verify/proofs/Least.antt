@@ -1,6 +1,6 @@
 -- The kinds that paths tell are the least: in well-typed code a function that they tell to be for transactions alone, for outside alone or
 -- impure is so.
-use Rattle.std.proofs.Common.{arith, inl, inr, ◌≡◌, ◌⊎◌, ◌∙◌, ℕ, zero, suc, ◌+◌, ◌<◌, ◌≤◌, List, [], ◌∷◌, length, Bool, true, false, ◌&&◌, nat_eq, Option, Some, None, refl, sym, ap, subst}
+use Rattle.std.proofs.Common.{arith, ◌≡◌, ◌∙◌, ℕ, zero, suc, ◌+◌, ◌<◌, ◌≤◌, List, [], ◌∷◌, length, Bool, true, false, ◌&&◌, nat_eq, Option, Some, None, refl, sym, ap, subst}
 use Rattle.std.proofs.lemmas.Bool.{eqb-true}
 use Rattle.txs_value.specs.Forms.{rule}
 use Rattle.txs_value.specs.Places.{nth}
@@ -8,8 +8,8 @@ use Rattle.txs_value.specs.declared.form.CellForm.TheVariants as form
 use Rattle.txs_value.specs.declared.form.Standing.{Standing}
 use Rattle.txs_value.specs.declared.form.Standing.TheVariants.{Anywhere, Inside, Outside}
 use Rattle.txs_value.specs.declared.value.Value.{Value}
-use Rattle.txs_code.specs.PlainCode.{CodeBody, PlainCode, parameters_of}
-use Rattle.txs_code.specs.WellTyped.{FunctionKind, Functions, Owner, a_thread, a_function, IsImpure, MayStand, KindMayStand, MayCall, IsPureFunction, IsKind, Stage, plain, opened, applied, Stages, FitsStage, form_of, WellTypedBody, WellTypedFunctions, WellTypedThreads, WellTyped}
+use Rattle.txs_code.specs.PlainCode.{CodeBody}
+use Rattle.txs_code.specs.WellTyped.{FunctionKind, Functions, Owner, a_thread, a_function, IsImpure, MayStand, KindMayStand, IsKind, Stage, plain, opened, applied, Stages, FitsStage, form_of, WellTypedBody, WellTypedFunctions, WellTypedThreads}
 use Rattle.txs_code.specs.declared.instr.Instr.{Instr}
 use Rattle.txs_code.specs.declared.instr.Instr.TheVariants.{Const, Local, Store, Pop, Jump, JumpFalse, Core, Call, Return, Vector, Print, Look, Put, TxBegin, TxEnd, Open, Close, Send, Halt}
 use Rattle.txs_verify.specs.declared.standing.Kind.{Kind}

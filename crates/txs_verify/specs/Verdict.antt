@@ -4,7 +4,7 @@ use Rattle.txs_value.specs.Places.{nth}
 use Rattle.txs_code.specs.PlainCode.{CodeBody, PlainCode, parameters_of}
 use Rattle.txs_code.specs.WellTyped.{WellTyped}
 use Rattle.txs_code.specs.declared.instr.Instr.{Instr}
-use Rattle.txs_verify.specs.Alone.{HasConstant, IsRightBody, IsWrongAlone}
+use Rattle.txs_verify.specs.Alone.{HasConstant, IsRight, IsRightBody, IsWrongAlone}
 use Rattle.txs_verify.specs.Going.{AreReached}
 use Rattle.txs_verify.specs.Marks.{Marks, mark_at, IsClosed}
 use Rattle.txs_verify.specs.Refused.{BreaksOff}
@@ -109,13 +109,14 @@ OrMemory TxNesting P = P
 OrMemory FallsOff P = P
 OrMemory Memory P = Unit {0}
 
--- a body of these is refused for an instruction alone, and all before it are right
+-- a body of these is refused for an instruction alone, and all before it are right, the body's own and those of the bodies before
 pub record IsRefusedAlone (thread : Bool) (fs bs : List CodeBody) (e : VerifyError) : Type 0 where
   pub number : ℕ
   pub body : CodeBody
   pub name : e.body ≡ name_of thread number
   pub stands : nth bs number ≡ Some body
   pub wrong : IsWrongAlone (callable thread (length fs) number) (parameters_of fs) body e.kind e.at
+  pub first : (at : ℕ) (i : Instr) → at < e.at → nth body.instrs at ≡ Some i → IsRight (callable thread (length fs) number) (parameters_of fs) body at i
   pub before : AreRightBodies thread fs bs number
 
 -- a body of these is refused for what its paths come to

@@ -3,8 +3,9 @@
 ghost use Rattle.std.specs.Prelude.{◌≡◌, ◌<◌, ◌≤◌, ◌+◌, ℕ, List, [], length, true, false, IfOk, IfErr, OnOk, Some};
 ghost use Rattle.txs_code.specs.PlainCode.{CodeBody, parameters_of};
 ghost use Rattle.txs_code.specs.WellTyped.{WellTyped};
+ghost use Rattle.txs_code.specs.declared.instr.Instr.{Instr as AnInstr};
 ghost use Rattle.txs_value.specs.Places.{nth};
-ghost use Rattle.txs_verify.specs.Alone.{IsRightBody, IsWrongAlone};
+ghost use Rattle.txs_verify.specs.Alone.{IsRight, IsRightBody, IsWrongAlone};
 ghost use Rattle.txs_verify.specs.Going.{AllJumpWithin};
 ghost use Rattle.txs_verify.specs.Marks.{mark_at};
 ghost use Rattle.txs_verify.specs.Verdict.{AreKinds, AreRightBodies, AreWalked, AreWalkedThreads, AreLeastRooms, BodyInForm, IsInForm, IsRefused, IsRefusedAlone, IsIllTyped, IsRefusedFunction, IsRefusedOnPaths, IsLeastRoom, IsRoomFor, IsWalked, IsWrongOnPaths, OrMemory, callable, name_of, stopped};
@@ -75,6 +76,7 @@ fn look_at_body(
     requires few { (b : CodeBody) → nth bodies.now n ≡ Some b → length b.instrs < 4294967295 }
     ensures right { OnOk result ((b : CodeBody) → nth bodies.now n ≡ Some b → IsRightBody (callable thread (length functions.now) n) (parameters_of functions.now) b) }
     ensures wrong { IfErr result (λ e. (b : CodeBody) → nth bodies.now n ≡ Some b → IsWrongAlone (callable thread (length functions.now) n) (parameters_of functions.now) b e.kind e.at) }
+    ensures first { IfErr result (λ e. (b : CodeBody) → nth bodies.now n ≡ Some b → (at : ℕ) (i : AnInstr) → at < e.at → nth b.instrs at ≡ Some i → IsRight (callable thread (length functions.now) n) (parameters_of functions.now) b at i) }
     ensures name { IfErr result (λ e. e.body ≡ name_of thread n) }
 {
     let callable = callable(thread, functions.len(), n);

@@ -12,7 +12,7 @@ pub returns-in_err-look_at_body-clause-wrong : goal.returns-in_err-look_at_body-
 returns-in_err-look_at_body-clause-wrong c =
     let p = err_from_is_err_and c.from_residual.result c.from_residual.ensures.1 in
     let stands = nth_is c.args.bodies.now c.loop-n.n no_body (search rules) in
-    rw (p.1, p.2) (record { number = c.loop-n.n; body = _; name = c.in_err-look_at_body.ensures.name; stands = stands; wrong = c.in_err-look_at_body.ensures.wrong _ stands; before = c.loop-n.invariant })
+    rw (p.1, p.2) (record { number = c.loop-n.n; body = _; name = c.in_err-look_at_body.ensures.name; stands = stands; wrong = c.in_err-look_at_body.ensures.wrong _ stands; first = c.in_err-look_at_body.ensures.first _ stands; before = c.loop-n.invariant })
 
 pub loop-n-preserved : goal.loop-n-preserved
 loop-n-preserved c = right_more c.args.thread c.args.functions.now c.args.bodies.now c.loop-n.n c.loop-n.invariant c.in_ok-look_at_body.ensures.right

@@ -1,0 +1,20 @@
+use Rattle.std.proofs.Common.{◌≡◌, ◌<◌, Option, Some, None, sym, ap, subst, ◌∙◌}
+use Rattle.txs_value.specs.Places.{nth}
+use Rattle.txs_code.specs.PlainCode.{CodeBody, parameters_of}
+use Rattle.txs_verify.specs.Alone.{IsRight}
+use Rattle.txs_verify.proofs.Lists.{nth_is}
+use Rattle.txs_verify.proofs.verify.look_at_body.Goals as goal
+
+abbrev else_body : CodeBody → Option CodeBody → CodeBody
+else_body d None = d
+else_body d (Some b) = b
+
+pub returns-in-Err-clause-first : goal.returns-in-Err-clause-first
+returns-in-Err-clause-first c b e at i lt st =
+    let x = c.index-bodies-n.result in
+    let ps = parameters_of c.args.functions.now in
+    let read : nth c.args.bodies.now c.args.n ≡ Some x = nth_is c.args.bodies.now c.args.n x c.requires.place ∙ ap Some (sym c.index-bodies-n.is) in
+    let same : x ≡ b = ap (else_body x) (sym read ∙ e) in
+    let placed : c.stopped.result.at ≡ c.in-Err.refusal.at = ap (λ r. r.at) c.stopped.ensures in
+    let right : IsRight c.callable-callable.result ps x at i = c.in-Err.ensures.first at i (subst (λ n. at < n) placed lt) (subst (λ y. nth y.instrs at ≡ Some i) (sym same) st) in
+    subst (λ k. IsRight k ps b at i) c.callable-callable.ensures (subst (λ y. IsRight c.callable-callable.result ps y at i) same right)
