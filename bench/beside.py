@@ -50,6 +50,11 @@ def txs(path, workers=4):
     return timed([TXS, "run", "--steps", STEPS, "--workers", str(workers), path])
 
 
+def rounds(path):
+    """The whole command, where threads and agents take their turns."""
+    return timed([TXS, "schedule", "--steps", STEPS, path])
+
+
 def counted(path):
     """Machine instructions of the whole command, by callgrind (Debian's package `valgrind`)."""
     done = subprocess.run(["valgrind", "--tool=callgrind", "--callgrind-out-file=/dev/null", TXS, "run", "--steps", STEPS, path],

@@ -5,7 +5,7 @@ Runs scripts of eight threads in txs, by four workers and by one, and in real Cl
   clj warm   best time inside one JVM, after W runs of the same compiled code
   txs        best wall time of `txs run`, from its start to its end
 With --growth the nanoseconds of a commit by one thread are told instead, as commits and refs beside it grow, and those of a send
-with its action."""
+with its action, also where agents stand beside that have nothing to do, by workers and in rounds."""
 import argparse, tempfile
 import beside
 SIZES = {"contended": 1200, "transfers": 25000, "readers": 25000, "swaps": 25000, "sends": 12000, "disjoint": 2000000}
@@ -39,6 +39,16 @@ def growth(folder, runs):
         seconds_of, memory, printed, _ = min(beside.txs(path) for _ in range(runs))
         print("%7d sends by one thread: %5.0f ns a send with its action, %d MB, %s" % (
             sends, seconds_of * 1e9 / sends, memory // 1024, "right" if printed.strip() == str(sends) else "WRONG " + printed), flush=True)
+    for agents in (0, 100, 900):
+        path = beside.filled(folder, "queue", 80000)
+        with open(path, encoding="utf-8") as h:
+            text = h.read()
+        with open(path, "w", encoding="utf-8") as h:
+            h.write("".join("(def beside-%d (agent 0))\n" % i for i in range(agents)) + text)
+        by_workers = min(beside.txs(path)[0] for _ in range(runs))
+        in_rounds = min(beside.rounds(path)[0] for _ in range(runs))
+        print("%7d agents beside: %5.0f ns a send with its action by workers, %5.0f in rounds" % (
+            agents, by_workers * 1e9 / 80000, in_rounds * 1e9 / 80000), flush=True)
 
 
 def main():

@@ -184,7 +184,7 @@ fn has_work(shared: &SharedState, agent: CellId) -> bool
 }
 
 /// Whether an agent's actor hasn't ended, and has something to do.
-fn is_working(agent: &AgentPlayer, shared: &SharedState) -> bool
+pub(crate) fn is_working(agent: &AgentPlayer, shared: &SharedState) -> bool
     requires { has_agent (cells_of shared.now.cells) agent.now.agent ≡ true }
     ensures unended { IsTrue result → agent.now.player.actor.outcome ≡ None }
     ensures yes { IsTrue result → (x : AnAction) × (next_action (cells_of shared.now.cells) (numbered_book shared.now 0) agent.now.agent ≡ Some x) }

@@ -1,2 +1,3 @@
+mod Holding
 pub mod Replaying
 pub mod Steps

@@ -1,3 +1,4 @@
 pub mod Goes
+pub mod Holders
 pub mod Laws
 pub mod Replay

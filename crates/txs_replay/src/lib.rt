@@ -3,6 +3,7 @@
 //! each actor just what it kept.
 #![tactic(auto)]
 
+mod holders;
 pub mod kept;
 pub mod law;
 pub mod replay;

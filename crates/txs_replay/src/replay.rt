@@ -2,11 +2,13 @@
 
 ghost use Rattle.std.specs.Prelude.{◌≡◌, ◌≤◌, ◌<◌, ◌↔◌, [], length, true, false, IsTrue, IfOk, IfSome, OnOk, None, Some};
 ghost use Rattle.std.proofs.Common.{get_or};
-ghost use Rattle.txs_replay.specs.Replay.{holder_from, IsTaken, IsUnheld, IsServable, IsServedSo, IsStepped, AreReplayed, AllEmpty, HaveSameBooks};
+ghost use Rattle.txs_replay.specs.Holders.{AreFirst};
+ghost use Rattle.txs_replay.specs.Replay.{IsTaken, IsUnheld, IsServable, IsServedSo, IsStepped, AreReplayed, AllEmpty, HaveSameBooks};
 ghost use Rattle.txs_asks.specs.declared.ask.Reply.TheVariants.{Memory};
 ghost use Rattle.txs_runs.specs.Told.{IsExchanged};
 ghost use Rattle.txs_shared.specs.SharedState.{numbered_book, shared_of};
 
+use crate::holders::{first_holders, holder};
 use crate::kept::{Kept, KeptEntries};
 use crate::same::{same_events, same_reply};
 use std::alloc::{AllocError, Global};
@@ -52,27 +54,15 @@ fn serve_again(fresh: &mut SharedState, actor: u16, kept: Kept) -> Result<bool, 
     told
 }
 
-/// The first actor whose next entry is the one behind so many of all actors.
-fn holder(rests: &[KeptEntries], number: u64) -> Option<usize>
-    ensures value { result ≡ holder_from 0 number rests.now }
-    ensures there { IfSome result (λ a. a < length rests.now) }
-{
-    for actor in 0..rests.len() {
-        if rests[actor].is_next(number) {
-            return Some(actor);
-        }
-    }
-    None
-}
-
 /// The entry behind so many of all actors, which is taken out, with the number of its actor.
-fn take_next(rests: &mut Vec<KeptEntries>, number: u64) -> Option<(u16, Kept)>
+fn take_next(rests: &mut Vec<KeptEntries>, firsts: &[u16], number: u64) -> Option<(u16, Kept)>
     requires few { length rests.old.items ≤ 65536 }
+    requires first { AreFirst firsts.now rests.old.items }
     ensures taken { IfSome result (λ x. IsTaken rests.old.items number x.0 x.1 rests.new.items) }
     ensures none { result ≡ None → IsUnheld rests.old.items number }
     ensures few { length rests.new.items ≡ length rests.old.items }
 {
-    let actor = holder(rests.as_slice(), number)?;
+    let actor = holder(rests.as_slice(), firsts, number)?;
     let kept = rests[actor].take()?;
     Some((actor as u16, kept))
 }
@@ -81,13 +71,15 @@ fn take_next(rests: &mut Vec<KeptEntries>, number: u64) -> Option<(u16, Kept)>
 fn serve_next(
     fresh: &mut SharedState,
     rests: &mut Vec<KeptEntries>,
+    firsts: &[u16],
     number: u64,
 ) -> Result<bool, AllocError>
     requires few { length rests.old.items ≤ 65536 }
+    requires first { AreFirst firsts.now rests.old.items }
     ensures stepped { IfOk result (λ ok. IsStepped fresh.old rests.old.items number ok fresh.new rests.new.items) }
     ensures few { length rests.new.items ≡ length rests.old.items }
 {
-    let Some((actor, kept)) = take_next(rests, number) else {
+    let Some((actor, kept)) = take_next(rests, firsts, number) else {
         return Ok(false);
     };
     if may_serve(fresh, actor, &kept) {
@@ -145,9 +137,10 @@ pub fn replays(
     requires few { length rests.items ≤ 65536 }
     ensures { IfOk result (λ ok. IsTrue ok ↔ AreReplayed shared.now served rests.items) }
 {
+    let firsts = first_holders(alloc, rests.as_slice())?;
     let mut fresh = SharedState::open(alloc, shared.cells(), shared.threads())?;
     for number in 0..served {
-        if !serve_next(&mut fresh, &mut rests, number)? {
+        if !serve_next(&mut fresh, &mut rests, firsts.as_slice(), number)? {
             return Ok(false);
         }
     }

@@ -117,7 +117,8 @@ impl SharedState {
 
     /// How many books there are: the store's, and one of each atom. One with a number from there on has no events.
     pub fn books(&self) -> usize
-        ensures { (n : ℕ) → result ≤ n → numbered_book self.now n ≡ [] }
+        ensures number { result ≡ length self.now.books }
+        ensures rest { (n : ℕ) → result ≤ n → numbered_book self.now n ≡ [] }
     {
         self.atoms.len() + 1
     }

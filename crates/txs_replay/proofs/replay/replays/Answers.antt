@@ -1,6 +1,8 @@
 use Rattle.std.proofs.Common.{rules, ◌≡◌, ◌<◌, ◌≤◌, ◌∙◌, length, true, false, subst, sym}
 use Rattle.txs_shared.specs.SharedState.{shared_of}
 use Rattle.txs_replay.specs.Replay.{AllEmpty, IsStepped, MadeStep}
+use Rattle.txs_replay.specs.Holders.{AreFirst}
+use Rattle.txs_replay.proofs.Holding.{stays_first}
 use Rattle.txs_replay.proofs.Steps.{goes_on, came_from, ends_here, ends, begins_end}
 use Rattle.txs_replay.proofs.replay.replays.Goals as goal
 
@@ -33,6 +35,7 @@ loop-number-preserved c =
       step.after.threads ∙ inv.2,
       λ h. goes_on s t rests later c.args.shared.now.cells c.args.shared.now.threads c.args.served c.loop-number.number books inv.1 inv.2 more step (inv.3 h),
       λ h. inv.4 (came_from s t rests later c.args.shared.now.cells c.args.shared.now.threads c.args.served c.loop-number.number books inv.1 inv.2 more step h),
+      subst (AreFirst c.in_ok-firsts.firsts.items) (sym step.taken.others) (stays_first c.in_ok-firsts.firsts.items rests step.actor step.kept step.taken.left step.taken.first inv.5),
     )
 
 pub returns : goal.returns
@@ -42,7 +45,7 @@ returns c =
     let rests = c.loop-number.rests.items in
     let books = (shared_of c.args.shared.now).books in
     let past : (c.loop-number.number < c.args.served) → ⊥ = search rules in
-    let v : c.as_slice.result.now ≡ rests = c.as_slice.ensures.value in (
+    let v : c.as_slice-2.result.now ≡ rests = c.as_slice-2.ensures.value in (
       λ x.
           let e = c.is_end.ensures.0 x in
           inv.4 (begins_end c.args.shared.now.cells c.args.shared.now.threads c.args.served c.loop-number.number c.loop-number.number rests (shared_of s) books past (subst AllEmpty v e.0, e.1)),
