@@ -86,12 +86,7 @@ fn are_whole(played: &[Played<'_>]) -> bool
 }
 
 /// Whether they are the actors of all numbers from 0 on, as `is_player` says.
-fn are_players(
-    code: &Verified,
-    max_steps: u64,
-    shared: &SharedState,
-    played: &[Played<'_>],
-) -> bool
+fn are_players(code: &Verified, max_steps: u64, shared: &SharedState, played: &[Played<'_>]) -> bool
     requires { AreWhole played.now }
     ensures players { IsTrue result ↔ ArePlayers code.now max_steps shared.now 0 played.now }
     ensures few { IsTrue result → length played.now ≤ 65536 }

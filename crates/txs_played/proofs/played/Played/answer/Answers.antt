@@ -52,11 +52,10 @@ invariant_of-self-in-Err c =
     let had : c.self.inside.asked ≡ Some q = search rules in
     let asks : unanswered a ≡ Some q = sym was.0 ∙ had in
     let answers : MayAnswerIf (unanswered a) r = search rules in
-    let may : MayAnswer q r = subst (λ (o : Option Ask). MayAnswerIf o r) asks answers in
-    (
-      (c.in-Err.answer.ensures.lives, tt),
+    let may : MayAnswer q r = subst (λ (o : Option Ask). MayAnswerIf o r) asks answers in (
+      (c.answer-in-Err.ensures.lives, tt),
       c.self.invariant.1,
-      subst (λ x. x.limit ≡ a.limit) (sym c.in-Err.answer.ensures.answered) (answer_limit a q r asks may) ∙ c.self.invariant.2,
+      subst (λ x. x.limit ≡ a.limit) (sym c.answer-in-Err.ensures.answered) (answer_limit a q r asks may) ∙ c.self.invariant.2,
     )
 
 pub answer-requires-clause-hands_out : goal.answer-requires-clause-hands_out
