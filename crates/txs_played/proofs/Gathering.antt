@@ -35,7 +35,7 @@ use Rattle.txs_replay.specs.Goes.{GoesTo}
 use Rattle.txs_replay.specs.Laws.{entries_of, IsRunTo, ReplayRuns}
 use Rattle.txs_replay.specs.Replay.{entry_of, Replays, AreReplayed}
 use Rattle.txs_machine.specs.Agents.{agents_of, AgentHasDone, NeverEnds, ExplainsAgent, AreExplainedBy}
-use Rattle.txs_machine.specs.RunOver.{RunOver, AskedOn, AtFullBook, books_of, places_of}
+use Rattle.txs_machine.specs.RunOver.{RunOver, IsLimited, AskedOn, AtFullBook, books_of, places_of}
 use Rattle.txs_machine.specs.Schedule.{HasDone, ExplainsSo, HasPrintedLeast, ExplainsThread, IsExplainedBy}
 use Rattle.txs_machine.specs.declared.player.Place.{Place}
 use Rattle.txs_machine.specs.declared.schedule.ThreadReport.{ThreadReport}
@@ -77,13 +77,13 @@ of_code : (cd code : PlainCode) (es : List Entry) (o : Option Ask) (a : PlainAct
 of_code cd code es o a e h = subst (λ c. HasPlayed c es o a) e h
 
 -- An actor is where its code comes to on what it kept, and that is what the books told it: its trace names its own events.
-record HasDoneOver (code : PlainCode) (s : PlainShared) (k : ℕ) (p : PlainPlayed) : Type 0 where
-  player : IsPlayer code s k p
+record HasDoneOver (code : PlainCode) (limit : ℕ) (s : PlainShared) (k : ℕ) (p : PlainPlayed) : Type 0 where
+  player : IsPlayer code limit s k p
   played : HasPlayed code (map entry_of p.kept) p.stopped p.actor
   hold : AllHold code.cells (length code.threads) (books_of s) k (map entry_of p.kept)
   traced : TraceHolds (books_of s) k (trace_of code.cells (books_of s) k (map entry_of p.kept))
 
-module _ (code : PlainCode) (s : PlainShared) where
+module _ (code : PlainCode) (limit : ℕ) (s : PlainShared) where
   -- where each actor's code came to
   abbrev pub end_at : ℕ → (ps : List PlainPlayed) → ArePlayed ps → ℕ → Turned Configuration
   end_at j [] h k = Unfinished (opening (code_of code (j + k)) [])
@@ -91,7 +91,7 @@ module _ (code : PlainCode) (s : PlainShared) where
   end_at j (p ∷ ps) h (suc k) = end_at (suc j) ps h.1 k
 
   -- the code of each asks for what the actor kept, and comes there
-  goes_at : (j : ℕ) (ps : List PlainPlayed) (h : ArePlayed ps) → ArePlayers code s j ps → (k : ℕ) → GoesTo (code_of code (j + k)) (Unfinished (opening (code_of code (j + k)) [])) (entries_of (kept_by ps) k) (end_at j ps h k)
+  goes_at : (j : ℕ) (ps : List PlainPlayed) (h : ArePlayed ps) → ArePlayers code limit s j ps → (k : ℕ) → GoesTo (code_of code (j + k)) (Unfinished (opening (code_of code (j + k)) [])) (entries_of (kept_by ps) k) (end_at j ps h k)
   goes_at j [] h each k = (0, refl)
   goes_at j (p ∷ ps) h each zero =
       let none : j ≡ j + 0 = omega arith in
@@ -102,7 +102,7 @@ module _ (code : PlainCode) (s : PlainShared) where
       subst (λ n. GoesTo (code_of code n) (Unfinished (opening (code_of code n) [])) (entries_of (kept_by ps) k) (end_at (suc j) ps h.1 k)) same (goes_at (suc j) ps h.1 each.1 k)
 
   -- all that was served is a run, which leads an actor to where it is
-  pub run_to : ReplayRuns → (served : ℕ) (ps : List PlainPlayed) → Agrees code s served ps → (h : ArePlayed ps) → (k : ℕ) → IsRunTo code.cells (length code.threads) (code_of code) (kept_by ps) (books_of s) k (end_at 0 ps h k)
+  pub run_to : ReplayRuns → (served : ℕ) (ps : List PlainPlayed) → Agrees code limit s served ps → (h : ArePlayed ps) → (k : ℕ) → IsRunTo code.cells (length code.threads) (code_of code) (kept_by ps) (books_of s) k (end_at 0 ps h k)
   run_to law served ps g h k =
       law code.cells (length code.threads) served (code_of code) (kept_by ps) (books_of s) (end_at 0 ps h)
       (subst (λ n. Replays code.cells n served 0 (kept_by ps) (untouched code.cells) (books_of s)) g.threads
@@ -112,26 +112,26 @@ module _ (code : PlainCode) (s : PlainShared) where
       k
 
   -- what is known of the actor at a place
-  done_at : (ps : List PlainPlayed) (h : ArePlayed ps) (j k : ℕ) (p : PlainPlayed) → ArePlayers code s j ps → nth ps k ≡ Some p
-      → AllHold code.cells (length code.threads) (books_of s) (j + k) (entries_of (kept_by ps) k) → TraceHolds (books_of s) (j + k) (trace_of code.cells (books_of s) (j + k) (entries_of (kept_by ps) k)) → HasDoneOver code s (j + k) p
+  done_at : (ps : List PlainPlayed) (h : ArePlayed ps) (j k : ℕ) (p : PlainPlayed) → ArePlayers code limit s j ps → nth ps k ≡ Some p
+      → AllHold code.cells (length code.threads) (books_of s) (j + k) (entries_of (kept_by ps) k) → TraceHolds (books_of s) (j + k) (trace_of code.cells (books_of s) (j + k) (entries_of (kept_by ps) k)) → HasDoneOver code limit s (j + k) p
   done_at [] h j k p each e hold traced = absurd (subst is_some (sym e) tt)
   done_at (x ∷ ps) h j zero p each e hold traced =
-      subst (HasDoneOver code s (j + 0)) (ap (or_first x) e)
-      (record { player = subst (λ n. IsPlayer code s n x) (omega arith) each.0; played = of_code x.code code (map entry_of x.kept) x.stopped x.actor each.0.code_is h.0; hold = hold; traced = traced })
+      subst (HasDoneOver code limit s (j + 0)) (ap (or_first x) e)
+      (record { player = subst (λ n. IsPlayer code limit s n x) (omega arith) each.0; played = of_code x.code code (map entry_of x.kept) x.stopped x.actor each.0.code_is h.0; hold = hold; traced = traced })
   done_at (x ∷ ps) h j (suc k) p each e hold traced =
       let same : suc j + k ≡ j + suc k = omega arith in
-      subst (λ n. HasDoneOver code s n p) same
+      subst (λ n. HasDoneOver code limit s n p) same
       (done_at ps h.1 (suc j) k p each.1 e (subst (λ n. AllHold code.cells (length code.threads) (books_of s) n (entries_of (kept_by ps) k)) (sym same) hold)
       (subst (λ n. TraceHolds (books_of s) n (trace_of code.cells (books_of s) n (entries_of (kept_by ps) k))) (sym same) traced))
 
-  each_done : ReplayRuns → (served : ℕ) (ps : List PlainPlayed) → Agrees code s served ps → ArePlayed ps → (k : ℕ) (p : PlainPlayed) → nth ps k ≡ Some p → HasDoneOver code s k p
+  each_done : ReplayRuns → (served : ℕ) (ps : List PlainPlayed) → Agrees code limit s served ps → ArePlayed ps → (k : ℕ) (p : PlainPlayed) → nth ps k ≡ Some p → HasDoneOver code limit s k p
   each_done law served ps g h k p e =
       let first : 0 + k ≡ k = omega arith in
       let r = run_to law served ps g h k in
       let t = r.traced k in
       let hold = subst (AllHold code.cells (length code.threads) (books_of s) k) (r.entries k) t.hold in
       let traced = subst (λ es. TraceHolds (books_of s) k (trace_of code.cells (books_of s) k es)) (r.entries k) t.traced in
-      subst (λ n. HasDoneOver code s n p) first
+      subst (λ n. HasDoneOver code limit s n p) first
       (done_at ps h 0 k p g.each e (subst (λ n. AllHold code.cells (length code.threads) (books_of s) n (entries_of (kept_by ps) k)) (sym first) hold)
       (subst (λ n. TraceHolds (books_of s) n (trace_of code.cells (books_of s) n (entries_of (kept_by ps) k))) (sym first) traced))
 
@@ -141,12 +141,12 @@ module _ (code : PlainCode) (s : PlainShared) where
   full_over c xs a None same f w = absurd f
   full_over c xs a (Some q) same f w = subst (λ cs. AtFullBook cs c (books_of s) xs a) same (record { ask = q; asked = w; full = f })
 
-  full_of : (k : ℕ) (p : PlainPlayed) → s.cells ≡ code.cells → HasDoneOver code s k p → p.actor.outcome ≡ Some JournalFull → AtFullBook code.cells (code_of code k) (books_of s) (map exchange_of (map entry_of p.kept)) p.actor
+  full_of : (k : ℕ) (p : PlainPlayed) → s.cells ≡ code.cells → HasDoneOver code limit s k p → p.actor.outcome ≡ Some JournalFull → AtFullBook code.cells (code_of code k) (books_of s) (map exchange_of (map entry_of p.kept)) p.actor
   full_of k p same d x =
       full_over (code_of code k) (map exchange_of (map entry_of p.kept)) p.actor p.stopped same (d.player.full x)
       (subst (λ n. WasStoppedAt (code_of code n) (map exchange_of (map entry_of p.kept)) p.actor p.stopped) d.player.number (d.played.full x))
 
-  over_of : (k : ℕ) (p : PlainPlayed) → s.cells ≡ code.cells → k < length code.threads → HasDoneOver code s k p → RunOver code k (books_of s) p.actor
+  over_of : (k : ℕ) (p : PlainPlayed) → s.cells ≡ code.cells → k < length code.threads → HasDoneOver code limit s k p → RunOver code k (books_of s) p.actor
   over_of k p same below d =
       let t = d.played.thread (subst (λ n. n < length code.threads) (sym d.player.number) below) in
       record {
@@ -160,16 +160,19 @@ module _ (code : PlainCode) (s : PlainShared) where
         full = full_of k p same d;
       }
 
-  trace_so : (k : ℕ) (p : PlainPlayed) (r : ThreadReport) → s.cells ≡ code.cells → HasDoneOver code s k p → IsReportOf s p r → places_of r.trace.items ≡ trace_of code.cells (books_of s) k (map entry_of p.kept)
+  trace_so : (k : ℕ) (p : PlainPlayed) (r : ThreadReport) → s.cells ≡ code.cells → HasDoneOver code limit s k p → IsReportOf s p r → places_of r.trace.items ≡ trace_of code.cells (books_of s) k (map entry_of p.kept)
   trace_so k p r same d rep = rep.traced ∙ ap (λ cs. kept_trace cs p.kept) same ∙ trace_is_kept code.cells (length code.threads) (books_of s) k p.kept d.hold
 
-  done_so : DoneIsUndisturbed → (k : ℕ) (p : PlainPlayed) (r : ThreadReport) → s.cells ≡ code.cells → k < length code.threads → HasDoneOver code s k p → IsReportOf s p r → HasDone code k p.actor.limit (books_of s) r
+  limited_so : (k : ℕ) (p : PlainPlayed) → HasDoneOver code limit s k p → IsLimited limit p.actor
+  limited_so k p d = subst (λ n. IsLimited n p.actor) d.player.limited d.played.limited
+
+  done_so : DoneIsUndisturbed → (k : ℕ) (p : PlainPlayed) (r : ThreadReport) → s.cells ≡ code.cells → k < length code.threads → HasDoneOver code limit s k p → IsReportOf s p r → HasDone code k limit (books_of s) r
   unfolding over_of
   done_so law k p r same below d rep = record {
     actor = p.actor;
     over = over_of k p same below d;
     waits = d.player.free;
-    limited = d.played.limited;
+    limited = limited_so k p d;
     ended = rep.ended;
     printed = rep.printed;
     counted = rep.counted;
@@ -177,7 +180,7 @@ module _ (code : PlainCode) (s : PlainShared) where
     undisturbed = all_undisturbed law code.cells (length code.threads) (books_of s) k (map entry_of p.kept) d.hold;
   }
 
-  attended_so : (k : ℕ) (p : PlainPlayed) (r : ThreadReport) → s.cells ≡ code.cells → HasDoneOver code s k p → IsReportOf s p r → AgentHasDone code k p.actor.limit (books_of s) r
+  attended_so : (k : ℕ) (p : PlainPlayed) (r : ThreadReport) → s.cells ≡ code.cells → HasDoneOver code limit s k p → IsReportOf s p r → AgentHasDone code k limit (books_of s) r
   attended_so k p r same d rep = record {
     actor = p.actor;
     number = d.player.number;
@@ -185,7 +188,7 @@ module _ (code : PlainCode) (s : PlainShared) where
     over = d.played.ran;
     hold = d.hold;
     waits = d.player.free;
-    limited = d.played.limited;
+    limited = limited_so k p d;
     ended = rep.ended;
     printed = rep.printed;
     counted = rep.counted;
@@ -209,22 +212,18 @@ module _ (code : PlainCode) (s : PlainShared) where
   there (x ∷ ps) (y ∷ rs) (suc k) r h e = there ps rs k r h.1 e
 
   -- where parts agree, each thread's actor did over the books what its entry says
-  pub all_done : ReplayRuns → DoneIsUndisturbed → (served : ℕ) (ps : List PlainPlayed) (rs : List ThreadReport) → Agrees code s served ps → ArePlayed ps → AreReportsOf s (take s.threads ps) rs → AllHaveDone code s rs
+  pub all_done : ReplayRuns → DoneIsUndisturbed → (served : ℕ) (ps : List PlainPlayed) (rs : List ThreadReport) → Agrees code limit s served ps → ArePlayed ps → AreReportsOf s (take s.threads ps) rs → AllHaveDone code limit s rs
   all_done runs law served ps rs g h rep k r f =
       let p = there (take s.threads ps) rs k r rep f in
-      let t = taken_at ps s.threads k p.0 p.1 in (
-        p.0.actor.limit,
-        done_so law k p.0 r g.cells (subst (λ n. k < n) g.threads t.0) (each_done runs served ps g h k p.0 t.1) (report_at (take s.threads ps) rs k p.0 r rep p.1 f),
-      )
+      let t = taken_at ps s.threads k p.0 p.1 in
+      done_so law k p.0 r g.cells (subst (λ n. k < n) g.threads t.0) (each_done runs served ps g h k p.0 t.1) (report_at (take s.threads ps) rs k p.0 r rep p.1 f)
 
   -- so did each agent's
-  pub all_attended : ReplayRuns → (served : ℕ) (ps : List PlainPlayed) (rs : List ThreadReport) → Agrees code s served ps → ArePlayed ps → AreReportsOf s (drop s.threads ps) rs → AllHaveAttended code s rs
+  pub all_attended : ReplayRuns → (served : ℕ) (ps : List PlainPlayed) (rs : List ThreadReport) → Agrees code limit s served ps → ArePlayed ps → AreReportsOf s (drop s.threads ps) rs → AllHaveAttended code limit s rs
   all_attended runs served ps rs g h rep i r f =
       let p = there (drop s.threads ps) rs i r rep f in
-      let at : nth ps (length code.threads + i) ≡ Some p.0 = ap (λ n. nth ps (n + i)) (sym g.threads) ∙ sym (dropped_at ps s.threads i) ∙ p.1 in (
-        p.0.actor.limit,
-        attended_so (length code.threads + i) p.0 r g.cells (each_done runs served ps g h (length code.threads + i) p.0 at) (report_at (drop s.threads ps) rs i p.0 r rep p.1 f),
-      )
+      let at : nth ps (length code.threads + i) ≡ Some p.0 = ap (λ n. nth ps (n + i)) (sym g.threads) ∙ sym (dropped_at ps s.threads i) ∙ p.1 in
+      attended_so (length code.threads + i) p.0 r g.cells (each_done runs served ps g h (length code.threads + i) p.0 at) (report_at (drop s.threads ps) rs i p.0 r rep p.1 f)
 
 -- ---- what sources say
 
@@ -257,12 +256,12 @@ thread_explained by code k limit books r d p t same follows e =
     }
 
 -- where parts agree, each program that the code follows explains what its threads did
-pub all_explained : Known → (code : PlainCode) (s : PlainShared) (served : ℕ) (ps : List PlainPlayed) (rs : List ThreadReport) → Agrees code s served ps → SharedStands s.cells s.threads (shared_of s)
-    → length rs ≡ length code.threads → AllHaveDone code s rs → IsExplainedBy code (shared_of s) rs
-all_explained by code s served ps rs g stands many done p same follows = record {
+pub all_explained : Known → (code : PlainCode) (limit : ℕ) (s : PlainShared) (served : ℕ) (ps : List PlainPlayed) (rs : List ThreadReport) → Agrees code limit s served ps → SharedStands s.cells s.threads (shared_of s)
+    → length rs ≡ length code.threads → AllHaveDone code limit s rs → IsExplainedBy code (shared_of s) rs
+all_explained by code limit s served ps rs g stands many done p same follows = record {
   one_each = many ∙ threads;
   books = subst (λ cs. BooksStand cs (length p.threads) (shared_of s)) (sym same) (subst (λ n. BooksStand code.cells n (shared_of s)) threads (books_stand code.cells (length code.threads) (shared_of s) own));
-  each = λ k t r e f. (let d = done k r f in thread_explained by code k d.0 (books_of s) r d.1 p t same follows e);
+  each = λ k t r e f. (thread_explained by code k limit (books_of s) r (done k r f) p t same follows e);
 }
   where
     threads : length code.threads ≡ length p.threads
@@ -282,12 +281,12 @@ silent_so cd a (Some outcome.StepsSpent) at p g = (tt, subst (λ (u : Turned Con
 silent_so cd a (Some outcome.JournalFull) at p g = (tt, ap (λ (u : ActorState). u.printed) (sym p.2) ∙ subst (λ (u : Turned Configuration). GoesOn (outcome_at u)) p.1 g)
 silent_so cd a (Some outcome.Memory) at p g = (tt, ap (λ (u : ActorState). u.printed) (sym p.2) ∙ subst (λ (u : Turned Configuration). GoesOn (outcome_at u)) p.1 g)
 
-silent_at : (code : PlainCode) (s : PlainShared) (ps : List PlainPlayed) (h : ArePlayed ps) (j k : ℕ) (p : PlainPlayed) → ArePlayers code s j ps → nth ps k ≡ Some p → GoesOn (outcome_at (end_at code s j ps h k)) → NeverEnds p.actor.outcome × (p.actor.printed ≡ [])
-silent_at code s [] h j k p each e g = absurd (subst is_some (sym e) tt)
-silent_at code s (x ∷ ps) h j zero p each e g =
+silent_at : (code : PlainCode) (limit : ℕ) (s : PlainShared) (ps : List PlainPlayed) (h : ArePlayed ps) (j k : ℕ) (p : PlainPlayed) → ArePlayers code limit s j ps → nth ps k ≡ Some p → GoesOn (outcome_at (end_at code limit s j ps h k)) → NeverEnds p.actor.outcome × (p.actor.printed ≡ [])
+silent_at code limit s [] h j k p each e g = absurd (subst is_some (sym e) tt)
+silent_at code limit s (x ∷ ps) h j zero p each e g =
     subst (λ y. NeverEnds y.actor.outcome × (y.actor.printed ≡ [])) (ap (or_first x) e)
     (silent_so (code_of x.code x.actor.number) x.actor x.actor.outcome h.0.gone.at (subst (λ q. IsThere (code_of x.code x.actor.number) x.actor x.actor.outcome q h.0.gone.at) each.0.free h.0.gone.here) g)
-silent_at code s (x ∷ ps) h j (suc k) p each e g = silent_at code s ps h.1 (suc j) k p each.1 e g
+silent_at code limit s (x ∷ ps) h j (suc k) p each e g = silent_at code limit s ps h.1 (suc j) k p each.1 e g
 
 -- each place of a list has an item
 item_at : {A : Type 0} (xs : List A) (i : ℕ) → i < length xs → (x : A) × (nth xs i ≡ Some x)
@@ -300,16 +299,16 @@ below_length [] i x e = absurd (subst is_some (sym e) tt)
 below_length (y ∷ xs) zero x e = omega arith
 below_length (y ∷ xs) (suc i) x e = let h = below_length xs i x e in omega (arith, h)
 
-module _ (runs : ReplayRuns) (law : RunReported) (code : PlainCode) (s : PlainShared) (served : ℕ) (ps : List PlainPlayed) (g : Agrees code s served ps) (h : ArePlayed ps) (staged : CodesStaged (map (thread_code code) code.threads))
+module _ (runs : ReplayRuns) (law : RunReported) (code : PlainCode) (limit : ℕ) (s : PlainShared) (served : ℕ) (ps : List PlainPlayed) (g : Agrees code limit s served ps) (h : ArePlayed ps) (staged : CodesStaged (map (thread_code code) code.threads))
     (ts rs : List ThreadReport) (by : IsExplainedBy code (shared_of s) ts) (rep : AreReportsOf s (drop s.threads ps) rs) (many : length rs ≡ length (agents_of code)) where
   abbrev turns_to : ℕ → List Play
-  turns_to k = (run_to code s runs served ps g h k).turns
+  turns_to k = (run_to code limit s runs served ps g h k).turns
 
   abbrev state_at : ℕ → State
   state_at k = plays code.cells (length code.threads) (code_of code) (turns_to k)
 
   -- where parts agree, each program that the code follows explains what its threads and its agents did
-  pub agents_explained : AllHaveAttended code s rs → AreExplainedBy code (shared_of s) ts rs
+  pub agents_explained : AllHaveAttended code limit s rs → AreExplainedBy code (shared_of s) ts rs
   agents_explained done p same follows agents sends = record {
     by_threads = by p same follows;
     one_each = many ∙ ap (λ cs. length (agents_from 0 cs)) (sym same);
@@ -322,7 +321,7 @@ module _ (runs : ReplayRuns) (law : RunReported) (code : PlainCode) (s : PlainSh
       threads = sym (length_map (thread_code code) code.threads) ∙ follows.as_many
 
       book : (k : ℕ) → (state_at k).shared.books 0 ≡ books_of s 0
-      book k = (run_to code s runs served ps g h k).books_are 0
+      book k = (run_to code limit s runs served ps g h k).books_are 0
 
       mapped : (bs : List CodeBody) (i n : ℕ) (c : ThreadCode) → nth (map (thread_code code) bs) i ≡ Some c → record { functions = function_codes code; main = own_body code n (nth bs i) } ≡ c
       mapped [] i n c e = absurd (subst is_some (sym e) tt)
@@ -350,17 +349,17 @@ module _ (runs : ReplayRuns) (law : RunReported) (code : PlainCode) (s : PlainSh
       agent_explained i r e =
           let k = length code.threads + i in
           let d = done i r e in
-          let x = there code s (drop s.threads ps) rs i r rep e in
+          let x = there code limit s (drop s.threads ps) rs i r rep e in
           let is : nth ps k ≡ Some x.0 = ap (λ n. nth ps (n + i)) (sym g.threads) ∙ sym (dropped_at ps s.threads i) ∙ x.1 in
-          let reported = report_at code s (drop s.threads ps) rs i x.0 r rep x.1 e in
+          let reported = report_at code limit s (drop s.threads ps) rs i x.0 r rep x.1 e in
           let a = item_at (agents_of code) i (subst (λ n. i < n) many (below_length rs i r e)) in
           let at = agent_at code i a.0 a.1 in
           let place : k ≡ world.actor_of (length p.threads) (cells_of p.cells) a.0 = at.place ∙ ap (λ n. world.actor_of n (cells_of code.cells) a.0) threads ∙ ap (λ cs. world.actor_of (length p.threads) (cells_of cs) a.0) (sym same) in
           let goes = ((whole k).agents.agents a.0 (subst (λ cs. has_agent (cells_of cs) a.0 ≡ true) (sym same) at.has)).goes_on in
-          let here : GoesOn (outcome_at (end_at code s 0 ps h k)) = subst (λ (u : Turned Configuration). GoesOn (outcome_at u)) (run_to code s runs served ps g h k).came (subst (λ n. GoesOn (outcome_at ((state_at k).actors n).at)) (sym place) goes) in
-          let so = silent_at code s ps h 0 k x.0 g.each is here in
+          let here : GoesOn (outcome_at (end_at code limit s 0 ps h k)) = subst (λ (u : Turned Configuration). GoesOn (outcome_at u)) (run_to code limit s runs served ps g h k).came (subst (λ n. GoesOn (outcome_at ((state_at k).actors n).at)) (sym place) goes) in
+          let so = silent_at code limit s ps h 0 k x.0 g.each is here in
           record {
-            traced = subst (λ n. TraceHolds (books_of s) (n + i) (places_of r.trace.items)) threads d.1.names;
+            traced = subst (λ n. TraceHolds (books_of s) (n + i) (places_of r.trace.items)) threads d.names;
             silent = sym reported.printed ∙ so.1;
             unended = subst NeverEnds reported.ended so.0;
           }
@@ -390,29 +389,32 @@ as_many_agents code s ps rs made rep = as_many s (drop s.threads ps) rs rep ∙ 
 
 -- ---- tests
 
-module _ (code : PlainCode) (s : PlainShared) (k : ℕ) (p : PlainPlayed) where
-  pub other_number : (p.actor.number ≡ k → ⊥) → IsPlayer code s k p → ⊥
+module _ (code : PlainCode) (limit : ℕ) (s : PlainShared) (k : ℕ) (p : PlainPlayed) where
+  pub other_number : (p.actor.number ≡ k → ⊥) → IsPlayer code limit s k p → ⊥
   other_number n h = n h.number
 
-  pub other_code : (p.code ≡ code → ⊥) → IsPlayer code s k p → ⊥
+  pub other_code : (p.code ≡ code → ⊥) → IsPlayer code limit s k p → ⊥
   other_code n h = n h.code_is
 
-  pub asking : (unanswered p.actor ≡ None → ⊥) → IsPlayer code s k p → ⊥
+  pub other_limit : (p.actor.limit ≡ limit → ⊥) → IsPlayer code limit s k p → ⊥
+  other_limit n h = n h.limited
+
+  pub asking : (unanswered p.actor ≡ None → ⊥) → IsPlayer code limit s k p → ⊥
   asking n h = n h.free
 
-  pub stopped_otherwise : (StoppedSo s p → ⊥) → IsPlayer code s k p → ⊥
+  pub stopped_otherwise : (StoppedSo s p → ⊥) → IsPlayer code limit s k p → ⊥
   stopped_otherwise n h = n h.full
 
-  pub player_of : p.actor.number ≡ k → p.code ≡ code → unanswered p.actor ≡ None → p.lost ≡ false → StoppedSo s p → IsPlayer code s k p
-  player_of n c f w t = record { number = n; code_is = c; free = f; whole = w; full = t }
+  pub player_of : p.actor.number ≡ k → p.code ≡ code → p.actor.limit ≡ limit → unanswered p.actor ≡ None → p.lost ≡ false → StoppedSo s p → IsPlayer code limit s k p
+  player_of n c l f w t = record { number = n; code_is = c; limited = l; free = f; whole = w; full = t }
 
 -- what agrees was made for the code
-pub made_of : (code : PlainCode) (s : PlainShared) (served : ℕ) (ps : List PlainPlayed) → Agrees code s served ps → IsMadeFor code s (length ps)
-made_of code s served ps g = (g.cells, g.threads, g.one_each)
+pub made_of : (code : PlainCode) (limit : ℕ) (s : PlainShared) (served : ℕ) (ps : List PlainPlayed) → Agrees code limit s served ps → IsMadeFor code s (length ps)
+made_of code limit s served ps g = (g.cells, g.threads, g.one_each)
 
 -- parts agree where each test says so
-pub agreed : (code : PlainCode) (s : PlainShared) (served : ℕ) (ps : List PlainPlayed) → IsMadeFor code s (length ps) → ArePlayers code s 0 ps → AreReplayed s served (kept_by ps) → Agrees code s served ps
-agreed code s served ps made each replayed = record { cells = made.0; threads = made.1; one_each = made.2; each = each; replayed = replayed }
+pub agreed : (code : PlainCode) (limit : ℕ) (s : PlainShared) (served : ℕ) (ps : List PlainPlayed) → IsMadeFor code s (length ps) → ArePlayers code limit s 0 ps → AreReplayed s served (kept_by ps) → Agrees code limit s served ps
+agreed code limit s served ps made each replayed = record { cells = made.0; threads = made.1; one_each = made.2; each = each; replayed = replayed }
 
 -- ---- how a report is written
 

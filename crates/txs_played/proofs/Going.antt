@@ -197,7 +197,15 @@ abbrev IsGoing : Option Outcome → Type 0
 IsGoing None = Unit {0}
 IsGoing (Some o) = ⊥
 
--- where there is no action for it, an agent keeps to its limit
+-- where there is no action for it, an agent has the limit that it had
+pub idle_limit : (a : PlainActor) → (answered a reply.Idle).limit ≡ a.limit
+idle_limit a = go a.pending
+  where
+    go : (o : Option Pending) → (answered_if a o reply.Idle).limit ≡ a.limit
+    go None = refl
+    go (Some p) = (idle_for a p).0
+
+-- and keeps to it
 pub idle_limited : (a : PlainActor) → a.outcome ≡ None → IsLimited a.limit a → IsLimited (answered a reply.Idle).limit (answered a reply.Idle)
 idle_limited a e h = record {
   limited = refl;

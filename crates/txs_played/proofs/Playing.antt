@@ -26,11 +26,11 @@ use Rattle.txs_replay.specs.Replay.{entry_of}
 use Rattle.txs_replay.specs.declared.kept.Kept.{Kept}
 use Rattle.txs_machine.specs.RunOver.{IsLimited, AskedOn}
 use Rattle.txs_machine.proofs.Answered.{answer_leaves, memory_stops, stop_ends, idle_number, idle_outcome}
-use Rattle.txs_machine.proofs.Limits.{new_limited, turn_limited, answered_limited}
+use Rattle.txs_machine.proofs.Limits.{new_limited, turn_limited, turns_limited, answered_limited}
 use Rattle.txs_machine.proofs.RunOver.{Unfilled, as_is, as_known, turn_keeps, move_unfilled, standing_of, stands_staged, turn_asked, no_entry, in_after, unfilled_of, map_append, answer_asked, more_asked, asked_last, idle_never}
 use Rattle.txs_played.specs.Goes.{HasGone}
 use Rattle.txs_played.specs.Played.{WasStoppedAt, IsThreadOn, HasPlayed, kept_after, stopped_after, kept_of}
-use Rattle.txs_played.proofs.Going.{new_gone, turn_gone, heard_gone, idle_gone, full_gone, memory_gone, turn_number, idle_limited}
+use Rattle.txs_played.proofs.Going.{new_gone, turn_gone, heard_gone, idle_gone, full_gone, memory_gone, turn_number, idle_limit, idle_limited}
 
 -- ---- an actor that keeps its asks
 
@@ -112,6 +112,10 @@ turns_number code (suc n) a b r t = go (λ c g. turns_number code n c b r g) t.0
     go more turned.Went c u g = more c g ∙ turn_number code a c turned.Went a.outcome u
     go more (turned.Asks q) c u g = ap (λ (x : PlainActor). x.number) g.1 ∙ turn_number code a c (turned.Asks q) a.outcome u
     go more (turned.Ended e) c u g = ap (λ (x : PlainActor). x.number) g.1 ∙ turn_number code a c (turned.Ended e) a.outcome u
+
+-- and its limit
+pub turns_limit : (code : PlainCode) (es : List Entry) (o : Option Ask) (n : ℕ) (a b : PlainActor) (r : Turn) → TurnsOf code n a r b → HasPlayed code es o a → b.limit ≡ a.limit
+turns_limit code es o n a b r t h = (turns_limited code a.limit n a b r t h.limited).limited
 
 -- up to one turn is one
 pub one_turn : (code : PlainCode) (a b : PlainActor) (r : Turn) → TurnsOf code 1 a r b → Turns code a r b
@@ -243,6 +247,21 @@ answer_played laws code ks o a q r at number runs f free may h = go r free may
     go reply.Full free may = stopped_played laws code (map entry_of ks) o a q reply.Full e f may tt (full_gone (code_of code a.number) (map entry_of ks) a q e f h.gone) (λ x. asked_last laws code (map exchange_of (map entry_of ks)) a q e f may h.ran) h
     go reply.Memory free may = stopped_played laws code (map entry_of ks) o a q reply.Memory e f may tt (memory_gone (code_of code a.number) (map entry_of ks) a q e f h.gone) (λ x. absurd (subst Unfilled x (subst Unfilled (sym (memory_stops a q f)) tt))) h
 
+-- a reply leaves an actor its limit
+pub answer_limit : (a : PlainActor) (q : Ask) (r : Reply) → unanswered a ≡ Some q → MayAnswer q r → (answered a r).limit ≡ a.limit
+answer_limit a q reply.Idle f may = idle_limit a
+answer_limit a q (reply.At p) f may = (answer_leaves a q (reply.At p) f may (λ i. cc)).limit
+answer_limit a q (reply.Is v) f may = (answer_leaves a q (reply.Is v) f may (λ i. cc)).limit
+answer_limit a q (reply.Views p vs) f may = (answer_leaves a q (reply.Views p vs) f may (λ i. cc)).limit
+answer_limit a q reply.Done f may = (answer_leaves a q reply.Done f may (λ i. cc)).limit
+answer_limit a q (reply.Retry c) f may = (answer_leaves a q (reply.Retry c) f may (λ i. cc)).limit
+answer_limit a q (reply.Changed c) f may = (answer_leaves a q (reply.Changed c) f may (λ i. cc)).limit
+answer_limit a q (reply.AgentIsFailed g) f may = (answer_leaves a q (reply.AgentIsFailed g) f may (λ i. cc)).limit
+answer_limit a q (reply.Action n x v) f may = (answer_leaves a q (reply.Action n x v) f may (λ i. cc)).limit
+answer_limit a q (reply.Opened p v) f may = (answer_leaves a q (reply.Opened p v) f may (λ i. cc)).limit
+answer_limit a q reply.Full f may = (answer_leaves a q reply.Full f may (λ i. cc)).limit
+answer_limit a q reply.Memory f may = (answer_leaves a q reply.Memory f may (λ i. cc)).limit
+
 -- an actor that has ended asks nothing
 pub ended_free : (code : PlainCode) (a : PlainActor) (o : Outcome) → Lives code a → a.outcome ≡ Some o → unanswered a ≡ None
 ended_free code a o (inl h) e = go a.pending (subst (λ x. CanGoOn code h.kinds h.body a x a.pending) e h.goes)
@@ -256,13 +275,13 @@ ended_free code a o (inr h) e = go a.pending (subst (λ x. AttendsOn code h.agen
     go None x = refl
     go (Some p) x = absurd x
 
--- a new actor is the one of its own number and limit
-pub renewed : (code : PlainCode) (k limit : ℕ) (a : PlainActor) → IsNew code k limit a → IsNew code a.number a.limit a
+-- a new actor is the one of its own number
+pub renewed : (code : PlainCode) (k limit : ℕ) (a : PlainActor) → IsNew code k limit a → IsNew code a.number limit a
 renewed code k limit a n = record {
   number = refl;
   opens = subst (λ i. configuration_of a ≡ opening (code_of code i) []) (sym n.number) n.opens;
   unended = n.unended;
   unasking = n.unasking;
   unused = n.unused;
-  limited = refl;
+  limited = n.limited;
 }

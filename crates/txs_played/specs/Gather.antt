@@ -26,19 +26,20 @@ HasFullBook s (Some q) = most_events ≤ length (numbered_book s (book_for s.cel
 abbrev pub StoppedSo : PlainShared → PlainPlayed → Type 0
 StoppedSo s p = p.actor.outcome ≡ Some JournalFull → HasFullBook s p.stopped
 
--- It is the actor with this number, it was made with this code, waits for no reply, and lost nothing that it should have kept; and where it was stopped
--- for a full book, the book is full.
-pub record IsPlayer (code : PlainCode) (s : PlainShared) (k : ℕ) (p : PlainPlayed) : Type 0 where
+-- It is the actor with this number, it was made with this code and may make so many steps, it waits for no reply, and lost nothing that it should have
+-- kept; and where it was stopped for a full book, the book is full.
+pub record IsPlayer (code : PlainCode) (limit : ℕ) (s : PlainShared) (k : ℕ) (p : PlainPlayed) : Type 0 where
   pub number : p.actor.number ≡ k
   pub code_is : p.code ≡ code
+  pub limited : p.actor.limit ≡ limit
   pub free : unanswered p.actor ≡ None
   pub whole : p.lost ≡ false
   pub full : StoppedSo s p
 
 -- so are these the actors from this number on
-abbrev pub ArePlayers : PlainCode → PlainShared → ℕ → List PlainPlayed → Type 0
-ArePlayers code s k [] = Unit {0}
-ArePlayers code s k (p ∷ ps) = IsPlayer code s k p × ArePlayers code s (suc k) ps
+abbrev pub ArePlayers : PlainCode → ℕ → PlainShared → ℕ → List PlainPlayed → Type 0
+ArePlayers code limit s k [] = Unit {0}
+ArePlayers code limit s k (p ∷ ps) = IsPlayer code limit s k p × ArePlayers code limit s (suc k) ps
 
 -- each lost nothing
 abbrev pub AreWhole : List PlainPlayed → Type 0
@@ -59,12 +60,12 @@ abbrev pub kept_by : List PlainPlayed → List (List Kept)
 kept_by ps = map (λ p. p.kept) ps
 
 -- Parts agree: what is shared is of the code's cells and threads, there is one actor for each thread, behind them one for each agent in the order of the
--- cells, and no other, and what they kept, all that was served, is answered as it was, from the beginning to what they share.
-pub record Agrees (code : PlainCode) (s : PlainShared) (served : ℕ) (ps : List PlainPlayed) : Type 0 where
+-- cells, and no other, each made for so many steps, and what they kept, all that was served, is answered as it was, from the beginning to what they share.
+pub record Agrees (code : PlainCode) (limit : ℕ) (s : PlainShared) (served : ℕ) (ps : List PlainPlayed) : Type 0 where
   pub cells : s.cells ≡ code.cells
   pub threads : s.threads ≡ length code.threads
   pub one_each : length ps ≡ actors_of code
-  pub each : ArePlayers code s 0 ps
+  pub each : ArePlayers code limit s 0 ps
   pub replayed : AreReplayed s served (kept_by ps)
 
 -- an entry of a report says what its actor came to, and has the places of the events that the actor's entries added
@@ -81,10 +82,11 @@ AreReportsOf s [] (r ∷ rs) = ⊥
 AreReportsOf s (p ∷ ps) [] = ⊥
 AreReportsOf s (p ∷ ps) (r ∷ rs) = IsReportOf s p r × AreReportsOf s ps rs
 
--- each entry says what the actor of a thread of the code did over the books
-abbrev pub AllHaveDone : PlainCode → PlainShared → List ThreadReport → Type 0
-AllHaveDone code s rans = (k : ℕ) (ran : ThreadReport) → nth rans k ≡ Some ran → (limit : ℕ) × HasDone code k limit (books_of s) ran
+-- Each entry says what the actor of a thread of the code, which may make so many steps, did over the books: its steps are no more than these, and where
+-- they were spent, just as many.
+abbrev pub AllHaveDone : PlainCode → ℕ → PlainShared → List ThreadReport → Type 0
+AllHaveDone code limit s rans = (k : ℕ) (ran : ThreadReport) → nth rans k ≡ Some ran → HasDone code k limit (books_of s) ran
 
--- each entry says what the actor of an agent did, in the order of the agents
-abbrev pub AllHaveAttended : PlainCode → PlainShared → List ThreadReport → Type 0
-AllHaveAttended code s rans = (i : ℕ) (ran : ThreadReport) → nth rans i ≡ Some ran → (limit : ℕ) × AgentHasDone code (length code.threads + i) limit (books_of s) ran
+-- so does each of the actor of an agent, in the order of the agents
+abbrev pub AllHaveAttended : PlainCode → ℕ → PlainShared → List ThreadReport → Type 0
+AllHaveAttended code limit s rans = (i : ℕ) (ran : ThreadReport) → nth rans i ≡ Some ran → AgentHasDone code (length code.threads + i) limit (books_of s) ran

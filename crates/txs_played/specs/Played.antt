@@ -60,6 +60,10 @@ IsPlayed false p q = (q ≡ unanswered p.actor) × HasPlayed p.code (map entry_o
 abbrev pub IsWell : PlainPlayed → Option Ask → Type 0
 IsWell p q = Lives p.code p.actor × IsPlayed p.lost p q
 
+-- an actor was made for so many steps
+abbrev pub IsMadeWith : ℕ → PlainActor → Type 0
+IsMadeWith limit a = a.limit ≡ limit
+
 -- what is kept after a reply: one entry more, but for one that stops the actor, and where there is no action for an agent
 abbrev pub kept_after : Reply → Kept → List Kept → List Kept
 kept_after reply.Full k ks = ks

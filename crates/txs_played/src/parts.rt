@@ -43,17 +43,27 @@ fn is_stopped_so(shared: &SharedState, played: &Played<'_>) -> bool
     played.has_full_book(shared)
 }
 
-/// Whether it is the actor with this number, made with this code, waits for no reply, and was stopped by a full book only where that is full.
-#[tactic(auto, using(crate::proofs::Gathering::other_number, crate::proofs::Gathering::other_code, crate::proofs::Gathering::asking, crate::proofs::Gathering::stopped_otherwise, crate::proofs::Gathering::player_of))]
-fn is_player(code: &Verified, shared: &SharedState, number: usize, played: &Played<'_>) -> bool
+/// Whether it is the actor with this number, made with this code and for so many steps, waits for no reply, and was stopped by a full book only where that
+/// is full.
+#[tactic(auto, using(crate::proofs::Gathering::other_number, crate::proofs::Gathering::other_code, crate::proofs::Gathering::other_limit, crate::proofs::Gathering::asking, crate::proofs::Gathering::stopped_otherwise, crate::proofs::Gathering::player_of))]
+fn is_player(
+    code: &Verified,
+    max_steps: u64,
+    shared: &SharedState,
+    number: usize,
+    played: &Played<'_>,
+) -> bool
     requires { played.now.lost ≡ false }
-    ensures player { IsTrue result ↔ IsPlayer code.now shared.now number played.now }
+    ensures player { IsTrue result ↔ IsPlayer code.now max_steps shared.now number played.now }
     ensures few { IsTrue result → number < 65536 }
 {
     if usize::from(played.number()) != number {
         return false;
     }
     if !same_code(played.code().code(), code.code()) {
+        return false;
+    }
+    if played.limit() != max_steps {
         return false;
     }
     if played.is_asking() {
@@ -76,13 +86,13 @@ fn are_whole(played: &[Played<'_>]) -> bool
 }
 
 /// Whether they are the actors of all numbers from 0 on, as `is_player` says.
-fn are_players(code: &Verified, shared: &SharedState, played: &[Played<'_>]) -> bool
+fn are_players(code: &Verified, max_steps: u64, shared: &SharedState, played: &[Played<'_>]) -> bool
     requires { AreWhole played.now }
-    ensures players { IsTrue result ↔ ArePlayers code.now shared.now 0 played.now }
+    ensures players { IsTrue result ↔ ArePlayers code.now max_steps shared.now 0 played.now }
     ensures few { IsTrue result → length played.now ≤ 65536 }
 {
     for number in 0..played.len() {
-        if !is_player(code, shared, number, &played[number]) {
+        if !is_player(code, max_steps, shared, number, &played[number]) {
             return false;
         }
     }
@@ -227,8 +237,9 @@ fn take_kept(alloc: Global, played: Vec<Played<'_>>) -> Result<Vec<KeptEntries>,
 }
 
 /// The comparison of the actors of a run with what they share: they agree where there is one for each thread and behind these one for each agent, each
-/// was made with this code, and what they kept, `served` asks in all, is answered from the beginning as it was and leads to these books. Then the books
-/// told each actor just what it kept, it is where its code comes to on that, and each program that the code follows explains the report.
+/// was made with this code and for `max_steps` steps, and what they kept, `served` asks in all, is answered from the beginning as it was and leads to
+/// these books. Then the report is that of these actors: the books told each just what it kept, it is where its code comes to on that within its steps,
+/// and each program that the code follows explains the report.
 ///
 /// # Errors
 /// `JournalMismatch` where they don't agree; `Memory` where there was no memory, also of an actor that lost what it should have kept.
@@ -236,19 +247,22 @@ fn take_kept(alloc: Global, played: Vec<Played<'_>>) -> Result<Vec<KeptEntries>,
 pub fn gather(
     alloc: Global,
     code: &Verified,
+    max_steps: u64,
     shared: SharedState,
     served: u64,
     played: Vec<Played<'_>>,
 ) -> Result<Gathered, RunError>
     ensures shared { IfOk result (λ g. g.shared ≡ shared) }
-    ensures agrees { IfOk result (λ g. Agrees code.now shared served played.entry.items) }
+    ensures agrees { IfOk result (λ g. Agrees code.now max_steps shared served played.entry.items) }
+    ensures threads { IfOk result (λ g. AreReportsOf shared (take (length code.now.threads) played.entry.items) g.report.threads.items) }
+    ensures agents { IfOk result (λ g. AreReportsOf shared (drop (length code.now.threads) played.entry.items) g.report.agents.items) }
     ensures one_each { IfOk result (λ g. length g.report.threads.items ≡ length code.now.threads) }
     ensures agents_each { IfOk result (λ g. length g.report.agents.items ≡ length (agents_of code.now)) }
-    ensures done { IfOk result (λ g. AllHaveDone code.now shared g.report.threads.items) }
-    ensures attended { IfOk result (λ g. AllHaveAttended code.now shared g.report.agents.items) }
+    ensures done { IfOk result (λ g. AllHaveDone code.now max_steps shared g.report.threads.items) }
+    ensures attended { IfOk result (λ g. AllHaveAttended code.now max_steps shared g.report.agents.items) }
     ensures explained { IfOk result (λ g. IsExplainedBy code.now (shared_of g.shared) g.report.threads.items) }
     ensures all_explained { IfOk result (λ g. AreExplainedBy code.now (shared_of g.shared) g.report.threads.items g.report.agents.items) }
-    ensures differs { IfErr result (λ e. e ≡ JournalMismatch → Agrees code.now shared served played.entry.items → ⊥) }
+    ensures differs { IfErr result (λ e. e ≡ JournalMismatch → Agrees code.now max_steps shared served played.entry.items → ⊥) }
     ensures refusals { IfErr result (λ e. (e ≡ JournalMismatch) ⊎ (e ≡ Memory)) }
 {
     replay_runs();
@@ -267,7 +281,7 @@ pub fn gather(
     if !is_made_for(code, &shared, played.len()) {
         return Err(RunError::JournalMismatch);
     }
-    if !are_players(code, &shared, played.as_slice()) {
+    if !are_players(code, max_steps, &shared, played.as_slice()) {
         return Err(RunError::JournalMismatch);
     }
     let threads = usize::from(shared.threads());

@@ -6,6 +6,7 @@ ghost use Rattle.txs_actor.specs.Turns.{IsNew, Turns, TurnsOf};
 ghost use Rattle.txs_actor.specs.declared.outcome.Turn.TheVariants as turned;
 ghost use Rattle.txs_asks.specs.declared.ask.Ask.{Ask as AnAsk};
 ghost use Rattle.txs_asks.specs.declared.event.Outcome.{Outcome as AnOutcome};
+ghost use Rattle.txs_asks.specs.declared.event.Outcome.TheVariants as outcome;
 ghost use Rattle.txs_played.specs.Callees.{ArePure};
 ghost use Rattle.txs_played.specs.Gather.{HasFullBook};
 ghost use Rattle.txs_played.specs.Played.{PlainPlayed, HasPlayed, new_player, kept_after, stopped_after, kept_of};
@@ -33,6 +34,8 @@ pub struct Played<'a> {
     /// Of each function, whether an action may call it.
     callees: &'a [bool],
     actor: Actor,
+    /// How many steps its actor may make: the number that it was made with.
+    limit: u64,
     /// The ask that has no reply yet.
     asked: Option<Ask>,
     kept: KeptEntries,
@@ -44,7 +47,7 @@ pub struct Played<'a> {
 
 impl<'a> Model for Played<'a> {
     ghost use Rattle.txs_played.specs.Callees.{ArePure};
-    ghost use Rattle.txs_played.specs.Played.{PlainPlayed, IsWell};
+    ghost use Rattle.txs_played.specs.Played.{PlainPlayed, IsWell, IsMadeWith};
     ghost use Rattle.std.specs.Coded.{codes};
     ghost use Rattle.txs_value.specs.contracts.value.Value as value;
 
@@ -54,7 +57,7 @@ impl<'a> Model for Played<'a> {
 
     ghost view = { λ p. record { code = p.code.now; actor = p.actor; kept = p.kept; stopped = p.stopped; lost = p.lost } };
 
-    ghost invariant = { λ p. IsWell (record { code = p.code.now; actor = p.actor; kept = p.kept; stopped = p.stopped; lost = p.lost }) p.asked × ArePure p.code.now p.callees.now };
+    ghost invariant = { λ p. IsWell (record { code = p.code.now; actor = p.actor; kept = p.kept; stopped = p.stopped; lost = p.lost }) p.asked × ArePure p.code.now p.callees.now × IsMadeWith p.limit p.actor };
 }
 
 /// A copy of an ask, where there is room to keep it.
@@ -105,12 +108,18 @@ fn keep(
 }
 
 impl<'a> Played<'a> {
-    /// A new actor, of a thread or of an agent, made with this code, that has kept nothing yet. The callees are the functions of the code that an
-    /// action may call, as `sent_functions` tells them.
-    pub fn new(alloc: Global, code: &'a Verified, callees: &'a [bool], actor: Actor) -> Played<'a>
+    /// A new actor, of a thread or of an agent, made with this code and for so many steps, that has kept nothing yet. The callees are the functions of
+    /// the code that an action may call, as `sent_functions` tells them.
+    pub fn new(
+        alloc: Global,
+        code: &'a Verified,
+        callees: &'a [bool],
+        actor: Actor,
+        max_steps: u64,
+    ) -> Played<'a>
         requires callees { ArePure code.now callees.now }
         requires lives { Lives code.now actor }
-        requires new { IsNew code.now actor.number actor.limit actor }
+        requires new { IsNew code.now actor.number max_steps actor }
         ensures { result ≡ new_player code.now actor }
     {
         actors_run();
@@ -121,6 +130,7 @@ impl<'a> Played<'a> {
             code,
             callees,
             actor,
+            limit: max_steps,
             asked: None,
             kept: KeptEntries::new(alloc),
             stopped: None,
@@ -141,6 +151,8 @@ impl<'a> Played<'a> {
         ensures went { result ≡ turned.Went → (self.new.lost ≡ false) × (unanswered self.new.actor ≡ None) }
         ensures asks { (q : AnAsk) → result ≡ turned.Asks q → (self.new.lost ≡ false) × (unanswered self.new.actor ≡ Some q) }
         ensures ended { (o : AnOutcome) → result ≡ turned.Ended o → self.new.lost ≡ false → self.new.actor.outcome ≡ Some o }
+        ensures lost { self.new.lost ≡ true → result ≡ turned.Ended outcome.Memory }
+        ensures stays { self.old.lost ≡ true → self.new ≡ self.old }
     {
         actors_run();
         if self.lost {
@@ -175,16 +187,19 @@ impl<'a> Played<'a> {
         ensures went { result ≡ turned.Went → (self.new.lost ≡ false) × (unanswered self.new.actor ≡ None) }
         ensures asks { (q : AnAsk) → result ≡ turned.Asks q → (self.new.lost ≡ false) × (unanswered self.new.actor ≡ Some q) }
         ensures ended { (o : AnOutcome) → result ≡ turned.Ended o → self.new.lost ≡ false → self.new.actor.outcome ≡ Some o }
+        ensures lost { self.new.lost ≡ true → result ≡ turned.Ended outcome.Memory }
+        ensures stays { self.old.lost ≡ true → self.new ≡ self.old }
     {
         self.run(1)
     }
 
     /// The actor goes on after the reply to its ask, which was served where its book had `at` events, and behind `number` asks of all
     /// actors. The reply is kept with the ask, and of one that stops the actor the ask alone; where there is no action for an agent, nothing is kept, and
-    /// it is where it was. Where there is no memory to keep it, the actor makes no more turns.
+    /// it is where it was. Where there is no memory to keep it, the actor makes no more turns; one that lost something stays as it is.
     pub fn answer(&mut self, number: u64, at: u32, reply: Reply)
         requires answers { self.old.lost ≡ false → MayAnswerIf (unanswered self.old.actor) reply }
         requires hands_out { self.old.lost ≡ false → HandsOut self.old.code reply }
+        ensures stays { self.old.lost ≡ true → self.new ≡ self.old }
         ensures code { self.new.code ≡ self.old.code }
         ensures answered { self.new.lost ≡ false → self.new.actor ≡ answered self.old.actor reply }
         ensures free { self.new.lost ≡ false → unanswered self.new.actor ≡ None }
@@ -221,6 +236,13 @@ impl<'a> Played<'a> {
         ensures { result ≡ self.now.actor.number }
     {
         self.actor.number()
+    }
+
+    /// How many steps its actor may make.
+    pub fn limit(&self) -> u64
+        ensures { result ≡ self.now.actor.limit }
+    {
+        self.limit
     }
 
     /// Its code.
@@ -281,9 +303,10 @@ impl<'a> Played<'a> {
         }
     }
 
-    /// How it ended, if it did.
+    /// How it ended, if it did: for want of memory, where it lost something.
     pub fn outcome(&self) -> Option<Outcome>
-        ensures { self.now.lost ≡ false → result ≡ self.now.actor.outcome }
+        ensures whole { self.now.lost ≡ false → result ≡ self.now.actor.outcome }
+        ensures lost { self.now.lost ≡ true → result ≡ Some outcome.Memory }
     {
         if self.lost {
             return Some(Outcome::Memory);

@@ -217,7 +217,7 @@ verified_sync = view_sync verified_in.the_row _ _ _ _ (recorded_sync (verified_i
 
 module _ (a : NamedLft) where
   pub played_send : IsSend (played_is.the_row a)
-  played_send = view_send (played_in.the_row a) _ _ _ _ (recorded_send (played_in.the_field a).row _ _ (played_in.the_type a).to_one (struct_send (S.shape (played_in.the_type a)) (search (global.the_field_send, crosses, sendable) depth 60 fits 20000, (shr_send _ _ verified_is.the_row verified_sync, (shr_slice_send _ _ Builtin.bool (plain_sync _ _ _ _ _), (actor_send, (search (ask_send, option.the_field_send, crosses, sendable) depth 60 fits 20000, (kept_entries_send, (search (ask_send, option.the_field_send, crosses, sendable) depth 60 fits 20000, (plain_send _ _ _ _ _, tt))))))))))
+  played_send = view_send (played_in.the_row a) _ _ _ _ (recorded_send (played_in.the_field a).row _ _ (played_in.the_type a).to_one (struct_send (S.shape (played_in.the_type a)) (search (global.the_field_send, crosses, sendable) depth 60 fits 20000, (shr_send _ _ verified_is.the_row verified_sync, (shr_slice_send _ _ Builtin.bool (plain_sync _ _ _ _ _), (actor_send, (plain_send _ _ _ _ _, (search (ask_send, option.the_field_send, crosses, sendable) depth 60 fits 20000, (kept_entries_send, (search (ask_send, option.the_field_send, crosses, sendable) depth 60 fits 20000, (plain_send _ _ _ _ _, tt)))))))))))
 
 pub server_field_send : IsSend (server_is.the_field).row
 server_field_send = struct_send (S.shape server_is.the_type) (shared_state_send, (plain_send _ _ _ _ _, tt))

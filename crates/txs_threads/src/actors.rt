@@ -57,7 +57,7 @@ fn open_threads<'a>(
     let mut ready = Vec::with_capacity(alloc, usize::from(threads) + agents.len())?;
     for k in 0..threads {
         let actor = Actor::thread(alloc, code, threads - 1 - k, max_steps)?;
-        ready.push(Played::new(alloc, code, callees, actor))?;
+        ready.push(Played::new(alloc, code, callees, actor, max_steps))?;
     }
     Ok(ready)
 }
@@ -93,7 +93,7 @@ fn open_agent<'a>(
     requires actor { IsActorOf code.now number agent }
 {
     let actor = Actor::agent(alloc, code, agent, number, max_steps)?;
-    Ok(Played::new(alloc, code, callees, actor))
+    Ok(Played::new(alloc, code, callees, actor, max_steps))
 }
 
 /// The number of the actor of an agent, by its place among the agents, behind so many threads.

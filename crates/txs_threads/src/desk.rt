@@ -1,6 +1,6 @@
 //! What lies under the one lock.
 
-ghost use Rattle.std.specs.Prelude.{◌≡◌, ◌↔◌, IfSome, IsTrue, None};
+ghost use Rattle.std.specs.Prelude.{◌≡◌, ◌↔◌, false, IfSome, IsTrue, None};
 ghost use Rattle.txs_shared.specs.SharedState.{is_lawful, answer_to, Answers};
 
 use crate::player::Player;
@@ -26,9 +26,11 @@ pub struct Served {
 }
 
 impl Server {
-    /// Serves an ask, if the actor may ask it: one event of its book, or one answer without an event. Else all is left as it is.
+    /// Serves an ask, if the actor may ask it: one event of its book, or one answer without an event. Else, and only then, it is refused, and all is left
+    /// as it is.
     pub fn serve(&mut self, actor: u16, ask: Ask) -> Option<Served>
         ensures served { IfSome result (λ v. Answers self.old.shared ask (answer_to self.old.shared actor ask) v.reply self.new.shared) }
+        ensures lawful { (result ≡ None → is_lawful self.old.shared actor ask ≡ false) × (is_lawful self.old.shared actor ask ≡ false → result ≡ None) }
         ensures refused { result ≡ None → self.new.shared ≡ self.old.shared }
     {
         if !self.shared.lawful(actor, &ask) {
@@ -164,9 +166,10 @@ fn wake_by<P: Player>(actors: &mut Actors<P>, event: &Event) -> bool {
 }
 
 impl<P: Player> Desk<P> {
-    /// Serves an ask, if the actor may ask it, and wakes the agents to which it sent actions, in one step.
+    /// Serves an ask, if the actor may ask it, and wakes the agents to which it sent actions, in one step. An ask that it may not ask is refused, and no other.
     pub fn serve(&mut self, actor: u16, ask: Ask) -> Step
         ensures served { IfSome result.served (λ v. Answers self.old.server.shared ask (answer_to self.old.server.shared actor ask) v.reply self.new.server.shared) }
+        ensures lawful { (result.served ≡ None → is_lawful self.old.server.shared actor ask ≡ false) × (is_lawful self.old.server.shared actor ask ≡ false → result.served ≡ None) }
         ensures refused { result.served ≡ None → self.new.server.shared ≡ self.old.server.shared }
     {
         let sends = sends_actions(&ask);

@@ -131,12 +131,13 @@ fn are_drained(shared: &SharedState, agents: &[CellId], rans: &[ThreadReport]) -
     true
 }
 
-/// Plays in rounds what the workers left unended, and compares the actors, in the order of their numbers, with what they share.
+/// Plays in rounds what the workers left unended, and compares the actors, in the order of their numbers, with what they share; each may make so many steps.
 #[tactic(auto, using(crate::proofs::Agents::are_agents, crate::proofs::Agents::are_drained))]
 pub fn gather_left(
     alloc: Global,
     code: &Verified,
     agents: &[CellId],
+    max_steps: u64,
     desk: Desk<Played<'_>>,
 ) -> Result<Gathered, RunError>
     requires agents { agents.now ≡ agents_of code.now }
@@ -145,8 +146,8 @@ pub fn gather_left(
     ensures agents_each { IfOk result (λ g. length g.report.agents.items ≡ length (agents_of code.now)) }
     ensures ended { IfOk result (λ g. HaveEnded g.report.threads.items) }
     ensures drained { IfOk result (λ g. AreDrained code.now (shared_of g.shared) g.report.agents.items) }
-    ensures done { IfOk result (λ g. AllHaveDone code.now g.shared g.report.threads.items) }
-    ensures attended { IfOk result (λ g. AllHaveAttended code.now g.shared g.report.agents.items) }
+    ensures done { IfOk result (λ g. AllHaveDone code.now max_steps g.shared g.report.threads.items) }
+    ensures attended { IfOk result (λ g. AllHaveAttended code.now max_steps g.shared g.report.agents.items) }
     ensures explained { IfOk result (λ g. IsExplainedBy code.now (shared_of g.shared) g.report.threads.items) }
     ensures all_explained { IfOk result (λ g. AreExplainedBy code.now (shared_of g.shared) g.report.threads.items g.report.agents.items) }
     ensures refusals { IfErr result (λ e. (e ≡ JournalMismatch) ⊎ (e ≡ Memory)) }
@@ -155,7 +156,7 @@ pub fn gather_left(
     let mut all = all_of(actors);
     play_rounds(&mut server, &mut all);
     let Server { shared, served } = server;
-    let gathered = gather(alloc, code, shared, served, all)?;
+    let gathered = gather(alloc, code, max_steps, shared, served, all)?;
     if !have_ended(gathered.report.threads.as_slice()) {
         return Err(RunError::JournalMismatch);
     }

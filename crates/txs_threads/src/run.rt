@@ -298,7 +298,8 @@ fn open_desk<'a>(
     })
 }
 
-/// Runs the actors of a code, whose actions call these functions and whose agents are these, by so many workers.
+/// Runs the actors of a code, whose actions call these functions and whose agents are these, by so many workers; an actor makes no more than `max_steps`
+/// steps.
 fn run_actors<R: Threads + Wait + Sync, G: Gate>(
     rt: &R,
     alloc: Global,
@@ -318,8 +319,8 @@ fn run_actors<R: Threads + Wait + Sync, G: Gate>(
     ensures agents_each { IfOk result (λ g. length g.report.agents.items ≡ length (agents_of code.now)) }
     ensures ended { IfOk result (λ g. HaveEnded g.report.threads.items) }
     ensures drained { IfOk result (λ g. AreDrained code.now (shared_of g.shared) g.report.agents.items) }
-    ensures done { IfOk result (λ g. AllHaveDone code.now g.shared g.report.threads.items) }
-    ensures attended { IfOk result (λ g. AllHaveAttended code.now g.shared g.report.agents.items) }
+    ensures done { IfOk result (λ g. AllHaveDone code.now max_steps g.shared g.report.threads.items) }
+    ensures attended { IfOk result (λ g. AllHaveAttended code.now max_steps g.shared g.report.agents.items) }
     ensures explained { IfOk result (λ g. IsExplainedBy code.now (shared_of g.shared) g.report.threads.items) }
     ensures all_explained { IfOk result (λ g. AreExplainedBy code.now (shared_of g.shared) g.report.threads.items g.report.agents.items) }
     ensures refusals { IfErr result (λ e. (e ≡ NoThread) ⊎ (e ≡ JournalMismatch) ⊎ (e ≡ Memory)) }
@@ -331,7 +332,7 @@ fn run_actors<R: Threads + Wait + Sync, G: Gate>(
     if !run_workers(rt, &desk, &to, &from, gate, workers) {
         return Err(RunError::NoThread);
     }
-    gather_left(alloc, code, agents, desk.into_inner())
+    gather_left(alloc, code, agents, max_steps, desk.into_inner())
 }
 
 /// Runs all threads and agents of the code by so many workers, each on a thread of its own, until each thread has ended and nothing waits for an
@@ -355,8 +356,8 @@ pub fn run_threads<R: Threads + Wait + Sync, G: Gate>(
     ensures agents_each { IfOk result (λ g. length g.report.agents.items ≡ length (agents_of code.now)) }
     ensures ended { IfOk result (λ g. HaveEnded g.report.threads.items) }
     ensures drained { IfOk result (λ g. AreDrained code.now (shared_of g.shared) g.report.agents.items) }
-    ensures done { IfOk result (λ g. AllHaveDone code.now g.shared g.report.threads.items) }
-    ensures attended { IfOk result (λ g. AllHaveAttended code.now g.shared g.report.agents.items) }
+    ensures done { IfOk result (λ g. AllHaveDone code.now max_steps g.shared g.report.threads.items) }
+    ensures attended { IfOk result (λ g. AllHaveAttended code.now max_steps g.shared g.report.agents.items) }
     ensures explained { IfOk result (λ g. IsExplainedBy code.now (shared_of g.shared) g.report.threads.items) }
     ensures all_explained { IfOk result (λ g. AreExplainedBy code.now (shared_of g.shared) g.report.threads.items g.report.agents.items) }
     ensures refusals { IfErr result (λ e. (e ≡ NoThread) ⊎ (e ≡ JournalMismatch) ⊎ (e ≡ Memory)) }

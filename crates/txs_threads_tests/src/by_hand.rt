@@ -27,6 +27,9 @@ const TAKERS: &str =
 const FROM_ONE: &str =
     "(def c (ref 1)) (future (dosync (commute c inc))) (future (dosync (commute c inc)))";
 
+/// How many steps an actor may make.
+const STEPS: u64 = 1_000;
+
 /// A state of the code's cells, for its two threads.
 fn open(alloc: Global, code: &Verified) -> Result<SharedState, Fail> {
     Ok(SharedState::open(alloc, code.code().cells(), 2)?)
@@ -43,8 +46,8 @@ fn player<'a>(
     requires callees { ArePure code.now callees.now }
     requires there { k < length code.now.threads }
 {
-    let actor = Actor::thread(alloc, code, k, 1_000)?;
-    Ok(Played::new(alloc, code, callees, actor))
+    let actor = Actor::thread(alloc, code, k, STEPS)?;
+    Ok(Played::new(alloc, code, callees, actor, STEPS))
 }
 
 /// The reply that an actor is told, where another may be told in place of the one that was served.
@@ -151,7 +154,7 @@ fn agrees(rt: HostRuntime) -> Result<(), Fail> {
     let (_, code) = compile(alloc, ADDERS.as_bytes())?;
     let callees = sent_functions(alloc, &code)?;
     let (shared, served, both) = parts(alloc, &code, callees.as_slice(), 1_000, None)?;
-    let gathered = gather(alloc, &code, shared, served, both)?;
+    let gathered = gather(alloc, &code, STEPS, shared, served, both)?;
     assert_eq!(rt;
         cells_of(alloc, &gathered.shared)?.as_slice(),
         b"2 ".as_slice()
@@ -166,7 +169,7 @@ fn agrees_in_the_middle(rt: HostRuntime) -> Result<(), Fail> {
     let (_, code) = compile(alloc, ADDERS.as_bytes())?;
     let callees = sent_functions(alloc, &code)?;
     let (shared, served, both) = parts(alloc, &code, callees.as_slice(), 3, None)?;
-    let gathered = gather(alloc, &code, shared, served, both)?;
+    let gathered = gather(alloc, &code, STEPS, shared, served, both)?;
     assert!(rt; has_ended(gathered.report.threads.as_slice(), 1, None, 3));
     Ok(())
 }
@@ -178,7 +181,7 @@ fn misses_an_actor(rt: HostRuntime) -> Result<(), Fail> {
     let callees = sent_functions(alloc, &code)?;
     let (shared, served, mut both) = parts(alloc, &code, callees.as_slice(), 1_000, None)?;
     drop(both.pop());
-    assert!(rt; disagree(gather(alloc, &code, shared, served, both)));
+    assert!(rt; disagree(gather(alloc, &code, STEPS, shared, served, both)));
     Ok(())
 }
 
@@ -189,7 +192,7 @@ fn has_another_order(rt: HostRuntime) -> Result<(), Fail> {
     let callees = sent_functions(alloc, &code)?;
     let (shared, served, mut both) = parts(alloc, &code, callees.as_slice(), 1_000, None)?;
     both.reverse();
-    assert!(rt; disagree(gather(alloc, &code, shared, served, both)));
+    assert!(rt; disagree(gather(alloc, &code, STEPS, shared, served, both)));
     Ok(())
 }
 
@@ -200,7 +203,7 @@ fn misses_the_events(rt: HostRuntime) -> Result<(), Fail> {
     let callees = sent_functions(alloc, &code)?;
     let (_, served, both) = parts(alloc, &code, callees.as_slice(), 1_000, None)?;
     let fresh = open(alloc, &code)?;
-    assert!(rt; disagree(gather(alloc, &code, fresh, served, both)));
+    assert!(rt; disagree(gather(alloc, &code, STEPS, fresh, served, both)));
     Ok(())
 }
 
@@ -210,7 +213,7 @@ fn misses_an_entry(rt: HostRuntime) -> Result<(), Fail> {
     let (_, code) = compile(alloc, ADDERS.as_bytes())?;
     let callees = sent_functions(alloc, &code)?;
     let (shared, served, both) = parts(alloc, &code, callees.as_slice(), 1_000, None)?;
-    assert!(rt; disagree(gather(alloc, &code, shared, served.saturating_sub(1), both)));
+    assert!(rt; disagree(gather(alloc, &code, STEPS, shared, served.saturating_sub(1), both)));
     Ok(())
 }
 
@@ -220,7 +223,7 @@ fn was_told_otherwise(rt: HostRuntime) -> Result<(), Fail> {
     let (_, code) = compile(alloc, ADDERS.as_bytes())?;
     let callees = sent_functions(alloc, &code)?;
     let (shared, served, both) = parts(alloc, &code, callees.as_slice(), 1_000, Some(7))?;
-    assert!(rt; disagree(gather(alloc, &code, shared, served, both)));
+    assert!(rt; disagree(gather(alloc, &code, STEPS, shared, served, both)));
     Ok(())
 }
 
@@ -233,7 +236,7 @@ fn has_other_code(rt: HostRuntime) -> Result<(), Fail> {
     let others = sent_functions(alloc, &other)?;
     let (shared, served, _) = parts(alloc, &code, callees.as_slice(), 1_000, None)?;
     let (_, _, both) = parts(alloc, &other, others.as_slice(), 1_000, None)?;
-    assert!(rt; disagree(gather(alloc, &code, shared, served, both)));
+    assert!(rt; disagree(gather(alloc, &code, STEPS, shared, served, both)));
     Ok(())
 }
 
@@ -246,7 +249,17 @@ fn has_other_cells(rt: HostRuntime) -> Result<(), Fail> {
     let others = sent_functions(alloc, &other)?;
     let (_, served, both) = parts(alloc, &code, callees.as_slice(), 1_000, None)?;
     let (shared, _, _) = parts(alloc, &other, others.as_slice(), 1_000, None)?;
-    assert!(rt; disagree(gather(alloc, &code, shared, served, both)));
+    assert!(rt; disagree(gather(alloc, &code, STEPS, shared, served, both)));
+    Ok(())
+}
+
+#[test]
+fn has_another_limit(rt: HostRuntime) -> Result<(), Fail> {
+    let alloc = rt.alloc();
+    let (_, code) = compile(alloc, ADDERS.as_bytes())?;
+    let callees = sent_functions(alloc, &code)?;
+    let (shared, served, both) = parts(alloc, &code, callees.as_slice(), 1_000, None)?;
+    assert!(rt; disagree(gather(alloc, &code, STEPS + 1, shared, served, both)));
     Ok(())
 }
 
@@ -280,6 +293,6 @@ fn waits_for_a_reply(rt: HostRuntime) -> Result<(), Fail> {
     let (_, code) = compile(alloc, ADDERS.as_bytes())?;
     let callees = sent_functions(alloc, &code)?;
     let (shared, served, both) = asking(alloc, &code, callees.as_slice())?;
-    assert!(rt; disagree(gather(alloc, &code, shared, served, both)));
+    assert!(rt; disagree(gather(alloc, &code, STEPS, shared, served, both)));
     Ok(())
 }

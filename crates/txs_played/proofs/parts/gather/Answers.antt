@@ -1,4 +1,4 @@
-use Rattle.std.proofs.Common.{◌≡◌, length, take, drop, rules, subst}
+use Rattle.std.proofs.Common.{◌≡◌, ◌∙◌, length, take, drop, rules, subst}
 use Rattle.txs_shared.specs.SharedState.{shared_of}
 use Rattle.txs_runs.specs.Invariant.{SharedStands}
 use Rattle.txs_replay.specs.Replay.{AreReplayed}
@@ -11,12 +11,35 @@ use Rattle.txs_played.proofs.parts.gather.Goals as goal
 pub returns-clause-agrees : goal.returns-clause-agrees
 returns-clause-agrees c =
     let code = c.args.code.now in
+    let limit = c.args.max_steps in
     let s = c.args.shared in
     let ps = c.args.played.items in
     let made : IsMadeFor code s (length ps) = search rules in
-    let each : ArePlayers code s 0 ps = search rules in
+    let each : ArePlayers code limit s 0 ps = search rules in
     let replayed : AreReplayed s c.args.served (kept_by ps) = search rules in
-    agreed code s c.args.served ps made each replayed
+    agreed code limit s c.args.served ps made each replayed
+
+pub returns-clause-threads : goal.returns-clause-threads
+returns-clause-threads c =
+    let code = c.args.code.now in
+    let s = c.args.shared in
+    let ps = c.args.played.items in
+    let rs = c.in_ok-report.report.threads.items in
+    let made : IsMadeFor code s (length ps) = search rules in
+    let first : c.from-threads.result ≡ s.threads = search rules in
+    let told : AreReportsOf s (take c.from-threads.result ps) rs = search rules in
+    subst (λ n. AreReportsOf s (take n ps) rs) (first ∙ made.1) told
+
+pub returns-clause-agents : goal.returns-clause-agents
+returns-clause-agents c =
+    let code = c.args.code.now in
+    let s = c.args.shared in
+    let ps = c.args.played.items in
+    let rs = c.in_ok-report.report.agents.items in
+    let made : IsMadeFor code s (length ps) = search rules in
+    let first : c.from-threads.result ≡ s.threads = search rules in
+    let told : AreReportsOf s (drop c.from-threads.result ps) rs = search rules in
+    subst (λ n. AreReportsOf s (drop n ps) rs) (first ∙ made.1) told
 
 pub returns-clause-one_each : goal.returns-clause-one_each
 returns-clause-one_each c =
@@ -45,47 +68,50 @@ returns-clause-agents_each c =
 pub returns-clause-done : goal.returns-clause-done
 returns-clause-done c =
     let code = c.args.code.now in
+    let limit = c.args.max_steps in
     let s = c.args.shared in
     let ps = c.args.played.items in
     let rs = c.in_ok-report.report.threads.items in
     let made : IsMadeFor code s (length ps) = search rules in
-    let each : ArePlayers code s 0 ps = search rules in
+    let each : ArePlayers code limit s 0 ps = search rules in
     let replayed : AreReplayed s c.args.served (kept_by ps) = search rules in
     let played : ArePlayed ps = search rules in
     let first : c.from-threads.result ≡ s.threads = search rules in
     let told : AreReportsOf s (take c.from-threads.result ps) rs = search rules in
     let reported : AreReportsOf s (take s.threads ps) rs = subst (λ n. AreReportsOf s (take n ps) rs) first told in
-    all_done code s c.replay_runs.ensures c.done_is_undisturbed.ensures c.args.served ps rs (agreed code s c.args.served ps made each replayed) played reported
+    all_done code limit s c.replay_runs.ensures c.done_is_undisturbed.ensures c.args.served ps rs (agreed code limit s c.args.served ps made each replayed) played reported
 
 pub returns-clause-attended : goal.returns-clause-attended
 returns-clause-attended c =
     let code = c.args.code.now in
+    let limit = c.args.max_steps in
     let s = c.args.shared in
     let ps = c.args.played.items in
     let rs = c.in_ok-report.report.agents.items in
     let made : IsMadeFor code s (length ps) = search rules in
-    let each : ArePlayers code s 0 ps = search rules in
+    let each : ArePlayers code limit s 0 ps = search rules in
     let replayed : AreReplayed s c.args.served (kept_by ps) = search rules in
     let played : ArePlayed ps = search rules in
     let first : c.from-threads.result ≡ s.threads = search rules in
     let told : AreReportsOf s (drop c.from-threads.result ps) rs = search rules in
     let reported : AreReportsOf s (drop s.threads ps) rs = subst (λ n. AreReportsOf s (drop n ps) rs) first told in
-    all_attended code s c.replay_runs.ensures c.args.served ps rs (agreed code s c.args.served ps made each replayed) played reported
+    all_attended code limit s c.replay_runs.ensures c.args.served ps rs (agreed code limit s c.args.served ps made each replayed) played reported
 
 pub returns-clause-explained : goal.returns-clause-explained
 returns-clause-explained c =
     let code = c.args.code.now in
+    let limit = c.args.max_steps in
     let s = c.args.shared in
     let ps = c.args.played.items in
     let rs = c.in_ok-report.report.threads.items in
     let made : IsMadeFor code s (length ps) = search rules in
-    let each : ArePlayers code s 0 ps = search rules in
+    let each : ArePlayers code limit s 0 ps = search rules in
     let replayed : AreReplayed s c.args.served (kept_by ps) = search rules in
     let played : ArePlayed ps = search rules in
     let first : c.from-threads.result ≡ s.threads = search rules in
     let told : AreReportsOf s (take c.from-threads.result ps) rs = search rules in
     let reported : AreReportsOf s (take s.threads ps) rs = subst (λ n. AreReportsOf s (take n ps) rs) first told in
-    let agrees : Agrees code s c.args.served ps = agreed code s c.args.served ps made each replayed in
+    let agrees : Agrees code limit s c.args.served ps = agreed code limit s c.args.served ps made each replayed in
     let stands : SharedStands s.cells s.threads (shared_of s) = c.events-stands.ensures.stands in
     let by : Known = record {
       explained = c.actors_explained.ensures;
@@ -94,25 +120,26 @@ returns-clause-explained c =
       fit = c.replies_fit.ensures;
       fits = c.told_fits.ensures;
     } in
-    all_explained by code s c.args.served ps rs agrees stands (as_many_threads code s ps rs made reported)
-    (all_done code s c.replay_runs.ensures c.done_is_undisturbed.ensures c.args.served ps rs agrees played reported)
+    all_explained by code limit s c.args.served ps rs agrees stands (as_many_threads code s ps rs made reported)
+    (all_done code limit s c.replay_runs.ensures c.done_is_undisturbed.ensures c.args.served ps rs agrees played reported)
 
 pub returns-clause-all_explained : goal.returns-clause-all_explained
 returns-clause-all_explained c =
     let code = c.args.code.now in
+    let limit = c.args.max_steps in
     let s = c.args.shared in
     let ps = c.args.played.items in
     let ts = c.in_ok-report.report.threads.items in
     let rs = c.in_ok-report.report.agents.items in
     let made : IsMadeFor code s (length ps) = search rules in
-    let each : ArePlayers code s 0 ps = search rules in
+    let each : ArePlayers code limit s 0 ps = search rules in
     let replayed : AreReplayed s c.args.served (kept_by ps) = search rules in
     let played : ArePlayed ps = search rules in
     let first : c.from-threads.result ≡ s.threads = search rules in
     let told : AreReportsOf s (drop c.from-threads.result ps) rs = search rules in
     let reported : AreReportsOf s (drop s.threads ps) rs = subst (λ n. AreReportsOf s (drop n ps) rs) first told in
-    let agrees : Agrees code s c.args.served ps = agreed code s c.args.served ps made each replayed in
+    let agrees : Agrees code limit s c.args.served ps = agreed code limit s c.args.served ps made each replayed in
     let staged = c.typed_threads_are_staged.ensures code _ _ c.rooms-rooms.ensures in
     let explained : IsExplainedBy code (shared_of s) ts = returns-clause-explained c in
-    agents_explained c.replay_runs.ensures c.every_report_is_explained.ensures code s c.args.served ps agrees played staged ts rs explained reported (as_many_agents code s ps rs made reported)
-    (all_attended code s c.replay_runs.ensures c.args.served ps rs agrees played reported)
+    agents_explained c.replay_runs.ensures c.every_report_is_explained.ensures code limit s c.args.served ps agrees played staged ts rs explained reported (as_many_agents code s ps rs made reported)
+    (all_attended code limit s c.replay_runs.ensures c.args.served ps rs agrees played reported)

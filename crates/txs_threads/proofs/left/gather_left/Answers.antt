@@ -10,12 +10,12 @@ use Rattle.txs_threads.proofs.left.gather_left.Goals as goal
 pub returns-clause-done : goal.returns-clause-done
 returns-clause-done c =
     let g = c.in_ok-gathered in
-    subst (λ (s : PlainShared). AllHaveDone c.args.code.now s g.gathered.report.threads.items) (sym g.ensures.shared) g.ensures.done
+    subst (λ (s : PlainShared). AllHaveDone c.args.code.now c.args.max_steps s g.gathered.report.threads.items) (sym g.ensures.shared) g.ensures.done
 
 pub returns-clause-attended : goal.returns-clause-attended
 returns-clause-attended c =
     let g = c.in_ok-gathered in
-    subst (λ (s : PlainShared). AllHaveAttended c.args.code.now s g.gathered.report.agents.items) (sym g.ensures.shared) g.ensures.attended
+    subst (λ (s : PlainShared). AllHaveAttended c.args.code.now c.args.max_steps s g.gathered.report.agents.items) (sym g.ensures.shared) g.ensures.attended
 
 pub returns-clause-ended : goal.returns-clause-ended
 returns-clause-ended c =

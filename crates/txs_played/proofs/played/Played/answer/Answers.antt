@@ -3,7 +3,7 @@ use Rattle.txs_asks.specs.declared.ask.Ask.{Ask}
 use Rattle.txs_actor.specs.PlainActor.{HandsOut, MayAnswer, MayAnswerIf, answered, unanswered}
 use Rattle.txs_replay.specs.Replay.{entry_of}
 use Rattle.txs_played.specs.Played.{PlainPlayed, HasPlayed, IsPlayed, kept_after, stopped_after, kept_of}
-use Rattle.txs_played.proofs.Playing.{answer_played}
+use Rattle.txs_played.proofs.Playing.{answer_played, answer_limit}
 use Rattle.txs_played.proofs.played.Played.answer.Goals as goal
 
 pub invariant_of-self : goal.invariant_of-self
@@ -37,6 +37,25 @@ invariant_of-self c =
         ),
       ),
       c.self.invariant.1,
+      subst (λ x. x.limit ≡ a.limit) (sym c.answer.ensures.answered) (answer_limit a q r asks may) ∙ c.self.invariant.2,
+    )
+
+pub invariant_of-self-in-Err : goal.invariant_of-self-in-Err
+invariant_of-self-in-Err c =
+    let a = c.self.inside.actor in
+    let q = c.in-Some.ask in
+    let r = c.args.reply in
+    let at = c.self.inside.stopped in
+    let before : PlainPlayed = record { code = c.self.inside.code.now; actor = a; kept = c.self.inside.kept; stopped = at; lost = c.self.inside.lost } in
+    let lost : c.self.inside.lost ≡ false = search rules in
+    let was = subst (λ l. IsPlayed l before c.self.inside.asked) lost c.self.invariant.0.1 in
+    let had : c.self.inside.asked ≡ Some q = search rules in
+    let asks : unanswered a ≡ Some q = sym was.0 ∙ had in
+    let answers : MayAnswerIf (unanswered a) r = search rules in
+    let may : MayAnswer q r = subst (λ (o : Option Ask). MayAnswerIf o r) asks answers in (
+      (c.answer-in-Err.ensures.lives, tt),
+      c.self.invariant.1,
+      subst (λ x. x.limit ≡ a.limit) (sym c.answer-in-Err.ensures.answered) (answer_limit a q r asks may) ∙ c.self.invariant.2,
     )
 
 pub answer-requires-clause-hands_out : goal.answer-requires-clause-hands_out
