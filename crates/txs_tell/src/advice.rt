@@ -138,5 +138,4 @@ pub const OF_JOURNAL: &str =
     "Use fewer transactions, and fewer reads outside of them: the journal has at most 1,000,000 events.";
 
 /// What to do about one that was stopped for want of memory.
-pub const OF_MEMORY: &str =
-    "Keep less in vectors and texts, or run it where there is more memory.";
+pub const OF_MEMORY: &str = "Keep less in vectors and texts, or run it where there is more memory.";
