@@ -4,21 +4,18 @@ use Rattle.txs_tell.specs.Lines.{Script, IsLesson, failed_line, lesson_of, refus
 use Rattle.txs_value.specs.declared.fault.Fault.{Fault}
 use Rattle.txs_value.specs.declared.fault.Span.{Span}
 
--- something stands behind anything
-behind : (xs : List ℕ) (y : ℕ) (ys : List ℕ) → xs ++ y ∷ ys ≢ []
-behind [] y ys e = cc
-behind (x ∷ xs) y ys e = cc
-
 -- ---- these are lines
 
 pub is_refusal_line : (number : ℕ) (name : List ℕ) (at : Span) → refusal_line number name at ≢ []
 is_refusal_line number name at e = cc
 
 pub is_failed_line : (front : List ℕ) (f : Fault) → failed_line front f ≢ []
-is_failed_line front f e = behind front _ _ e
+is_failed_line [] f e = cc
+is_failed_line (x ∷ xs) f e = cc
 
 pub is_stopped_line : (front why : List ℕ) → stopped_line front why ≢ []
-is_stopped_line front why e = behind front _ _ e
+is_stopped_line [] why e = cc
+is_stopped_line (x ∷ xs) why e = cc
 
 -- ---- lessons
 
