@@ -1,5 +1,5 @@
 -- What the program tells of a script whose threads and agents several workers run.
-use Rattle.std.specs.Prelude.{◌≡◌, ◌≢◌, ℕ, Bool, List, [], ◌++◌, codes}
+use Rattle.std.specs.Prelude.{◌≡◌, ◌≢◌, ℕ, Bool, [], ◌++◌, codes}
 use Rattle.txs_code.specs.PlainCode.{PlainCode}
 use Rattle.txs_compile.specs.Compiled.{IsProgramOf}
 use Rattle.txs_machine.specs.Agents.{ExplainsAll}

@@ -1,4 +1,4 @@
-use Rattle.std.proofs.Common.{◌≡◌, ℕ, List, Result, Ok, sym, ap, ◌∙◌}
+use Rattle.std.proofs.Common.{◌≡◌, List, Result, Ok, sym, ap, ◌∙◌}
 use Rattle.txs_machine.specs.declared.schedule.Play.{Play}
 use Rattle.txs_schedule.specs.Plays.{plays_in}
 use Rattle.txs_schedule.specs.declared.plays.WrongPlay.{WrongPlay}

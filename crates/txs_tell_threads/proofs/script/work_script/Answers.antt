@@ -1,6 +1,6 @@
 use Rattle.std.proofs.Common.{◌≡◌, ◌++◌, ◌∙◌, List, length, rules, ap, subst, sym}
 use Rattle.txs_machine.specs.declared.schedule.ThreadReport.{ThreadReport}
-use Rattle.txs_shared.specs.SharedState.{PlainShared, numbered_book}
+use Rattle.txs_shared.specs.SharedState.{numbered_book}
 use Rattle.txs_tell.proofs.OfAgents.{all_named_from}
 use Rattle.txs_tell.specs.AgentLines.{named_from}
 use Rattle.txs_tell.specs.Lent.{script_of, told_of}
