@@ -64,7 +64,7 @@ fn play_on<
     W: Write,
 >(rt: &HostRuntime, runner: &X, words: &Words, writer: &mut W) -> u8
     requires call { (a : _) (code : _) (n : _) (steps : _) → IsRunnable code.now → X.pre runner.now a code n steps }
-    requires ran { (a : _) (code : _) (n : _) (steps : _) (r : _) → X.post runner.now a code n steps r → RunsLawfully code.now r }
+    requires ran { (a : _) (code : _) (n : _) (steps : _) (r : _) → X.post runner.now a code n steps r → RunsLawfully code.now steps r }
 {
     let alloc = rt.alloc();
     let mut faults = rt.stderr();
@@ -85,7 +85,7 @@ fn build_to<X: Fn(Global, &Verified, usize, u64) -> Result<(SharedState, Report)
     out: &str,
 ) -> u8
     requires call { (a : _) (code : _) (n : _) (steps : _) → IsRunnable code.now → X.pre runner.now a code n steps }
-    requires ran { (a : _) (code : _) (n : _) (steps : _) (r : _) → X.post runner.now a code n steps r → RunsLawfully code.now r }
+    requires ran { (a : _) (code : _) (n : _) (steps : _) (r : _) → X.post runner.now a code n steps r → RunsLawfully code.now steps r }
 {
     let mut code = Vec::new(rt.alloc());
     let status = play_on(rt, runner, words, &mut code);
@@ -111,7 +111,7 @@ fn play_all<X: Fn(Global, &Verified, usize, u64) -> Result<(SharedState, Report)
     words: &Words,
 ) -> u8
     requires call { (a : _) (code : _) (n : _) (steps : _) → IsRunnable code.now → X.pre runner.now a code n steps }
-    requires ran { (a : _) (code : _) (n : _) (steps : _) (r : _) → X.post runner.now a code n steps r → RunsLawfully code.now r }
+    requires ran { (a : _) (code : _) (n : _) (steps : _) (r : _) → X.post runner.now a code n steps r → RunsLawfully code.now steps r }
 {
     match words {
         Words::Build { out, .. } => build_to(rt, runner, words, out.as_str()),
@@ -129,7 +129,7 @@ fn play_by_workers<T: Threads + Wait + Sync>(rt: &HostRuntime, threads: &T, word
         >
             requires sync { IsSync T.row }
             requires few { IsRunnable code.now }
-            ensures { RunsLawfully code.now result }
+            ensures { RunsLawfully code.now steps result }
         {
             let Gathered { shared, report } = run_threads(
                 threads, alloc, code, workers, steps, &OpenGate,

@@ -54,15 +54,15 @@ work_code_told known writes words file workers steps cells events is h = subst (
 -- what is told of a script's run by workers is what those words tell
 pub worked_told : (known : Option (List ℕ)) (writes : Told → Type 0) (words : Words) (file : Option (String Global)) (workers steps : ℕ) (cells events explain : Bool) (name : Option (List ℕ))
     → words ≡ Work file workers steps cells events explain → name ≡ explained_as explain file
-    → IfSome known (λ input. (t : Told) × StreamWorkedTells (record { text = front input; file = name }) cells events t × writes t)
+    → IfSome known (λ input. (t : Told) × StreamWorkedTells (record { text = front input; file = name }) steps cells events t × writes t)
     → IfSome known (λ input. (t : Told) × WorkedWordsTell input words t × writes t)
 worked_told known writes words file workers steps cells events explain name is named h =
     subst (λ (w : Words). IfSome known (λ input. (t : Told) × WorkedWordsTell input w t × writes t)) (sym is)
-    (subst (λ (n : Option (List ℕ)). IfSome known (λ input. (t : Told) × StreamWorkedTells (script_named (front input) n) cells events t × writes t)) named h)
+    (subst (λ (n : Option (List ℕ)). IfSome known (λ input. (t : Told) × StreamWorkedTells (script_named (front input) n) steps cells events t × writes t)) named h)
 
 -- the same of code
 pub worked_code_told : (known : Option (List ℕ)) (writes : Told → Type 0) (words : Words) (file : Option (String Global)) (workers steps : ℕ) (cells events : Bool)
     → words ≡ WorkCode file workers steps cells events
-    → IfSome known (λ input. (t : Told) × StreamWorkedCodeTells input cells events t × writes t)
+    → IfSome known (λ input. (t : Told) × StreamWorkedCodeTells input steps cells events t × writes t)
     → IfSome known (λ input. (t : Told) × WorkedWordsTell input words t × writes t)
 worked_code_told known writes words file workers steps cells events is h = subst (λ (w : Words). IfSome known (λ input. (t : Told) × WorkedWordsTell input w t × writes t)) (sym is) h

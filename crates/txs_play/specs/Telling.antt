@@ -40,10 +40,10 @@ abbrev pub WorkedWordsTell : List ℕ → Words → Told → Type 0
 WorkedWordsTell input (Check file explain) t = WordsTell input (Check file explain) t
 WorkedWordsTell input (Listing file explain) t = WordsTell input (Listing file explain) t
 WorkedWordsTell input (Build file out explain) t = WordsTell input (Build file out explain) t
-WorkedWordsTell input (Work file workers steps cells events explain) t = StreamWorkedTells (record { text = front input; file = explained_as explain file }) cells events t
+WorkedWordsTell input (Work file workers steps cells events explain) t = StreamWorkedTells (record { text = front input; file = explained_as explain file }) steps cells events t
 WorkedWordsTell input (Run file turns steps cells events explain) t = WordsTell input (Run file turns steps cells events explain) t
 WorkedWordsTell input (ListCode file) t = WordsTell input (ListCode file) t
-WorkedWordsTell input (WorkCode file workers steps cells events) t = StreamWorkedCodeTells input cells events t
+WorkedWordsTell input (WorkCode file workers steps cells events) t = StreamWorkedCodeTells input steps cells events t
 WorkedWordsTell input (RunCode file turns steps cells events) t = WordsTell input (RunCode file turns steps cells events) t
 WorkedWordsTell input (Shown text) t = WordsTell input (Shown text) t
 WorkedWordsTell input (Faulty text) t = WordsTell input (Faulty text) t

@@ -22,7 +22,7 @@ pub fn play_with<
     F: Write,
 >(alloc: Global, runner: &X, words: &Words, reader: &mut R, writer: &mut W, faults: &mut F) -> u8
     requires call { (a : _) (code : _) (n : _) (steps : _) → IsRunnable code.now → X.pre runner.now a code n steps }
-    requires ran { (a : _) (code : _) (n : _) (steps : _) (r : _) → X.post runner.now a code n steps r → RunsLawfully code.now r }
+    requires ran { (a : _) (code : _) (n : _) (steps : _) (r : _) → X.post runner.now a code n steps r → RunsLawfully code.now steps r }
     ensures { IfSome (R.remaining reader.old) (λ input. (t : Told) × WorkedWordsTell input words.now t
         × Written (W.contents writer.old) (W.contents writer.new) (F.contents faults.old) (F.contents faults.new) t result) }
 {

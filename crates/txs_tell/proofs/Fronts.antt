@@ -1,5 +1,6 @@
 -- What a reader gave of its known bytes, and what holds of an answer carried over.
-use Rattle.std.proofs.Common.{◌≡◌, ℕ, List, [], ◌++◌, take, Option, Some, None, Result, Ok, Err, IfOk, OnOk, ap, ◌∙◌, subst}
+use Rattle.std.proofs.Common.{◌≡◌, ℕ, List, [], ◌++◌, take, Option, Some, None, Result, Ok, Err, IfOk, OnOk, refl, ap, ◌∙◌, subst}
+use Rattle.std.specs.Io.KnownBytes.{Keeps}
 use Rattle.std.specs.Option.{IfSome, option_map}
 
 -- a front of them, read to its end into an empty list
@@ -10,6 +11,11 @@ taken (Some xs) k n old new e q h = h ∙ ap (λ l. l ++ take k xs) e ∙ ap (λ
 -- the same of a reader that is lent
 pub taken_by : {B : Type 0} (a b : B) (f : B → Option (List ℕ)) (k n : ℕ) (old new : List ℕ) → a ≡ b → old ≡ [] → k ≡ n → IfSome (option_map (take k) (f a)) (λ xs. new ≡ old ++ xs) → IfSome (f b) (λ input. new ≡ take n input)
 taken_by a b f k n old new is e q h = taken (f b) k n old new e q (subst (λ r. IfSome (option_map (take k) (f r)) (λ xs. new ≡ old ++ xs)) is h)
+
+-- what isn't touched keeps its bytes
+pub kept : (o : Option (List ℕ)) → Keeps o o
+kept None = tt
+kept (Some xs) = refl
 
 -- what follows from what holds of a value, if there is one
 pub some_maps : {A : Type 0} (o : Option A) (P Q : A → Type 0) → ((x : A) → P x → Q x) → IfSome o P → IfSome o Q

@@ -1,5 +1,5 @@
 -- The lines that the program writes of a script, its threads and its agents, and how each counts in the status.
-use Rattle.std.specs.Prelude.{◌≡◌, ℕ, suc, max, List, [], ◌∷◌, ◌++◌, ◌+◌, ◌^◌, nat_lt, if◌then◌else◌, codes, decimal, Option, Some, None}
+use Rattle.std.specs.Prelude.{◌≡◌, ◌↔◌, ℕ, suc, max, List, [], ◌∷◌, ◌++◌, ◌+◌, ◌^◌, nat_lt, if◌then◌else◌, codes, decimal, Option, Some, None, IsNone}
 use Rattle.txs_asks.specs.declared.event.Outcome.{Outcome}
 use Rattle.txs_asks.specs.declared.event.Outcome.TheVariants.{Done, Failed, StepsSpent, JournalFull, Memory}
 use Rattle.txs_check.specs.Errors.{check_number, check_name}
@@ -78,9 +78,10 @@ lesson_of None text at advice = []
 lesson_of (Some file) text at None = []
 lesson_of (Some file) text at (Some advice) = explained file text at advice
 
--- the standard error: a line, and behind it what explains it, with a sentence that says what to do
+-- The standard error: a line, and behind it what explains it, with a sentence that says what to do. There is a sentence exactly where there is a line.
 pub record IsLesson (script : Script) (line : List ℕ) (at : Option Span) (errors : List ℕ) : Type 0 where
   pub advice : Option (List ℕ)
+  pub told : IsNone advice ↔ (line ≡ [])
   pub is : errors ≡ line ++ lesson_of script.file script.text at advice
 
 -- where the item of a list stands that says no play, where its places are numbers of 32 bits

@@ -1,11 +1,12 @@
 -- What the program tells of a script: on its standard output, on its standard error, and by its status.
-use Rattle.std.specs.Prelude.{◌≡◌, ℕ, max, Bool, true, false, List, [], ◌++◌, ◌+◌, take, codes, Option, Some, None}
+use Rattle.std.specs.Prelude.{◌≡◌, ◌≢◌, ℕ, max, Bool, true, false, List, [], ◌++◌, ◌+◌, take, codes, Option, Some, None}
 use Rattle.std.specs.Io.KnownBytes.{Appends}
 use Rattle.std.specs.declared.result.Result.TheVariants.{Ok, Err}
 use Rattle.txs_asks.specs.declared.event.Event.{Event}
 use Rattle.txs_code.specs.PlainCode.{PlainCode, function_codes}
 use Rattle.txs_compile.specs.Compiled.{IsProgramOf, IsRefusal, codes_of}
 use Rattle.txs_compile.specs.declared.compile_error.CompileError.{CompileError}
+use Rattle.txs_compile.specs.declared.compile_error.CompileError.TheVariants.{Memory as NoMemory}
 use Rattle.txs_bytes.specs.CodeForm.{HasForm, form}
 use Rattle.txs_disasm.specs.Listing.{listing}
 use Rattle.txs_follows.specs.FollowsAgent.{FollowsAgents}
@@ -106,11 +107,11 @@ pub record IsCompiled (text : List ℕ) (p : PlainProgram) (code : PlainCode) : 
   pub sends : CodesSendSound p.functions (codes_of code)
   pub same : code.cells ≡ p.cells
 
--- What is told of a script: that it is refused; that it compiles; the listing of its code; its code's byte form; what its run told, which its program
+-- What is told of a script: that it is refused, which isn't for want of memory; that it compiles; the listing of its code; its code's byte form; what its run told, which its program
 -- explains, and behind it its cells and events; or that a play names no actor, and nothing ran.
 pub data ScriptTells (script : Script) (t : Told) : Wanted → Type 0 where
   of_refused :
-      (wanted : Wanted) (e : CompileError) (refused : IsRefusal script.text e) (output : t.output ≡ [])
+      (wanted : Wanted) (e : CompileError) (told : e ≢ NoMemory) (refused : IsRefusal script.text e) (output : t.output ≡ [])
       (errors : IsLesson script (refused_line e) (refused_place e) t.errors) (status : t.status ≡ 1) → ScriptTells script t wanted
   of_checked :
       (p : PlainProgram) (program : IsProgramOf script.text p)

@@ -1,9 +1,8 @@
 //! What to do about a refusal, a fault or a stop: one sentence for each, in a table for each layer. A
-//! refusal for want of memory has none, since the program tells of it by another line.
+//! refusal for want of memory has none, since the program tells of it by another line; nor has a good end.
 
 ghost use Rattle.std.specs.Prelude.{◌≡◌, ◌↔◌, IsNone};
 
-use txs_asks::Outcome;
 use txs_check::CheckErrorKind;
 use txs_reader::ReadErrorKind;
 use txs_resolve::ResolveErrorKind;
@@ -11,7 +10,7 @@ use txs_value::FaultKind;
 
 /// What to do about a list of plays that has an item which says none.
 pub const OF_LIST: &str =
-    "Write each play as the number of its thread, as 0, which goes on up to its next ask; with a `t` before it, as t0, for one step; and with `xN` behind it for N times, 1 to 100000.";
+    "Write each play as the number of its thread or agent, as 0, which goes on up to its next ask; with a `t` before it, as t0, for one step; and with `xN` behind it for N times, 1 to 100000.";
 
 /// What to do about a script that isn't read.
 pub fn of_read(kind: ReadErrorKind) -> Option<&'static str>
@@ -88,16 +87,16 @@ pub fn of_check(kind: CheckErrorKind) -> Option<&'static str>
             "Put the `loop` into the `dosync`, or the `recur` outside: a `recur` never crosses a `dosync`."
         }
         CheckErrorKind::Arity => {
-            "Give it as many arguments as it takes; the function of an `alter` takes the ref's value as its first."
+            "Give it as many arguments as it takes; the function of an `alter`, `commute`, `swap!` or `send` takes the cell's value as its first."
         }
         CheckErrorKind::NotPure => {
-            "Give the `alter` a core operation or a pure function: one with no `println`, no `dosync` and no form on cells, also in what it calls."
+            "Give it a core operation or a pure function: one with no `println`, no `dosync` and no form on cells, also in what it calls."
         }
         CheckErrorKind::InsideOnly => {
-            "Put it into a `dosync`: an `alter` or `ref-set`, and a function that needs a transaction around it, stand in one alone."
+            "Put it into a `dosync`: a `ref-set`, `alter`, `commute` or `ensure`, and a function that needs a transaction around it, stand in one alone."
         }
         CheckErrorKind::OutsideOnly => {
-            "Move it out of the `dosync`: a `println`, and a function that prints, stand outside of transactions."
+            "Move it out of the `dosync`: a `println`, `swap!` or `reset!`, and a function that has one of them, stand outside of transactions."
         }
         CheckErrorKind::CodeTooLarge => "Make the program smaller: it has at most 200,000 nodes.",
         CheckErrorKind::Memory => return None,
@@ -105,7 +104,7 @@ pub fn of_check(kind: CheckErrorKind) -> Option<&'static str>
 }
 
 /// What to do about a fault.
-fn of_fault(kind: FaultKind) -> &'static str {
+pub fn of_fault(kind: FaultKind) -> &'static str {
     match kind {
         FaultKind::Overflow => "Keep the result within the 64 bits of whole numbers.",
         FaultKind::DivideByZero => "Test the divisor first: here it is 0.",
@@ -113,7 +112,9 @@ fn of_fault(kind: FaultKind) -> &'static str {
         FaultKind::NotAVector => "Give it a vector: here is something else.",
         FaultKind::IndexOut => "Test the index first: here it is below 0 or past the end.",
         FaultKind::PopEmpty => "Test `count` first: here the vector is empty.",
-        FaultKind::NotACell => "Give `deref`, or `@`, a ref: here is something else.",
+        FaultKind::NotACell => {
+            "Give `deref`, or `@`, a ref, an atom or an agent: here is something else."
+        },
         FaultKind::NotARef => "Give it a ref: here is something else.",
         FaultKind::NotAnAtom => "Give it an atom: here is something else.",
         FaultKind::NotAnAgent => "Give it an agent: here is something else.",
@@ -129,19 +130,12 @@ fn of_fault(kind: FaultKind) -> &'static str {
     }
 }
 
-/// What to do about how a thread ended, unless it is done.
-pub fn of_outcome(outcome: Outcome) -> Option<&'static str>
-    ensures { IsNone result ↔ (outcome ≡ Outcome.Done) }
-{
-    Some(match outcome {
-        Outcome::Done => return None,
-        Outcome::Failed(fault) => of_fault(fault.kind),
-        Outcome::StepsSpent => {
-            "Give it more steps by `--steps N`, or look for a loop that never ends."
-        }
-        Outcome::JournalFull => {
-            "Use fewer transactions, and fewer reads outside of them: the journal has at most 1,000,000 events."
-        }
-        Outcome::Memory => "Keep less in vectors and texts, or run it where there is more memory.",
-    })
-}
+/// What to do about one whose steps are spent.
+pub const OF_STEPS: &str = "Give it more steps by `--steps N`, or look for a loop that never ends.";
+
+/// What to do about one that was stopped since the journal is full.
+pub const OF_JOURNAL: &str =
+    "Use fewer transactions, and fewer reads outside of them: the journal has at most 1,000,000 events.";
+
+/// What to do about one that was stopped for want of memory.
+pub const OF_MEMORY: &str = "Keep less in vectors and texts, or run it where there is more memory.";

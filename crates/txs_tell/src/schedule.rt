@@ -1,6 +1,7 @@
 //! Plays a script by a written list of plays.
 
-ghost use Rattle.std.specs.Prelude.{◌≡◌, Err, IfSome};
+ghost use Rattle.std.specs.Io.KnownBytes.{Keeps};
+ghost use Rattle.std.specs.Prelude.{◌≡◌, Err, IfSome, IsErr};
 ghost use Rattle.txs_schedule.specs.Plays.{plays_in};
 ghost use Rattle.txs_tell.specs.Lent.{text_in};
 ghost use Rattle.txs_tell.specs.Told.{Told as PlainTold, ListTells, ScheduleTells, Written, front, list_name};
@@ -64,7 +65,8 @@ pub fn play_schedule<R: Read, W: Write, F: Write>(
     writer: &mut W,
     faults: &mut F,
 ) -> u8
-    ensures { IfSome (R.remaining reader.old) (λ input. (t : PlainTold) × ScheduleTells (record { text = front input; file = text_in file.entry }) turns.now steps cells events t
+    ensures unread { IsErr (plays_in turns.now) → Keeps (R.remaining reader.old) (R.remaining reader.new) }
+    ensures told { IfSome (R.remaining reader.old) (λ input. (t : PlainTold) × ScheduleTells (record { text = front input; file = text_in file.entry }) turns.now steps cells events t
         × Written (W.contents writer.old) (W.contents writer.new) (F.contents faults.old) (F.contents faults.new) t result) }
 {
     match read_plays(alloc, turns) {

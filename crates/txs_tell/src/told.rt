@@ -1,12 +1,15 @@
 //! What the program tells of a script: its lines on both streams, and its status.
 
-ghost use Rattle.std.specs.Prelude.{◌≡◌, ◌≤◌, ◌++◌, ℕ, List, max, length, [], codes, decimal, Some, None, IfOk, OnOk};
+ghost use Rattle.std.specs.Prelude.{◌≡◌, ◌≢◌, ◌≤◌, ◌++◌, ℕ, List, max, length, [], codes, decimal, Some, None, IfOk, OnOk};
 ghost use Rattle.txs_compile.specs.Compiled.{IsRefusal};
+ghost use Rattle.txs_compile.specs.declared.compile_error.CompileError.TheVariants.{Memory};
 ghost use Rattle.txs_tell.specs.Lent.{text_in, script_of, told_of};
 ghost use Rattle.txs_tell.specs.Lines.{IsLesson, at_place, lesson_of, list_place, refusal_line, refused_line, refused_place, thread_front, failed_line, stopped_line, end_line, end_place, status_of, how_ended, all_printed, status_from, AreLessons};
 ghost use Rattle.txs_tell.specs.Told.{ScriptTells, Wanted};
 
-use crate::advice::{OF_LIST, of_check, of_outcome, of_read, of_resolve};
+use crate::advice::{
+    OF_JOURNAL, OF_LIST, OF_MEMORY, OF_STEPS, of_check, of_fault, of_read, of_resolve,
+};
 use crate::explain::{Script, write_explained};
 use itoa::Buffer;
 use std::alloc::{AllocError, Global};
@@ -87,18 +90,18 @@ pub fn complaint(alloc: Global, status: u8, line: &str) -> Result<Told, AllocErr
     })
 }
 
-/// Appends what explains a line, where a file is named and there is a sentence.
+/// Appends what explains a line, where a file is named.
 fn explain(
     errors: &mut Vec<u8>,
     script: Script<'_>,
     at: Option<Span>,
-    advice: Option<&str>,
+    advice: &str,
 ) -> Result<(), AllocError>
-    ensures { OnOk result (errors.new.items ≡ errors.old.items ++ lesson_of (text_in script.entry.file) script.entry.text.now at (text_in advice.entry)) }
+    ensures { OnOk result (errors.new.items ≡ errors.old.items ++ lesson_of (text_in script.entry.file) script.entry.text.now at (Some advice.now)) }
 {
-    match (script.file, advice) {
-        (Some(file), Some(advice)) => write_explained(errors, file, script.text, at, advice),
-        _ => Ok(()),
+    match script.file {
+        Some(file) => write_explained(errors, file, script.text, at, advice),
+        None => Ok(()),
     }
 }
 
@@ -109,10 +112,10 @@ fn lesson(
     status: u8,
     mut line: Vec<u8>,
     at: Option<Span>,
-    advice: Option<&str>,
+    advice: &str,
 ) -> Result<Told, AllocError>
     ensures output { IfOk result (λ t. t.output.items ≡ []) }
-    ensures errors { IfOk result (λ t. t.errors.items ≡ line.items ++ lesson_of (text_in script.entry.file) script.entry.text.now at (text_in advice.entry)) }
+    ensures errors { IfOk result (λ t. t.errors.items ≡ line.items ++ lesson_of (text_in script.entry.file) script.entry.text.now at (Some advice.now)) }
     ensures status { IfOk result (λ t. t.status ≡ status) }
 {
     explain(&mut line, script, at, advice)?;
@@ -190,7 +193,7 @@ fn refusal(
     number: u8,
     name: &str,
     at: Span,
-    advice: Option<&str>,
+    advice: &str,
 ) -> Result<Told, AllocError>
     ensures output { IfOk result (λ t. t.output.items ≡ []) }
     ensures errors { IfOk result (λ t. IsLesson (script_of script.entry) (refusal_line number name.now at) (Some at) t.errors.items) }
@@ -201,23 +204,30 @@ fn refusal(
     Ok(told)
 }
 
-/// What is told of a script that isn't compiled, but for why it isn't.
+/// What is told of a script that isn't compiled, but for why it isn't. Of want of memory the program tells otherwise.
 fn of_error(alloc: Global, script: Script<'_>, error: &CompileError) -> Result<Told, AllocError>
+    ensures told { IfOk result (λ t. error.now ≢ Memory) }
     ensures output { IfOk result (λ t. t.output.items ≡ []) }
     ensures errors { IfOk result (λ t. IsLesson (script_of script.entry) (refused_line error.now) (refused_place error.now) t.errors.items) }
     ensures status { IfOk result (λ t. t.status ≡ 1) }
 {
     match error {
         CompileError::Read(e) => {
-            let advice = of_read(e.kind);
+            let Some(advice) = of_read(e.kind) else {
+                return Err(AllocError);
+            };
             refusal(alloc, script, e.kind.number(), e.kind.name(), e.at, advice)
         }
         CompileError::Resolve(e) => {
-            let advice = of_resolve(e.kind);
+            let Some(advice) = of_resolve(e.kind) else {
+                return Err(AllocError);
+            };
             refusal(alloc, script, e.kind.number(), e.kind.name(), e.at, advice)
         }
         CompileError::Check(e) => {
-            let advice = of_check(e.kind);
+            let Some(advice) = of_check(e.kind) else {
+                return Err(AllocError);
+            };
             refusal(alloc, script, e.kind.number(), e.kind.name(), e.at, advice)
         }
         CompileError::Memory => Err(AllocError),
@@ -252,7 +262,7 @@ fn list_refusal(
     alloc: Global,
     list: Script<'_>,
     at: Option<Span>,
-    advice: Option<&str>,
+    advice: &str,
 ) -> Result<Told, AllocError>
     ensures output { IfOk result (λ t. t.output.items ≡ []) }
     ensures errors { IfOk result (λ t. IsLesson (script_of list.entry) (codes "wrong list\n") at t.errors.items) }
@@ -269,7 +279,7 @@ pub fn wrong_list(alloc: Global, list: Script<'_>, wrong: WrongPlay) -> Result<T
     ensures errors { IfOk result (λ t. IsLesson (script_of list.entry) (codes "wrong list\n") (list_place wrong) t.errors.items) }
     ensures status { IfOk result (λ t. t.status ≡ 2) }
 {
-    list_refusal(alloc, list, list_place(wrong), Some(OF_LIST))
+    list_refusal(alloc, list, list_place(wrong), OF_LIST)
 }
 
 /// What is told of one that failed, whose line begins so.
@@ -278,13 +288,13 @@ fn failed(
     script: Script<'_>,
     mut line: Vec<u8>,
     fault: Fault,
-    advice: Option<&str>,
 ) -> Result<Told, AllocError>
     ensures output { IfOk result (λ t. t.output.items ≡ []) }
     ensures errors { IfOk result (λ t. IsLesson (script_of script.entry) (failed_line line.items fault) (Some fault.span) t.errors.items) }
     ensures status { IfOk result (λ t. t.status ≡ 3) }
 {
     end_failed(&mut line, fault)?;
+    let advice = of_fault(fault.kind);
     let told = lesson(alloc, script, FAILED, line, Some(fault.span), advice)?;
     Ok(told)
 }
@@ -295,7 +305,7 @@ fn stopped(
     script: Script<'_>,
     mut line: Vec<u8>,
     why: &[u8],
-    advice: Option<&str>,
+    advice: &str,
 ) -> Result<Told, AllocError>
     ensures output { IfOk result (λ t. t.output.items ≡ []) }
     ensures errors { IfOk result (λ t. IsLesson (script_of script.entry) (stopped_line line.items why.now) None t.errors.items) }
@@ -326,13 +336,12 @@ pub(crate) fn of_end(
     ensures errors { IfOk result (λ t. IsLesson (script_of script.entry) (end_line front.items outcome) (end_place outcome) t.errors.items) }
     ensures status { IfOk result (λ t. t.status ≡ status_of outcome) }
 {
-    let advice = of_outcome(outcome);
     match outcome {
         Outcome::Done => Ok(nothing(alloc)),
-        Outcome::Failed(fault) => failed(alloc, script, front, fault, advice),
-        Outcome::StepsSpent => stopped(alloc, script, front, b"StepsSpent", advice),
-        Outcome::JournalFull => stopped(alloc, script, front, b"JournalFull", advice),
-        Outcome::Memory => stopped(alloc, script, front, b"Memory", advice),
+        Outcome::Failed(fault) => failed(alloc, script, front, fault),
+        Outcome::StepsSpent => stopped(alloc, script, front, b"StepsSpent", OF_STEPS),
+        Outcome::JournalFull => stopped(alloc, script, front, b"JournalFull", OF_JOURNAL),
+        Outcome::Memory => stopped(alloc, script, front, b"Memory", OF_MEMORY),
     }
 }
 

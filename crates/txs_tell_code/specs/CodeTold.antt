@@ -1,5 +1,5 @@
 -- What the program tells of code in its byte form: on its standard output, on its standard error, and by its status.
-use Rattle.std.specs.Prelude.{◌≡◌, ℕ, Bool, true, false, List, [], ◌++◌, codes, decimal, Option, Some, None}
+use Rattle.std.specs.Prelude.{◌≡◌, ◌≢◌, ℕ, Bool, true, false, List, [], ◌++◌, codes, decimal, None}
 use Rattle.std.specs.declared.result.Result.TheVariants.{Ok}
 use Rattle.txs_bytes.specs.Errors.{code_error_number, code_error_name}
 use Rattle.txs_code.specs.PlainCode.{PlainCode}
@@ -53,11 +53,11 @@ pub data CodeWanted : Type 0 where
 abbrev pub no_script : Script
 no_script = record { text = []; file = None }
 
--- What is told of bytes that are to be code's: that they are refused, truly; the listing of the code that they are the form of, which is well
+-- What is told of bytes that are to be code's: that they are refused, truly, which isn't for want of memory; the listing of the code that they are the form of, which is well
 -- typed; what its run told, and behind it its cells and events; or that a play names no actor, and nothing ran.
 pub data CodeTells (bytes : List ℕ) (t : Told) : CodeWanted → Type 0 where
   of_refused :
-      (wanted : CodeWanted) (e : LoadError) (refused : IsRefusal bytes e) (output : t.output ≡ []) (errors : t.errors ≡ load_line e) (status : t.status ≡ 1) → CodeTells bytes t wanted
+      (wanted : CodeWanted) (e : LoadError) (told : e ≢ Memory) (refused : IsRefusal bytes e) (output : t.output ≡ []) (errors : t.errors ≡ load_line e) (status : t.status ≡ 1) → CodeTells bytes t wanted
   of_listed :
       (code : PlainCode) (function_rooms thread_rooms : List ℕ) (of : IsFormOf bytes code) (typed : WellTyped code function_rooms thread_rooms)
       (output : t.output ≡ listing code) (errors : t.errors ≡ []) (status : t.status ≡ 0) → CodeTells bytes t Listed

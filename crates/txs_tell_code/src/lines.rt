@@ -1,6 +1,7 @@
 //! The lines that tell why bytes aren't taken as code.
 
-ghost use Rattle.std.specs.Prelude.{◌≡◌, ◌++◌, [], codes, decimal, IfOk, OnOk};
+ghost use Rattle.std.specs.Prelude.{◌≡◌, ◌≢◌, ◌++◌, [], codes, decimal, IfOk, OnOk};
+ghost use Rattle.txs_load.specs.declared.error.LoadError.TheVariants.{Memory};
 ghost use Rattle.txs_tell_code.specs.CodeTold.{at_number, in_body, load_line, refused_front};
 
 use itoa::Buffer;
@@ -59,7 +60,8 @@ fn end_in_body(line: &mut Vec<u8>, body: BodyName, at: usize) -> Result<(), Allo
 
 /// The line of what isn't taken; of want of memory there is none.
 fn load_line(alloc: Global, error: LoadError) -> Result<Vec<u8>, AllocError>
-    ensures { IfOk result (λ line. line.items ≡ load_line error) }
+    ensures told { IfOk result (λ line. error ≢ Memory) }
+    ensures line { IfOk result (λ line. line.items ≡ load_line error) }
 {
     match error {
         LoadError::Bytes(e) => {
@@ -76,8 +78,9 @@ fn load_line(alloc: Global, error: LoadError) -> Result<Vec<u8>, AllocError>
     }
 }
 
-/// What is told of bytes that aren't taken as code.
+/// What is told of bytes that aren't taken as code. Of want of memory the program tells otherwise.
 pub fn refused(alloc: Global, error: LoadError) -> Result<Told, AllocError>
+    ensures told { IfOk result (λ t. error ≢ Memory) }
     ensures output { IfOk result (λ t. t.output.items ≡ []) }
     ensures errors { IfOk result (λ t. t.errors.items ≡ load_line error) }
     ensures status { IfOk result (λ t. t.status ≡ 1) }

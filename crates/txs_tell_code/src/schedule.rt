@@ -1,6 +1,7 @@
 //! Plays code by a written list of plays.
 
-ghost use Rattle.std.specs.Prelude.{◌≡◌, Err, IfSome, None};
+ghost use Rattle.std.specs.Io.KnownBytes.{Keeps};
+ghost use Rattle.std.specs.Prelude.{◌≡◌, Err, IfSome, IsErr, None};
 ghost use Rattle.txs_schedule.specs.Plays.{plays_in};
 ghost use Rattle.txs_tell.specs.Told.{Told as PlainTold, ListTells, Written};
 ghost use Rattle.txs_tell_code.specs.CodeTold.{BytesScheduleTell};
@@ -26,7 +27,8 @@ pub fn schedule_code<R: Read, W: Write, F: Write>(
     writer: &mut W,
     faults: &mut F,
 ) -> u8
-    ensures { IfSome (R.remaining reader.old) (λ input. (t : PlainTold) × BytesScheduleTell input turns.now steps cells events t
+    ensures unread { IsErr (plays_in turns.now) → Keeps (R.remaining reader.old) (R.remaining reader.new) }
+    ensures told { IfSome (R.remaining reader.old) (λ input. (t : PlainTold) × BytesScheduleTell input turns.now steps cells events t
         × Written (W.contents writer.old) (W.contents writer.new) (F.contents faults.old) (F.contents faults.new) t result) }
 {
     match read_plays(alloc, turns) {

@@ -32,7 +32,7 @@ fn run_in_turn(
 ) -> Result<(SharedState, Report), RunError>
     requires runnable { IsRunnable code.now }
     requires few { length code.now.threads ≤ 64 }
-    ensures lawful { RunsLawfully code.now result }
+    ensures lawful { RunsLawfully code.now steps result }
     ensures refused { IfErr result (λ e. e ≡ Memory) }
 {
     let mut shared = open_state(alloc, code)?;
@@ -52,9 +52,9 @@ pub(crate) fn run_all<
     working: Working,
 ) -> Result<(SharedState, Report), RunError>
     requires call { (a : _) (code : _) (n : _) (steps : _) → IsRunnable code.now → X.pre runner.now a code n steps }
-    requires ran { (a : _) (code : _) (n : _) (steps : _) (r : _) → X.post runner.now a code n steps r → RunsLawfully code.now r }
+    requires ran { (a : _) (code : _) (n : _) (steps : _) (r : _) → X.post runner.now a code n steps r → RunsLawfully code.now steps r }
     requires runnable { IsRunnable code.now }
-    ensures { RunsLawfully code.now result }
+    ensures { RunsLawfully code.now working.steps result }
 {
     if is_alone(code) {
         return run_in_turn(alloc, code, working.steps);

@@ -24,8 +24,8 @@ fn work_bytes<
     R: Read,
 >(alloc: Global, runner: &X, working: Working, reader: &mut R) -> Result<Told, AllocError>
     requires call { (a : _) (code : _) (n : _) (steps : _) → IsRunnable code.now → X.pre runner.now a code n steps }
-    requires ran { (a : _) (code : _) (n : _) (steps : _) (r : _) → X.post runner.now a code n steps r → RunsLawfully code.now r }
-    ensures { IfOk result (λ t. IfSome (R.remaining reader.old) (λ input. StreamWorkedCodeTells input working.cells working.events (told_of t))) }
+    requires ran { (a : _) (code : _) (n : _) (steps : _) (r : _) → X.post runner.now a code n steps r → RunsLawfully code.now steps r }
+    ensures { IfOk result (λ t. IfSome (R.remaining reader.old) (λ input. StreamWorkedCodeTells input working.steps working.cells working.events (told_of t))) }
 {
     match read_all(alloc, reader) {
         Ok(bytes) => work_code(alloc, runner, bytes.as_slice(), working),
@@ -44,8 +44,8 @@ pub fn play_code_workers<
     F: Write,
 >(alloc: Global, runner: &X, working: Working, reader: &mut R, writer: &mut W, faults: &mut F) -> u8
     requires call { (a : _) (code : _) (n : _) (steps : _) → IsRunnable code.now → X.pre runner.now a code n steps }
-    requires ran { (a : _) (code : _) (n : _) (steps : _) (r : _) → X.post runner.now a code n steps r → RunsLawfully code.now r }
-    ensures { IfSome (R.remaining reader.old) (λ input. (t : PlainTold) × StreamWorkedCodeTells input working.cells working.events t
+    requires ran { (a : _) (code : _) (n : _) (steps : _) (r : _) → X.post runner.now a code n steps r → RunsLawfully code.now steps r }
+    ensures { IfSome (R.remaining reader.old) (λ input. (t : PlainTold) × StreamWorkedCodeTells input working.steps working.cells working.events t
         × Written (W.contents writer.old) (W.contents writer.new) (F.contents faults.old) (F.contents faults.new) t result) }
 {
     match work_bytes(alloc, runner, working, reader) {

@@ -26,8 +26,8 @@ pub fn work_code<X: Fn(Global, &Verified, usize, u64) -> Result<(SharedState, Re
     working: Working,
 ) -> Result<Told, AllocError>
     requires call { (a : _) (code : _) (n : _) (steps : _) → IsRunnable code.now → X.pre runner.now a code n steps }
-    requires ran { (a : _) (code : _) (n : _) (steps : _) (r : _) → X.post runner.now a code n steps r → RunsLawfully code.now r }
-    ensures { IfOk result (λ t. WorkedCodeTells bytes.now working.cells working.events (told_of t)) }
+    requires ran { (a : _) (code : _) (n : _) (steps : _) (r : _) → X.post runner.now a code n steps r → RunsLawfully code.now steps r }
+    ensures { IfOk result (λ t. WorkedCodeTells bytes.now working.steps working.cells working.events (told_of t)) }
 {
     let code = match load_verified(alloc, bytes) {
         Ok(code) => code,
@@ -39,7 +39,6 @@ pub fn work_code<X: Fn(Global, &Verified, usize, u64) -> Result<(SharedState, Re
     form_is_taken(code.code());
     let (shared, report) = match run_all(alloc, runner, &code, working) {
         Ok(ran) => ran,
-        Err(RunError::Memory) => return Err(AllocError),
         Err(failure) => {
             let told = of_failure(alloc, failure)?;
             return Ok(told);

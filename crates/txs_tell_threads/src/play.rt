@@ -29,8 +29,8 @@ fn work_stream<
     reader: &mut R,
 ) -> Result<Told, AllocError>
     requires call { (a : _) (code : _) (n : _) (steps : _) → IsRunnable code.now → X.pre runner.now a code n steps }
-    requires ran { (a : _) (code : _) (n : _) (steps : _) (r : _) → X.post runner.now a code n steps r → RunsLawfully code.now r }
-    ensures { IfOk result (λ t. IfSome (R.remaining reader.old) (λ input. StreamWorkedTells (record { text = front input; file = text_in file.entry }) working.cells working.events (told_of t))) }
+    requires ran { (a : _) (code : _) (n : _) (steps : _) (r : _) → X.post runner.now a code n steps r → RunsLawfully code.now steps r }
+    ensures { IfOk result (λ t. IfSome (R.remaining reader.old) (λ input. StreamWorkedTells (record { text = front input; file = text_in file.entry }) working.steps working.cells working.events (told_of t))) }
 {
     match read_bytes(alloc, reader) {
         Ok(bytes) => {
@@ -44,7 +44,7 @@ fn work_stream<
 
 /// Has the reader's script run by workers, and writes what is told of it. Where a file is named, lines on the standard error are explained under
 /// its name. Answers the status: 0 where all ended, 1 for a script that is refused, 2 for a stream that couldn't be read or written, 3 for a
-/// thread that failed, 4 for want of steps or memory, or a run without a report; the highest that applies.
+/// thread or an agent that failed, 4 for want of steps or memory, or a run without a report; the highest that applies.
 pub fn play_workers<
     X: Fn(Global, &Verified, usize, u64) -> Result<(SharedState, Report), RunError>,
     R: Read,
@@ -60,8 +60,8 @@ pub fn play_workers<
     faults: &mut F,
 ) -> u8
     requires call { (a : _) (code : _) (n : _) (steps : _) → IsRunnable code.now → X.pre runner.now a code n steps }
-    requires ran { (a : _) (code : _) (n : _) (steps : _) (r : _) → X.post runner.now a code n steps r → RunsLawfully code.now r }
-    ensures { IfSome (R.remaining reader.old) (λ input. (t : PlainTold) × StreamWorkedTells (record { text = front input; file = text_in file.entry }) working.cells working.events t
+    requires ran { (a : _) (code : _) (n : _) (steps : _) (r : _) → X.post runner.now a code n steps r → RunsLawfully code.now steps r }
+    ensures { IfSome (R.remaining reader.old) (λ input. (t : PlainTold) × StreamWorkedTells (record { text = front input; file = text_in file.entry }) working.steps working.cells working.events t
         × Written (W.contents writer.old) (W.contents writer.new) (F.contents faults.old) (F.contents faults.new) t result) }
 {
     match work_stream(alloc, runner, working, file, reader) {

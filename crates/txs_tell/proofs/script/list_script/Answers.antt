@@ -9,4 +9,4 @@ pub returns : goal.returns
 returns c =
     let of = c.in-Ok.ensures in
     let t = c.in_ok-told.ensures in
-    of_listed (program_of c.in-Ok.compiled.0) c.in-Ok.compiled.1 (record { program = of.program; follows = of.code; agents = of.agents; sends = of.sends; same = of.cells }) t.output t.errors t.status
+    of_listed (program_of c.in-Ok.compiled.0) c.in-Ok.compiled.1 (record { program = of.program; generated = of.generated; follows = of.code; agents = of.agents; sends = of.sends; same = of.cells }) t.output t.errors t.status

@@ -1,4 +1,4 @@
-use Rattle.std.proofs.Common.{ℕ, List, subst₂}
+use Rattle.std.proofs.Common.{subst₂}
 use Rattle.txs_tell.specs.Lent.{told_of}
 use Rattle.txs_tell.specs.Told.{Told, Written}
 use Rattle.txs_tell.proofs.Fronts.{some_maps}

@@ -4,7 +4,7 @@ use Rattle.txs_tell_code.proofs.usage.list_code.Goals as goal
 pub returns-in-Err : goal.returns-in-Err
 returns-in-Err c =
     let t = c.in_ok-told-in-Err.ensures in
-    of_refused Listed c.in-Err.error c.in-Err.ensures.refused t.output t.errors t.status
+    of_refused Listed c.in-Err.error t.told c.in-Err.ensures.refused t.output t.errors t.status
 
 pub returns : goal.returns
 returns c =

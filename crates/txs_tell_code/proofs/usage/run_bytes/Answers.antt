@@ -14,7 +14,7 @@ use Rattle.txs_tell_code.proofs.usage.run_bytes.Goals as goal
 pub returns-in-Err : goal.returns-in-Err
 returns-in-Err c =
     let t = c.in_ok-told-in-Err.ensures in
-    of_refused (Ran c.args.plays.now c.args.steps c.args.cells c.args.events) c.in-Err.error c.in-Err.ensures.refused t.output t.errors t.status
+    of_refused (Ran c.args.plays.now c.args.steps c.args.cells c.args.events) c.in-Err.error t.told c.in-Err.ensures.refused t.output t.errors t.status
 
 -- a play names no actor
 pub returns-in_default : goal.returns-in_default

@@ -6,12 +6,12 @@ use Rattle.txs_tell_threads.proofs.alone.run_in_turn.Goals as goal
 pub returns-in-Ok-clause-lawful : goal.returns-in-Ok-clause-lawful
 returns-in-Ok-clause-lawful c =
     let e = c.in-Ok.ensures in
-    let is : IsWorked c.args.code.now c.run_schedule.new.shared c.in-Ok.report = record {
+    let is : IsWorked c.args.code.now c.args.steps c.run_schedule.new.shared c.in-Ok.report = record {
       of = c.run_schedule.ensures.of;
       one_each = e.done.one_each;
       agents_each = e.agents.one_each;
-      done = λ k ran x. (c.args.steps, e.done.each k ran x);
-      agents_done = λ i ran x. (c.args.steps, e.agents.each i ran x);
+      done = e.done.each;
+      agents_done = e.agents.each;
       ended = e.ended refl;
       drained = e.drained refl;
       explained = e.all_explained;

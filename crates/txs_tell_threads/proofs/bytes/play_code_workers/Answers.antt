@@ -1,4 +1,4 @@
-use Rattle.std.proofs.Common.{ℕ, List, subst₂}
+use Rattle.std.proofs.Common.{subst₂}
 use Rattle.txs_tell.proofs.Fronts.{some_maps}
 use Rattle.txs_tell.specs.Lent.{told_of}
 use Rattle.txs_tell.specs.Told.{Told, Written}
@@ -14,6 +14,6 @@ returns-in-Ok g c =
     let errors_new = g.F.Write.contents c.write_told.new.faults in
     let told = c.in-Ok.told in
     let written = subst₂ (λ o e. Written output_old output_new errors_old errors_new (record { output = o; errors = e; status = told.status }) c.write_told.result) c.as_slice.ensures.value c.as_slice-in-Ok.ensures.value c.write_told.ensures in
-    some_maps known (λ input. StreamWorkedCodeTells input c.args.working.cells c.args.working.events (told_of told))
-    (λ input. (x : Told) × StreamWorkedCodeTells input c.args.working.cells c.args.working.events x × Written output_old output_new errors_old errors_new x c.write_told.result)
+    some_maps known (λ input. StreamWorkedCodeTells input c.args.working.steps c.args.working.cells c.args.working.events (told_of told))
+    (λ input. (x : Told) × StreamWorkedCodeTells input c.args.working.steps c.args.working.cells c.args.working.events x × Written output_old output_new errors_old errors_new x c.write_told.result)
     (λ input is. (told_of told, is, written)) c.in-Ok.ensures

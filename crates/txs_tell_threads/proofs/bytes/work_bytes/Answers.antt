@@ -7,8 +7,8 @@ use Rattle.txs_tell_threads.proofs.bytes.work_bytes.Goals as goal
 pub returns-in-Ok : goal.returns-in-Ok
 returns-in-Ok g c =
     let known = g.R.Read.remaining c.args.reader.now in
-    ok_maps c.work_code.result (λ t. WorkedCodeTells c.as_slice.result.now c.args.working.cells c.args.working.events (told_of t))
-    (λ t. IfSome known (λ input. StreamWorkedCodeTells input c.args.working.cells c.args.working.events (told_of t)))
-    (λ t worked. some_maps known (λ input. c.in-Ok.bytes.items ≡ input) (λ input. StreamWorkedCodeTells input c.args.working.cells c.args.working.events (told_of t))
-    (λ input is. of_bytes (subst (λ text. WorkedCodeTells text c.args.working.cells c.args.working.events (told_of t)) (c.as_slice.ensures.value ∙ is) worked)) c.in-Ok.ensures)
+    ok_maps c.work_code.result (λ t. WorkedCodeTells c.as_slice.result.now c.args.working.steps c.args.working.cells c.args.working.events (told_of t))
+    (λ t. IfSome known (λ input. StreamWorkedCodeTells input c.args.working.steps c.args.working.cells c.args.working.events (told_of t)))
+    (λ t worked. some_maps known (λ input. c.in-Ok.bytes.items ≡ input) (λ input. StreamWorkedCodeTells input c.args.working.steps c.args.working.cells c.args.working.events (told_of t))
+    (λ input is. of_bytes (subst (λ text. WorkedCodeTells text c.args.working.steps c.args.working.cells c.args.working.events (told_of t)) (c.as_slice.ensures.value ∙ is) worked)) c.in-Ok.ensures)
     c.work_code.ensures

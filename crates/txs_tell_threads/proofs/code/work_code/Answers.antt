@@ -16,19 +16,19 @@ use Rattle.txs_tell_threads.proofs.code.work_code.Goals as goal
 pub returns-in-Err : goal.returns-in-Err
 returns-in-Err g c =
     let t = c.in_ok-told-in-Err.ensures in
-    of_refused c.in-Err.error c.in-Err.ensures.refused t.output t.errors t.status
+    of_refused c.in-Err.error t.told c.in-Err.ensures.refused t.output t.errors t.status
 
 -- the run has no report
 pub returns-in-Err-run_all : goal.returns-in-Err-run_all
 returns-in-Err-run_all g c =
     let t = c.in_ok-told-in-Err-run_all.ensures in
-    of_failure c.in-Ok.code c.in-Ok.ensures.form c.in-Err-run_all.failure t.output t.errors t.status
+    of_failure c.in-Ok.code c.in-Ok.ensures.form c.in-Err-run_all.failure t.told t.output t.errors t.status
 
 pub of_report-requires-clause-one_each : goal.of_report-requires-clause-one_each
 of_report-requires-clause-one_each g c =
     let code = c.in-Ok.code in
     let ran = c.in-Ok-run_all.ran in
-    let worked : IsWorked code ran.0 ran.1 = subst (λ r. RunsLawfully code r) c.in-Ok-run_all.is c.run_all.ensures in
+    let worked : IsWorked code c.args.working.steps ran.0 ran.1 = subst (λ r. RunsLawfully code c.args.working.steps r) c.in-Ok-run_all.is c.run_all.ensures in
     let is : c.cells.result.now ≡ code.cells = search rules in
     worked.agents_each ∙ sym (all_named_from 0 code.cells) ∙ ap (λ (ds : List CellDefinition). length (named_from 0 ds)) (sym is)
 
@@ -38,7 +38,7 @@ returns g c =
     let ran = c.in-Ok-run_all.ran in
     let rans : List ThreadReport = ran.1.threads.items in
     let agents : List ThreadReport = ran.1.agents.items in
-    let worked : IsWorked code ran.0 ran.1 = subst (λ r. RunsLawfully code r) c.in-Ok-run_all.is c.run_all.ensures in
+    let worked : IsWorked code c.args.working.steps ran.0 ran.1 = subst (λ r. RunsLawfully code c.args.working.steps r) c.in-Ok-run_all.is c.run_all.ensures in
     let is : c.cells.result.now ≡ code.cells = search rules in
     let same : c.code-4.result.now ≡ code = search rules in
     let t = c.in_ok-told.ensures in

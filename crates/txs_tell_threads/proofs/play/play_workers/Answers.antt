@@ -16,6 +16,6 @@ returns-in-Ok g c =
     let errors_new = g.F.Write.contents c.write_told.new.faults in
     let told = c.in-Ok.told in
     let written = subst₂ (λ o e. Written output_old output_new errors_old errors_new (record { output = o; errors = e; status = told.status }) c.write_told.result) c.as_slice.ensures.value c.as_slice-in-Ok.ensures.value c.write_told.ensures in
-    some_maps known (λ input. StreamWorkedTells (script input) c.args.working.cells c.args.working.events (told_of told))
-    (λ input. (x : Told) × StreamWorkedTells (script input) c.args.working.cells c.args.working.events x × Written output_old output_new errors_old errors_new x c.write_told.result)
+    some_maps known (λ input. StreamWorkedTells (script input) c.args.working.steps c.args.working.cells c.args.working.events (told_of told))
+    (λ input. (x : Told) × StreamWorkedTells (script input) c.args.working.steps c.args.working.cells c.args.working.events x × Written output_old output_new errors_old errors_new x c.write_told.result)
     (λ input is. (told_of told, is, written)) c.in-Ok.ensures

@@ -10,8 +10,8 @@ pub returns-in-Ok : goal.returns-in-Ok
 returns-in-Ok g c =
     let known = g.R.Read.remaining c.args.reader.now in
     let script : List ℕ → Script = λ text. record { text = text; file = text_in c.args.file } in
-    ok_maps c.work_script.result (λ t. WorkedTells (script c.as_slice-text.result.now) c.args.working.cells c.args.working.events (told_of t))
-    (λ t. IfSome known (λ input. StreamWorkedTells (script (front input)) c.args.working.cells c.args.working.events (told_of t)))
-    (λ t worked. some_maps known (λ input. c.in-Ok.bytes.items ≡ front input) (λ input. StreamWorkedTells (script (front input)) c.args.working.cells c.args.working.events (told_of t))
-    (λ input is. of_script (subst (λ text. WorkedTells (script text) c.args.working.cells c.args.working.events (told_of t)) (c.as_slice-text.ensures.value ∙ is) worked)) c.in-Ok.ensures)
+    ok_maps c.work_script.result (λ t. WorkedTells (script c.as_slice-text.result.now) c.args.working.steps c.args.working.cells c.args.working.events (told_of t))
+    (λ t. IfSome known (λ input. StreamWorkedTells (script (front input)) c.args.working.steps c.args.working.cells c.args.working.events (told_of t)))
+    (λ t worked. some_maps known (λ input. c.in-Ok.bytes.items ≡ front input) (λ input. StreamWorkedTells (script (front input)) c.args.working.steps c.args.working.cells c.args.working.events (told_of t))
+    (λ input is. of_script (subst (λ text. WorkedTells (script text) c.args.working.steps c.args.working.cells c.args.working.events (told_of t)) (c.as_slice-text.ensures.value ∙ is) worked)) c.in-Ok.ensures)
     c.work_script.ensures

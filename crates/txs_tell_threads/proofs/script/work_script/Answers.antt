@@ -1,6 +1,6 @@
 use Rattle.std.proofs.Common.{◌≡◌, ◌++◌, ◌∙◌, List, length, rules, ap, subst, sym}
 use Rattle.txs_machine.specs.declared.schedule.ThreadReport.{ThreadReport}
-use Rattle.txs_shared.specs.SharedState.{PlainShared, numbered_book}
+use Rattle.txs_shared.specs.SharedState.{numbered_book}
 use Rattle.txs_tell.proofs.OfAgents.{all_named_from}
 use Rattle.txs_tell.specs.AgentLines.{named_from}
 use Rattle.txs_tell.specs.Lent.{script_of, told_of}
@@ -15,13 +15,13 @@ use Rattle.txs_tell_threads.proofs.script.work_script.Goals as goal
 pub returns-in-Err-run_all : goal.returns-in-Err-run_all
 returns-in-Err-run_all g c =
     let t = c.in_ok-told-in-Err-run_all.ensures in
-    of_failure (program_of c.in-Ok.compiled.0) c.in-Ok.ensures.program c.in-Err-run_all.failure t.output t.errors t.status
+    of_failure (program_of c.in-Ok.compiled.0) c.in-Ok.ensures.program c.in-Err-run_all.failure t.told t.output t.errors t.status
 
 pub of_report-requires-clause-one_each : goal.of_report-requires-clause-one_each
 of_report-requires-clause-one_each g c =
     let code = c.in-Ok.compiled.1 in
     let ran = c.in-Ok-run_all.ran in
-    let worked : IsWorked code ran.0 ran.1 = subst (λ r. RunsLawfully code r) c.in-Ok-run_all.is c.run_all.ensures in
+    let worked : IsWorked code c.args.working.steps ran.0 ran.1 = subst (λ r. RunsLawfully code c.args.working.steps r) c.in-Ok-run_all.is c.run_all.ensures in
     let is : c.cells.result.now ≡ code.cells = search rules in
     worked.agents_each ∙ sym (all_named_from 0 code.cells) ∙ ap (λ (ds : List CellDefinition). length (named_from 0 ds)) (sym is)
 
@@ -33,7 +33,7 @@ returns g c =
     let ran = c.in-Ok-run_all.ran in
     let rans : List ThreadReport = ran.1.threads.items in
     let agents : List ThreadReport = ran.1.agents.items in
-    let worked : IsWorked code ran.0 ran.1 = subst (λ r. RunsLawfully code r) c.in-Ok-run_all.is c.run_all.ensures in
+    let worked : IsWorked code c.args.working.steps ran.0 ran.1 = subst (λ r. RunsLawfully code c.args.working.steps r) c.in-Ok-run_all.is c.run_all.ensures in
     let is : c.cells.result.now ≡ code.cells = search rules in
     let t = c.in_ok-told.ensures in
     let book = c.in_ok-tell_book.ensures in
@@ -42,11 +42,8 @@ returns g c =
     of_run (program_of c.in-Ok.compiled.0) code compiled
     (record {
       shared = ran.0;
-      rans = rans;
-      agents = agents;
-      of = worked.of;
-      ended = worked.ended;
-      drained = worked.drained;
+      report = ran.1;
+      worked = worked;
       explained = worked.explained (program_of c.in-Ok.compiled.0) (sym of.cells) of.code of.agents of.sends;
       output = book.output ∙ ap (λ xs. (xs ++ cells_told c.args.working.cells (program_of c.in-Ok.compiled.0).cells ran.0) ++ events_told c.args.working.events (numbered_book ran.0 0)) t.output;
       errors = subst (λ (ds : List CellDefinition). EndsTold ds script ran.0 rans agents told.errors) is (subst (EndsTold c.cells.result.now script ran.0 rans agents) (sym book.errors) t.errors);
