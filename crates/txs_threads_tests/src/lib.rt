@@ -9,6 +9,8 @@ mod at_once;
 #[cfg(test)]
 mod by_hand;
 #[cfg(test)]
+mod program;
+#[cfg(test)]
 mod runs;
 #[cfg(test)]
 mod seen;
