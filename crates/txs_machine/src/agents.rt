@@ -184,7 +184,7 @@ fn has_work(shared: &SharedState, agent: CellId) -> bool
 }
 
 /// Whether an agent's actor hasn't ended, and has something to do.
-pub(crate) fn is_working(agent: &AgentPlayer, shared: &SharedState) -> bool
+fn is_working(agent: &AgentPlayer, shared: &SharedState) -> bool
     requires { has_agent (cells_of shared.now.cells) agent.now.agent ≡ true }
     ensures unended { IsTrue result → agent.now.player.actor.outcome ≡ None }
     ensures yes { IsTrue result → (x : AnAction) × (next_action (cells_of shared.now.cells) (numbered_book shared.now 0) agent.now.agent ≡ Some x) }
@@ -194,6 +194,20 @@ pub(crate) fn is_working(agent: &AgentPlayer, shared: &SharedState) -> bool
         return false;
     }
     has_work(shared, agent.agent)
+}
+
+/// Whether a play of an agent's actor leaves something else: the actor hasn't ended, and has something to do, or no step left, so that it ends. Any
+/// other is asked for nothing, since it would be answered that nothing waits, and stay as it is.
+pub(crate) fn is_due(agent: &AgentPlayer, shared: &SharedState, max_steps: u64) -> bool
+    requires { has_agent (cells_of shared.now.cells) agent.now.agent ≡ true }
+    ensures unended { IsTrue result → agent.now.player.actor.outcome ≡ None }
+    ensures no { result ≡ false → agent.now.player.actor.outcome ≡ None → next_action (cells_of shared.now.cells) (numbered_book shared.now 0) agent.now.agent ≡ None }
+{
+    let actor = &agent.player.actor;
+    if actor.outcome().is_none() && actor.steps() >= max_steps {
+        return true;
+    }
+    is_working(agent, shared)
 }
 
 /// The first agent, by its place among the agents, whose actor hasn't ended and which has something to do.

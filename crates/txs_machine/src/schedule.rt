@@ -14,7 +14,7 @@ ghost use Rattle.txs_shared.specs.SharedState.{PlainShared, shared_of};
 ghost use Rattle.txs_value.specs.declared.action.Action.{Action as AnAction};
 ghost use Rattle.txs_world.specs.Store.{cells_of, next_action};
 
-use crate::agents::{attend, first_working, is_working, open_agents};
+use crate::agents::{attend, first_working, is_due, open_agents};
 use crate::law::actors_explained;
 use crate::player::{AgentPlayer, Place, Player, Players};
 use crate::run::round;
@@ -183,7 +183,7 @@ fn play_actor(
     round(player, code, shared, k, budget);
 }
 
-/// A play of an agent's actor, in the same way. Where nothing waits for it, it would be answered so, and stay as it is: it isn't asked.
+/// A play of an agent's actor, in the same way. One for which nothing waits isn't asked, unless it has no step left.
 fn play_agent(
     agent: &mut AgentPlayer,
     code: &Verified,
@@ -206,7 +206,7 @@ fn play_agent(
     ensures later { agent.new.player.actor.outcome ≡ None → (agent.old.player.actor.outcome ≡ None) × (agent.old.player.actor.steps ≤ agent.new.player.actor.steps) }
     ensures progress { agent.new.player.actor.outcome ≡ None → HasWork code.now shared.old agent.old.agent → agent.old.player.actor.steps < agent.new.player.actor.steps }
 {
-    if !is_working(agent, shared) {
+    if !is_due(agent, shared, max_steps) {
         return;
     }
     attend(&mut agent.player, code, shared, agent.agent, k, budget);
