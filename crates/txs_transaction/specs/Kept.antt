@@ -2,16 +2,16 @@
 use Rattle.std.specs.Prelude.{◌≡◌, ℕ, suc, ◌+◌, Option, Some, None}
 use Rattle.txs_value.specs.Limits.{reruns}
 use Rattle.txs_value.specs.declared.value.CellId.{CellId}
-use Rattle.txs_actor.specs.declared.kept.Ending.{Ending}
-use Rattle.txs_actor.specs.declared.kept.Ending.TheVariants as ending
-use Rattle.txs_actor.specs.declared.kept.Standing.{Standing}
-use Rattle.txs_actor.specs.declared.kept.Wanted.{Wanted}
-use Rattle.txs_actor.specs.declared.kept.Wanted.TheVariants as wanted
-use Rattle.txs_actor.specs.declared.state.Origin.{Origin}
-use Rattle.txs_actor.specs.declared.state.Pending.{Pending}
-use Rattle.txs_actor.specs.declared.state.Pending.TheVariants as pending
-use Rattle.txs_actor.specs.declared.state.Transaction.{Transaction}
-use Rattle.txs_actor.specs.declared.state.Transaction.TheVariants.{Outside, Restarting, Running, Applying, Evaluating, Swapping, Attending, Acting}
+use Rattle.txs_transaction.specs.declared.kept.Ending.{Ending}
+use Rattle.txs_transaction.specs.declared.kept.Ending.TheVariants as ending
+use Rattle.txs_transaction.specs.declared.kept.Standing.{Standing}
+use Rattle.txs_transaction.specs.declared.kept.Wanted.{Wanted}
+use Rattle.txs_transaction.specs.declared.kept.Wanted.TheVariants as wanted
+use Rattle.txs_transaction.specs.declared.state.Origin.{Origin}
+use Rattle.txs_transaction.specs.declared.state.Pending.{Pending}
+use Rattle.txs_transaction.specs.declared.state.Pending.TheVariants as pending
+use Rattle.txs_transaction.specs.declared.state.Transaction.{Transaction}
+use Rattle.txs_transaction.specs.declared.state.Transaction.TheVariants.{Outside, Restarting, Running, Applying, Evaluating, Swapping, Attending, Acting}
 
 -- the transaction: one that runs, from where it began, or another, which is kept whole
 abbrev pub transaction_of : Option Standing → Origin → Transaction → Transaction

@@ -2,10 +2,10 @@
 //! overwritten in its place: no stack is moved, and none is made anew. All else is kept whole.
 
 ghost use Rattle.std.specs.Prelude.{◌≡◌, ◌<◌, ◌^◌, None, Some, IfSome, IsTrue, OnOk, false, option_copied};
-ghost use Rattle.txs_actor.specs.Kept.{HasBegun, IsBegun, IsEnding, IsTold, IsWanted, RunsOn};
-ghost use Rattle.txs_actor.specs.PlainActor.{IsUnapplied, depth_in};
-ghost use Rattle.txs_actor.specs.declared.state.Pending.TheVariants as pending;
-ghost use Rattle.txs_actor.specs.declared.state.Transaction.TheVariants as tx;
+ghost use Rattle.txs_transaction.specs.Kept.{HasBegun, IsBegun, IsEnding, IsTold, IsWanted, RunsOn};
+ghost use Rattle.txs_transaction.specs.Transaction.{IsUnapplied, depth_in};
+ghost use Rattle.txs_transaction.specs.declared.state.Pending.TheVariants as pending;
+ghost use Rattle.txs_transaction.specs.declared.state.Transaction.TheVariants as tx;
 
 use crate::state::{Origin, Pending, Transaction};
 use std::alloc::{AllocError, Global};
@@ -47,13 +47,13 @@ pub struct KeptTransaction {
 impl Model for KeptTransaction {
     ghost use Rattle.std.specs.Coded.{codes};
     ghost use Rattle.txs_value.specs.contracts.value.Value as value;
-    ghost use Rattle.txs_actor.specs.declared.state.Transaction.{Transaction};
+    ghost use Rattle.txs_transaction.specs.declared.state.Transaction.{Transaction};
 
     ghost Value = { Transaction };
 
     ghost coded = { Prim.hlevel (codes, value.the_row.coded) };
 
-    ghost use Rattle.txs_actor.specs.Kept.{transaction_of};
+    ghost use Rattle.txs_transaction.specs.Kept.{transaction_of};
 
     ghost view = { λ k. transaction_of k.running k.from k.other };
 }
@@ -86,13 +86,13 @@ impl Model for KeptPending {
     ghost use Rattle.std.specs.Prelude.{Option};
     ghost use Rattle.std.specs.Coded.{codes};
     ghost use Rattle.txs_value.specs.contracts.value.Value as value;
-    ghost use Rattle.txs_actor.specs.declared.state.Pending.{Pending};
+    ghost use Rattle.txs_transaction.specs.declared.state.Pending.{Pending};
 
     ghost Value = { Option Pending };
 
     ghost coded = { Prim.hlevel (codes, value.the_row.coded) };
 
-    ghost use Rattle.txs_actor.specs.Kept.{pending_of};
+    ghost use Rattle.txs_transaction.specs.Kept.{pending_of};
 
     ghost view = { λ k. pending_of k.wanted k.from k.other };
 }
@@ -125,7 +125,7 @@ fn forget_pending(other: &mut Option<Pending>)
 
 impl KeptTransaction {
     /// This transaction.
-    pub(crate) fn new(alloc: Global, tx: Transaction) -> KeptTransaction
+    pub fn new(alloc: Global, tx: Transaction) -> KeptTransaction
         ensures { result ≡ tx }
     {
         KeptTransaction {
@@ -138,7 +138,7 @@ impl KeptTransaction {
 
     /// The transaction, where it is kept whole: else one runs that isn't at its end.
     #[inline(always)]
-    pub(crate) fn whole(&self) -> Option<&Transaction>
+    pub fn whole(&self) -> Option<&Transaction>
         ensures whole { IfSome result (λ t. t.now ≡ self.now) }
         ensures running { result ≡ None → RunsOn self.now }
     {
@@ -149,7 +149,7 @@ impl KeptTransaction {
     }
 
     /// The transaction is taken out.
-    pub(crate) fn take(&mut self) -> Transaction
+    pub fn take(&mut self) -> Transaction
         ensures taken { result ≡ self.old }
         ensures left { self.new ≡ tx.Outside }
     {
@@ -170,7 +170,7 @@ impl KeptTransaction {
     }
 
     /// It is this one.
-    pub(crate) fn put(&mut self, tx: Transaction)
+    pub fn put(&mut self, tx: Transaction)
         ensures { self.new ≡ tx }
     {
         match tx {
@@ -187,7 +187,7 @@ impl KeptTransaction {
 
     /// There is none.
     #[inline(always)]
-    pub(crate) fn leave(&mut self)
+    pub fn leave(&mut self)
         ensures { self.new ≡ tx.Outside }
     {
         self.running = None;
@@ -199,7 +199,7 @@ impl KeptTransaction {
 
     /// It runs from here, with no inner ones.
     #[inline(always)]
-    pub(crate) fn run(&mut self, left: u16, from: &mut Origin)
+    pub fn run(&mut self, left: u16, from: &mut Origin)
         ensures { self.new ≡ tx.Running left 0 from.old }
     {
         mem::swap(&mut self.from, from);
@@ -209,7 +209,7 @@ impl KeptTransaction {
     /// A transaction begins, or joins the one that runs: how often it may run again, if it begins.
     #[inline(always)]
     #[tactic(auto, unfolding(txs_value::specs::Limits::reruns))]
-    pub(crate) fn begin(&mut self) -> Option<u16>
+    pub fn begin(&mut self) -> Option<u16>
         requires counted { depth_in self.old < 2 ^ 64 }
         requires unapplied { IsUnapplied self.old }
         ensures { IsBegun result self.old self.new }
@@ -238,7 +238,7 @@ impl KeptTransaction {
 
     /// A transaction that runs is left by an inner one, or ends. Nothing is done else.
     #[inline(always)]
-    pub(crate) fn end(&mut self) -> Ending
+    pub fn end(&mut self) -> Ending
         ensures { IsEnding result self.old self.new }
     {
         let Some(standing) = self.running else {
@@ -257,7 +257,7 @@ impl KeptTransaction {
 
 impl KeptPending {
     /// Nothing is asked for.
-    pub(crate) fn new(alloc: Global) -> KeptPending
+    pub fn new(alloc: Global) -> KeptPending
         ensures { result ≡ None }
     {
         KeptPending {
@@ -270,21 +270,21 @@ impl KeptPending {
 
     /// What is asked for, where that is small.
     #[inline(always)]
-    pub(crate) fn wanted(&self) -> Wanted
+    pub fn wanted(&self) -> Wanted
         ensures { IsWanted result self.now }
     {
         self.wanted
     }
 
     /// The same, and what is kept whole.
-    pub(crate) fn parts(&self) -> (Wanted, Option<&Pending>)
+    pub fn parts(&self) -> (Wanted, Option<&Pending>)
         ensures { IsTold result.0 (option_copied result.1) self.now }
     {
         (self.wanted, self.other.as_ref())
     }
 
     /// It is taken out.
-    pub(crate) fn take(&mut self) -> Option<Pending>
+    pub fn take(&mut self) -> Option<Pending>
         ensures taken { result ≡ self.old }
         ensures left { self.new ≡ None }
     {
@@ -316,7 +316,7 @@ impl KeptPending {
     }
 
     /// This is asked for.
-    pub(crate) fn put(&mut self, pending: Pending)
+    pub fn put(&mut self, pending: Pending)
         ensures { self.new ≡ Some pending }
     {
         self.wanted = Wanted::Other;
@@ -325,7 +325,7 @@ impl KeptPending {
 
     /// Nothing is asked for any more.
     #[inline(always)]
-    pub(crate) fn clear(&mut self)
+    pub fn clear(&mut self)
         ensures { self.new ≡ None }
     {
         self.wanted = Wanted::Other;
@@ -337,7 +337,7 @@ impl KeptPending {
 
     /// A cell's value is asked for.
     #[inline(always)]
-    pub(crate) fn read(&mut self, cell: CellId)
+    pub fn read(&mut self, cell: CellId)
         ensures { self.new ≡ Some (pending.Read cell) }
     {
         self.wanted = Wanted::Read(cell);
@@ -345,7 +345,7 @@ impl KeptPending {
 
     /// A ref's value is asked for, which goes below so many arguments.
     #[inline(always)]
-    pub(crate) fn open(&mut self, cell: CellId, n: u16)
+    pub fn open(&mut self, cell: CellId, n: u16)
         ensures { self.new ≡ Some (pending.Open cell n None) }
     {
         self.wanted = Wanted::Open(cell, n);
@@ -353,7 +353,7 @@ impl KeptPending {
 
     /// The commit of the transaction is asked for.
     #[inline(always)]
-    pub(crate) fn commit(&mut self)
+    pub fn commit(&mut self)
         ensures { self.new ≡ Some pending.Commit }
     {
         self.wanted = Wanted::Commit;
@@ -361,7 +361,7 @@ impl KeptPending {
 
     /// The beginning of a transaction is asked for, which may run again so many times from here, with a copy of the stack.
     #[inline(always)]
-    pub(crate) fn begin(&mut self, left: u16, span: Span, stack: &Stack) -> Result<(), AllocError>
+    pub fn begin(&mut self, left: u16, span: Span, stack: &Stack) -> Result<(), AllocError>
         ensures { OnOk result (self.new ≡ Some (pending.Begin left (record { span = span; stack = stack.now }))) }
     {
         self.from.span = span;
@@ -372,7 +372,7 @@ impl KeptPending {
 
     /// What begins is the transaction from now on, and nothing is asked for: whether that was so. Nothing is done else.
     #[inline(always)]
-    pub(crate) fn run(&mut self, tx: &mut KeptTransaction) -> bool
+    pub fn run(&mut self, tx: &mut KeptTransaction) -> bool
         ensures begun { IsTrue result → HasBegun self.old tx.new × (self.new ≡ None) }
         ensures kept { result ≡ false → (self.new ≡ self.old) × (tx.new ≡ tx.old) }
     {

@@ -1,8 +1,8 @@
 use Rattle.std.proofs.Common.{sym, subst}
-use Rattle.txs_actor.specs.Effect.{Comes, ends}
-use Rattle.txs_actor.specs.declared.state.Transaction.{Transaction}
-use Rattle.txs_actor.specs.declared.state.Transaction.TheVariants.{Applying}
-use Rattle.txs_actor.proofs.transact.end.Goals as goal
+use Rattle.txs_transaction.specs.Effect.{Comes, ends}
+use Rattle.txs_transaction.specs.declared.state.Transaction.{Transaction}
+use Rattle.txs_transaction.specs.declared.state.Transaction.TheVariants.{Applying}
+use Rattle.txs_transaction.proofs.transact.end.Goals as goal
 
 pub returns-in-Applying : goal.returns-in-Applying
 returns-in-Applying c = λ vs k.

@@ -12,15 +12,15 @@ ghost use Rattle.txs_value.specs.declared.value.CellId.{CellId as ACell};
 ghost use Rattle.txs_value.specs.declared.value.Value.{Value as AValue};
 ghost use Rattle.txs_value.specs.declared.form.CellForm.TheVariants as form;
 ghost use Rattle.txs_value.specs.declared.form.UpdateForm.TheVariants as update;
-ghost use Rattle.txs_actor.specs.Effect.{Comes, ComesQuickly, IsRare, CanMove, effect, reads, ensures, update_of, opens, sets, resets, sends, swaps, swapped, closes, begins, settles, applying, goes_through, ends, Operates, LeftApply, IsForRefs};
-ghost use Rattle.txs_actor.specs.declared.state.Origin.{Origin as AnOrigin};
-ghost use Rattle.txs_actor.specs.declared.state.Transaction.{Transaction as ATransaction};
-ghost use Rattle.txs_actor.specs.PlainActor.{is_running, depth_in, IsUnapplied, IsSwapping};
+ghost use Rattle.txs_transaction.specs.Effect.{Comes, ComesQuickly, IsRare, CanMove, effect, reads, ensures, update_of, opens, sets, resets, sends, swaps, swapped, closes, begins, settles, applying, goes_through, ends, Operates, LeftApply, IsForRefs};
+ghost use Rattle.txs_transaction.specs.declared.state.Origin.{Origin as AnOrigin};
+ghost use Rattle.txs_transaction.specs.declared.state.Transaction.{Transaction as ATransaction};
+ghost use Rattle.txs_transaction.specs.Transaction.{is_running, depth_in, IsUnapplied, IsSwapping};
 ghost use Rattle.txs_stack.specs.PlainFrame.{PlainStack};
 ghost use Rattle.txs_stack.specs.Values.{below, topmost};
 
 use crate::kept::{Ending, KeptTransaction};
-use crate::outcome::{Moved, Quick};
+use crate::moved::{Moved, Quick};
 use crate::state::{Origin, Pending, Transaction};
 use std::alloc::{AllocError, Global};
 use std::mem;
@@ -35,7 +35,7 @@ use txs_value::{
 
 /// Whether a transaction runs.
 #[inline(always)]
-pub(crate) fn is_running(tx: &Transaction) -> bool
+fn is_running(tx: &Transaction) -> bool
     ensures { result ≡ is_running tx.now }
 {
     matches!(
@@ -46,7 +46,7 @@ pub(crate) fn is_running(tx: &Transaction) -> bool
 
 /// Whether a transaction runs, which may be kept apart.
 #[inline(always)]
-pub(crate) fn runs(tx: &KeptTransaction) -> bool
+pub fn runs(tx: &KeptTransaction) -> bool
     ensures { result ≡ is_running tx.now }
 {
     match tx.whole() {
@@ -68,7 +68,7 @@ fn own_value(frame: &TxFrame, number: u16) -> Result<Option<Value>, AllocError>
 
 /// No commute is open any more.
 #[inline(always)]
-pub(crate) fn shut(commuting: &mut Option<Commute>)
+pub fn shut(commuting: &mut Option<Commute>)
     ensures { commuting.new ≡ None }
 {
     let Some(_) = commuting else {
@@ -245,7 +245,7 @@ fn reset(stack: &Stack) -> Moved
 }
 
 /// A value in the place of the n at the top and of the one below them.
-pub(crate) fn replace_over(stack: &mut Stack, n: usize, value: Value)
+pub fn replace_over(stack: &mut Stack, n: usize, value: Value)
     requires { (n < length stack.old.values) × (length stack.old.values ≤ stack.old.room) }
     ensures { stack.new ≡ record stack.old { values = below (n + 1) stack.old.values ++ value ∷ [] } }
 {
@@ -491,7 +491,7 @@ fn end(alloc: Global, tx: &mut Transaction, frame: &TxFrame) -> Moved
 
 /// An instruction on cells or the transaction, if it is one of those that most are: else nothing is done.
 #[inline(always)]
-pub(crate) fn transact(
+pub fn transact(
     instr: Instr,
     stack: &mut Stack,
     tx: &mut KeptTransaction,
@@ -516,7 +516,7 @@ pub(crate) fn transact(
 
 /// One of the others.
 #[inline(never)]
-pub(crate) fn transact_rarely(
+pub fn transact_rarely(
     alloc: Global,
     instr: Instr,
     span: Span,
