@@ -4,12 +4,12 @@
 //! made anew.
 #![tactic(auto)]
 
+pub mod instructions;
 pub mod kept;
 pub mod moved;
 pub mod state;
-pub mod transact;
 
+pub use instructions::{replace_over, runs, shut, transact, transact_rarely};
 pub use kept::{Ending, KeptPending, KeptTransaction, Standing, Wanted};
 pub use moved::{Moved, Quick};
 pub use state::{Origin, Pending, Transaction};
-pub use transact::{replace_over, runs, shut, transact, transact_rarely};

@@ -4,7 +4,7 @@ use Rattle.txs_value.specs.declared.value.Value.{Value}
 use Rattle.txs_stack.specs.Values.{below, but_last}
 use Rattle.txs_stack.proofs.Lists.{length_below}
 use Rattle.txs_transaction.proofs.Keeping.{but_one_more}
-use Rattle.txs_transaction.proofs.transact.replace_over.Goals as goal
+use Rattle.txs_transaction.proofs.instructions.replace_over.Goals as goal
 
 pub take_last-requires : goal.take_last-requires
 take_last-requires c =

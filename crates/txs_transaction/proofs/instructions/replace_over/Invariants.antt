@@ -1,6 +1,6 @@
 use Rattle.std.proofs.Common.{◌≡◌}
 use Rattle.txs_stack.specs.Values.{below}
-use Rattle.txs_transaction.proofs.transact.replace_over.Given as goal
+use Rattle.txs_transaction.proofs.instructions.replace_over.Given as goal
 
 -- so many of the last values have gone
 abbrev pub invariant-loop-taken : goal.invariant-loop-taken

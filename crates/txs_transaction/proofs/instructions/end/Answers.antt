@@ -2,7 +2,7 @@ use Rattle.std.proofs.Common.{sym, subst}
 use Rattle.txs_transaction.specs.Effect.{Comes, ends}
 use Rattle.txs_transaction.specs.declared.state.Transaction.{Transaction}
 use Rattle.txs_transaction.specs.declared.state.Transaction.TheVariants.{Applying}
-use Rattle.txs_transaction.proofs.transact.end.Goals as goal
+use Rattle.txs_transaction.proofs.instructions.end.Goals as goal
 
 pub returns-in-Applying : goal.returns-in-Applying
 returns-in-Applying c = λ vs k.

@@ -1,7 +1,7 @@
 use Rattle.std.proofs.Common.{◌≡◌, ◌≤◌, rules}
 use Rattle.txs_stack.specs.Values.{topmost}
 use Rattle.txs_transaction.proofs.Keeping.{copied_more, copied_all}
-use Rattle.txs_transaction.proofs.transact.copy_topmost.Goals as goal
+use Rattle.txs_transaction.proofs.instructions.copy_topmost.Goals as goal
 
 pub loop-i-preserved : goal.loop-i-preserved
 loop-i-preserved c = search (rules, copied_more)
