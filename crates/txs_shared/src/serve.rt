@@ -50,6 +50,7 @@ impl SharedState {
     /// where that book has as many events as it may have and the answer would add one, and `Memory` where there was no memory for
     /// the event, for what is handed out or for what is put into mailboxes, or where a value can have no more owners: never to
     /// begin a transaction, and never where an atom has changed. After both the state is as before.
+    #[inline(always)]
     pub fn serve(&mut self, actor: u16, ask: Ask) -> Reply
         requires { is_lawful self.old actor ask ≡ true }
         ensures { Answers self.old ask (answer_to self.old actor ask) result self.new }

@@ -21,7 +21,7 @@ pub struct StoreCell {
 
 /// The cells of a store, and of each how many agents there are before it: which actor is whose is counted once, as they open.
 #[derive(Drop)]
-pub(crate) struct Cells {
+pub struct Cells {
     all: Vec<StoreCell>,
     before: Vec<usize>,
     /// How many agents there are.

@@ -20,6 +20,7 @@ impl Store {
     /// `View`, the copy of an action at a `Take`), for what a `Commit` or a `Finish` writes (a commit's joined list is one), or
     /// for what is put into mailboxes, or where a value can have no more owners. After both the store is as before. A commit's
     /// event keeps the lists of its ask.
+    #[inline(always)]
     pub fn serve(&mut self, actor: u16, ask: Ask) -> Reply
         requires { is_lawful self.old actor ask ≡ true }
         ensures { Answers self.old (serve self.old.cells actor ask self.old.book) (store_after self.old ask (serve self.old.cells actor ask self.old.book)) result self.new }
