@@ -10,7 +10,7 @@ use Rattle.txs_follows.proofs.Loops.{loops_too}
 use Rattle.txs_follows.proofs.MoreEvents.{settled_same, needs_before}
 use Rattle.txs_follows.proofs.More.{more_turns}
 use Rattle.txs_follows.proofs.Follow.{tree_follows}
-use Rattle.txs_follows.proofs.Whole.{explained, nothing_after, grown, ends, over_explained}
+use Rattle.txs_follows.proofs.Whole.{explained, nothing_after, grown, ends, over_explained, waited_eaten}
 use Rattle.txs_code.specs.Opening.{opening, target}
 use Rattle.txs_follows.specs.Behaves.{source, IsMeant, HasEnded, outcome_of, IsOver, Behaves}
 use Rattle.txs_follows.specs.EndsSo.{NeedsTurns, HasSettled, in_hand, EndsSo}
@@ -102,7 +102,7 @@ module _ (code : ThreadCode) (p : ThreadSource) (behaves : Behaves code p) (soun
       let r = ends code p behaves sound todo n (Waits s) q tt in
       let none_left : s.todo ≡ [] = consumed_over code todo m r.0 (Asking s) tt r.1 c in
       let there : target code (r.0 + n) todo ≡ Asking s = longer code r.0 (r.0 + n) (omega arith) (opening code todo) (Asking s) tt r.1 in
-      (r.0 + n, omega arith, subst (HasPrintedSo out) (sym there) (none_left, eaten_same s.printed out (halted (thread_meaning p n es)) (a none_left) eaten))
+      (r.0 + n, omega arith, subst (HasPrintedSo out) (sym there) (none_left, eaten_same s.printed out (halted (thread_meaning p n es)) (waited_eaten s.printed (halted (thread_meaning p n es)) (a none_left)) eaten))
   printed_so (OutOfTurns s) q t a =
       let r = behaves.goes_on todo n s q in
       let none_left : s.todo ≡ [] = consumed_later code todo m r.0 (target code m todo) (Unfinished s) (omega (arith, le, r.1)) refl r.2 c in
