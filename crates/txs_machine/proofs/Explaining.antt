@@ -13,7 +13,7 @@ use Rattle.txs_tree.specs.Tree.{PlainThread, PlainProgram, ThreadSource}
 use Rattle.txs_code.specs.PlainCode.{CodeBody, PlainCode, thread_code, function_codes}
 use Rattle.txs_follows.specs.Follows.{Follows}
 use Rattle.txs_follows.specs.FollowsAll.{source_of, FollowsAll}
-use Rattle.txs_follows.specs.RepliesFit.{Out, RepliesFit, Explained, halted, HasEaten}
+use Rattle.txs_follows.specs.RepliesFit.{Out, RepliesFit, Explained, halted, HasWaited}
 use Rattle.txs_follows.specs.RepliesFitTo.{FittingToFits}
 use Rattle.txs_actor.specs.PlainActor.{PlainActor, own_body, code_of, state_of, configuration_of, standing, stands_at, unanswered}
 use Rattle.txs_world.specs.Laws.{UnwrittenStays, DoneIsUndisturbed, RefusedIsUndisturbed}
@@ -174,11 +174,11 @@ module _ (by : Known) (code : PlainCode) (k : ℕ) (books : ℕ → List Event) 
       record { waiting = w.waiting; asking = w.asking; consumed = w.consumed; printed = prints_there w.waiting.printed a a.outcome w.printed }
 
   -- the actor has printed what the source means on all that the actor did but the last
-  pub part_printed : (seen ≡ []) ⊎ ((hs : List SeenEvent) × (e : SeenEvent) × (seen ≡ hs ++ e ∷ []) × (n : ℕ) × (least : List ℕ) × HasEaten least (halted (thread_meaning p n hs)) × (rest : List ℕ) × (a.printed ≡ least ++ rest))
+  pub part_printed : (seen ≡ []) ⊎ ((hs : List SeenEvent) × (e : SeenEvent) × (seen ≡ hs ++ e ∷ []) × (n : ℕ) × (least : List ℕ) × HasWaited least (halted (thread_meaning p n hs)) × (rest : List ℕ) × (a.printed ≡ least ++ rest))
   part_printed = go (printed_before code.cells (length code.threads) books k (record { stays = by.stays; done = by.done; fit = by.fit }) (code_of code k) x h.stage h.told each_waits)
     where
       go : PrintedBeforeLast code.cells (code_of code k) books k x
-          → (seen ≡ []) ⊎ ((hs : List SeenEvent) × (e : SeenEvent) × (seen ≡ hs ++ e ∷ []) × (n : ℕ) × (least : List ℕ) × HasEaten least (halted (thread_meaning p n hs)) × (rest : List ℕ) × (a.printed ≡ least ++ rest))
+          → (seen ≡ []) ⊎ ((hs : List SeenEvent) × (e : SeenEvent) × (seen ≡ hs ++ e ∷ []) × (n : ℕ) × (least : List ℕ) × HasWaited least (halted (thread_meaning p n hs)) × (rest : List ℕ) × (a.printed ≡ least ++ rest))
       go (inl none) = inl (sym past ∙ none)
       go (inr d) =
           let on = d.3 p same follows in

@@ -12,7 +12,7 @@ use Rattle.txs_tree.specs.Thread.{ThreadState, thread_meaning}
 use Rattle.txs_tree.specs.Tree.{PlainThread, PlainProgram}
 use Rattle.txs_code.specs.PlainCode.{PlainCode, thread_code}
 use Rattle.txs_follows.specs.FollowsAll.{source_of, FollowsAll}
-use Rattle.txs_follows.specs.RepliesFit.{Explained, halted, HasEaten}
+use Rattle.txs_follows.specs.RepliesFit.{Explained, halted, HasWaited}
 use Rattle.txs_actor.specs.PlainActor.{PlainActor, agents_from, unanswered, stating, standing}
 use Rattle.txs_shared.specs.SharedState.{PlainShared}
 use Rattle.txs_runs.specs.Explains.{BooksStand, CommitsUndisturbed}
@@ -82,11 +82,11 @@ HaveEnded rans = (k : ℕ) (ran : ThreadReport) → nth rans k ≡ Some ran → 
 abbrev pub ExplainsSo : Option Outcome → List ℕ → Completion ThreadState Value → Type 0
 ExplainsSo o out r = Explained (standing o (stating out 0 0 no_work None) (stating out 0 0 no_work None)) r
 
--- What the source means on all that a thread did but the last, for some bound on its loops, the thread has printed, and maybe more. Of one
--- that did nothing this says nothing.
+-- What the source means on all that a thread did but the last, up to where it needs that one, for some bound on its loops, the thread has
+-- printed, and maybe more. Of one that did nothing this says nothing.
 abbrev pub HasPrintedLeast : PlainProgram → PlainThread → List SeenEvent → List ℕ → Type 0
 HasPrintedLeast p t did out =
-    (did ≡ []) ⊎ ((hs : List SeenEvent) × (e : SeenEvent) × (did ≡ hs ++ e ∷ []) × (n : ℕ) × (least : List ℕ) × HasEaten least (halted (thread_meaning (source_of p t) n hs)) × (rest : List ℕ) × (out ≡ least ++ rest))
+    (did ≡ []) ⊎ ((hs : List SeenEvent) × (e : SeenEvent) × (did ≡ hs ++ e ∷ []) × (n : ℕ) × (least : List ℕ) × HasWaited least (halted (thread_meaning (source_of p t) n hs)) × (rest : List ℕ) × (out ≡ least ++ rest))
 
 -- A program's thread explains an entry of a report: the trace names of each book the thread's events, each once and in order, and no others; and the source's
 -- meaning on just these events, in the order of the trace, each with its worlds in its book, and for some bound on its loops, is what the thread

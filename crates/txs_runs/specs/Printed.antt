@@ -9,7 +9,7 @@ use Rattle.txs_tree.specs.Tree.{ThreadSource}
 use Rattle.txs_code.specs.ActorState.{ActorState}
 use Rattle.txs_code.specs.Machine.{ThreadCode, Configuration, Turned, Ended, Failed, Asking, Unfinished, Stuck}
 use Rattle.txs_follows.specs.Follows.{Follows}
-use Rattle.txs_follows.specs.RepliesFit.{halted, HasEaten}
+use Rattle.txs_follows.specs.RepliesFit.{halted, HasWaited}
 use Rattle.txs_runs.specs.Told.{history_of}
 use Rattle.txs_runs.specs.Staged.{StagedCode}
 use Rattle.txs_runs.specs.Run.{Actor, Play, plays}
@@ -28,7 +28,7 @@ HasPrinted out Stuck = Unit {0}
 
 -- what each source that the code follows means on these events, up to where it needs another, the actor has printed
 abbrev pub PrintedOn : List CellDefinition → ThreadCode → Actor → List SeenEvent → Type 0
-PrintedOn cells code x hs = (p : ThreadSource) → p.cells ≡ cells → Follows code p → (out : List ℕ) × HasEaten out (halted (thread_meaning p x.turns hs)) × HasPrinted out x.at
+PrintedOn cells code x hs = (p : ThreadSource) → p.cells ≡ cells → Follows code p → (out : List ℕ) × HasWaited out (halted (thread_meaning p x.turns hs)) × HasPrinted out x.at
 
 -- an actor that did something has printed what the source means on all of it but the last
 abbrev pub PrintedBeforeLast : List CellDefinition → ThreadCode → (ℕ → List Event) → ℕ → Actor → Type 0
