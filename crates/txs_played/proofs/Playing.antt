@@ -1,5 +1,5 @@
 -- What a turn and an answer leave of an actor that keeps its asks.
-use Rattle.std.proofs.Common.{◌≡◌, ◌<◌, ◌↔◌, ℕ, zero, suc, Bool, true, false, List, [], ◌∷◌, ◌++◌, length, map, Option, Some, None, refl, sym, ap, subst, ◌∙◌, inl, inr}
+use Rattle.std.proofs.Common.{◌≡◌, ◌<◌, ℕ, zero, suc, List, [], ◌∷◌, ◌++◌, length, map, Option, Some, None, refl, sym, ap, subst, ◌∙◌, inl, inr}
 use Rattle.txs_asks.specs.declared.ask.Ask.{Ask}
 use Rattle.txs_asks.specs.declared.ask.Reply.{Reply}
 use Rattle.txs_asks.specs.declared.ask.Reply.TheVariants as reply
@@ -9,7 +9,7 @@ use Rattle.txs_code.specs.Opening.{opening}
 use Rattle.txs_code.specs.PlainCode.{PlainCode}
 use Rattle.txs_code.specs.WellTyped.{WellTyped}
 use Rattle.txs_actor.specs.Laws.{ActorsRun}
-use Rattle.txs_actor.specs.PlainActor.{PlainActor, CanGoOn, AttendsOn, Lives, MayAnswer, MayAnswerIf, Stops, answered, unanswered, asked_for, applied_in, configuration_of, code_of, HasRun, HasCome}
+use Rattle.txs_actor.specs.PlainActor.{PlainActor, CanGoOn, AttendsOn, Lives, MayAnswer, Stops, answered, unanswered, asked_for, applied_in, configuration_of, code_of, HasRun, HasCome}
 use Rattle.txs_transaction.specs.Transaction.{is_running}
 use Rattle.txs_actor.specs.Turns.{IsNew, TurnsFrom, Turns, GoesOnAfter, TurnsOf}
 use Rattle.txs_actor.specs.declared.outcome.Turn.{Turn}
@@ -29,9 +29,8 @@ use Rattle.txs_machine.specs.RunOver.{IsLimited, AskedOn}
 use Rattle.txs_machine.proofs.Answered.{answer_leaves, memory_stops, stop_ends, idle_number, idle_outcome}
 use Rattle.txs_machine.proofs.Limits.{new_limited, turn_limited, turns_limited, answered_limited}
 use Rattle.txs_machine.proofs.RunOver.{Unfilled, as_is, as_known, turn_keeps, move_unfilled, standing_of, stands_staged, turn_asked, no_entry, in_after, unfilled_of, map_append, answer_asked, more_asked, asked_last, idle_never}
-use Rattle.txs_played.specs.Callees.{HandsOutSent}
 use Rattle.txs_played.specs.Goes.{HasGone}
-use Rattle.txs_played.specs.Played.{PlainPlayed, WasStoppedAt, IsThreadOn, HasPlayed, IsPlayed, MayBeTold, kept_after, stopped_after, kept_of}
+use Rattle.txs_played.specs.Played.{WasStoppedAt, IsThreadOn, HasPlayed, kept_after, stopped_after, kept_of}
 use Rattle.txs_played.proofs.Going.{new_gone, turn_gone, heard_gone, idle_gone, full_gone, memory_gone, turn_number, idle_limit, idle_limited}
 
 -- ---- an actor that keeps its asks
@@ -287,30 +286,3 @@ renewed code k limit a n = record {
   unused = n.unused;
   limited = n.limited;
 }
-
--- ---- replies that may be told
-
--- one that waits for a reply lost nothing
-asked_whole : (l : Bool) (p : PlainPlayed) (q : Ask) → IsPlayed l p (Some q) → (l ≡ false) × (unanswered p.actor ≡ Some q)
-asked_whole true p q h = cc
-asked_whole false p q h = (refl, sym h.0)
-
--- where its ask may have the reply, the callee decides
-pub told_where : (p : PlainPlayed) (q : Ask) (r : Reply) (may can : Bool) → IsPlayed p.lost p (Some q) → (may ≡ true) ↔ MayAnswer q r → (can ≡ true) ↔ HandsOutSent p.code r → may ≡ true → (can ≡ true) ↔ MayBeTold p r
-told_where p q r may can h answers hands e =
-    let whole = asked_whole p.lost p q h in (
-      (λ t. (whole.0, subst (λ (o : Option Ask). MayAnswerIf o r) (sym whole.1) (answers.0 e), hands.0 t)),
-      (λ t. hands.1 t.2),
-    )
-
--- where it may not, none may be told
-pub told_never : (p : PlainPlayed) (q : Ask) (r : Reply) (may : Bool) → IsPlayed p.lost p (Some q) → (may ≡ true) ↔ MayAnswer q r → may ≡ false → (may ≡ true) ↔ MayBeTold p r
-told_never p q r may h answers e =
-    let whole = asked_whole p.lost p q h in (
-      (λ t. cc),
-      (λ t. answers.1 (subst (λ (o : Option Ask). MayAnswerIf o r) whole.1 t.1)),
-    )
-
--- and none where it waits for none
-pub told_none : (p : PlainPlayed) (r : Reply) → IsPlayed p.lost p None → MayBeTold p r → ⊥
-told_none p r h t = subst (λ (o : Option Ask). MayAnswerIf o r) (sym (subst (λ l. IsPlayed l p None) t.0 h).0) t.1

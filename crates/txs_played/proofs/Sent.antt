@@ -205,54 +205,6 @@ mark_read (x ∷ ms) (suc at) m h e = mark_read ms at m (omega (arith, h)) e
 pub no_mark : (ms : Marks) (at : ℕ) (m : Mark) → mark_at ms at ≡ None → mark_at ms at ≡ Some m → false ≡ true
 no_mark ms at m e f = cc
 
--- nothing more is marked
-pub no_more : (IsSo : ℕ → Type 0) (ms : List Bool) → ((f : ℕ) → IsSo f → ⊥) → MarksMore IsSo ms ms
-no_more IsSo ms none = record { many = refl; marked = λ f. ((λ h. inl h), (λ h. was f h)) }
-  where
-    was : (f : ℕ) → (nth ms f ≡ Some true) ⊎ IsSo f → nth ms f ≡ Some true
-    was f (inl h) = h
-    was f (inr h) = absurd (none f h)
-
-set_there : (ms : List Bool) (f : ℕ) → f < length ms → nth (set ms f true) f ≡ Some true
-set_there [] f h = absurd (omega (arith, h))
-set_there (m ∷ ms) zero h = refl
-set_there (m ∷ ms) (suc f) h = set_there ms f (omega (arith, h))
-
-set_stays : (ms : List Bool) (f g : ℕ) → nth ms g ≡ Some true → nth (set ms f true) g ≡ Some true
-set_stays [] f g e = e
-set_stays (m ∷ ms) zero zero e = refl
-set_stays (m ∷ ms) zero (suc g) e = e
-set_stays (m ∷ ms) (suc f) zero e = e
-set_stays (m ∷ ms) (suc f) (suc g) e = set_stays ms f g e
-
-set_only : (ms : List Bool) (f g : ℕ) → nth (set ms f true) g ≡ Some true → (nth ms g ≡ Some true) ⊎ (f ≡ g)
-set_only [] f g e = inl e
-set_only (m ∷ ms) zero zero e = inr refl
-set_only (m ∷ ms) zero (suc g) e = inl e
-set_only (m ∷ ms) (suc f) zero e = inl e
-set_only (m ∷ ms) (suc f) (suc g) e = next (set_only ms f g e)
-  where
-    next : (nth ms g ≡ Some true) ⊎ (f ≡ g) → (nth ms g ≡ Some true) ⊎ (suc f ≡ suc g)
-    next (inl h) = inl h
-    next (inr h) = inr (ap suc h)
-
-set_many : (ms : List Bool) (f : ℕ) → length (set ms f true) ≡ length ms
-set_many [] f = refl
-set_many (m ∷ ms) zero = refl
-set_many (m ∷ ms) (suc f) = ap suc (set_many ms f)
-
--- one more is marked
-pub one_more : (ms : List Bool) (o : Option ℕ) (f : ℕ) → o ≡ Some f → f < length ms → MarksMore (λ g. o ≡ Some g) ms (set ms f true)
-one_more ms o f is h = record { many = set_many ms f; marked = λ g. ((λ e. to g (set_only ms f g e)), (λ e. back g e)) }
-  where
-    to : (g : ℕ) → (nth ms g ≡ Some true) ⊎ (f ≡ g) → (nth ms g ≡ Some true) ⊎ (o ≡ Some g)
-    to g (inl e) = inl e
-    to g (inr e) = inr (is ∙ ap Some e)
-
-    back : (g : ℕ) → (nth ms g ≡ Some true) ⊎ (o ≡ Some g) → nth (set ms f true) g ≡ Some true
-    back g (inl e) = set_stays ms f g e
-    back g (inr e) = subst (λ x. nth (set ms f true) x ≡ Some true) (some_is f g (sym is ∙ e)) (set_there ms f h)
-
 -- what is marked by two, one behind the other
 pub two_more : (P Q R : ℕ → Type 0) (a b c : List Bool) → ((f : ℕ) → R f ↔ (P f ⊎ Q f)) → MarksMore P a b → MarksMore Q b c → MarksMore R a c
 two_more P Q R a b c same first second = record { many = second.many ∙ first.many; marked = λ f. ((λ e. to f ((second.marked f).0 e)), (λ h. back f h)) }
@@ -296,13 +248,6 @@ below_or_last (suc p) (suc n) h = next (below_or_last p n (omega (arith, h)))
     next : (p < n) ⊎ (p ≡ n) → (suc p < suc n) ⊎ (suc p ≡ suc n)
     next (inl x) = inl (omega (arith, x))
     next (inr x) = inr (ap suc x)
-
--- an instruction at a marked place
-pub at_place : (is : List Instr) (places : Marks) (at : ℕ) (i : Instr) (m : Mark) → nth is at ≡ Some i → mark_at places at ≡ Some m → (f : ℕ) → IsSentAt is places at f ↔ (sent_by i ≡ Some f)
-at_place is places at i m stands marked f = (
-  (λ s. subst (λ x. sent_by x ≡ Some f) (some_is s.instr i (sym s.stands ∙ stands)) s.sends),
-  (λ e. record { instr = i; mark = m; stands = stands; marked = marked; sends = e }),
-)
 
 -- a place more
 pub place_more : (is : List Instr) (places : Marks) (n f : ℕ) → IsSentBefore is places (n + 1) f ↔ (IsSentBefore is places n f ⊎ IsSentAt is places n f)
@@ -357,34 +302,6 @@ body_more code bodies n b there f = (λ s. to s.number s.body s.there s.sent (be
     back : IsSentAmong code bodies n f ⊎ IsSentIn code b f → IsSentAmong code bodies (n + 1) f
     back (inl s) = record { number = s.number; within = omega (arith, s.within); body = s.body; there = s.there; sent = s.sent }
     back (inr s) = record { number = n; within = omega arith; body = b; there = there; sent = s }
-
-none_marked : (n f : ℕ) → nth (replicate n false) f ≡ Some true → ⊥
-none_marked zero f e = subst is_some (sym e) tt
-none_marked (suc n) zero e = subst is_true (sym (some_is false true e)) tt
-  where
-    is_true : Bool → Type 0
-    is_true true = Unit {0}
-    is_true false = ⊥
-none_marked (suc n) (suc f) e = none_marked n f e
-
--- where first what functions send was marked, and then what threads send, just the callees are marked
-pub all_callees : (code : PlainCode) (n : ℕ) (mid all : List Bool) → MarksMore (IsSentAmong code code.functions (length code.functions)) (replicate n false) mid → MarksMore (IsSentAmong code code.threads (length code.threads)) mid all → AreCallees code all
-all_callees code n mid all first second f = ((λ e. of_threads ((second.marked f).0 e)), back)
-  where
-    of_functions : (nth (replicate n false) f ≡ Some true) ⊎ IsSentAmong code code.functions (length code.functions) f → IsCallee code f
-    of_functions (inl e) = absurd (none_marked n f e)
-    of_functions (inr s) = (s.body, inl (s.number, s.there), s.sent)
-
-    of_threads : (nth mid f ≡ Some true) ⊎ IsSentAmong code code.threads (length code.threads) f → IsCallee code f
-    of_threads (inl e) = of_functions ((first.marked f).0 e)
-    of_threads (inr s) = (s.body, inr (s.number, s.there), s.sent)
-
-    marked : (b : CodeBody) → IsBodyOf code b → IsSentIn code b f → nth all f ≡ Some true
-    marked b (inl h) s = (second.marked f).1 (inl ((first.marked f).1 (inr (record { number = h.0; within = nth_within code.functions h.0 b h.1; body = b; there = h.1; sent = s }))))
-    marked b (inr h) s = (second.marked f).1 (inr (record { number = h.0; within = nth_within code.threads h.0 b h.1; body = b; there = h.1; sent = s }))
-
-    back : IsCallee code f → nth all f ≡ Some true
-    back h = marked h.0 h.1 h.2
 
 -- ---- parameters
 

@@ -278,6 +278,7 @@ impl<'a> Played<'a> {
     /// Whether the ask that has no answer yet may have this reply, nothing was lost, and an action that the reply hands out is one that the code can have
     /// sent: its callee, which takes the agent's state and the arguments, is an operation, or a function that is the callee of a send to which a path of
     /// the code comes. Such a one its agent can run.
+    #[tactic(auto, using(crate::proofs::Sent::hands_sent))]
     pub fn may_answer(&self, reply: &Reply) -> bool
         ensures exactly { IsTrue result ↔ MayBeTold self.now reply.now }
         ensures hands_out { IsTrue result → HandsOut self.now.code reply.now }
