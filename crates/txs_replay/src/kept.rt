@@ -90,10 +90,10 @@ impl KeptEntries {
         }
     }
 
-    /// The first, which is taken out.
+    /// The first, which is taken out; nothing, where there is none, and then there is none afterwards.
     pub fn take(&mut self) -> Option<Kept>
         ensures some { IfSome result (λ k. self.old ≡ k ∷ self.new) }
-        ensures none { result ≡ None → self.old ≡ [] }
+        ensures none { result ≡ None → (self.old ≡ []) × (self.new ≡ []) }
     {
         self.entries.pop_front()
     }
