@@ -1,5 +1,9 @@
--- A function that a send names, where the code comes to it, is pure.
-use Rattle.std.proofs.Common.{◌≡◌, ◌<◌, ◌⊎◌, inl, inr, ℕ, zero, suc, Bool, true, List, [], ◌∷◌, length, get_or, Option, Some, None, sym, ap, subst, ◌∙◌, arith}
+-- A function that a send names, where the code comes to it, is pure; and just these functions are marked.
+use Rattle.std.proofs.Common.{◌≡◌, ◌<◌, ◌+◌, ◌⊎◌, ◌↔◌, inl, inr, ℕ, zero, suc, Bool, true, false, nat_eq, nat_lt, List, [], ◌∷◌, length, get_or, set, replicate, Option, Some, None, refl, sym, ap, subst, ◌∙◌, arith}
+use Rattle.std.proofs.lemmas.Bool.Decides.{nat_tests}
+use Rattle.txs_asks.specs.declared.ask.Reply.{Reply}
+use Rattle.txs_asks.specs.declared.ask.Reply.TheVariants as reply
+use Rattle.txs_value.specs.declared.op.Callee.{Callee}
 use Rattle.txs_value.specs.Places.{nth}
 use Rattle.txs_value.specs.declared.op.Callee.TheVariants as callee
 use Rattle.txs_value.specs.declared.value.Value.{Value}
@@ -7,13 +11,15 @@ use Rattle.txs_code.specs.PlainCode.{CodeBody, PlainCode, parameters_of}
 use Rattle.txs_code.specs.WellTyped.{FunctionKind, Functions, Owner, a_function, a_thread, IsLawful, IsPureFunction, Stage, plain, opened, applied, Stages, FitsStage, WellTypedBody, WellTypedThreads, WellTyped}
 use Rattle.txs_code.specs.declared.instr.Instr.{Instr}
 use Rattle.txs_code.specs.declared.instr.Instr.TheVariants.{Const, Local, Store, Pop, Jump, JumpFalse, Core, Call, Return, Vector, Print, Look, Put, TxBegin, TxEnd, Open, Close, Send, Halt}
+use Rattle.txs_actor.specs.PlainActor.{CanApply, HandsOut, functions_of}
 use Rattle.txs_actor.proofs.Calling.{function_at}
 use Rattle.txs_verify.specs.Going.{AllJumpWithin, AreReached, JumpsWithin}
-use Rattle.txs_verify.specs.Marks.{Marks, mark_at}
+use Rattle.txs_verify.specs.Marks.{Marks, mark_at, IsClosed}
 use Rattle.txs_verify.specs.Paths.{stage_for}
 use Rattle.txs_verify.specs.declared.walk.Mark.{Mark}
 use Rattle.txs_verify.proofs.Never.{staged_at}
-use Rattle.txs_played.specs.Callees.{ArePure, IsBodyOf, sent_by, IsMarkedAt}
+use Rattle.txs_verify.proofs.Stands.{has_mark}
+use Rattle.txs_played.specs.Callees.{AreCallees, HandsOutSent, IsBodyOf, IsCallee, IsSentAmong, IsSentAt, IsSentBefore, IsSentIn, MarksMore, SendWithin, TakesSent, sent_by}
 
 abbrev is_some : {A : Type 0} → Option A → Type 0
 is_some None = ⊥
@@ -108,28 +114,216 @@ fits_pure fs owner ss at s (Open by n) f h e = absurd (subst is_some (sym e) tt)
 fits_pure fs owner ss at s (Close by) f h e = absurd (subst is_some (sym e) tt)
 fits_pure fs owner ss at s Halt f h e = absurd (subst is_some (sym e) tt)
 
--- what the instruction at a place sends where the code comes to it is marked too
-pub marked_more : (code : PlainCode) (b : CodeBody) (places : Marks) (at : ℕ) (before later : List Bool) → IsBodyOf code b → AreReached (parameters_of code.functions) b.instrs places → IsMarkedAt b.instrs places at before later → ArePure code before → ArePure code later
-marked_more code b places at before later of reached sent h f e function_rooms thread_rooms w = go (sent f e)
-  where
-    go : (nth before f ≡ Some true) ⊎ ((i : Instr) × (m : Mark) × (nth b.instrs at ≡ Some i) × (mark_at places at ≡ Some m) × (sent_by i ≡ Some f)) → IsPureFunction w.kinds f
-    go (inl was) = h f was function_rooms thread_rooms w
-    go (inr is) =
-        let y = body_typed code function_rooms thread_rooms w b of in
-        let m = is.1 in
-        let s = staged_at (rests_on code w.kinds) y.owner y.callable code.constants b y.room y.typed at m.depth m.txs is.0 (record { comes = reached at m is.3; stands = is.2 }) in
-        fits_pure (rests_on code w.kinds) y.owner s.0 at (stage_for b.instrs at m.txs) is.0 f s.1 is.4
+-- what a body of the code sends, where the code comes to it, is pure
+sent_pure : (code : PlainCode) (function_rooms thread_rooms : List ℕ) (w : WellTyped code function_rooms thread_rooms) (b : CodeBody) (f : ℕ) → IsBodyOf code b → IsSentIn code b f → IsPureFunction w.kinds f
+sent_pure code function_rooms thread_rooms w b f of sent =
+    let y = body_typed code function_rooms thread_rooms w b of in
+    let s = staged_at (rests_on code w.kinds) y.owner y.callable code.constants b y.room y.typed sent.place sent.depth sent.txs sent.instr sent.met in
+    fits_pure (rests_on code w.kinds) y.owner s.0 sent.place (stage_for b.instrs sent.place sent.txs) sent.instr f s.1 sent.sends
 
--- ---- functions
+can_apply : (code : PlainCode) (function_rooms thread_rooms : List ℕ) (w : WellTyped code function_rooms thread_rooms) (c : Callee) (n : ℕ) → TakesSent code c (suc n) → CanApply (functions_of code w.kinds) c n
+can_apply code function_rooms thread_rooms w (callee.Core op) n h = h
+can_apply code function_rooms thread_rooms w (callee.Function f) n h = (sent_pure code function_rooms thread_rooms w h.0.0 f h.0.1 h.0.2, h.1)
 
--- how many parameters a function has
-pub parameters_at : (bs : List CodeBody) (f : ℕ) (b : CodeBody) (n : ℕ) → f < length bs → b ≡ get_or bs f b → b.parameters ≡ n → nth (parameters_of bs) f ≡ Some n
-parameters_at [] f b n h e p = absurd (omega (arith, h))
-parameters_at (c ∷ bs) zero b n h e p = ap (λ (x : CodeBody). Some x.parameters) (sym e) ∙ ap Some p
-parameters_at (c ∷ bs) (suc f) b n h e p = parameters_at bs f b n (omega (arith, h)) e p
+-- so an agent can run what the code can have sent
+pub hands_sent : (code : PlainCode) (r : Reply) → HandsOutSent code r → HandsOut code r
+hands_sent code (reply.Action n x v) h = λ function_rooms thread_rooms w. can_apply code function_rooms thread_rooms w x.callee (length x.args) h
+hands_sent code (reply.At p) h = tt
+hands_sent code (reply.Is v) h = tt
+hands_sent code (reply.Views p vs) h = tt
+hands_sent code reply.Done h = tt
+hands_sent code (reply.Retry c) h = tt
+hands_sent code (reply.Changed c) h = tt
+hands_sent code (reply.AgentIsFailed g) h = tt
+hands_sent code reply.Idle h = tt
+hands_sent code (reply.Opened p v) h = tt
+hands_sent code reply.Full h = tt
+hands_sent code reply.Memory h = tt
+
+-- ---- places
+
+-- what stands at a place of a list is within it
+pub nth_within : {A : Type 0} (xs : List A) (i : ℕ) (x : A) → nth xs i ≡ Some x → i < length xs
+nth_within [] i x e = absurd (subst is_some (sym e) tt)
+nth_within (y ∷ xs) zero x e = omega arith
+nth_within (y ∷ xs) (suc i) x e = omega (arith, nth_within xs i x e)
+
+-- what is read at a place stands there
+pub nth_read : {A : Type 0} (xs : List A) (i : ℕ) (x d : A) → i < length xs → x ≡ get_or xs i d → nth xs i ≡ Some x
+nth_read [] i x d h e = absurd (omega (arith, h))
+nth_read (y ∷ xs) zero x d h e = ap Some (sym e)
+nth_read (y ∷ xs) (suc i) x d h e = nth_read xs i x d (omega (arith, h)) e
+
+some_is : {A : Type 0} (x y : A) → Some x ≡ Some y → x ≡ y
+some_is x y e = cc
+
+-- ---- what the instructions of a body send
+
+-- a function that a lawful instruction sends has parameters
+sends_one : (fs : ℕ) (ps : List ℕ) (ks : List Value) (b : CodeBody) (at : ℕ) (i : Instr) (f : ℕ) → IsLawful fs ps ks b at i → sent_by i ≡ Some f → (n : ℕ) × (nth ps f ≡ Some n)
+sends_one fs ps ks b at (Send (callee.Function g) n) f h e = (n + 1, ap (λ x. nth ps x) (sym (ap (number_or f) e)) ∙ h.1)
+sends_one fs ps ks b at (Send (callee.Core op) n) f h e = absurd (subst is_some (sym e) tt)
+sends_one fs ps ks b at (Const k) f h e = absurd (subst is_some (sym e) tt)
+sends_one fs ps ks b at (Local j) f h e = absurd (subst is_some (sym e) tt)
+sends_one fs ps ks b at (Store j) f h e = absurd (subst is_some (sym e) tt)
+sends_one fs ps ks b at Pop f h e = absurd (subst is_some (sym e) tt)
+sends_one fs ps ks b at (Jump to) f h e = absurd (subst is_some (sym e) tt)
+sends_one fs ps ks b at (JumpFalse to) f h e = absurd (subst is_some (sym e) tt)
+sends_one fs ps ks b at (Core op n) f h e = absurd (subst is_some (sym e) tt)
+sends_one fs ps ks b at (Call g) f h e = absurd (subst is_some (sym e) tt)
+sends_one fs ps ks b at Return f h e = absurd (subst is_some (sym e) tt)
+sends_one fs ps ks b at (Vector n) f h e = absurd (subst is_some (sym e) tt)
+sends_one fs ps ks b at (Print n) f h e = absurd (subst is_some (sym e) tt)
+sends_one fs ps ks b at (Look look) f h e = absurd (subst is_some (sym e) tt)
+sends_one fs ps ks b at (Put put) f h e = absurd (subst is_some (sym e) tt)
+sends_one fs ps ks b at TxBegin f h e = absurd (subst is_some (sym e) tt)
+sends_one fs ps ks b at TxEnd f h e = absurd (subst is_some (sym e) tt)
+sends_one fs ps ks b at (Open by n) f h e = absurd (subst is_some (sym e) tt)
+sends_one fs ps ks b at (Close by) f h e = absurd (subst is_some (sym e) tt)
+sends_one fs ps ks b at Halt f h e = absurd (subst is_some (sym e) tt)
+
+parameters_many : (bs : List CodeBody) → length (parameters_of bs) ≡ length bs
+parameters_many [] = refl
+parameters_many (b ∷ bs) = ap suc (parameters_many bs)
+
+-- the bodies of the code send functions of the code alone
+pub send_within : (code : PlainCode) (function_rooms thread_rooms : List ℕ) → WellTyped code function_rooms thread_rooms → (b : CodeBody) → IsBodyOf code b → SendWithin (length code.functions) b.instrs
+send_within code function_rooms thread_rooms w b of p f i e sends =
+    let t = body_typed code function_rooms thread_rooms w b of in
+    let one = sends_one t.callable (parameters_of code.functions) code.constants b p i f (t.typed.lawful p i e) sends in
+    subst (λ n. f < n) (parameters_many code.functions) (nth_within (parameters_of code.functions) f one.0 one.1)
+
+-- ---- marks
 
 -- the mark at a place, as it is read
-pub mark_read : (ms : Marks) (at : ℕ) (m : Mark) → at < length ms → Some m ≡ get_or ms at (Some m) → mark_at ms at ≡ Some m
+pub mark_read : (ms : Marks) (at : ℕ) (m : Option Mark) → at < length ms → m ≡ get_or ms at m → mark_at ms at ≡ m
 mark_read [] at m h e = absurd (omega (arith, h))
 mark_read (x ∷ ms) zero m h e = sym e
 mark_read (x ∷ ms) (suc at) m h e = mark_read ms at m (omega (arith, h)) e
+
+-- a place that is read without a mark has none
+pub no_mark : (ms : Marks) (at : ℕ) (m : Mark) → mark_at ms at ≡ None → mark_at ms at ≡ Some m → false ≡ true
+no_mark ms at m e f = cc
+
+-- what is marked by two, one behind the other
+pub two_more : (P Q R : ℕ → Type 0) (a b c : List Bool) → ((f : ℕ) → R f ↔ (P f ⊎ Q f)) → MarksMore P a b → MarksMore Q b c → MarksMore R a c
+two_more P Q R a b c same first second = record { many = second.many ∙ first.many; marked = λ f. ((λ e. to f ((second.marked f).0 e)), (λ h. back f h)) }
+  where
+    there : (f : ℕ) → (nth a f ≡ Some true) ⊎ P f → (nth a f ≡ Some true) ⊎ R f
+    there f (inl h) = inl h
+    there f (inr h) = inr ((same f).1 (inl h))
+
+    to : (f : ℕ) → (nth b f ≡ Some true) ⊎ Q f → (nth a f ≡ Some true) ⊎ R f
+    to f (inl h) = there f ((first.marked f).0 h)
+    to f (inr h) = inr ((same f).1 (inr h))
+
+    one : (f : ℕ) → P f ⊎ Q f → nth c f ≡ Some true
+    one f (inl h) = (second.marked f).1 (inl ((first.marked f).1 (inr h)))
+    one f (inr h) = (second.marked f).1 (inr h)
+
+    back : (f : ℕ) → (nth a f ≡ Some true) ⊎ R f → nth c f ≡ Some true
+    back f (inl h) = (second.marked f).1 (inl ((first.marked f).1 (inl h)))
+    back f (inr h) = one f ((same f).0 h)
+
+-- what is so by other words
+pub same_more : (P Q : ℕ → Type 0) (a b : List Bool) → ((f : ℕ) → Q f ↔ P f) → MarksMore P a b → MarksMore Q a b
+same_more P Q a b same h = record { many = h.many; marked = λ f. ((λ e. to f ((h.marked f).0 e)), (λ x. (h.marked f).1 (back f x))) }
+  where
+    to : (f : ℕ) → (nth a f ≡ Some true) ⊎ P f → (nth a f ≡ Some true) ⊎ Q f
+    to f (inl x) = inl x
+    to f (inr x) = inr ((same f).1 x)
+
+    back : (f : ℕ) → (nth a f ≡ Some true) ⊎ Q f → (nth a f ≡ Some true) ⊎ P f
+    back f (inl x) = inl x
+    back f (inr x) = inr ((same f).0 x)
+
+-- ---- the places of a body
+
+below_or_last : (p n : ℕ) → p < suc n → (p < n) ⊎ (p ≡ n)
+below_or_last zero zero h = inr refl
+below_or_last zero (suc n) h = inl (omega arith)
+below_or_last (suc p) zero h = absurd (omega (arith, h))
+below_or_last (suc p) (suc n) h = next (below_or_last p n (omega (arith, h)))
+  where
+    next : (p < n) ⊎ (p ≡ n) → (suc p < suc n) ⊎ (suc p ≡ suc n)
+    next (inl x) = inl (omega (arith, x))
+    next (inr x) = inr (ap suc x)
+
+-- a place more
+pub place_more : (is : List Instr) (places : Marks) (n f : ℕ) → IsSentBefore is places (n + 1) f ↔ (IsSentBefore is places n f ⊎ IsSentAt is places n f)
+place_more is places n f = (λ s. to s.place s.sent (below_or_last s.place n (omega (arith, s.within))), back)
+  where
+    to : (p : ℕ) → IsSentAt is places p f → (p < n) ⊎ (p ≡ n) → IsSentBefore is places n f ⊎ IsSentAt is places n f
+    to p s (inl h) = inl (record { place = p; within = h; sent = s })
+    to p s (inr h) = inr (subst (λ x. IsSentAt is places x f) h s)
+
+    back : IsSentBefore is places n f ⊎ IsSentAt is places n f → IsSentBefore is places (n + 1) f
+    back (inl s) = record { place = s.place; within = omega (arith, s.within); sent = s.sent }
+    back (inr s) = record { place = n; within = omega arith; sent = s }
+
+-- at all places of a body just that is sent to which a path comes
+pub all_places : (code : PlainCode) (b : CodeBody) (places : Marks) → length b.instrs < 4294967295 → IsClosed (parameters_of code.functions) b.instrs places → AreReached (parameters_of code.functions) b.instrs places → (f : ℕ) → IsSentIn code b f ↔ IsSentBefore b.instrs places (length b.instrs) f
+all_places code b places few closed reached f = (to, back)
+  where
+    to : IsSentIn code b f → IsSentBefore b.instrs places (length b.instrs) f
+    to s = record {
+      place = s.place;
+      within = nth_within b.instrs s.place s.instr s.met.stands;
+      sent = record {
+        instr = s.instr;
+        mark = record { depth = s.depth; txs = s.txs };
+        stands = s.met.stands;
+        marked = has_mark (parameters_of code.functions) b.instrs places closed s.met.comes.0 s.place s.depth s.txs s.met.comes.1;
+        sends = s.sends;
+      };
+    }
+
+    back : IsSentBefore b.instrs places (length b.instrs) f → IsSentIn code b f
+    back s = record {
+      few = few;
+      place = s.place;
+      depth = s.sent.mark.depth;
+      txs = s.sent.mark.txs;
+      instr = s.sent.instr;
+      met = record { comes = reached s.place s.sent.mark s.sent.marked; stands = s.sent.stands };
+      sends = s.sent.sends;
+    }
+
+-- ---- the bodies of the code
+
+-- a body more
+pub body_more : (code : PlainCode) (bodies : List CodeBody) (n : ℕ) (b : CodeBody) → nth bodies n ≡ Some b → (f : ℕ) → IsSentAmong code bodies (n + 1) f ↔ (IsSentAmong code bodies n f ⊎ IsSentIn code b f)
+body_more code bodies n b there f = (λ s. to s.number s.body s.there s.sent (below_or_last s.number n (omega (arith, s.within))), back)
+  where
+    to : (k : ℕ) (c : CodeBody) → nth bodies k ≡ Some c → IsSentIn code c f → (k < n) ⊎ (k ≡ n) → IsSentAmong code bodies n f ⊎ IsSentIn code b f
+    to k c e s (inl h) = inl (record { number = k; within = h; body = c; there = e; sent = s })
+    to k c e s (inr h) = inr (subst (λ x. IsSentIn code x f) (some_is c b (sym e ∙ ap (nth bodies) h ∙ there)) s)
+
+    back : IsSentAmong code bodies n f ⊎ IsSentIn code b f → IsSentAmong code bodies (n + 1) f
+    back (inl s) = record { number = s.number; within = omega (arith, s.within); body = s.body; there = s.there; sent = s.sent }
+    back (inr s) = record { number = n; within = omega arith; body = b; there = there; sent = s }
+
+-- ---- parameters
+
+-- how many parameters a function has, as it is read
+pub parameters_at : (bs : List CodeBody) (f : ℕ) (b : CodeBody) → f < length bs → b ≡ get_or bs f b → nth (parameters_of bs) f ≡ Some b.parameters
+parameters_at [] f b h e = absurd (omega (arith, h))
+parameters_at (c ∷ bs) zero b h e = ap (λ (x : CodeBody). Some x.parameters) (sym e)
+parameters_at (c ∷ bs) (suc f) b h e = parameters_at bs f b (omega (arith, h)) e
+
+-- so it is told by a test of what is read
+pub has_so : (bs : List CodeBody) (f k : ℕ) (b : CodeBody) (n : ℕ) → f < length bs → b ≡ get_or bs f b → n ≡ b.parameters → (nat_eq n k ≡ true → nth (parameters_of bs) f ≡ Some k) × (nth (parameters_of bs) f ≡ Some k → nat_eq n k ≡ true)
+has_so bs f k b n h e is = (
+  (λ t. (let same : n ≡ k = grind (arith, nat_tests, t) in at ∙ ap Some (sym is ∙ same))),
+  (λ x. (let same : n ≡ k = is ∙ some_is b.parameters k (sym at ∙ x) in grind (arith, nat_tests, same))),
+)
+  where
+    at : nth (parameters_of bs) f ≡ Some b.parameters
+    at = parameters_at bs f b h e
+
+-- and none has parameters that isn't there
+pub has_none : (bs : List CodeBody) (f k : ℕ) → nat_lt f (length bs) ≡ false → (nat_lt f (length bs) ≡ true → nth (parameters_of bs) f ≡ Some k) × (nth (parameters_of bs) f ≡ Some k → nat_lt f (length bs) ≡ true)
+has_none bs f k e = (
+  (λ t. absurd (grind (arith, nat_tests, e, t))),
+  (λ x. (let below : f < length bs = subst (λ m. f < m) (parameters_many bs) (nth_within (parameters_of bs) f k x) in grind (arith, nat_tests, below))),
+)

@@ -7,13 +7,14 @@ use Rattle.txs_asks.specs.declared.ask.Reply.TheVariants as reply
 use Rattle.txs_asks.specs.declared.event.Outcome.TheVariants.{JournalFull}
 use Rattle.txs_code.specs.Machine.{ThreadCode}
 use Rattle.txs_code.specs.PlainCode.{PlainCode}
-use Rattle.txs_actor.specs.PlainActor.{PlainActor, Lives, HasRun, AsksLast, unanswered, code_of}
+use Rattle.txs_actor.specs.PlainActor.{PlainActor, Lives, HasRun, AsksLast, MayAnswerIf, unanswered, code_of}
 use Rattle.txs_runs.specs.Stages.{Stage, Idle}
 use Rattle.txs_runs.specs.Standing.{StandingCode}
 use Rattle.txs_runs.specs.Told.{Entry, exchange_of, AreStaged}
 use Rattle.txs_replay.specs.Replay.{entry_of}
 use Rattle.txs_replay.specs.declared.kept.Kept.{Kept}
 use Rattle.txs_machine.specs.RunOver.{IsIn, IsLimited, AskedOn}
+use Rattle.txs_played.specs.Callees.{HandsOutSent}
 use Rattle.txs_played.specs.Goes.{HasGone}
 
 -- with its last step an actor asked what it was stopped at
@@ -51,14 +52,19 @@ pub record PlainPlayed : Type 0 where
 abbrev pub new_player : PlainCode → PlainActor → PlainPlayed
 new_player code a = record { code = code; actor = a; kept = []; stopped = None; lost = false }
 
--- of one that lost nothing: what it asked last is its actor's ask, and its actor is where the code comes to on what it kept
+-- of one that lost nothing: what it asked last is its actor's ask, and its actor is where the code comes to on what it kept; one that lost something
+-- waits for no reply
 abbrev pub IsPlayed : Bool → PlainPlayed → Option Ask → Type 0
-IsPlayed true p q = Unit {0}
+IsPlayed true p q = q ≡ None
 IsPlayed false p q = (q ≡ unanswered p.actor) × HasPlayed p.code (map entry_of p.kept) p.stopped p.actor
 
 -- the actor can go on with its code, and so it is of what it kept
 abbrev pub IsWell : PlainPlayed → Option Ask → Type 0
 IsWell p q = Lives p.code p.actor × IsPlayed p.lost p q
+
+-- An actor may be told a reply: it lost nothing, its ask may have this reply, and the reply hands out no action but one that the code can have sent.
+abbrev pub MayBeTold : PlainPlayed → Reply → Type 0
+MayBeTold p r = (p.lost ≡ false) × MayAnswerIf (unanswered p.actor) r × HandsOutSent p.code r
 
 -- an actor was made for so many steps
 abbrev pub IsMadeWith : ℕ → PlainActor → Type 0

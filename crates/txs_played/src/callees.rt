@@ -1,9 +1,8 @@
 //! Which functions an action may call.
 
-ghost use Rattle.std.specs.Prelude.{◌≡◌, ◌<◌, true, length, Some, IsTrue, IfOk};
-ghost use Rattle.txs_actor.specs.PlainActor.{HandsOut, MayRun};
+ghost use Rattle.std.specs.Prelude.{◌≡◌, ◌<◌, ◌↔◌, ℕ, suc, true, length, Some, IsTrue, IfOk, OnOk};
 ghost use Rattle.txs_code.specs.PlainCode.{parameters_of};
-ghost use Rattle.txs_played.specs.Callees.{ArePure, IsBodyOf, IsMarkedAt, IsSent, sent_by};
+ghost use Rattle.txs_played.specs.Callees.{AreCallees, HandsOutSent, IsBodyOf, IsCallee, IsSentAmong, IsSentAt, IsSentIn, MarksMore, SendWithin, TakesSent, sent_by};
 ghost use Rattle.txs_value.specs.Places.{nth};
 ghost use Rattle.txs_verify.specs.Marks.{mark_at};
 ghost use Rattle.txs_verify.specs.declared.walk.Mark.{Mark as AMark};
@@ -27,20 +26,18 @@ fn sent_by(instr: Instr) -> Option<u16>
 
 /// Marks the function that an instruction sends, if it sends one.
 fn mark_sent(marks: &mut Vec<bool>, instr: Instr)
-    ensures { IsSent instr marks.old.items marks.new.items }
+    requires { (f : ℕ) → sent_by instr ≡ Some f → f < length marks.old.items }
+    ensures { MarksMore (λ f. sent_by instr ≡ Some f) marks.old.items marks.new.items }
 {
     if let Some(f) = sent_by(instr) {
-        let f = usize::from(f);
-        if f < marks.len() {
-            marks[f] = true;
-        }
+        marks[usize::from(f)] = true;
     }
 }
 
 /// Whether a place is marked.
 fn is_marked(places: &[Option<Mark>], at: usize) -> bool
     requires { at < length places.now }
-    ensures { IsTrue result → (m : AMark) × (mark_at places.now at ≡ Some m) }
+    ensures { IsTrue result ↔ ((m : AMark) × (mark_at places.now at ≡ Some m)) }
 {
     match places[at] {
         Some(_) => true,
@@ -52,7 +49,8 @@ fn is_marked(places: &[Option<Mark>], at: usize) -> bool
 fn mark_place(marks: &mut Vec<bool>, instrs: &[Instr], places: &[Option<Mark>], at: usize)
     requires within { at < length instrs.now }
     requires there { at < length places.now }
-    ensures { IsMarkedAt instrs.now places.now at marks.old.items marks.new.items }
+    requires sends { SendWithin (length marks.old.items) instrs.now }
+    ensures { MarksMore (IsSentAt instrs.now places.now at) marks.old.items marks.new.items }
 {
     if is_marked(places, at) {
         mark_sent(marks, instrs[at]);
@@ -67,8 +65,9 @@ fn mark_body(
     marks: &mut Vec<bool>,
 ) -> Result<(), AllocError>
     requires of { IsBodyOf code.now body.now }
-    requires pure { ArePure code.now marks.old.items }
-    ensures { ArePure code.now marks.new.items }
+    requires many { length marks.old.items ≡ length code.now.functions }
+    ensures many { length marks.new.items ≡ length marks.old.items }
+    ensures more { OnOk result (MarksMore (IsSentIn code.now body.now) marks.old.items marks.new.items) }
 {
     let _rooms = code.rooms();
     let instrs = body.instrs();
@@ -86,8 +85,9 @@ fn mark_body(
 
 /// Marks the functions that the bodies of functions send.
 fn mark_functions(alloc: Global, code: &Verified, marks: &mut Vec<bool>) -> Result<(), AllocError>
-    requires pure { ArePure code.now marks.old.items }
-    ensures { ArePure code.now marks.new.items }
+    requires many { length marks.old.items ≡ length code.now.functions }
+    ensures many { length marks.new.items ≡ length marks.old.items }
+    ensures more { OnOk result (MarksMore (IsSentAmong code.now code.now.functions (length code.now.functions)) marks.old.items marks.new.items) }
 {
     let bodies = code.code().functions();
     for f in 0..bodies.len() {
@@ -98,8 +98,9 @@ fn mark_functions(alloc: Global, code: &Verified, marks: &mut Vec<bool>) -> Resu
 
 /// Marks the functions that the bodies of threads send.
 fn mark_threads(alloc: Global, code: &Verified, marks: &mut Vec<bool>) -> Result<(), AllocError>
-    requires pure { ArePure code.now marks.old.items }
-    ensures { ArePure code.now marks.new.items }
+    requires many { length marks.old.items ≡ length code.now.functions }
+    ensures many { length marks.new.items ≡ length marks.old.items }
+    ensures more { OnOk result (MarksMore (IsSentAmong code.now code.now.threads (length code.now.threads)) marks.old.items marks.new.items) }
 {
     let bodies = code.code().threads();
     for k in 0..bodies.len() {
@@ -108,12 +109,14 @@ fn mark_threads(alloc: Global, code: &Verified, marks: &mut Vec<bool>) -> Result
     Ok(())
 }
 
-/// Of each function of the code, whether it is the callee of a send that the code comes to, so that it is pure.
+/// Of each function of the code, whether it is the callee of a send to which a path of the code comes. A body of 4,294,967,295 instructions or more, as
+/// no code has that has a byte form, is left out.
 ///
 /// # Errors
 /// `AllocError` where there was no memory.
 pub fn sent_functions(alloc: Global, code: &Verified) -> Result<Vec<bool>, AllocError>
-    ensures { IfOk result (λ marks. ArePure code.now marks.items) }
+    ensures one_each { IfOk result (λ marks. length marks.items ≡ length code.now.functions) }
+    ensures callees { IfOk result (λ marks. AreCallees code.now marks.items) }
 {
     let mut marks = vec![in alloc; false; code.code().functions().len()]?;
     mark_functions(alloc, code, &mut marks)?;
@@ -121,22 +124,32 @@ pub fn sent_functions(alloc: Global, code: &Verified) -> Result<Vec<bool>, Alloc
     Ok(marks)
 }
 
+/// Whether a function is marked.
+fn is_callee(marks: &[bool], f: usize) -> bool
+    ensures { IsTrue result ↔ (nth marks.now f ≡ Some true) }
+{
+    f < marks.len() && marks[f]
+}
+
+/// Whether there is a function with so many parameters.
+fn has_parameters(functions: &[Body], f: usize, count: usize) -> bool
+    ensures { IsTrue result ↔ (nth (parameters_of functions.now) f ≡ Some count) }
+{
+    f < functions.len() && usize::from(functions[f].parameters()) == count
+}
+
 /// Whether a function is marked, and takes so many values.
 fn takes_so(code: &Verified, marks: &[bool], f: usize, count: usize) -> bool
-    ensures marked { IsTrue result → nth marks.now f ≡ Some true }
-    ensures parameters { IsTrue result → nth (parameters_of code.now.functions) f ≡ Some count }
+    requires { AreCallees code.now marks.now }
+    ensures { IsTrue result ↔ (IsCallee code.now f × (nth (parameters_of code.now.functions) f ≡ Some count)) }
 {
-    let functions = code.code().functions();
-    f < marks.len()
-        && f < functions.len()
-        && marks[f]
-        && usize::from(functions[f].parameters()) == count
+    is_callee(marks, f) && has_parameters(code.code().functions(), f, count)
 }
 
 /// Whether an action's callee is an operation or a marked function, and takes the agent's state and the arguments.
-pub(crate) fn may_run(code: &Verified, marks: &[bool], action: &Action) -> bool
-    requires { ArePure code.now marks.now }
-    ensures { IsTrue result → MayRun code.now action.now }
+fn may_run(code: &Verified, marks: &[bool], action: &Action) -> bool
+    requires { AreCallees code.now marks.now }
+    ensures { IsTrue result ↔ TakesSent code.now action.now.callee (suc (length action.now.args)) }
 {
     let count = action.args.as_slice().len() + 1;
     match action.callee {
@@ -147,8 +160,8 @@ pub(crate) fn may_run(code: &Verified, marks: &[bool], action: &Action) -> bool
 
 /// Whether a reply hands out no action but such a one.
 pub(crate) fn hands_out(code: &Verified, marks: &[bool], reply: &Reply) -> bool
-    requires { ArePure code.now marks.now }
-    ensures { IsTrue result → HandsOut code.now reply.now }
+    requires { AreCallees code.now marks.now }
+    ensures { IsTrue result ↔ HandsOutSent code.now reply.now }
 {
     match reply {
         Reply::Action { action, .. } => may_run(code, marks, action),

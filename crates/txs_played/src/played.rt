@@ -7,9 +7,9 @@ ghost use Rattle.txs_actor.specs.declared.outcome.Turn.TheVariants as turned;
 ghost use Rattle.txs_asks.specs.declared.ask.Ask.{Ask as AnAsk};
 ghost use Rattle.txs_asks.specs.declared.event.Outcome.{Outcome as AnOutcome};
 ghost use Rattle.txs_asks.specs.declared.event.Outcome.TheVariants as outcome;
-ghost use Rattle.txs_played.specs.Callees.{ArePure};
+ghost use Rattle.txs_played.specs.Callees.{AreCallees, HandsOutSent};
 ghost use Rattle.txs_played.specs.Gather.{HasFullBook};
-ghost use Rattle.txs_played.specs.Played.{PlainPlayed, HasPlayed, new_player, kept_after, stopped_after, kept_of};
+ghost use Rattle.txs_played.specs.Played.{PlainPlayed, HasPlayed, MayBeTold, new_player, kept_after, stopped_after, kept_of};
 ghost use Rattle.txs_replay.specs.Replay.{entry_of};
 ghost use Rattle.txs_value.specs.Limits.{most_events};
 
@@ -31,7 +31,7 @@ use txs_value::limits::MOST_EVENTS;
 pub struct Played<'a> {
     alloc: Global,
     code: &'a Verified,
-    /// Of each function, whether an action may call it.
+    /// Of each function, whether it is the callee of a send to which a path of the code comes.
     callees: &'a [bool],
     actor: Actor,
     /// How many steps its actor may make: the number that it was made with.
@@ -46,7 +46,7 @@ pub struct Played<'a> {
 }
 
 impl<'a> Model for Played<'a> {
-    ghost use Rattle.txs_played.specs.Callees.{ArePure};
+    ghost use Rattle.txs_played.specs.Callees.{AreCallees};
     ghost use Rattle.txs_played.specs.Played.{PlainPlayed, IsWell, IsMadeWith};
     ghost use Rattle.std.specs.Coded.{codes};
     ghost use Rattle.txs_value.specs.contracts.value.Value as value;
@@ -57,7 +57,7 @@ impl<'a> Model for Played<'a> {
 
     ghost view = { λ p. record { code = p.code.now; actor = p.actor; kept = p.kept; stopped = p.stopped; lost = p.lost } };
 
-    ghost invariant = { λ p. IsWell (record { code = p.code.now; actor = p.actor; kept = p.kept; stopped = p.stopped; lost = p.lost }) p.asked × ArePure p.code.now p.callees.now × IsMadeWith p.limit p.actor };
+    ghost invariant = { λ p. IsWell (record { code = p.code.now; actor = p.actor; kept = p.kept; stopped = p.stopped; lost = p.lost }) p.asked × AreCallees p.code.now p.callees.now × IsMadeWith p.limit p.actor };
 }
 
 /// A copy of an ask, where there is room to keep it.
@@ -108,8 +108,8 @@ fn keep(
 }
 
 impl<'a> Played<'a> {
-    /// A new actor, of a thread or of an agent, made with this code and for so many steps, that has kept nothing yet. The callees are the functions of
-    /// the code that an action may call, as `sent_functions` tells them.
+    /// A new actor, of a thread or of an agent, made with this code and for so many steps, that has kept nothing yet. The callees are the functions that
+    /// the code sends, as `sent_functions` tells them.
     pub fn new(
         alloc: Global,
         code: &'a Verified,
@@ -117,7 +117,7 @@ impl<'a> Played<'a> {
         actor: Actor,
         max_steps: u64,
     ) -> Played<'a>
-        requires callees { ArePure code.now callees.now }
+        requires callees { AreCallees code.now callees.now }
         requires lives { Lives code.now actor }
         requires new { IsNew code.now actor.number max_steps actor }
         ensures { result ≡ new_player code.now actor }
@@ -259,24 +259,28 @@ impl<'a> Played<'a> {
         &self.actor
     }
 
-    /// Whether an ask has no answer yet.
+    /// Whether an ask has no answer yet; none waits for one where something was lost.
     pub fn is_asking(&self) -> bool
         ensures free { self.now.lost ≡ false → result ≡ false → unanswered self.now.actor ≡ None }
         ensures asks { self.now.lost ≡ false → IsTrue result → unanswered self.now.actor ≡ None → ⊥ }
+        ensures lost { self.now.lost ≡ true → result ≡ false }
     {
         self.asked.is_some()
     }
 
-    /// Whether a reply hands out no action but one that an agent of its code can run.
+    /// Whether a reply hands out no action but one that its code can have sent.
     fn can_take(&self, reply: &Reply) -> bool
-        ensures { IsTrue result → HandsOut self.now.code reply.now }
+        ensures { IsTrue result ↔ HandsOutSent self.now.code reply.now }
     {
         hands_out(self.code, self.callees, reply)
     }
 
-    /// Whether the ask that has no answer yet may have this reply; an action that it hands out is one that its agent can run.
+    /// Whether the ask that has no answer yet may have this reply, nothing was lost, and an action that the reply hands out is one that the code can have
+    /// sent: its callee, which takes the agent's state and the arguments, is an operation, or a function that is the callee of a send to which a path of
+    /// the code comes. Such a one its agent can run.
+    #[tactic(auto, using(crate::proofs::Sent::hands_sent))]
     pub fn may_answer(&self, reply: &Reply) -> bool
-        ensures answers { IsTrue result → self.now.lost ≡ false → MayAnswerIf (unanswered self.now.actor) reply.now }
+        ensures exactly { IsTrue result ↔ MayBeTold self.now reply.now }
         ensures hands_out { IsTrue result → HandsOut self.now.code reply.now }
     {
         match &self.asked {

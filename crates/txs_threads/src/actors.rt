@@ -4,7 +4,7 @@ ghost use Rattle.std.proofs.Common.{get_or};
 ghost use Rattle.std.specs.Prelude.{◌≡◌, ◌<◌, ◌≤◌, ◌+◌, ◌++◌, [], length, IfOk, OnOk};
 ghost use Rattle.txs_actor.specs.PlainActor.{IsActorOf, with_agent};
 ghost use Rattle.txs_machine.specs.Agents.{agents_of};
-ghost use Rattle.txs_played.specs.Callees.{ArePure};
+ghost use Rattle.txs_played.specs.Callees.{AreCallees};
 
 use crate::desk::Actors;
 use crate::player::Player;
@@ -51,7 +51,7 @@ fn open_threads<'a>(
     threads: u16,
     max_steps: u64,
 ) -> Result<Vec<Played<'a>>, AllocError>
-    requires callees { ArePure code.now callees.now }
+    requires callees { AreCallees code.now callees.now }
     requires many { threads ≡ length code.now.threads }
 {
     let mut ready = Vec::with_capacity(alloc, usize::from(threads) + agents.len())?;
@@ -89,7 +89,7 @@ fn open_agent<'a>(
     number: u16,
     max_steps: u64,
 ) -> Result<Played<'a>, AllocError>
-    requires callees { ArePure code.now callees.now }
+    requires callees { AreCallees code.now callees.now }
     requires actor { IsActorOf code.now number agent }
 {
     let actor = Actor::agent(alloc, code, agent, number, max_steps)?;
@@ -121,7 +121,7 @@ fn open_agents<'a>(
     threads: u16,
     max_steps: u64,
 ) -> Result<Vec<Option<Played<'a>>>, AllocError>
-    requires callees { ArePure code.now callees.now }
+    requires callees { AreCallees code.now callees.now }
     requires agents { agents.now ≡ agents_of code.now }
     requires many { threads ≡ length code.now.threads }
     requires few { length code.now.threads + length code.now.cells ≤ 65535 }
@@ -145,7 +145,7 @@ pub(crate) fn open_all<'a>(
     threads: u16,
     max_steps: u64,
 ) -> Result<Actors<Played<'a>>, AllocError>
-    requires callees { ArePure code.now callees.now }
+    requires callees { AreCallees code.now callees.now }
     requires agents { agents.now ≡ agents_of code.now }
     requires many { threads ≡ length code.now.threads }
     requires few { length code.now.threads + length code.now.cells ≤ 65535 }

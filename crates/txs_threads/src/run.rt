@@ -6,7 +6,7 @@ ghost use Rattle.txs_machine.specs.Agents.{agents_of, AreDrained, AreExplainedBy
 ghost use Rattle.txs_machine.specs.RunOver.{IsStateOf};
 ghost use Rattle.txs_machine.specs.Schedule.{HaveEnded, IsExplainedBy};
 ghost use Rattle.txs_machine.specs.declared.run_error.RunError.TheVariants.{NoThread, JournalMismatch, Memory};
-ghost use Rattle.txs_played.specs.Callees.{ArePure};
+ghost use Rattle.txs_played.specs.Callees.{AreCallees};
 ghost use Rattle.txs_played.specs.Gather.{AllHaveDone, AllHaveAttended};
 ghost use Rattle.txs_shared.specs.SharedState.{shared_of};
 
@@ -285,7 +285,7 @@ fn open_desk<'a>(
     threads: u16,
     max_steps: u64,
 ) -> Result<Desk<Played<'a>>, AllocError>
-    requires callees { ArePure code.now callees.now }
+    requires callees { AreCallees code.now callees.now }
     requires agents { agents.now ≡ agents_of code.now }
     requires many { threads ≡ length code.now.threads }
     requires few { length code.now.threads + length code.now.cells ≤ 65535 }
@@ -310,7 +310,7 @@ fn run_actors<R: Threads + Wait + Sync, G: Gate>(
     max_steps: u64,
     gate: &G,
 ) -> Result<Gathered, RunError>
-    requires callees { ArePure code.now callees.now }
+    requires callees { AreCallees code.now callees.now }
     requires agents { agents.now ≡ agents_of code.now }
     requires few { length code.now.threads + length code.now.cells ≤ 65535 }
     requires workers { workers ≤ 64 }

@@ -1,6 +1,6 @@
 // The comparison of parts that were played by hand: what agrees is gathered, and what doesn't is told.
 ghost use Rattle.std.specs.Prelude.{◌<◌, length};
-ghost use Rattle.txs_played.specs.Callees.{ArePure};
+ghost use Rattle.txs_played.specs.Callees.{AreCallees};
 
 use crate::seen::{cells_of, has_ended};
 use std::alloc::Global;
@@ -43,7 +43,7 @@ fn player<'a>(
     callees: &'a [bool],
     k: u16,
 ) -> Result<Played<'a>, Fail>
-    requires callees { ArePure code.now callees.now }
+    requires callees { AreCallees code.now callees.now }
     requires there { k < length code.now.threads }
 {
     let actor = Actor::thread(alloc, code, k, STEPS)?;
@@ -111,7 +111,7 @@ fn parts<'a>(
     turns: u32,
     read: Option<i64>,
 ) -> Result<(SharedState, u64, Vec<Played<'a>>), Fail>
-    requires { ArePure code.now callees.now }
+    requires { AreCallees code.now callees.now }
 {
     let mut shared = open(alloc, code)?;
     let mut served = 0;
@@ -278,7 +278,7 @@ fn asking<'a>(
     code: &'a Verified,
     callees: &'a [bool],
 ) -> Result<(SharedState, u64, Vec<Played<'a>>), Fail>
-    requires { ArePure code.now callees.now }
+    requires { AreCallees code.now callees.now }
 {
     let (shared, served, mut both) = parts(alloc, code, callees, 0, None)?;
     if let Some(second) = both.get_mut(1) {

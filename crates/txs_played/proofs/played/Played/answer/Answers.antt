@@ -49,11 +49,12 @@ invariant_of-self-in-Err c =
     let before : PlainPlayed = record { code = c.self.inside.code.now; actor = a; kept = c.self.inside.kept; stopped = at; lost = c.self.inside.lost } in
     let lost : c.self.inside.lost ≡ false = search rules in
     let was = subst (λ l. IsPlayed l before c.self.inside.asked) lost c.self.invariant.0.1 in
+    let none : c.take.new.self ≡ None = search rules in
     let had : c.self.inside.asked ≡ Some q = search rules in
     let asks : unanswered a ≡ Some q = sym was.0 ∙ had in
     let answers : MayAnswerIf (unanswered a) r = search rules in
     let may : MayAnswer q r = subst (λ (o : Option Ask). MayAnswerIf o r) asks answers in (
-      (c.answer-in-Err.ensures.lives, tt),
+      (c.answer-in-Err.ensures.lives, none),
       c.self.invariant.1,
       subst (λ x. x.limit ≡ a.limit) (sym c.answer-in-Err.ensures.answered) (answer_limit a q r asks may) ∙ c.self.invariant.2,
     )

@@ -75,8 +75,9 @@ invariant_of-self-in-Err c =
     let at = c.self.inside.stopped in
     let before : PlainPlayed = record { code = code; actor = a; kept = kept; stopped = at; lost = c.self.inside.lost } in
     let lost : c.self.inside.lost ≡ false = search rules in
+    let free : unanswered a ≡ None = search rules in
     let was = subst (λ l. IsPlayed l before c.self.inside.asked) lost c.self.invariant.0.1 in (
-      (c.in-Asks.ensures.lives, tt),
+      (c.in-Asks.ensures.lives, was.0 ∙ free),
       c.self.invariant.1,
       turns_limit code (map entry_of kept) at c.args.budget a b (Asks c.in-Asks.ask) c.in-Asks.ensures.turns was.1 ∙ c.self.invariant.2,
     )
