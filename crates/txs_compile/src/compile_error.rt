@@ -12,7 +12,7 @@ use txs_resolve::ResolveError;
 /// Why a script isn't compiled.
 #[derive(Clone, Copy, Debug, PartialEq, Eq, Error)]
 pub enum CompileError {
-    /// It isn't read, or holds a form that programs can't have yet.
+    /// It isn't read.
     #[error("the script isn't read: {0:?}")]
     Read(ReadError),
     /// Its names don't resolve.

@@ -5,6 +5,7 @@ ghost use Rattle.txs_bytes.specs.CodeForm.{HasForm};
 ghost use Rattle.txs_code.specs.OwnCells.{NamesOwnCells};
 ghost use Rattle.txs_code.specs.WellTyped.{WellTyped};
 ghost use Rattle.txs_load.specs.Load.{IsFormOf, IsRefusal, IsWrongCode, bytes_error, code_error};
+ghost use Rattle.txs_verify.specs.Verdict.{AreLeastRooms};
 
 use crate::error::LoadError;
 use crate::law::form_is_taken;
@@ -39,6 +40,7 @@ fn check(alloc: Global, code: Code) -> Result<(Code, Rooms), LoadError>
     requires { HasForm code }
     ensures kept { IfOk result (λ r. r.0 ≡ code) }
     ensures typed { IfOk result (λ r. WellTyped code r.1.functions.items r.1.threads.items) }
+    ensures least { IfOk result (λ r. AreLeastRooms code r.1.functions.items r.1.threads.items) }
     ensures own_cells { IfOk result (λ r. NamesOwnCells code) }
     ensures refused { IfErr result (λ e. IsWrongCode code e) }
 {
@@ -49,13 +51,14 @@ fn check(alloc: Global, code: Code) -> Result<(Code, Rooms), LoadError>
     }
 }
 
-/// The code that the bytes are the form of, with rooms for its stacks with which it is well typed.
+/// The code that the bytes are the form of, with the least rooms for its stacks with which it is well typed.
 ///
 /// # Errors
 /// The first refusal of the bytes from left to right; a refusal of their code; or want of memory.
 pub fn load(alloc: Global, bytes: &[u8]) -> Result<(Code, Rooms), LoadError>
     ensures form { IfOk result (λ r. IsFormOf bytes.now r.0) }
     ensures typed { IfOk result (λ r. WellTyped r.0 r.1.functions.items r.1.threads.items) }
+    ensures least { IfOk result (λ r. AreLeastRooms r.0 r.1.functions.items r.1.threads.items) }
     ensures own_cells { IfOk result (λ r. NamesOwnCells r.0) }
     ensures refused { IfErr result (λ e. IsRefusal bytes.now e) }
 {

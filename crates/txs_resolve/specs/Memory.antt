@@ -1,9 +1,10 @@
--- Where the resolver may want memory: at a top-level form that resolves, as do all before it.
-use Rattle.std.specs.Prelude.{◌≡◌, ◌⊎◌, List, [], ◌∷◌, Ok, IsOk}
+-- What the answer for want of memory says of a script.
+use Rattle.std.specs.Prelude.{List, [], ◌∷◌, IsOk}
 use Rattle.txs_reader.specs.Tree.{Tree as Form}
 use Rattle.txs_resolve.specs.Names.{State, step}
 
--- one of these forms resolves, and so do all before it
-abbrev pub OneWants : State → List Form → Type 0
-OneWants s [] = ⊥
-OneWants s (form ∷ forms) = IsOk (step s form) ⊎ ((t : State) × (step s form ≡ Ok t) × OneWants t forms)
+-- There is a first top-level form, and it resolves. No more is said: want of memory has no place, and may have come at any form behind
+-- it that resolves, as do all before that one.
+abbrev pub FirstResolves : State → List Form → Type 0
+FirstResolves s [] = ⊥
+FirstResolves s (form ∷ forms) = IsOk (step s form)

@@ -1,6 +1,6 @@
 //! Laws of the resolution of names. Each stands on a function that does nothing when it runs.
 
-ghost use Rattle.std.specs.Prelude.{◌≡◌, ◌⊎◌, ℕ, suc, Bool, true, false, List, map, None, Ok, Some};
+ghost use Rattle.std.specs.Prelude.{◌≡◌, ◌≢◌, ◌⊎◌, ℕ, suc, Bool, true, false, List, map, None, Ok, Some};
 ghost use Rattle.txs_names.specs.Nearest.{IsNearest, NoneNamed};
 ghost use Rattle.txs_names.specs.Scope.{Scope, definition_of, is_current, may_bind, operations, with_name};
 ghost use Rattle.txs_names.specs.declared.scope.Definition.TheVariants.{Constant, Cell as ACell};
@@ -18,19 +18,20 @@ ghost use Rattle.txs_resolve.specs.Defined.{AllDiffer, define_all};
 ghost use Rattle.txs_resolve.specs.Names.{behind_namespace, Resolves, ResolveStops};
 ghost use Rattle.txs_expand.specs.Expressions.{named};
 ghost use Rattle.txs_expand.specs.declared.error.ResolveError.{ResolveError};
-ghost use Rattle.txs_expand.specs.declared.error.ResolveErrorKind.TheVariants.{UnknownName};
+ghost use Rattle.txs_expand.specs.declared.error.ResolveErrorKind.TheVariants.{Memory, UnknownName};
 
 /// The program that forms are is scoped: each local and function that it names is there, and the limits are kept.
 pub fn resolved_is_scoped()
     ensures { (forms : List Form) (p : PlainProgram) → Resolves forms p → Scoped p }
 {}
 
-/// Forms are one program, or they are refused for one reason at one place.
+/// Forms are one program, or they are refused for one reason at one place, which is no want of memory.
 pub fn one_answer()
     ensures decided { (forms : List Form) → ((p : PlainProgram) × Resolves forms p) ⊎ ((e : ResolveError) × ResolveStops forms e) }
     ensures one_program { (forms : List Form) (p q : PlainProgram) → Resolves forms p → Resolves forms q → p ≡ q }
     ensures one_stop { (forms : List Form) (d e : ResolveError) → ResolveStops forms d → ResolveStops forms e → d ≡ e }
     ensures not_both { (forms : List Form) (p : PlainProgram) (e : ResolveError) → Resolves forms p → ResolveStops forms e → ⊥ }
+    ensures no_want { (forms : List Form) (e : ResolveError) → ResolveStops forms e → e.kind ≢ Memory }
 {}
 
 /// The cells of the program are those that the script's forms define, and its functions and threads stand where

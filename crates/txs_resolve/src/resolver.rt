@@ -1,9 +1,9 @@
 //! A script's forms to the program that they are.
 
-ghost use Rattle.std.specs.Prelude.{◌≡◌, ◌≢◌, ◌⊎◌, IfOk, IfErr, OnOk};
+ghost use Rattle.std.specs.Prelude.{◌≡◌, ◌≢◌, IfOk, IfErr, OnOk};
 ghost use Rattle.txs_resolve.specs.Given.{Ends};
 ghost use Rattle.txs_resolve.specs.Names.{Resolves, ResolveStops, no_memory, nothing, behind_namespace, steps};
-ghost use Rattle.txs_resolve.specs.Memory.{OneWants};
+ghost use Rattle.txs_resolve.specs.Memory.{FirstResolves};
 ghost use Rattle.txs_resolve.specs.Scripts.{state_of, IsScript};
 ghost use Rattle.txs_nodes.specs.declared.stop.Stop.TheVariants as stop;
 ghost use Rattle.txs_expand.specs.declared.error.ResolveErrorKind.TheVariants.{Memory};
@@ -33,7 +33,7 @@ fn steps<'a>(alloc: Global, script: &mut Script<'a>, forms: &'a [Form]) -> Resul
     requires { IsScript script.old }
     ensures state { Ends result (state_of script.new) (steps (state_of script.old) (trees forms.now)) }
     ensures next { OnOk result (IsScript script.new) }
-    ensures memory { IfErr result (λ e. e ≡ stop.Memory → OneWants (state_of script.old) (trees forms.now)) }
+    ensures memory { IfErr result (λ e. e ≡ stop.Memory → FirstResolves (state_of script.old) (trees forms.now)) }
 {
     for form in forms {
         step(alloc, script, form)?;
@@ -50,12 +50,13 @@ fn steps<'a>(alloc: Global, script: &mut Script<'a>, forms: &'a [Form]) -> Resul
 ///
 /// # Errors
 /// The first refusal met, with the span of the symbol or form that is refused; `Memory` at 0..0 where the
-/// program didn't fit into memory, which is said only at a top-level form that isn't refused, nor any before it.
+/// program didn't fit into memory, which is never said of a script whose first form, behind the `(ns name)`, is refused.
 pub fn resolve(alloc: Global, forms: &[Form]) -> Result<Raw, ResolveError>
     ensures ok { IfOk result (λ raw. Resolves (trees forms.now) (program_of raw)) }
     ensures err { IfErr result (λ e. e.kind ≢ Memory → ResolveStops (trees forms.now) e) }
-    ensures memory { IfErr result (λ e. OneWants nothing (behind_namespace (trees forms.now)) ⊎ ResolveStops (trees forms.now) e) }
-    ensures told { IfErr result (λ e. (e ≡ no_memory) ⊎ ResolveStops (trees forms.now) e) }
+    ensures want { IfErr result (λ e. e.kind ≡ Memory → e ≡ no_memory) }
+    // So a script whose first form is refused is refused for that.
+    ensures memory { IfErr result (λ e. e.kind ≡ Memory → FirstResolves nothing (behind_namespace (trees forms.now))) }
 {
     let mut script = Script::new(alloc);
     match steps(alloc, &mut script, behind_namespace(forms)) {

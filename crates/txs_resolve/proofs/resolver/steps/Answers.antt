@@ -1,10 +1,10 @@
-use Rattle.std.proofs.Common.{◌≡◌, ◌<◌, ◌+◌, ◌∷◌, ℕ, List, inl, inr, drop, get_or, length, sym, ap, ◌∙◌, subst, drop-cons, add-one}
+use Rattle.std.proofs.Common.{◌≡◌, ◌<◌, ◌+◌, ◌∷◌, ℕ, List, IsOk, drop, get_or, length, refl, sym, ap, ◌∙◌, subst, drop-cons, add-one}
 use Rattle.std.proofs.lemmas.Result.{err_from_is_err_and}
 use Rattle.txs_reader.specs.declared.form.Form.{Form}
 use Rattle.txs_reader.specs.Tree.{tree, trees}
 use Rattle.txs_expand.specs.Answers.{◌>>=◌}
 use Rattle.txs_expand.specs.Expressions.{Answer}
-use Rattle.txs_resolve.specs.Memory.{OneWants}
+use Rattle.txs_resolve.specs.Memory.{FirstResolves}
 use Rattle.txs_resolve.specs.Names.{State, step, steps}
 use Rattle.txs_resolve.specs.Scripts.{state_of}
 use Rattle.txs_resolve.proofs.TopLevel.{failed_step, wanted_at}
@@ -24,7 +24,7 @@ loop-form-preserved c =
     record {
       state = c.loop-form.invariant.state ∙ ap (steps s) there ∙ ap (λ (a : Answer State). a >>= λ t. steps t rest) c.in_ok-step.ensures.state;
       kept = c.in_ok-step.ensures.next;
-      wants = λ w. c.loop-form.invariant.wants (subst (OneWants s) (sym there) (inr (state_of c.step.new.script, c.in_ok-step.ensures.state, w)));
+      wants = λ w. c.loop-form.invariant.wants (subst (FirstResolves s) (sym there) (subst (λ (a : Answer State). IsOk a) (sym c.in_ok-step.ensures.state) refl));
     }
 
 pub returns-in_err-step-clause-state : goal.returns-in_err-step-clause-state
@@ -48,4 +48,4 @@ returns-in_err-step-clause-memory c =
     let rest = trees (drop (i + 1) fs) in
     let there = trees_at fs i f c.loop-form-test.true ∙ ap (λ (x : Form). tree x ∷ rest) (sym c.form-item.is) in
     let p = err_from_is_err_and c.from_residual.result c.from_residual.ensures.1 in
-    rw (p.1, p.2) (λ e. c.loop-form.invariant.wants (subst (OneWants s) (sym there) (inl (wanted_at c.in_err-step.field-0.0 _ (step s (tree f)) c.in_err-step.ensures.state e))))
+    rw (p.1, p.2) (λ e. c.loop-form.invariant.wants (subst (FirstResolves s) (sym there) (wanted_at c.in_err-step.field-0.0 _ (step s (tree f)) c.in_err-step.ensures.state e)))
