@@ -1,3 +1,4 @@
+pub mod Begun
 pub mod Fronts
 pub mod Lessons
 pub mod OfAgents

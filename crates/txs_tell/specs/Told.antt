@@ -9,6 +9,7 @@ use Rattle.txs_compile.specs.declared.compile_error.CompileError.{CompileError}
 use Rattle.txs_compile.specs.declared.compile_error.CompileError.TheVariants.{Memory as NoMemory}
 use Rattle.txs_bytes.specs.CodeForm.{HasForm, form}
 use Rattle.txs_disasm.specs.Listing.{listing}
+use Rattle.txs_disasm.specs.Sent.{Sent}
 use Rattle.txs_follows.specs.FollowsAgent.{FollowsAgents}
 use Rattle.txs_follows.specs.FollowsAll.{FollowsAll}
 use Rattle.txs_follows.specs.Sends.{CodesSendSound}
@@ -163,8 +164,19 @@ pub data ScheduleTells (script : Script) (turns : List ℕ) (steps : ℕ) (cells
   of_plays : (plays : List Play) (read : plays_in turns ≡ Ok plays) (told : Tells script (Run plays steps cells events) t) → ScheduleTells script turns steps cells events t
   of_list : (told : ListTells turns (list_name script.file) t) → ScheduleTells script turns steps cells events t
 
--- How what is told is written, where it is known what the writers hold: both streams whole, and its status; or a stream
--- couldn't be written, and the status is 2 at least.
+-- A stream got a beginning of these bytes, which may be all of them, behind what it held, and no other byte.
+pub record IsBegun (old new : Option (List ℕ)) (all : List ℕ) : Type 0 where
+  pub left : List ℕ
+  pub sent : Sent old new all left
+
+-- How what is told is written, where it is known what the streams hold: both whole, and its status; or one of them couldn't be written or flushed, and
+-- the status is 2 at least. Where that is the standard output, it got a beginning of its own, and the standard error a beginning of its own with a line
+-- behind it that says so; else the standard output is whole, and the standard error got a beginning of its own.
 pub data Written (output_old output_new errors_old errors_new : Option (List ℕ)) (t : Told) (status : ℕ) : Type 0 where
   whole : (output : Appends output_old output_new t.output) (errors : Appends errors_old errors_new t.errors) (ended : status ≡ t.status) → Written output_old output_new errors_old errors_new t status
-  cut : (ended : status ≡ max t.status 2) → Written output_old output_new errors_old errors_new t status
+  output_cut :
+      (output : IsBegun output_old output_new t.output) (errors : IsBegun errors_old errors_new (t.errors ++ codes "write failed\n"))
+      (ended : status ≡ max t.status 2) → Written output_old output_new errors_old errors_new t status
+  errors_cut :
+      (output : Appends output_old output_new t.output) (errors : IsBegun errors_old errors_new t.errors)
+      (ended : status ≡ max t.status 2) → Written output_old output_new errors_old errors_new t status

@@ -1,6 +1,7 @@
 //! What is told of agents: which have failed, and whose actors were stopped.
 
-ghost use Rattle.std.specs.Prelude.{◌≡◌, ◌≤◌, ◌++◌, ℕ, List, length, drop, [], max, true, IfOk, OnOk};
+ghost use Rattle.std.specs.Prelude.{◌≡◌, ◌≤◌, ◌++◌, ℕ, List, length, drop, [], max, true, IfOk, OnErr, OnOk};
+ghost use Rattle.txs_value.specs.Printed.{Extends};
 ghost use Rattle.txs_tell.specs.AgentLines.{AgentTold, AreAgentsTold, EndTold, end_status, failed_by, failure_of, named_from, status_of_agents, with_named};
 ghost use Rattle.txs_tell.specs.Lent.{script_of};
 ghost use Rattle.txs_tell.specs.Lines.{agent_front};
@@ -45,6 +46,7 @@ fn add_end(
 ) -> Result<(), AllocError>
     ensures output { told.new.output.items ≡ told.old.output.items }
     ensures errors { OnOk result ((line : List ℕ) × EndTold (script_of script.entry) (agent_front name.now) end line × (told.new.errors.items ≡ told.old.errors.items ++ line)) }
+    ensures kept { Extends told.old.errors.items told.new.errors.items }
     ensures status { OnOk result (told.new.status ≡ max told.old.status (end_status end)) }
 {
     let Some(outcome) = end else {
@@ -68,6 +70,7 @@ fn add_agent(
 ) -> Result<(), AllocError>
     ensures output { told.new.output.items ≡ told.old.output.items }
     ensures errors { OnOk result ((lines : List ℕ) × AgentTold (script_of script.entry) name.now failure outcome lines × (told.new.errors.items ≡ told.old.errors.items ++ lines)) }
+    ensures kept { Extends told.old.errors.items told.new.errors.items }
     ensures status { OnOk result (told.new.status ≡ max (max told.old.status (end_status (failed_by failure))) (end_status outcome)) }
 {
     add_end(alloc, told, script, name, failed_by(failure))?;
@@ -89,6 +92,7 @@ fn add_cell<'a>(
     ensures output { told.new.output.items ≡ told.old.output.items }
     ensures rest { IfOk result (λ rest. rest.now ≡ drop (length (with_named cell.now.kind number cell.now.name [])) entries.now) }
     ensures errors { OnOk result ((lines : List ℕ) × AreAgentsTold (script_of script.entry) (failure_of shared.now) (with_named cell.now.kind number cell.now.name []) entries.now lines × (told.new.errors.items ≡ told.old.errors.items ++ lines)) }
+    ensures kept { Extends told.old.errors.items told.new.errors.items }
     ensures status { OnOk result (told.new.status ≡ status_of_agents told.old.status (failure_of shared.now) (with_named cell.now.kind number cell.now.name []) entries.now) }
 {
     let CellKind::Agent = cell.kind else {
@@ -107,7 +111,31 @@ fn add_cell<'a>(
     Ok(rest)
 }
 
-/// Adds what is told of all agents, in the order of their definitions. There is an entry for each.
+/// Adds what is told of all agents.
+fn add_cells(
+    alloc: Global,
+    told: &mut Told,
+    script: Script<'_>,
+    cells: &[CellDefinition],
+    agents: &[ThreadReport],
+    shared: &SharedState,
+) -> Result<(), AllocError>
+    requires few { length cells.now ≤ 1000 }
+    requires made { shared.now.cells ≡ cells.now }
+    requires one_each { length agents.now ≡ length (named_from 0 cells.now) }
+    ensures output { told.new.output.items ≡ told.old.output.items }
+    ensures errors { OnOk result ((lines : List ℕ) × AreAgentsTold (script_of script.entry) (failure_of shared.now) (named_from 0 cells.now) agents.now lines × (told.new.errors.items ≡ told.old.errors.items ++ lines)) }
+    ensures kept { Extends told.old.errors.items told.new.errors.items }
+    ensures status { OnOk result (told.new.status ≡ status_of_agents told.old.status (failure_of shared.now) (named_from 0 cells.now) agents.now) }
+{
+    let mut rest = agents;
+    for (number, cell) in cells.iter().enumerate() {
+        rest = add_cell(alloc, told, script, cell, number as u16, rest, shared)?;
+    }
+    Ok(())
+}
+
+/// Adds what is told of all agents, in the order of their definitions. There is an entry for each. After an error nothing is added.
 pub fn add_agents(
     alloc: Global,
     told: &mut Told,
@@ -122,10 +150,15 @@ pub fn add_agents(
     ensures output { told.new.output.items ≡ told.old.output.items }
     ensures errors { OnOk result ((lines : List ℕ) × AreAgentsTold (script_of script.entry) (failure_of shared.now) (named_from 0 cells.now) agents.now lines × (told.new.errors.items ≡ told.old.errors.items ++ lines)) }
     ensures status { OnOk result (told.new.status ≡ status_of_agents told.old.status (failure_of shared.now) (named_from 0 cells.now) agents.now) }
+    ensures errors_kept { OnErr result (told.new.errors.items ≡ told.old.errors.items) }
+    ensures status_kept { OnErr result (told.new.status ≡ told.old.status) }
 {
-    let mut rest = agents;
-    for (number, cell) in cells.iter().enumerate() {
-        rest = add_cell(alloc, told, script, cell, number as u16, rest, shared)?;
+    let length = told.errors.len();
+    let status = told.status;
+    let done = add_cells(alloc, told, script, cells, agents, shared);
+    if done.is_err() {
+        told.errors.truncate(length);
+        told.status = status;
     }
-    Ok(())
+    done
 }

@@ -1,6 +1,7 @@
 //! The lines that tell of cells.
 
-ghost use Rattle.std.specs.Prelude.{◌≡◌, ◌≤◌, ◌++◌, length, OnOk};
+ghost use Rattle.std.specs.Prelude.{◌≡◌, ◌≤◌, ◌++◌, length, OnErr, OnOk};
+ghost use Rattle.txs_value.specs.Printed.{Extends};
 ghost use Rattle.txs_shared.specs.SharedState.{newest_of};
 ghost use Rattle.txs_tell.specs.CellLines.{cell_line, cell_lines};
 
@@ -10,7 +11,8 @@ use txs_value::{CellDefinition, CellId, Name, Value, write_text};
 
 /// Appends the line of a cell: its name, a space, and its value.
 fn write_cell(output: &mut Vec<u8>, name: &Name, value: &Value) -> Result<(), AllocError>
-    ensures { OnOk result (output.new.items ≡ output.old.items ++ cell_line name.now value.now) }
+    ensures ok { OnOk result (output.new.items ≡ output.old.items ++ cell_line name.now value.now) }
+    ensures kept { Extends output.old.items output.new.items }
 {
     output.extend_from_slice(name.as_bytes())?;
     output.push(b' ')?;
@@ -18,16 +20,16 @@ fn write_cell(output: &mut Vec<u8>, name: &Name, value: &Value) -> Result<(), Al
     Ok(output.push(b'\n')?)
 }
 
-/// Appends a line for each cell, in the order of the script: its name, and its newest value in the state, which is made of these
-/// definitions; of an atom that in its own book, of an agent its state.
-pub fn write_cells(
+/// Appends the lines of cells.
+fn append_cells(
     output: &mut Vec<u8>,
     cells: &[CellDefinition],
     shared: &SharedState,
 ) -> Result<(), AllocError>
     requires few { length cells.now ≤ 1000 }
     requires made { shared.now.cells ≡ cells.now }
-    ensures { OnOk result (output.new.items ≡ output.old.items ++ cell_lines (newest_of shared.now) 0 cells.now) }
+    ensures ok { OnOk result (output.new.items ≡ output.old.items ++ cell_lines (newest_of shared.now) 0 cells.now) }
+    ensures kept { Extends output.old.items output.new.items }
 {
     for (i, cell) in cells.iter().enumerate() {
         let id = CellId {
@@ -37,4 +39,24 @@ pub fn write_cells(
         write_cell(output, &cell.name, shared.newest(id))?;
     }
     Ok(())
+}
+
+/// Appends a line for each cell, in the order of the script: its name, and its newest value in the state, which is made of these
+/// definitions; of an atom that in its own book, of an agent its state. After an error nothing is appended.
+pub fn write_cells(
+    output: &mut Vec<u8>,
+    cells: &[CellDefinition],
+    shared: &SharedState,
+) -> Result<(), AllocError>
+    requires few { length cells.now ≤ 1000 }
+    requires made { shared.now.cells ≡ cells.now }
+    ensures ok { OnOk result (output.new.items ≡ output.old.items ++ cell_lines (newest_of shared.now) 0 cells.now) }
+    ensures err { OnErr result (output.new.items ≡ output.old.items) }
+{
+    let length = output.len();
+    let done = append_cells(output, cells, shared);
+    if done.is_err() {
+        output.truncate(length);
+    }
+    done
 }

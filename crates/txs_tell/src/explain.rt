@@ -1,7 +1,8 @@
 //! What stands behind a line on the standard error where it is explained: the place in the script, the line
 //! of the script with carets below it, and what to do.
 
-ghost use Rattle.std.specs.Prelude.{◌≡◌, ◌++◌, OnOk};
+ghost use Rattle.std.specs.Prelude.{◌≡◌, ◌++◌, OnErr, OnOk};
+ghost use Rattle.txs_value.specs.Printed.{Extends};
 ghost use Rattle.txs_tell.specs.Explained.{place_line, shown, explained};
 
 use itoa::Buffer;
@@ -19,7 +20,8 @@ pub struct Script<'a> {
 
 /// Appends the line that names a place: the file, the line and the column, both from 1.
 fn write_place(out: &mut Vec<u8>, file: &str, text: &[u8], offset: usize) -> Result<(), AllocError>
-    ensures { OnOk result (out.new.items ≡ out.old.items ++ place_line file.now text.now offset) }
+    ensures ok { OnOk result (out.new.items ≡ out.old.items ++ place_line file.now text.now offset) }
+    ensures kept { Extends out.old.items out.new.items }
 {
     let place = position(text, offset);
     let mut buffer = Buffer::new();
@@ -33,14 +35,34 @@ fn write_place(out: &mut Vec<u8>, file: &str, text: &[u8], offset: usize) -> Res
 
 /// Appends the lines that show a place.
 fn write_shown(out: &mut Vec<u8>, file: &str, text: &[u8], at: Span) -> Result<(), AllocError>
-    ensures { OnOk result (out.new.items ≡ out.old.items ++ shown file.now text.now at) }
+    ensures ok { OnOk result (out.new.items ≡ out.old.items ++ shown file.now text.now at) }
+    ensures kept { Extends out.old.items out.new.items }
 {
     write_place(out, file, text, at.from as usize)?;
     write_pointed(text, at.from as usize, at.to as usize, out)
 }
 
+/// Appends what explains a line.
+fn append_explained(
+    out: &mut Vec<u8>,
+    file: &str,
+    text: &[u8],
+    at: Option<Span>,
+    advice: &str,
+) -> Result<(), AllocError>
+    ensures ok { OnOk result (out.new.items ≡ out.old.items ++ explained file.now text.now at advice.now) }
+    ensures kept { Extends out.old.items out.new.items }
+{
+    if let Some(at) = at {
+        write_shown(out, file, text, at)?;
+    }
+    out.extend_from_slice(advice.as_bytes())?;
+    Ok(out.push(b'\n')?)
+}
+
 /// Appends what explains a line: a place of the script, if the line has one, as the file's name, line and
-/// column, and below it the line of the script with carets under what is there; and then what to do.
+/// column, and below it the line of the script with carets under what is there; and then what to do. After an error
+/// nothing is appended.
 pub fn write_explained(
     out: &mut Vec<u8>,
     file: &str,
@@ -48,11 +70,13 @@ pub fn write_explained(
     at: Option<Span>,
     advice: &str,
 ) -> Result<(), AllocError>
-    ensures { OnOk result (out.new.items ≡ out.old.items ++ explained file.now text.now at advice.now) }
+    ensures ok { OnOk result (out.new.items ≡ out.old.items ++ explained file.now text.now at advice.now) }
+    ensures err { OnErr result (out.new.items ≡ out.old.items) }
 {
-    if let Some(at) = at {
-        write_shown(out, file, text, at)?;
+    let length = out.len();
+    let done = append_explained(out, file, text, at, advice);
+    if done.is_err() {
+        out.truncate(length);
     }
-    out.extend_from_slice(advice.as_bytes())?;
-    Ok(out.push(b'\n')?)
+    done
 }

@@ -1,5 +1,5 @@
 //! What the program tells of a script, over any streams: the script is read, compiled and run, and what comes of it stands in
-//! lines on two streams and in a status.
+//! lines on two streams and in a status. Where a stream can't be written, it has got a beginning of what it was to get, and no other byte.
 #![tactic(auto)]
 
 mod advice;

@@ -1,8 +1,8 @@
 //! Plays a script: reads it, does with it what is wanted, and writes what is told of it.
 
-ghost use Rattle.std.specs.Prelude.{IfOk, IfSome};
+ghost use Rattle.std.specs.Prelude.{◌++◌, codes, IfOk, IfSome};
 ghost use Rattle.txs_tell.specs.Lent.{text_in, told_of, wanted_of};
-ghost use Rattle.txs_tell.specs.Told.{Told as PlainTold, StreamTells, Tells, Written, front};
+ghost use Rattle.txs_tell.specs.Told.{Told as PlainTold, IsBegun, StreamTells, Tells, Written, front};
 
 use crate::explain::Script;
 use crate::script::use_script;
@@ -30,6 +30,15 @@ fn use_stream<R: Read>(
     }
 }
 
+/// Writes the standard error where the standard output couldn't be written, and behind it a line that says so.
+fn write_fault<F: Write>(faults: &mut F, errors: &[u8])
+    ensures { IsBegun (F.contents faults.old) (F.contents faults.new) (errors.now ++ codes "write failed\n") }
+{
+    if write_bytes(faults, errors).is_ok() {
+        let _ = write_bytes(faults, b"write failed\n");
+    }
+}
+
 /// Writes the standard output, and then the standard error. Answers the status, which is 2 at least where one of them
 /// couldn't be written.
 pub fn write_told<W: Write, F: Write>(
@@ -42,9 +51,7 @@ pub fn write_told<W: Write, F: Write>(
     ensures { Written (W.contents writer.old) (W.contents writer.new) (F.contents faults.old) (F.contents faults.new) (record { output = output.now; errors = errors.now; status = status }) result }
 {
     if write_bytes(writer, output).is_err() {
-        if write_bytes(faults, errors).is_ok() {
-            let _ = write_bytes(faults, b"write failed\n");
-        }
+        write_fault(faults, errors);
         return status.max(UNUSABLE);
     }
     if write_bytes(faults, errors).is_err() {

@@ -1,13 +1,14 @@
 //! Streams: a script is read to its end, or to one byte past what a script may have, in a bounded number of
 //! calls; answers are written whole.
 
-ghost use Rattle.std.specs.Prelude.{◌≡◌, IfOk, OnOk, IfSome};
+ghost use Rattle.std.specs.Prelude.{◌≡◌, IfOk, OnErr, OnOk, IfSome};
 ghost use Rattle.std.specs.Io.KnownBytes.{Appends};
-ghost use Rattle.txs_tell.specs.Told.{front};
+ghost use Rattle.txs_tell.specs.Told.{IsBegun, front};
 
 use std::alloc::Global;
 use std::io::{ErrorKind, Read, Write};
 use thiserror::Error;
+use txs_disasm::write_all;
 use txs_value::limits::MOST_SCRIPT;
 
 /// How many bytes are read at most: one more than a script may have.
@@ -50,11 +51,13 @@ pub struct WriteFault;
 /// Writes all bytes, in order and nothing else, and flushes the writer.
 ///
 /// # Errors
-/// Where a call of the writer fails or takes no byte, but for one that was interrupted.
+/// Where a call of the writer fails or takes no byte, but for one that was interrupted, of which the 100,000,000th is a fault too.
+/// Then the writer got a beginning of the bytes, which is all of them where it was the flush that failed.
 pub fn write_bytes<W: Write>(writer: &mut W, bytes: &[u8]) -> Result<(), WriteFault>
-    ensures { OnOk result (Appends (W.contents writer.old) (W.contents writer.new) bytes.now) }
+    ensures whole { OnOk result (Appends (W.contents writer.old) (W.contents writer.new) bytes.now) }
+    ensures begun { OnErr result (IsBegun (W.contents writer.old) (W.contents writer.new) bytes.now) }
 {
-    if writer.write_all(bytes).is_err() {
+    if write_all(writer, bytes).is_err() {
         return Err(WriteFault);
     }
     writer.flush().map_err(|_| WriteFault)

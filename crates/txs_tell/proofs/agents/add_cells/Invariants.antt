@@ -1,7 +1,7 @@
 use Rattle.std.proofs.Common.{◌≡◌, ◌++◌, ℕ, List, length, drop}
 use Rattle.txs_tell.specs.AgentLines.{AreAgentsTold, failure_of, named_from, status_of_agents}
 use Rattle.txs_tell.specs.Lent.{script_of}
-use Rattle.txs_tell.proofs.agents.add_agents.Given as goal
+use Rattle.txs_tell.proofs.agents.add_cells.Given as goal
 
 -- there is an entry for each agent among the cells to come; with what is told of these, what is told so far is what is told of all
 abbrev pub invariant-loop-number : goal.invariant-loop-number

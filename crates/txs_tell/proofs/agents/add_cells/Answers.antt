@@ -1,10 +1,11 @@
 use Rattle.std.proofs.Common.{◌≡◌, ◌≤◌, ◌<◌, ◌++◌, ◌∙◌, ℕ, List, [], length, drop, get_or, rules, refl, sym, ap, subst, append_assoc}
 use Rattle.std.proofs.lemmas.List.{append-nil, drop_all}
+use Rattle.txs_value.proofs.PrintedLemmas.{Extends-after}
 use Rattle.txs_value.specs.declared.cell.CellDefinition.{CellDefinition}
 use Rattle.txs_tell.specs.AgentLines.{AreAgentsTold, failure_of, named_from, status_of_agents}
 use Rattle.txs_tell.specs.Lent.{script_of}
 use Rattle.txs_tell.proofs.OfAgents.{left_more, lines_more, status_of_more}
-use Rattle.txs_tell.proofs.agents.add_agents.Goals as goal
+use Rattle.txs_tell.proofs.agents.add_cells.Goals as goal
 
 pub loop-number-preserved : goal.loop-number-preserved
 loop-number-preserved c =
@@ -41,3 +42,13 @@ returns-clause-errors c =
     let past : length ds ≤ n = search rules in
     let none : AreAgentsTold script failure (named_from n (drop n ds)) c.loop-number.rest.now [] = subst (λ (xs : List CellDefinition). AreAgentsTold script failure (named_from n xs) c.loop-number.rest.now []) (sym (drop_all n ds past)) refl in
     (so_far.0, subst (λ (ls : List ℕ). AreAgentsTold script failure (named_from 0 ds) c.args.agents.now ls) (append-nil so_far.0) (so_far.2 [] none), so_far.1)
+
+pub returns-in_err-rest-clause-kept : goal.returns-in_err-rest-clause-kept
+returns-in_err-rest-clause-kept c =
+    let so_far = c.loop-number.invariant.errors in
+    Extends-after c.args.told.now.errors.items so_far.0 c.loop-number.told.errors.items c.add_cell.new.told.errors.items so_far.1 c.add_cell.ensures.kept
+
+pub returns-clause-kept : goal.returns-clause-kept
+returns-clause-kept c =
+    let so_far = c.loop-number.invariant.errors in
+    record { more = so_far.0; is = so_far.1 }

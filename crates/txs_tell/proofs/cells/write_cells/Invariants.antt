@@ -1,7 +1,0 @@
-use Rattle.std.proofs.Common.{◌≡◌, ◌++◌, drop}
-use Rattle.txs_shared.specs.SharedState.{newest_of}
-use Rattle.txs_tell.specs.CellLines.{cell_lines}
-use Rattle.txs_tell.proofs.cells.write_cells.Given as goal
-
-abbrev pub invariant-loop-i : goal.invariant-loop-i
-invariant-loop-i l = l.output.items ++ cell_lines (newest_of l.shared) l.i (drop l.i l.cells) ≡ l.fn.output.items ++ cell_lines (newest_of l.shared) 0 l.cells
