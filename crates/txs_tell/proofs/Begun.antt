@@ -2,13 +2,8 @@
 use Rattle.std.proofs.Common.{◌≡◌, ℕ, List, [], ◌++◌, Option, Result, Ok, Err, OnOk, OnErr, sym, ap, ◌∙◌, append_assoc}
 use Rattle.std.proofs.KnownBytes.{Appends-trans, Appends-kept}
 use Rattle.std.specs.Io.KnownBytes.{Appends, Keeps}
-use Rattle.txs_disasm.specs.Sent.{IsCut}
-use Rattle.txs_disasm.proofs.SentLemmas.{Sent-all, Sent-longer}
+use Rattle.txs_disasm.proofs.SentLemmas.{Sent-all}
 use Rattle.txs_tell.specs.Told.{IsBegun}
-
--- not all could be written
-pub begun_cut : (a b : Option (List ℕ)) (all : List ℕ) → IsCut a b all → IsBegun a b all
-begun_cut a b all k = record { left = k.left; sent = k.sent }
 
 -- all is written
 pub begun_all : (a b : Option (List ℕ)) (all : List ℕ) → Appends a b all → IsBegun a b all
@@ -17,10 +12,6 @@ begun_all a b all p = record { left = []; sent = Sent-all a b all p }
 -- all is written, and nothing since then
 pub begun_kept : (a b c : Option (List ℕ)) (all : List ℕ) → Appends a b all → Keeps b c → IsBegun a c all
 begun_kept a b c all p k = begun_all a c all (Appends-kept a b c all p k)
-
--- what a beginning is of some bytes, it is also of these with more behind them
-pub begun_longer : (a b : Option (List ℕ)) (all more : List ℕ) → IsBegun a b all → IsBegun a b (all ++ more)
-begun_longer a b all more k = record { left = k.left ++ more; sent = Sent-longer a b all k.left more k.sent }
 
 -- all is written, and a beginning of what is behind it
 pub begun_more : (a b c : Option (List ℕ)) (all more : List ℕ) → Appends a b all → IsBegun b c more → IsBegun a c (all ++ more)
