@@ -16,14 +16,15 @@ use Rattle.txs_code.specs.PlainCode.{PlainCode, CodeBody}
 use Rattle.txs_code.specs.WellTyped.{Functions, FunctionKind, CalleeTakes, IsPureCallee, IsImpure}
 use Rattle.txs_code.specs.declared.instr.Instr.{Instr}
 use Rattle.txs_code.specs.declared.instr.Instr.TheVariants.{TxBegin, TxEnd}
-use Rattle.txs_actor.specs.Effect.{stays, waits, falls, applying, applies_as, applies, goes_through, IsOperation, Operates, LeftApply}
-use Rattle.txs_actor.specs.PlainActor.{owner_of, functions_of, added, Callers, IsFirst, IsPureBody, first_in, BeganBy, depth_in, swaps_in, IsSwapping, IsUnapplied, NoneAside, CanApply, AllApply, AppliesWell}
+use Rattle.txs_transaction.specs.Effect.{stays, waits, falls, applying, applies_as, applies, goes_through, IsOperation, Operates, LeftApply}
+use Rattle.txs_actor.specs.PlainActor.{owner_of, functions_of, added, Callers, IsFirst, IsPureBody, first_in, BeganBy, swaps_in, NoneAside, CanApply, AllApply, AppliesWell}
+use Rattle.txs_transaction.specs.Transaction.{depth_in, IsSwapping, IsUnapplied}
 use Rattle.txs_actor.specs.Turns.{function_of, next_function}
 use Rattle.txs_stack.specs.PlainFrame.{PlainFrame}
-use Rattle.txs_actor.specs.declared.state.Origin.{Origin}
-use Rattle.txs_actor.specs.declared.state.Pending.TheVariants as pending
-use Rattle.txs_actor.specs.declared.state.Transaction.{Transaction}
-use Rattle.txs_actor.specs.declared.state.Transaction.TheVariants.{Outside, Restarting, Running, Applying, Evaluating, Swapping, Attending, Acting}
+use Rattle.txs_transaction.specs.declared.state.Origin.{Origin}
+use Rattle.txs_transaction.specs.declared.state.Pending.TheVariants as pending
+use Rattle.txs_transaction.specs.declared.state.Transaction.{Transaction}
+use Rattle.txs_transaction.specs.declared.state.Transaction.TheVariants.{Outside, Restarting, Running, Applying, Evaluating, Swapping, Attending, Acting}
 
 -- ---- many commutes
 

@@ -5,7 +5,6 @@ pub mod Calling
 pub mod Departing
 pub mod Effects
 pub mod Following
-pub mod Keeping
 pub mod Landing
 pub mod Meaning
 pub mod Openings

@@ -12,9 +12,9 @@ use Rattle.txs_value.specs.declared.fault.Fault.{Fault}
 use Rattle.txs_value.specs.declared.value.CellId.{CellId}
 use Rattle.txs_value.specs.declared.value.Value.{Value}
 use Rattle.txs_actor.specs.PlainActor.{ask_for, MayAnswer}
-use Rattle.txs_actor.specs.declared.state.Origin.{Origin}
-use Rattle.txs_actor.specs.declared.state.Pending.{Pending}
-use Rattle.txs_actor.specs.declared.state.Pending.TheVariants as pending
+use Rattle.txs_transaction.specs.declared.state.Origin.{Origin}
+use Rattle.txs_transaction.specs.declared.state.Pending.{Pending}
+use Rattle.txs_transaction.specs.declared.state.Pending.TheVariants as pending
 
 module _ (P : Reply → Type 0) where
   pub begin_replies : ((p : ℕ) → P (At p)) → (r : Reply) → MayAnswer ask.Begin r → P r

@@ -1,5 +1,3 @@
-pub mod Effect
-pub mod Kept
 pub mod Laws
 pub mod Paces
 pub mod PlainActor

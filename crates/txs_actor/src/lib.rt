@@ -7,12 +7,9 @@
 pub mod actor;
 pub mod answer;
 mod attend;
-pub mod kept;
 pub mod law;
 pub mod outcome;
 mod pace;
-pub mod state;
-mod transact;
 
 pub use actor::Actor;
 pub use answer::may_answer;

@@ -1,5 +1,5 @@
 //! The listing of code: `write_listing` writes, over any writer, a line for each cell, constant, body and instruction. On `Ok` the
-//! writer got the listing, whole and once; on an error a beginning of it, and not all.
+//! writer got the listing, whole and once; on an error a beginning of it, and not all. `write_all` says so of any bytes.
 #![tactic(auto)]
 
 mod disasm;
@@ -10,3 +10,4 @@ mod output;
 
 pub use disasm::write_listing;
 pub use fault::WriteFault;
+pub use output::write_all;

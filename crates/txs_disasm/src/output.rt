@@ -1,8 +1,9 @@
 //! Bytes on their way to a writer.
 
-ghost use Rattle.std.specs.Prelude.{◌≡◌, ◌+◌, ◌<◌, ◌≤◌, [], drop, length, take, IfOk, OnErr, OnOk};
+ghost use Rattle.std.specs.Prelude.{◌≡◌, ◌+◌, ◌<◌, ◌≤◌, [], drop, length, take, IfErr, IfOk, OnErr, OnOk};
 ghost use Rattle.std.specs.Io.KnownBytes.{Appends, Keeps};
 ghost use Rattle.txs_disasm.specs.Sent.{IsCut, Sent};
+ghost use Rattle.txs_disasm.specs.declared.fault.WriteFault.TheVariants as fault;
 
 use crate::fault::WriteFault;
 use std::alloc::Global;
@@ -31,6 +32,7 @@ fn write_some<W: Write>(
     ensures further { IfOk result (λ n. patience.new < n + patience.old) }
     ensures taken { IfOk result (λ n. Appends (W.contents writer.old) (W.contents writer.new) (take n bytes.now)) }
     ensures kept { OnErr result (Keeps (W.contents writer.old) (W.contents writer.new)) }
+    ensures fault { IfErr result (λ e. e ≡ fault.Write) }
 {
     match writer.write(bytes) {
         Ok(0) => Err(WriteFault::Write),
@@ -57,6 +59,7 @@ fn rest_at(bytes: &[u8], at: usize) -> &[u8]
 fn write_whole<W: Write>(writer: &mut W, bytes: &[u8], patience: &mut u32) -> Result<(), WriteFault>
     ensures whole { OnOk result (Appends (W.contents writer.old) (W.contents writer.new) bytes.now) }
     ensures cut { OnErr result (IsCut (W.contents writer.old) (W.contents writer.new) bytes.now) }
+    ensures fault { IfErr result (λ e. e ≡ fault.Write) }
 {
     let mut rest = bytes;
     while !rest.is_empty() {
@@ -64,6 +67,21 @@ fn write_whole<W: Write>(writer: &mut W, bytes: &[u8], patience: &mut u32) -> Re
         rest = rest_at(rest, taken);
     }
     Ok(())
+}
+
+/// Writes all bytes of a slice, in order and nothing else, by as many writes as it takes; where there are none, by none. The
+/// writer isn't flushed.
+///
+/// # Errors
+/// `Write` where a write fails, takes no byte, or is the 100,000,000th that is interrupted, and no other. Then the writer got a
+/// beginning of the bytes, and not all.
+pub fn write_all<W: Write>(writer: &mut W, bytes: &[u8]) -> Result<(), WriteFault>
+    ensures whole { OnOk result (Appends (W.contents writer.old) (W.contents writer.new) bytes.now) }
+    ensures cut { OnErr result (IsCut (W.contents writer.old) (W.contents writer.new) bytes.now) }
+    ensures fault { IfErr result (λ e. e ≡ fault.Write) }
+{
+    let mut patience = MOST_INTERRUPTED;
+    write_whole(writer, bytes, &mut patience)
 }
 
 impl Page {

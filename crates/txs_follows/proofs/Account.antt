@@ -11,7 +11,7 @@ use Rattle.txs_follows.proofs.Related.{Link, Related}
 use Rattle.txs_follows.proofs.Worlds.{Fitting, Splits, IsShort}
 use Rattle.txs_follows.specs.EndsSo.{in_hand}
 use Rattle.txs_follows.specs.OnReplies.{retrying}
-use Rattle.txs_follows.specs.RepliesFit.{Phase, Out, OnEvent, Halt, Going, Short, halted, HasEaten}
+use Rattle.txs_follows.specs.RepliesFit.{Phase, Out, OnEvent, Halt, Going, Short, halted, HasWaited, HasEaten}
 
 -- which exchanges fit which events, the events behind those, and what the thread is where the tree waits or needs turns
 pub record Account (cells : List CellDefinition) : Type 1 where
@@ -23,9 +23,9 @@ pub record Account (cells : List CellDefinition) : Type 1 where
   pub waits_loose : (s : ActorState) → waits s Going → (o : Halt ThreadState) → waits s o
   pub short_loose : (s : ActorState) → short s Going → (o : Halt ThreadState) → short s o
   pub short_here : (s : ActorState) (t : ThreadState) (es : List SeenEvent) → fits Out s.todo es → t.todo ≡ es ++ tail → t.printed ≡ s.printed → short s (Short t)
-  -- y is what the thread does on a list of events: with none left it has eaten all
-  pub waiting : (ph : Phase) (s : ActorState) (es : List SeenEvent) (y : List SeenEvent → Completion ThreadState Value) → fits ph s.todo es → HasEaten s.printed (halted (y [])) → waits s (halted (y (es ++ tail)))
-  -- and on an end of what is in hand it needs turns
+  -- y is what the thread does on a list of events: with none left it needs one, and has eaten all
+  pub waiting : (ph : Phase) (s : ActorState) (es : List SeenEvent) (y : List SeenEvent → Completion ThreadState Value) → fits ph s.todo es → HasWaited s.printed (halted (y [])) → waits s (halted (y (es ++ tail)))
+  -- with none left it needs one or turns, has eaten all, and on an end of what is in hand it needs turns
   pub shortage : (ph : Phase) (s : ActorState) (es : List SeenEvent) (y : List SeenEvent → Completion ThreadState Value) → fits ph s.todo es → HasEaten s.printed (halted (y []))
       → ((Q : World) → IsShort (halted (y (in_hand cells Q ph)))) → short s (halted (y (es ++ tail)))
 

@@ -32,7 +32,7 @@ use Rattle.txs_follows.proofs.Quiet.{carried, quietly, callee_carried}
 use Rattle.txs_follows.specs.ActionsBehave.{acting, ComesTo, CallComes, ActionsBehave, SoundFollowsAgents}
 use Rattle.txs_follows.specs.Behaves.{IsOver, IsProper}
 use Rattle.txs_follows.specs.Follows.{PureIsMeant}
-use Rattle.txs_follows.specs.FollowsAgent.{new_of, action_meaning, SoundAction, HandsOut, AgentFits, AgentTold, taking, AsksNext, GoesOn, FollowsAgent}
+use Rattle.txs_follows.specs.FollowsAgent.{new_of, action_meaning, SoundAction, HandsOut, AgentFits, AgentTold, taking, AsksNext, IsRunning, GoesOn, FollowsAgent}
 
 -- ---- pure callees have an answer
 
@@ -244,17 +244,17 @@ module _ (code : List PlainBody) (functions : List PlainFunction) (sound : Sound
       go w = let z = begins_again q w.0 (record s { todo = y ∷ zs }) y zs (exec acts m) refl d w.2 in (w.0, w.1, z.0, z.1)
 
   -- the same where more exchanges come after it
-  comes_to_pass : (q : Ask) (x y : Exchange) (zs : List Exchange) (number m : ℕ) (a : Action) (v : Value) (new : Result Value Fault) (t : ActorState) → SoundAction functions a → t.todo ≡ x ∷ y ∷ zs → x.ask ≡ Take g → x.reply ≡ reply.Action number a v → y.reply ≡ reply.Done
-      → action_meaning m functions a v ≡ Some new → same_ask (Finish g new) y.ask ≡ true → (i : ℕ) → AsksNext q (exec acts i (first_place [] (record t { todo = zs }))) → (j : ℕ) × AsksNext q (exec acts j (first_place [] t))
-  comes_to_pass q x y zs number m a v new t sa e f r d means same i h = go (subst (Runs m a v (record t { todo = y ∷ zs })) means (runs m a v (record t { todo = y ∷ zs }) sa))
+  comes_to_pass : (P : Outcome → Type 0) (x y : Exchange) (zs : List Exchange) (number m : ℕ) (a : Action) (v : Value) (new : Result Value Fault) (t : ActorState) → SoundAction functions a → t.todo ≡ x ∷ y ∷ zs → x.ask ≡ Take g → x.reply ≡ reply.Action number a v → y.reply ≡ reply.Done
+      → action_meaning m functions a v ≡ Some new → same_ask (Finish g new) y.ask ≡ true → (i : ℕ) → P (exec acts i (first_place [] (record t { todo = zs }))) → (j : ℕ) × (i ≤ j) × P (exec acts j (first_place [] t))
+  comes_to_pass P x y zs number m a v new t sa e f r d means same i h = go (subst (Runs m a v (record t { todo = y ∷ zs })) means (runs m a v (record t { todo = y ∷ zs }) sa))
     where
-      go : ComesTo acts (acting g a 1 (v ∷ []) (record t { todo = y ∷ zs })) (finishes new (record t { todo = y ∷ zs })) → (j : ℕ) × AsksNext q (exec acts j (first_place [] t))
+      go : ComesTo acts (acting g a 1 (v ∷ []) (record t { todo = y ∷ zs })) (finishes new (record t { todo = y ∷ zs })) → (j : ℕ) × (i ≤ j) × P (exec acts j (first_place [] t))
       go run =
           let b = run i in
           let there : exec acts (suc b.0) (first_place [] t) ≡ exec acts i (first_place [] (record t { todo = zs })) =
           takes t x (y ∷ zs) number a v e f r b.0 ∙ b.2 ∙ asks_next new (record t { todo = y ∷ zs }) y zs (exec acts i) refl d
           ∙ ap (λ w. finished new (record t { todo = y ∷ zs }) y zs w (exec acts i)) same in
-          (suc b.0, subst (AsksNext q) (sym there) h)
+          (suc b.0, omega (arith, b.1), subst P (sym there) h)
 
   only_from : (done : List Exchange) → AgentFits functions g done → (number m : ℕ) (a : Action) (v : Value) (new : Result Value Fault) → SoundAction functions a → (s : ActorState) → s.todo ≡ done ++ taking g number a v ∷ []
       → AsksNext (Finish g new) (exec acts m (first_place [] s)) → (n : ℕ) × (action_meaning n functions a v ≡ Some new)
@@ -271,23 +271,37 @@ module _ (code : List PlainBody) (functions : List PlainFunction) (sound : Sound
       let r = passes (Finish g new) x y (done ++ taking g number a v ∷ []) out.0 m out.1 out.2 s out.4 e fits.0 out.3 fits.4 h in
       only_from done fits.5 number m a v new sa (record s { todo = done ++ taking g number a v ∷ [] }) refl r.3
 
-  ends_from : (done : List Exchange) → AgentFits functions g done → (number m n : ℕ) (a : Action) (v : Value) (new : Result Value Fault) → SoundAction functions a → (s t : ActorState) → s.todo ≡ done → t.todo ≡ done ++ taking g number a v ∷ []
-      → AsksNext (Take g) (exec acts m (first_place [] s)) → action_meaning n functions a v ≡ Some new → (j : ℕ) × AsksNext (Finish g new) (exec acts j (first_place [] t))
-  ends_from done fits number zero n a v new sa s t e f h means = absurd h
-  ends_from [] fits number (suc m) n a v new sa s t e f h means = go (subst (Runs n a v (record t { todo = [] })) means (runs n a v (record t { todo = [] }) sa))
+  -- what an agent comes to on an action that it took alone, it comes to where it had finished others before
+  module _ (P : Outcome → Type 0) (least number : ℕ) (a : Action) (v : Value) (alone : (u : ActorState) → u.todo ≡ taking g number a v ∷ [] → (j : ℕ) × (least ≤ j) × P (exec acts j (first_place [] u))) where
+    comes_from : (done : List Exchange) → AgentFits functions g done → (m : ℕ) (s t : ActorState) → s.todo ≡ done → t.todo ≡ done ++ taking g number a v ∷ []
+        → AsksNext (Take g) (exec acts m (first_place [] s)) → (j : ℕ) × (least ≤ j) × P (exec acts j (first_place [] t))
+    comes_from done fits zero s t e f h = absurd h
+    comes_from [] fits (suc m) s t e f h = alone t f
+    comes_from (x ∷ []) fits (suc m) s t e f h = absurd fits
+    comes_from (x ∷ y ∷ done) fits (suc m) s t e f h =
+        let out = handed x.reply fits.1 in
+        let r = passes (Take g) x y done out.0 m out.1 out.2 s out.4 e fits.0 out.3 fits.4 h in
+        let later = comes_from done fits.5 m (record s { todo = done }) (record t { todo = done ++ taking g number a v ∷ [] }) refl refl r.3 in
+        let there = comes_to_pass P x y (done ++ taking g number a v ∷ []) out.0 m out.1 out.2 r.0 t out.4 f fits.0 out.3 fits.4 r.1 r.2 later.0 later.2 in
+        (there.0, omega (arith, later.1, there.1), there.2)
+
+  -- an action with a result: it is handed in
+  hands_in : (number n : ℕ) (a : Action) (v : Value) (new : Result Value Fault) → SoundAction functions a → action_meaning n functions a v ≡ Some new → (u : ActorState) → u.todo ≡ taking g number a v ∷ [] → (j : ℕ) × (0 ≤ j) × AsksNext (Finish g new) (exec acts j (first_place [] u))
+  hands_in number n a v new sa means u f = go (subst (Runs n a v (record u { todo = [] })) means (runs n a v (record u { todo = [] }) sa))
     where
-      go : ComesTo acts (acting g a 1 (v ∷ []) (record t { todo = [] })) (finishes new (record t { todo = [] })) → (j : ℕ) × AsksNext (Finish g new) (exec acts j (first_place [] t))
+      go : ComesTo acts (acting g a 1 (v ∷ []) (record u { todo = [] })) (finishes new (record u { todo = [] })) → (j : ℕ) × (0 ≤ j) × AsksNext (Finish g new) (exec acts j (first_place [] u))
       go run =
           let b = run 0 in
-          let there : exec acts (suc b.0) (first_place [] t) ≡ Asking (record t { todo = []; wants = Some (Finish g new) }) =
-          takes t (taking g number a v) [] number a v f refl refl b.0 ∙ b.2 ∙ asks_last new (record t { todo = [] }) (exec acts 0) refl in
-          (suc b.0, subst (AsksNext (Finish g new)) (sym there) (refl, refl))
-  ends_from (x ∷ []) fits number (suc m) n a v new sa s t e f h means = absurd fits
-  ends_from (x ∷ y ∷ done) fits number (suc m) n a v new sa s t e f h means =
-      let out = handed x.reply fits.1 in
-      let r = passes (Take g) x y done out.0 m out.1 out.2 s out.4 e fits.0 out.3 fits.4 h in
-      let later = ends_from done fits.5 number m n a v new sa (record s { todo = done }) (record t { todo = done ++ taking g number a v ∷ [] }) refl refl r.3 means in
-      comes_to_pass (Finish g new) x y (done ++ taking g number a v ∷ []) out.0 m out.1 out.2 r.0 t out.4 f fits.0 out.3 fits.4 r.1 r.2 later.0 later.1
+          let there : exec acts (suc b.0) (first_place [] u) ≡ Asking (record u { todo = []; wants = Some (Finish g new) }) =
+          takes u (taking g number a v) [] number a v f refl refl b.0 ∙ b.2 ∙ asks_last new (record u { todo = [] }) (exec acts 0) refl in
+          (suc b.0, omega arith, subst (AsksNext (Finish g new)) (sym there) (refl, refl))
+
+  -- an action that needs more turns: it is still run after as many
+  is_running : (number n : ℕ) (a : Action) (v : Value) → SoundAction functions a → action_meaning n functions a v ≡ None → (u : ActorState) → u.todo ≡ taking g number a v ∷ [] → (j : ℕ) × (n ≤ j) × IsRunning (exec acts j (first_place [] u))
+  is_running number n a v sa means u f = go (subst (Runs n a v (record u { todo = [] })) means (runs n a v (record u { todo = [] }) sa))
+    where
+      go : (j : ℕ) × (n ≤ j) × (exec acts j (acting g a 1 (v ∷ []) (record u { todo = [] })) ≡ Unfinished (record u { todo = [] })) → (j : ℕ) × (n ≤ j) × IsRunning (exec acts j (first_place [] u))
+      go run = (suc run.0, omega (arith, run.1), subst IsRunning (sym (takes u (taking g number a v) [] number a v f refl refl run.0 ∙ run.2)) refl)
 
   -- ---- it goes on
 
@@ -354,7 +368,10 @@ module _ (code : List PlainBody) (functions : List PlainFunction) (sound : Sound
   agent_follows = record {
     goes_on = λ told m h. goes_from told h m (fresh told) refl refl;
     only = λ done number m a v new fits sa h. only_from done fits number m a v new sa (fresh (done ++ taking g number a v ∷ [])) refl h;
-    ends_so = λ done number m n a v new fits sa h means. ends_from done fits number m n a v new sa (fresh done) (fresh (done ++ taking g number a v ∷ [])) refl refl h means;
+    ends_so = λ done number m n a v new fits sa h means.
+        let r = comes_from (AsksNext (Finish g new)) 0 number a v (hands_in number n a v new sa means) done fits m (fresh done) (fresh (done ++ taking g number a v ∷ [])) refl refl h in
+        (r.0, r.2);
+    runs_on = λ done number m n a v fits sa h means. comes_from IsRunning n number a v (is_running number n a v sa means) done fits m (fresh done) (fresh (done ++ taking g number a v ∷ [])) refl refl h;
   }
 
 pub sound_follows_agents : SoundFollowsAgents

@@ -10,16 +10,17 @@ use Rattle.txs_follows.proofs.Loops.{loops_too}
 use Rattle.txs_follows.proofs.MoreEvents.{settled_same, needs_before}
 use Rattle.txs_follows.proofs.More.{more_turns}
 use Rattle.txs_follows.proofs.Follow.{tree_follows}
-use Rattle.txs_follows.proofs.Whole.{explained, nothing_after, grown, ends, over_explained}
+use Rattle.txs_follows.proofs.Whole.{explained, nothing_after, grown, ends, over_explained, waited_eaten}
 use Rattle.txs_code.specs.Opening.{opening, target}
 use Rattle.txs_follows.specs.Behaves.{source, IsMeant, HasEnded, outcome_of, IsOver, Behaves}
 use Rattle.txs_follows.specs.EndsSo.{NeedsTurns, HasSettled, in_hand, EndsSo}
 use Rattle.txs_follows.specs.Follows.{Follows, IsEverMeant}
-use Rattle.txs_follows.specs.RepliesFit.{Phase, Out, Agrees, Explained, Consumed}
+use Rattle.txs_follows.specs.PrintsSo.{HasPrintedSo, PrintsSo}
+use Rattle.txs_follows.specs.RepliesFit.{Phase, Out, Agrees, Explained, Consumed, Halt, Going, Stopped, Short, Rerun, halted, HasEaten}
 use Rattle.txs_follows.specs.RepliesFitTo.{RepliesFitTo}
 use Rattle.txs_tree.specs.Meaning.{Completion, Completes, Recurs, Faults, Retries, Waits, OutOfTurns, Invalid}
 use Rattle.txs_asks.specs.SeenEvent.{SeenEvent}
-use Rattle.txs_tree.specs.Thread.{thread_meaning}
+use Rattle.txs_tree.specs.Thread.{ThreadState, thread_meaning}
 use Rattle.txs_tree.specs.Sound.{SoundSource}
 use Rattle.txs_tree.specs.Tree.{ThreadSource}
 use Rattle.txs_value.specs.Cells.{World}
@@ -81,10 +82,43 @@ ends_so code p behaves sound meant todo es end Q m n k f c settled enough =
     ended_so code p behaves sound todo es end Q m n k b (omega arith) (omega arith) (omega arith) f c settled enough (source p b todo) refl (meant b todo es fit)
     (subst (λ y. Agrees p.cells (source p b todo) y) (settled_same p sound es n b (omega arith) settled) (tree_follows p b todo es sound fit))
 
+-- ---- what is printed
+
+-- what the thread printed, where it has eaten all, is determined
+eaten_same : (one out : List ℕ) (h : Halt ThreadState) → HasEaten one h → HasEaten out h → one ≡ out
+eaten_same one out Going a b = absurd a
+eaten_same one out (Stopped t) a b = sym a.1 ∙ b.1
+eaten_same one out (Short t) a b = sym a.1 ∙ b.1
+eaten_same one out (Rerun t) a b = absurd a
+
+module _ (code : ThreadCode) (p : ThreadSource) (behaves : Behaves code p) (sound : SoundSource p) (todo : List Exchange) (es : List SeenEvent) (m n : ℕ) (out : List ℕ)
+    (c : Consumed (target code m todo)) (le : m ≤ n) (eaten : HasEaten out (halted (thread_meaning p n es))) where
+  printed_so : (x : Completion ActorState Value) → source p n todo ≡ x → IsMeant x → Agrees p.cells x (thread_meaning p n es) → (j : ℕ) × (n ≤ j) × HasPrintedSo out (target code j todo)
+  printed_so (Completes v s) q t a = absurd (subst (λ r. HasEaten out (halted r)) a.1 eaten)
+  printed_so (Recurs vs s) q t a = absurd t
+  printed_so (Faults g s) q t a = absurd (subst (λ r. HasEaten out (halted r)) a.1 eaten)
+  printed_so (Retries s) q t a = absurd t
+  printed_so (Waits s) q t a =
+      let r = ends code p behaves sound todo n (Waits s) q tt in
+      let none_left : s.todo ≡ [] = consumed_over code todo m r.0 (Asking s) tt r.1 c in
+      let there : target code (r.0 + n) todo ≡ Asking s = longer code r.0 (r.0 + n) (omega arith) (opening code todo) (Asking s) tt r.1 in
+      (r.0 + n, omega arith, subst (HasPrintedSo out) (sym there) (none_left, eaten_same s.printed out (halted (thread_meaning p n es)) (waited_eaten s.printed (halted (thread_meaning p n es)) (a none_left)) eaten))
+  printed_so (OutOfTurns s) q t a =
+      let r = behaves.goes_on todo n s q in
+      let none_left : s.todo ≡ [] = consumed_later code todo m r.0 (target code m todo) (Unfinished s) (omega (arith, le, r.1)) refl r.2 c in
+      (r.0, r.1, subst (HasPrintedSo out) (sym r.2) (none_left, eaten_same s.printed out (halted (thread_meaning p n es)) (a none_left) eaten))
+  printed_so Invalid q t a = absurd t
+
+prints_so : (code : ThreadCode) (p : ThreadSource) → Behaves code p → SoundSource p → IsEverMeant p → PrintsSo code p
+prints_so code p behaves sound meant todo es m n out f c le eaten =
+    printed_so code p behaves sound todo es m n out c le eaten (source p n todo) refl (meant n todo es f) (tree_follows p n todo es sound f)
+
 -- code that behaves as a thread's tree follows the thread, where no answer of the tree is invalid
 pub behaves_follows : (code : ThreadCode) (p : ThreadSource) → Behaves code p → SoundSource p → IsEverMeant p → Follows code p
 behaves_follows code p behaves sound meant = record {
   explained = λ todo es m f c. explained code p behaves sound todo es m (target code m todo) refl f (meant m todo es f) c;
   reaches = λ todo es n k f t le. (behaves.follows todo n t, subst (λ x. Agrees p.cells x (thread_meaning p k es)) (more_turns p sound todo n k le t) (tree_follows p k todo es sound f));
+  goes_on = behaves.goes_on;
+  prints_so = prints_so code p behaves sound meant;
   ends_so = ends_so code p behaves sound meant;
 }

@@ -13,7 +13,7 @@ use Rattle.txs_follows.proofs.Related.{Related}
 use Rattle.txs_follows.proofs.Threads.{thread_related}
 use Rattle.txs_follows.proofs.Worlds.{fit_splits}
 use Rattle.txs_follows.specs.Behaves.{source}
-use Rattle.txs_follows.specs.RepliesFit.{Phase, Out, RepliesFit, halted, HasEaten, Agrees, TreeFollows}
+use Rattle.txs_follows.specs.RepliesFit.{Phase, Out, RepliesFit, halted, HasWaited, HasEaten, Agrees, TreeFollows}
 
 -- no event is left where no exchange is
 none_left : (cells : List CellDefinition) (ph : Phase) (xs : List Exchange) (es : List SeenEvent) → RepliesFit cells ph xs es → xs ≡ [] → es ++ [] ≡ []
@@ -25,12 +25,12 @@ exact cells = record {
   fits = RepliesFit cells;
   splits = fit_splits cells;
   tail = [];
-  waits = λ s o. s.todo ≡ [] → HasEaten s.printed o;
+  waits = λ s o. s.todo ≡ [] → HasWaited s.printed o;
   short = λ s o. s.todo ≡ [] → HasEaten s.printed o;
   waits_loose = λ s h o e. absurd (h e);
   short_loose = λ s h o e. absurd (h e);
   short_here = λ s t es fits td pr e. (td ∙ none_left cells Out s.todo es fits e, pr);
-  waiting = λ ph s es y fits h e. subst (λ l. HasEaten s.printed (halted (y l))) (sym (none_left cells ph s.todo es fits e)) h;
+  waiting = λ ph s es y fits h e. subst (λ l. HasWaited s.printed (halted (y l))) (sym (none_left cells ph s.todo es fits e)) h;
   shortage = λ ph s es y fits h ends e. subst (λ l. HasEaten s.printed (halted (y l))) (sym (none_left cells ph s.todo es fits e)) h;
 }
 

@@ -8,7 +8,7 @@ use Rattle.txs_follows.proofs.Grows.{GrowsTo, Later, later}
 use Rattle.txs_follows.proofs.Follow.{tree_follows}
 use Rattle.txs_code.specs.Opening.{opening, target}
 use Rattle.txs_follows.specs.Behaves.{source, IsMeant, HasEnded, outcome_of, IsOver, Behaves}
-use Rattle.txs_follows.specs.RepliesFit.{Phase, Out, RepliesFit, halted, HasEaten, Agrees, HasEatenAll, Explained, Consumed}
+use Rattle.txs_follows.specs.RepliesFit.{Phase, Out, RepliesFit, Halt, Going, Stopped, Short, Rerun, halted, HasWaited, HasEaten, Agrees, HasEatenAll, Explained, Consumed}
 use Rattle.txs_tree.specs.Meaning.{Completion, Completes, Recurs, Faults, Retries, Waits, OutOfTurns, Invalid}
 use Rattle.txs_asks.specs.SeenEvent.{SeenEvent}
 use Rattle.txs_tree.specs.Thread.{ThreadState, thread_meaning}
@@ -25,6 +25,13 @@ nothing_after (x ∷ xs) ys e = absurd (subst (λ l. elim l as (λ m. Type 0) [ 
 
 fits_nothing : (cells : List CellDefinition) (ph : Phase) (todo : List Exchange) (es : List SeenEvent) → todo ≡ [] → RepliesFit cells ph todo es → es ≡ []
 fits_nothing cells ph todo es e f = subst (λ l. RepliesFit cells ph l es) e f
+
+-- what needs an event and has eaten all has eaten all
+pub waited_eaten : (out : List ℕ) (h : Halt ThreadState) → HasWaited out h → HasEaten out h
+waited_eaten out Going h = absurd h
+waited_eaten out (Stopped t) h = h
+waited_eaten out (Short t) h = absurd h
+waited_eaten out (Rerun t) h = absurd h
 
 halted_all : (out : List ℕ) (r : Completion ThreadState Value) → HasEaten out (halted r) → HasEatenAll out r
 halted_all out (Completes v t) h = absurd h
@@ -47,7 +54,7 @@ agreed cells (Faults f u) r t a s g e =
 agreed cells (Retries u) r t a s g e = absurd t
 agreed cells (Waits u) r t a s g e =
     let z = nothing_after g.done u.todo (sym g.eats ∙ e) in
-    (g.more, subst (λ o. HasEatenAll o r) g.prints (halted_all u.printed r (a z)))
+    (g.more, subst (λ o. HasEatenAll o r) g.prints (halted_all u.printed r (waited_eaten u.printed (halted r) (a z))))
 agreed cells (OutOfTurns u) r t a s g e =
     let z = nothing_after g.done u.todo (sym g.eats ∙ e) in
     (g.more, subst (λ o. HasEatenAll o r) g.prints (halted_all u.printed r (a z)))

@@ -5,16 +5,19 @@ use Rattle.txs_tree.specs.Known.{known}
 use Rattle.txs_tree.specs.Pure.{PureCallee, pure_meaning}
 use Rattle.txs_tree.specs.Sound.{SoundFunctions, SoundSource, SoundTree, in_dosync}
 use Rattle.txs_asks.specs.SeenEvent.{SeenEvent}
+use Rattle.txs_tree.specs.Meaning.{OutOfTurns}
 use Rattle.txs_tree.specs.Thread.{thread_meaning}
 use Rattle.txs_tree.specs.Transaction.{tx_meaning}
 use Rattle.txs_tree.specs.Tree.{Tree, PlainFunction, ThreadSource}
 use Rattle.txs_value.specs.Cells.{World}
 use Rattle.txs_value.specs.declared.op.Callee.{Callee}
 use Rattle.txs_value.specs.declared.value.Value.{Value}
-use Rattle.txs_code.specs.Machine.{ThreadCode}
+use Rattle.txs_code.specs.ActorState.{ActorState}
+use Rattle.txs_code.specs.Machine.{ThreadCode, Unfinished}
 use Rattle.txs_code.specs.Opening.{target}
 use Rattle.txs_follows.specs.Behaves.{source, Behaves, IsMeant, IsProper, HasEnded, outcome_of}
 use Rattle.txs_follows.specs.EndsSo.{EndsSo}
+use Rattle.txs_follows.specs.PrintsSo.{PrintsSo}
 use Rattle.txs_follows.specs.RepliesFit.{Out, RepliesFit, Agrees, Explained, Consumed}
 
 -- The code follows the thread's tree, on all replies that fit.
@@ -23,6 +26,10 @@ pub record Follows (code : ThreadCode) (p : ThreadSource) : Type 0 where
   pub explained : (todo : List Exchange) (es : List SeenEvent) (m : ℕ) → RepliesFit p.cells Out todo es → Consumed (target code m todo) → Explained (target code m todo) (thread_meaning p m es)
   -- where the tree on these replies ends for some bound on its loops, the code ends so, and the thread with any greater bound agrees
   pub reaches : (todo : List Exchange) (es : List SeenEvent) (n k : ℕ) → RepliesFit p.cells Out todo es → HasEnded (source p n todo) → n ≤ k → ((m : ℕ) × (target code m todo ≡ outcome_of (source p n todo))) × Agrees p.cells (source p n todo) (thread_meaning p k es)
+  -- where the tree on these replies needs more turns of a loop than the bound, the code goes on and has, after as many turns or more, printed all that the tree printed
+  pub goes_on : (todo : List Exchange) (n : ℕ) (s : ActorState) → source p n todo ≡ OutOfTurns s → (m : ℕ) × (n ≤ m) × (target code m todo ≡ Unfinished s)
+  -- where the thread's meaning has eaten the events and needs another, or more turns of a loop, the code prints all that the meaning printed, whatever is in hand
+  pub prints_so : PrintsSo code p
   -- where the thread's meaning ends on the events for some bound on its loops, the code ends so, unless what is in hand needs turns for every bound
   pub ends_so : EndsSo code p
 

@@ -1,5 +1,5 @@
 -- What it is that the code of functions follows the actions that agents run.
-use Rattle.std.specs.Prelude.{◌≡◌, ℕ, suc, false, List, [], ◌∷◌, ◌++◌, length, Option, Some, None, Result, Ok, Err}
+use Rattle.std.specs.Prelude.{◌≡◌, ◌≤◌, ℕ, suc, false, List, [], ◌∷◌, ◌++◌, length, Option, Some, None, Result, Ok, Err}
 use Rattle.txs_asks.specs.Ask.{Exchange}
 use Rattle.txs_asks.specs.declared.ask.Ask.{Ask}
 use Rattle.txs_asks.specs.declared.ask.Ask.TheVariants.{Take, Finish}
@@ -67,6 +67,14 @@ AsksNext a (Asking s) = (s.todo ≡ []) × (s.wants ≡ Some a)
 AsksNext a (Unfinished s) = ⊥
 AsksNext a Stuck = ⊥
 
+-- the machine has consumed all exchanges and goes on
+abbrev pub IsRunning : Outcome → Type 0
+IsRunning (Ended s) = ⊥
+IsRunning (Failed f s) = ⊥
+IsRunning (Asking s) = ⊥
+IsRunning (Unfinished s) = s.todo ≡ []
+IsRunning Stuck = ⊥
+
 -- the machine goes on, or asks, and has printed nothing
 abbrev pub GoesOn : Outcome → Type 0
 GoesOn (Ended s) = ⊥
@@ -76,10 +84,12 @@ GoesOn (Unfinished s) = s.printed ≡ []
 GoesOn Stuck = ⊥
 
 -- The agent's code follows the program: of an action that it took it hands in the action's meaning and nothing else, and it does so
--- where that meaning is there for some bound on loops; and it never ends and prints nothing, since actions are pure.
+-- where that meaning is there for some bound on loops; where the bound doesn't suffice, it is still running the action after as many turns
+-- or more; and it never ends and prints nothing, since actions are pure.
 pub record FollowsAgent (code : List PlainBody) (functions : List PlainFunction) (g : CellId) : Type 0 where
   pub only : (done : List Exchange) (number m : ℕ) (a : Action) (v : Value) (new : Result Value Fault) → AgentFits functions g done → SoundAction functions a → AsksNext (Finish g new) (agent_target code g m (done ++ taking g number a v ∷ [])) → (n : ℕ) × (action_meaning n functions a v ≡ Some new)
   pub ends_so : (done : List Exchange) (number m n : ℕ) (a : Action) (v : Value) (new : Result Value Fault) → AgentFits functions g done → SoundAction functions a → AsksNext (Take g) (agent_target code g m done) → action_meaning n functions a v ≡ Some new → (j : ℕ) × AsksNext (Finish g new) (agent_target code g j (done ++ taking g number a v ∷ []))
+  pub runs_on : (done : List Exchange) (number m n : ℕ) (a : Action) (v : Value) → AgentFits functions g done → SoundAction functions a → AsksNext (Take g) (agent_target code g m done) → action_meaning n functions a v ≡ None → (j : ℕ) × (n ≤ j) × IsRunning (agent_target code g j (done ++ taking g number a v ∷ []))
   pub goes_on : (told : List Exchange) (m : ℕ) → AgentTold functions g told → GoesOn (agent_target code g m told)
 
 -- the code of these functions follows the actions of each agent

@@ -213,7 +213,14 @@ halted (Waits s) = Stopped s
 halted (OutOfTurns s) = Short s
 halted Invalid = Going
 
--- the thread printed this and has eaten all
+-- the thread needs an event, printed this and has eaten all
+abbrev pub HasWaited : List ℕ → Halt ThreadState → Type 0
+HasWaited out Going = ⊥
+HasWaited out (Stopped t) = (t.todo ≡ []) × (t.printed ≡ out)
+HasWaited out (Short t) = ⊥
+HasWaited out (Rerun t) = ⊥
+
+-- the thread needs an event or turns, printed this and has eaten all
 abbrev pub HasEaten : List ℕ → Halt ThreadState → Type 0
 HasEaten out Going = ⊥
 HasEaten out (Stopped t) = (t.todo ≡ []) × (t.printed ≡ out)
@@ -225,14 +232,14 @@ abbrev pub FitInSome : List CellDefinition → List Exchange → List SeenEvent 
 FitInSome cells xs es = (ph : Phase) × RepliesFit cells ph xs es
 
 -- The tree's end on replies and the thread's on events: the same value or fault, with the same bytes printed, and what is left fits,
--- after a value outside every transaction, after a fault where it came; where the tree waits or needs turns and all replies are
--- consumed, the thread has eaten all.
+-- after a value outside every transaction, after a fault where it came; where the tree waits and all replies are consumed, the thread
+-- needs an event and has eaten all, and where it needs turns, the thread needs turns or an event and has eaten all.
 abbrev pub Agrees : List CellDefinition → Completion ActorState Value → Completion ThreadState Value → Type 0
 Agrees cells (Completes v s) r = (t : ThreadState) × (r ≡ Completes v t) × (t.printed ≡ s.printed) × RepliesFit cells Out s.todo t.todo
 Agrees cells (Recurs vs s) r = Unit {0}
 Agrees cells (Faults f s) r = (t : ThreadState) × (r ≡ Faults f t) × (t.printed ≡ s.printed) × FitInSome cells s.todo t.todo
 Agrees cells (Retries s) r = Unit {0}
-Agrees cells (Waits s) r = s.todo ≡ [] → HasEaten s.printed (halted r)
+Agrees cells (Waits s) r = s.todo ≡ [] → HasWaited s.printed (halted r)
 Agrees cells (OutOfTurns s) r = s.todo ≡ [] → HasEaten s.printed (halted r)
 Agrees cells Invalid r = Unit {0}
 
@@ -254,7 +261,7 @@ HasEatenAll out Invalid = ⊥
 abbrev pub Explained : Outcome → Completion ThreadState Value → Type 0
 Explained (Ended s) r = (v : Value) × (t : ThreadState) × (r ≡ Completes v t) × (t.todo ≡ []) × (t.printed ≡ s.printed)
 Explained (Failed f s) r = (t : ThreadState) × (r ≡ Faults f t) × (t.todo ≡ []) × (t.printed ≡ s.printed)
-Explained (Asking s) r = HasEaten s.printed (halted r)
+Explained (Asking s) r = HasWaited s.printed (halted r)
 Explained (Unfinished s) r = (rest : List ℕ) × HasEatenAll (s.printed ++ rest) r
 Explained Stuck r = ⊥
 

@@ -7,11 +7,12 @@ use Rattle.txs_asks.specs.declared.event.Outcome.{Outcome}
 use Rattle.txs_asks.specs.declared.event.Outcome.TheVariants as outcome
 use Rattle.txs_frame.specs.Phase.{PlainPhase}
 use Rattle.txs_value.specs.declared.value.Value.{Value}
-use Rattle.txs_actor.specs.PlainActor.{PlainActor, MayAnswer, Stops, answered, answered_for, answered_if, asked_for, applied_in, state_of, run_again, end_again, refuse, views, attends_anew, unanswered, is_running}
-use Rattle.txs_actor.specs.declared.state.Pending.{Pending}
-use Rattle.txs_actor.specs.declared.state.Pending.TheVariants.{Begin, Read, Ensure, Open, View, Reset, Send, Swap, Close, Commit, Fail, Broke, Take, Finish}
-use Rattle.txs_actor.specs.declared.state.Transaction.{Transaction}
-use Rattle.txs_actor.specs.declared.state.Transaction.TheVariants.{Outside, Restarting, Running, Applying, Evaluating, Swapping, Attending, Acting}
+use Rattle.txs_actor.specs.PlainActor.{PlainActor, MayAnswer, Stops, answered, answered_for, answered_if, asked_for, applied_in, state_of, run_again, end_again, refuse, views, attends_anew, unanswered}
+use Rattle.txs_transaction.specs.Transaction.{is_running}
+use Rattle.txs_transaction.specs.declared.state.Pending.{Pending}
+use Rattle.txs_transaction.specs.declared.state.Pending.TheVariants.{Begin, Read, Ensure, Open, View, Reset, Send, Swap, Close, Commit, Fail, Broke, Take, Finish}
+use Rattle.txs_transaction.specs.declared.state.Transaction.{Transaction}
+use Rattle.txs_transaction.specs.declared.state.Transaction.TheVariants.{Outside, Restarting, Running, Applying, Evaluating, Swapping, Attending, Acting}
 use Rattle.txs_actor.proofs.Replies.{by_reply}
 
 -- an outcome that isn't want of steps

@@ -16,7 +16,7 @@ use Rattle.txs_follows.specs.FollowsAll.{source_of, FollowsAll}
 use Rattle.txs_follows.specs.RepliesFit.{Out, RepliesFit, Explained, halted, HasEaten}
 use Rattle.txs_follows.specs.RepliesFitTo.{FittingToFits}
 use Rattle.txs_actor.specs.PlainActor.{PlainActor, own_body, code_of, state_of, configuration_of, standing, stands_at, unanswered}
-use Rattle.txs_world.specs.Laws.{UnwrittenStays, DoneIsUndisturbed}
+use Rattle.txs_world.specs.Laws.{UnwrittenStays, DoneIsUndisturbed, RefusedIsUndisturbed}
 use Rattle.txs_runs.specs.Explains.{BooksStand}
 use Rattle.txs_runs.specs.Invariant.{SharedStands}
 use Rattle.txs_runs.specs.Laws.{ToldFits}
@@ -26,6 +26,7 @@ use Rattle.txs_runs.specs.Run.{Actor}
 use Rattle.txs_runs.specs.Told.{Entry, exchange_of, trace_of, TraceHolds, seen_of}
 use Rattle.txs_runs.specs.Told as told_by
 use Rattle.txs_runs.proofs.Lasts.{EachWaits, printed_before}
+use Rattle.txs_runs.proofs.Refused.{all_refused}
 use Rattle.txs_runs.proofs.Whole.{all_undisturbed}
 use Rattle.txs_machine.specs.Followed.{ActorsExplained, told}
 use Rattle.txs_machine.specs.RunOver.{RunOver, places_of}
@@ -62,8 +63,8 @@ as_many [] (s ∷ rs) h = absurd h
 as_many (x ∷ xs) [] h = absurd h
 as_many (x ∷ xs) (s ∷ rs) h = ap suc (as_many xs rs h.1)
 
-done_so : DoneIsUndisturbed → (code : PlainCode) (k limit : ℕ) (books : ℕ → List Event) (x : Player) (r : ThreadReport) → IsBetween code k limit books x → IsReported x r → HasDone code k limit books r
-done_so done code k limit books x r h p = record {
+done_so : DoneIsUndisturbed → RefusedIsUndisturbed → (code : PlainCode) (k limit : ℕ) (books : ℕ → List Event) (x : Player) (r : ThreadReport) → IsBetween code k limit books x → IsReported x r → HasDone code k limit books r
+done_so done refused code k limit books x r h p = record {
   actor = x.actor;
   over = h.over.over;
   waits = h.free;
@@ -73,13 +74,14 @@ done_so done code k limit books x r h p = record {
   counted = p.counted;
   traced = ap places_of (sym p.traced) ∙ h.over.traced;
   undisturbed = all_undisturbed done code.cells (length code.threads) books k h.over.over.entries h.over.over.told.hold;
+  refused = all_refused refused code.cells (length code.threads) books k h.over.over.entries h.over.over.told.hold;
 }
 
 -- what all actors did is what the report says
-pub all_done : DoneIsUndisturbed → (code : PlainCode) (limit : ℕ) (books : ℕ → List Event) (xs : List Player) (rs : List ThreadReport) → length xs ≡ length code.threads → AreBetween code limit books 0 xs → AreReported xs rs → AreDone code limit books rs
-all_done done code limit books xs rs many h p = record {
+pub all_done : DoneIsUndisturbed → RefusedIsUndisturbed → (code : PlainCode) (limit : ℕ) (books : ℕ → List Event) (xs : List Player) (rs : List ThreadReport) → length xs ≡ length code.threads → AreBetween code limit books 0 xs → AreReported xs rs → AreDone code limit books rs
+all_done done refused code limit books xs rs many h p = record {
   one_each = as_many xs rs p ∙ many;
-  each = λ k r e. (let x = reported_at xs rs k r p e in done_so done code k limit books x.0 r (between_of code limit books k xs x.0 x.1 h) x.2);
+  each = λ k r e. (let x = reported_at xs rs k r p e in done_so done refused code k limit books x.0 r (between_of code limit books k xs x.0 x.1 h) x.2);
 }
 
 steps_at : (ys : List Play) (j i : ℕ) (xs : List Player) (x : Player) → nth xs i ≡ Some x → HaveSteps ys j xs → x.actor.outcome ≡ None → plays_of (j + i) ys ≤ x.actor.steps

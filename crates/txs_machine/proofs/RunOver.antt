@@ -43,7 +43,7 @@ use Rattle.txs_world.proofs.Merging.{joined}
 use Rattle.txs_world.specs.Atom.{closes, closes_at, swapped_since}
 use Rattle.txs_world.specs.Book.{written, least_written, cells_in, is_failed, first_failed, has_cell}
 use Rattle.txs_world.specs.Store as world
-use Rattle.txs_world.specs.Store.{cells_of, Served, TakesMemory, serve}
+use Rattle.txs_world.specs.Store.{cells_of, Served, serve}
 use Rattle.txs_value.specs.Limits.{most_events}
 use Rattle.txs_runs.specs.Invariant.{SharedStands}
 use Rattle.txs_runs.specs.Laws.{with_book, ToldFits, ServedIsTold}
@@ -66,7 +66,7 @@ use Rattle.txs_runs.proofs.Known.{standing_staged}
 use Rattle.txs_runs.proofs.OneActor.{MayView, idle_view, went_view}
 use Rattle.txs_runs.proofs.ServedKnown.{BookKnown}
 use Rattle.txs_shared.specs.SharedState as shared
-use Rattle.txs_shared.specs.SharedState.{PlainShared, shared_of, numbered_book, is_lawful, answer_to, IsAfter}
+use Rattle.txs_shared.specs.SharedState.{PlainShared, shared_of, numbered_book, is_lawful, answer_to, IsAfter, TakesMemoryFor}
 use Rattle.txs_machine.specs.Followed.{ActorsExplained, told}
 use Rattle.txs_machine.specs.Lawfully.{HasStood, RunLawfully}
 use Rattle.txs_machine.proofs.Lawfully.{ask_lawful, heard_lawfully, heard_stood, is_below, others_lawfully, others_stood}
@@ -829,7 +829,7 @@ asks_lawfully code s k tr a q mine of e f h =
 
 -- ---- the replies are those that an ask may have
 
-one_of : (q : Ask) (w : Served) (s t : PlainShared) (r : Reply) → MayAnswer q w.reply → (TakesMemory w.reply → MayAnswer q reply.Memory) → shared.Answers s q w r t → MayAnswer q r
+one_of : (q : Ask) (w : Served) (s t : PlainShared) (r : Reply) → MayAnswer q w.reply → (TakesMemoryFor q w.reply → MayAnswer q reply.Memory) → shared.Answers s q w r t → MayAnswer q r
 one_of q w s t (reply.At p) h m g = subst (MayAnswer q) (sym g.0) h
 one_of q w s t (reply.Is x) h m g = subst (MayAnswer q) (sym g.0) h
 one_of q w s t (reply.Views p vs) h m g = subst (MayAnswer q) (sym g.0) h
@@ -900,7 +900,7 @@ serve_may cells a (ask.CloseAt c p x) book = closed_may a c p x book
 serve_may cells a (ask.Broke c p) book = added_may (ask.Broke c p) a _ reply.Done book (nat_lt (length book) most_events) tt tt
 
 -- want of memory is told of what takes some
-memory_may : (q : Ask) (r : Reply) → MayAnswer q r → world.TakesMemory r → MayAnswer q reply.Memory
+memory_may : (q : Ask) (r : Reply) → MayAnswer q r → TakesMemoryFor q r → MayAnswer q reply.Memory
 memory_may ask.Begin (reply.At p) m t = t
 memory_may ask.Begin (reply.Is v) m t = absurd m
 memory_may ask.Begin (reply.Views p vs) m t = absurd m

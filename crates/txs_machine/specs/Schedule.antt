@@ -16,6 +16,7 @@ use Rattle.txs_follows.specs.RepliesFit.{Explained, halted, HasEaten}
 use Rattle.txs_actor.specs.PlainActor.{PlainActor, agents_from, unanswered, stating, standing}
 use Rattle.txs_shared.specs.SharedState.{PlainShared}
 use Rattle.txs_runs.specs.Explains.{BooksStand, CommitsUndisturbed}
+use Rattle.txs_runs.specs.Refused.{RefusalsUndisturbed}
 use Rattle.txs_runs.specs.Shared.{Shared}
 use Rattle.txs_runs.specs.Told.{TraceHolds, trace_of, seen_of}
 use Rattle.txs_machine.specs.RunOver.{RunOver, IsLimited, places_of}
@@ -47,7 +48,8 @@ all_named n (y ∷ ys) = nat_lt (player y) n && all_named n ys
 -- An entry of a report says what the actor of the k-th thread did over the books: after so many steps, of which it makes no more than its limit, and
 -- all where they were spent, it is where the machine's meaning comes to on what the books told it; it has printed these bytes, and ended so if it
 -- has; the trace has the places of its events in the order in which it added them, whatever book each stands in. What its transactions set or
--- ensured wasn't written between read point and commit.
+-- ensured wasn't written between read point and commit; nor was it where a commit was refused, and the agent that it was refused for is that of its
+-- first held send whose agent had failed.
 pub record HasDone (code : PlainCode) (k limit : ℕ) (books : ℕ → List Event) (ran : ThreadReport) : Type 0 where
   pub actor : PlainActor
   pub over : RunOver code k books actor
@@ -58,6 +60,7 @@ pub record HasDone (code : PlainCode) (k limit : ℕ) (books : ℕ → List Even
   pub counted : actor.steps ≡ ran.steps
   pub traced : places_of ran.trace.items ≡ trace_of code.cells books k over.entries
   pub undisturbed : CommitsUndisturbed books over.entries
+  pub refused : RefusalsUndisturbed code.cells books over.entries
 
 -- A report has one entry for each thread, which says what its actor did.
 pub record AreDone (code : PlainCode) (limit : ℕ) (books : ℕ → List Event) (rans : List ThreadReport) : Type 0 where

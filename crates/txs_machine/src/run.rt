@@ -70,6 +70,7 @@ fn keep_added(trace: &mut Vec<Place>, kept: usize, added: bool)
 
 /// Answers an actor's lawful ask, and notes the place of the event that it adds. There is room for the place before anything is served;
 /// without memory for it nothing is, and the reply says so.
+#[inline(always)]
 pub(crate) fn serve_noted(
     trace: &mut Vec<Place>,
     shared: &mut SharedState,
@@ -94,6 +95,7 @@ pub(crate) fn serve_noted(
 }
 
 /// Serves the actor's ask, which is one that it may make, and hands the actor the answer.
+#[inline(always)]
 fn serve_ask(player: &mut Player, code: &Verified, shared: &mut SharedState, ask: Ask, k: u16)
     requires lives { Lives code.now player.old.actor }
     requires going { player.old.actor.outcome ≡ None }

@@ -29,7 +29,7 @@ use txs_runs::law::{
 };
 use txs_shared::SharedState;
 use txs_value::CellKind;
-use txs_world::law::{done_is_undisturbed, serve_keeps, unwritten_stays};
+use txs_world::law::{done_is_undisturbed, refused_is_undisturbed, serve_keeps, unwritten_stays};
 
 /// One play of a schedule: the actor with this number, counted from 0, goes on. Threads come first, and agents behind them.
 #[derive(Clone, Copy)]
@@ -456,7 +456,8 @@ fn count_actors(code: &Verified, threads: u16) -> u16
 /// that has ended does nothing. None makes more than `max_steps` steps. Threads have the first numbers, and agents those behind, in the order of their cells.
 ///
 /// # Errors
-/// `NoActor` where a play names no actor, and nothing was run; `Memory` where there was no memory for the actors or for the report.
+/// `NoActor` where a play names no actor, and nothing was run; `Memory` where there was no memory for the actors or for the report: what
+/// was done until then stays in the shared state, and nothing more is said of it.
 pub fn run_schedule(
     alloc: Global,
     code: &Verified,
@@ -483,6 +484,7 @@ pub fn run_schedule(
     replies_fit();
     told_fits();
     done_is_undisturbed();
+    refused_is_undisturbed();
     unwritten_stays();
     every_trace_holds();
     every_report_is_explained();

@@ -20,7 +20,7 @@ use Rattle.txs_follows.specs.FollowsAll.{source_of, FollowsAll}
 use Rattle.txs_actor.specs.PlainActor.{PlainActor, agents_from, own_body, unanswered, code_of}
 use Rattle.txs_world.specs.Book.{has_agent}
 use Rattle.txs_world.specs.Book as world
-use Rattle.txs_world.specs.Laws.{DoneIsUndisturbed}
+use Rattle.txs_world.specs.Laws.{DoneIsUndisturbed, RefusedIsUndisturbed}
 use Rattle.txs_world.specs.Store.{cells_of}
 use Rattle.txs_runs.specs.Agents.{AllSound, ActsMean}
 use Rattle.txs_runs.specs.Explains.{BooksStand, outcome_at}
@@ -29,6 +29,7 @@ use Rattle.txs_runs.specs.Report.{RunsProgram, ReportExplained, CodesStaged, Run
 use Rattle.txs_runs.specs.Run.{State, Play, plays}
 use Rattle.txs_runs.specs.Shared.{untouched}
 use Rattle.txs_runs.specs.Told.{Entry, exchange_of, AllHold, TraceHolds, trace_of, seen_of}
+use Rattle.txs_runs.proofs.Refused.{all_refused}
 use Rattle.txs_runs.proofs.Whole.{all_undisturbed}
 use Rattle.txs_shared.specs.SharedState.{PlainShared, shared_of}
 use Rattle.txs_replay.specs.Goes.{GoesTo}
@@ -166,9 +167,9 @@ module _ (code : PlainCode) (limit : ℕ) (s : PlainShared) where
   limited_so : (k : ℕ) (p : PlainPlayed) → HasDoneOver code limit s k p → IsLimited limit p.actor
   limited_so k p d = subst (λ n. IsLimited n p.actor) d.player.limited d.played.limited
 
-  done_so : DoneIsUndisturbed → (k : ℕ) (p : PlainPlayed) (r : ThreadReport) → s.cells ≡ code.cells → k < length code.threads → HasDoneOver code limit s k p → IsReportOf s p r → HasDone code k limit (books_of s) r
+  done_so : DoneIsUndisturbed → RefusedIsUndisturbed → (k : ℕ) (p : PlainPlayed) (r : ThreadReport) → s.cells ≡ code.cells → k < length code.threads → HasDoneOver code limit s k p → IsReportOf s p r → HasDone code k limit (books_of s) r
   unfolding over_of
-  done_so law k p r same below d rep = record {
+  done_so law refused k p r same below d rep = record {
     actor = p.actor;
     over = over_of k p same below d;
     waits = d.player.free;
@@ -178,6 +179,7 @@ module _ (code : PlainCode) (limit : ℕ) (s : PlainShared) where
     counted = rep.counted;
     traced = trace_so k p r same d rep;
     undisturbed = all_undisturbed law code.cells (length code.threads) (books_of s) k (map entry_of p.kept) d.hold;
+    refused = all_refused refused code.cells (length code.threads) (books_of s) k (map entry_of p.kept) d.hold;
   }
 
   attended_so : (k : ℕ) (p : PlainPlayed) (r : ThreadReport) → s.cells ≡ code.cells → HasDoneOver code limit s k p → IsReportOf s p r → AgentHasDone code k limit (books_of s) r
@@ -212,11 +214,11 @@ module _ (code : PlainCode) (limit : ℕ) (s : PlainShared) where
   there (x ∷ ps) (y ∷ rs) (suc k) r h e = there ps rs k r h.1 e
 
   -- where parts agree, each thread's actor did over the books what its entry says
-  pub all_done : ReplayRuns → DoneIsUndisturbed → (served : ℕ) (ps : List PlainPlayed) (rs : List ThreadReport) → Agrees code limit s served ps → ArePlayed ps → AreReportsOf s (take s.threads ps) rs → AllHaveDone code limit s rs
-  all_done runs law served ps rs g h rep k r f =
+  pub all_done : ReplayRuns → DoneIsUndisturbed → RefusedIsUndisturbed → (served : ℕ) (ps : List PlainPlayed) (rs : List ThreadReport) → Agrees code limit s served ps → ArePlayed ps → AreReportsOf s (take s.threads ps) rs → AllHaveDone code limit s rs
+  all_done runs law refused served ps rs g h rep k r f =
       let p = there (take s.threads ps) rs k r rep f in
       let t = taken_at ps s.threads k p.0 p.1 in
-      done_so law k p.0 r g.cells (subst (λ n. k < n) g.threads t.0) (each_done runs served ps g h k p.0 t.1) (report_at (take s.threads ps) rs k p.0 r rep p.1 f)
+      done_so law refused k p.0 r g.cells (subst (λ n. k < n) g.threads t.0) (each_done runs served ps g h k p.0 t.1) (report_at (take s.threads ps) rs k p.0 r rep p.1 f)
 
   -- so did each agent's
   pub all_attended : ReplayRuns → (served : ℕ) (ps : List PlainPlayed) (rs : List ThreadReport) → Agrees code limit s served ps → ArePlayed ps → AreReportsOf s (drop s.threads ps) rs → AllHaveAttended code limit s rs

@@ -12,8 +12,8 @@ use Rattle.txs_actor.specs.PlainActor.{PlainActor, MayAnswer, Stops, answered, a
 use Rattle.txs_actor.specs.Turns.{IsNew, Answers, Moves, TurnsFrom, Turns}
 use Rattle.txs_actor.specs.declared.outcome.Turn.{Turn}
 use Rattle.txs_actor.specs.declared.outcome.Turn.TheVariants as turned
-use Rattle.txs_actor.specs.declared.state.Pending.{Pending}
-use Rattle.txs_actor.specs.declared.state.Pending.TheVariants.{Begin, Read, Ensure, Open, View, Reset, Send, Swap, Close, Commit, Fail, Broke, Take, Finish}
+use Rattle.txs_transaction.specs.declared.state.Pending.{Pending}
+use Rattle.txs_transaction.specs.declared.state.Pending.TheVariants.{Begin, Read, Ensure, Open, View, Reset, Send, Swap, Close, Commit, Fail, Broke, Take, Finish}
 use Rattle.txs_actor.proofs.Following.{Unstopped, unstopped_if}
 use Rattle.txs_runs.specs.Told.{Entry, exchange_of}
 use Rattle.txs_replay.specs.Goes.{AsksNothing, WalksTo, AsksAt, GoesTo}

@@ -9,11 +9,12 @@ use Rattle.txs_code.specs.Opening.{opening}
 use Rattle.txs_code.specs.PlainCode.{PlainCode}
 use Rattle.txs_code.specs.WellTyped.{WellTyped}
 use Rattle.txs_actor.specs.Laws.{ActorsRun}
-use Rattle.txs_actor.specs.PlainActor.{PlainActor, CanGoOn, AttendsOn, Lives, MayAnswer, Stops, answered, unanswered, asked_for, is_running, applied_in, configuration_of, code_of, HasRun, HasCome}
+use Rattle.txs_actor.specs.PlainActor.{PlainActor, CanGoOn, AttendsOn, Lives, MayAnswer, Stops, answered, unanswered, asked_for, applied_in, configuration_of, code_of, HasRun, HasCome}
+use Rattle.txs_transaction.specs.Transaction.{is_running}
 use Rattle.txs_actor.specs.Turns.{IsNew, TurnsFrom, Turns, GoesOnAfter, TurnsOf}
 use Rattle.txs_actor.specs.declared.outcome.Turn.{Turn}
 use Rattle.txs_actor.specs.declared.outcome.Turn.TheVariants as turned
-use Rattle.txs_actor.specs.declared.state.Pending.{Pending}
+use Rattle.txs_transaction.specs.declared.state.Pending.{Pending}
 use Rattle.txs_actor.proofs.Following.{unstopped_if}
 use Rattle.txs_actor.proofs.Saying.{turn_says}
 use Rattle.txs_runs.specs.Lawful.{TypedStands}

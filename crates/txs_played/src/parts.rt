@@ -23,7 +23,7 @@ use txs_replay::{Kept, KeptEntries};
 use txs_runs::law::{every_report_is_explained, told_fits, typed_threads_are_staged};
 use txs_shared::SharedState;
 use txs_value::{CellDefinition, CellKind};
-use txs_world::law::{done_is_undisturbed, unwritten_stays};
+use txs_world::law::{done_is_undisturbed, refused_is_undisturbed, unwritten_stays};
 
 /// What actors shared, and what each of them did.
 #[derive(Drop)]
@@ -272,6 +272,7 @@ pub fn gather(
     replies_fit();
     told_fits();
     done_is_undisturbed();
+    refused_is_undisturbed();
     unwritten_stays();
     let _rooms = code.rooms();
     let _stands = shared.events();

@@ -15,7 +15,8 @@ use Rattle.txs_code.specs.ActorState.{ActorState}
 use Rattle.txs_code.specs.Machine.{ThreadCode, Configuration, Turned, Ended, Failed, Asking, Unfinished, Stuck, Outcome, and_then, turn, run}
 use Rattle.txs_code.specs.Opening.{given, opening, target}
 use Rattle.txs_code.proofs.Acts.{stated, run_more, exec_run}
-use Rattle.txs_follows.specs.RepliesFit.{Out, RepliesFit, Explained, Consumed}
+use Rattle.txs_follows.proofs.Whole.{waited_eaten}
+use Rattle.txs_follows.specs.RepliesFit.{Out, RepliesFit, halted, Explained, Consumed}
 use Rattle.txs_world.specs.Laws.{ServeKeeps}
 use Rattle.txs_runs.specs.Shared.{Shared, book_for, serve_on, may_ask, seen_in}
 use Rattle.txs_runs.specs.Stages.{Stage, Idle, stage_after, phase_of}
@@ -331,7 +332,8 @@ module _ (cells : List CellDefinition) (threads : ℕ) (books : ℕ → List Eve
             ap (seen_of cells books) d.traces ∙ seen_append (trace_of cells books a d.before) (place_of d.last) d.event d.there,
             λ p same follows. (
               w.waiting.printed,
-              subst (λ (o : Outcome). Explained o (thread_meaning p x.turns hs)) e (follows.explained xs hs x.turns (subst (λ ds. RepliesFit ds Out xs hs) (sym same) fits) (subst (λ (o : Outcome). Consumed o) (sym e) w.consumed)),
+              waited_eaten w.waiting.printed (halted (thread_meaning p x.turns hs))
+                  (subst (λ (o : Outcome). Explained o (thread_meaning p x.turns hs)) e (follows.explained xs hs x.turns (subst (λ ds. RepliesFit ds Out xs hs) (sym same) fits) (subst (λ (o : Outcome). Consumed o) (sym e) w.consumed))),
               w.printed,
             ),
           )

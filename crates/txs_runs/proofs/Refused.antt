@@ -55,7 +55,7 @@ entry_refused by cells threads books a (ask.OpenAt c) r k h = tt
 entry_refused by cells threads books a (ask.CloseAt c p v) r k h = tt
 entry_refused by cells threads books a (ask.Broke c p) r k h = tt
 
-all_refused : RefusedIsUndisturbed → (cells : List CellDefinition) (threads : ℕ) (books : ℕ → List Event) (a : ℕ) (es : List Entry) → AllHold cells threads books a es → RefusalsUndisturbed cells books es
+pub all_refused : RefusedIsUndisturbed → (cells : List CellDefinition) (threads : ℕ) (books : ℕ → List Event) (a : ℕ) (es : List Entry) → AllHold cells threads books a es → RefusalsUndisturbed cells books es
 all_refused by cells threads books a [] h = tt
 all_refused by cells threads books a (e ∷ es) h = (entry_refused by cells threads books a e.ask e.reply e.at h.0, all_refused by cells threads books a es h.1)
 

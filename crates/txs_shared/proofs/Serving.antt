@@ -6,6 +6,7 @@ use Rattle.std.proofs.lemmas.Bool.{false≢true}
 use Rattle.std.proofs.lemmas.List.{map-set, set-get_or, get_or-set_same, get_or-set_other, length-map}
 use Rattle.txs_asks.specs.SeenEvent.{atoms_below}
 use Rattle.txs_asks.specs.declared.ask.Ask.{Ask}
+use Rattle.txs_asks.specs.declared.ask.Ask.TheVariants as ask
 use Rattle.txs_asks.specs.declared.ask.Reply.{Reply}
 use Rattle.txs_asks.specs.declared.ask.Reply.TheVariants as reply
 use Rattle.txs_asks.specs.declared.event.Event.{Event}
@@ -13,17 +14,64 @@ use Rattle.txs_value.proofs.SameLemmas.{and_both, numbers, number-itself}
 use Rattle.txs_value.specs.declared.cell.CellDefinition.{CellDefinition}
 use Rattle.txs_value.specs.declared.value.CellId.{CellId}
 use Rattle.txs_world.specs.Atom as world
-use Rattle.txs_world.specs.Atom.{PlainAtom, AtomAnswers, atom_with}
+use Rattle.txs_world.specs.Atom.{PlainAtom, AtomAnswers, AtomTakesMemory, atom_with}
 use Rattle.txs_world.specs.Laws.{ServeKeeps}
 use Rattle.txs_world.specs.Store as world_store
-use Rattle.txs_world.specs.Store.{PlainStore, store_with, store_after, cells_of, Served, serve, taken_after}
+use Rattle.txs_world.specs.Store.{PlainStore, store_with, store_after, cells_of, Served, serve, taken_after, TakesMemory}
 use Rattle.txs_runs.specs.Invariant.{SharedStands}
 use Rattle.txs_runs.specs.Shared.{has_atom, atom_of, book_for, shared_after}
 use Rattle.txs_runs.proofs.Serving.{serving_stands}
 use Rattle.txs_shared.specs.Kept.{state_of, atoms_of, without_book, no_atom, atom_named, names_place, IsKept, AnswersAt}
-use Rattle.txs_shared.specs.SharedState.{PlainShared, shared_of, numbered_book, is_lawful, answer_to, IsAfter, Answers}
+use Rattle.txs_shared.specs.SharedState.{PlainShared, shared_of, numbered_book, is_lawful, answer_to, IsAfter, Answers, TakesMemoryFor}
 use Rattle.txs_shared.proofs.Asking.{AsksStore, asks_atom, asks_store}
 use Rattle.txs_shared.proofs.Placing.{atom_is}
+
+-- ---- what takes memory
+
+-- what takes memory of an atom's book takes some of the store's, too
+atom_takes_memory : (r : Reply) → AtomTakesMemory r → TakesMemory r
+atom_takes_memory (reply.At p) h = absurd h
+atom_takes_memory (reply.Is v) h = tt
+atom_takes_memory (reply.Views p vs) h = absurd h
+atom_takes_memory reply.Done h = tt
+atom_takes_memory (reply.Retry c) h = absurd h
+atom_takes_memory (reply.Changed c) h = absurd h
+atom_takes_memory (reply.AgentIsFailed g) h = absurd h
+atom_takes_memory (reply.Action n x v) h = absurd h
+atom_takes_memory reply.Idle h = absurd h
+atom_takes_memory (reply.Opened p v) h = tt
+atom_takes_memory reply.Full h = absurd h
+atom_takes_memory reply.Memory h = absurd h
+
+-- an atom's book tells of want of memory where the reply to the ask takes some
+atom_takes : (q : Ask) (r : Reply) → AtomTakesMemory r → TakesMemoryFor q r
+atom_takes ask.Begin r h = atom_takes_memory r h
+atom_takes (ask.Look c at) r h = atom_takes_memory r h
+atom_takes (ask.View cs) r h = atom_takes_memory r h
+atom_takes (ask.Commit at sets ensured view commuted sends) r h = atom_takes_memory r h
+atom_takes (ask.Fail at view) r h = atom_takes_memory r h
+atom_takes (ask.Peek c) r h = atom_takes_memory r h
+atom_takes (ask.Send x) r h = atom_takes_memory r h
+atom_takes (ask.Take g) r h = atom_takes_memory r h
+atom_takes (ask.Finish g new) r h = atom_takes_memory r h
+atom_takes (ask.OpenAt c) r h = h
+atom_takes (ask.CloseAt c at new) r h = h
+atom_takes (ask.Broke c at) r h = h
+
+-- so does the store, of what is for no atom
+store_takes : (q : Ask) (r : Reply) → atom_named q ≡ None → TakesMemory r → TakesMemoryFor q r
+store_takes ask.Begin r e h = h
+store_takes (ask.Look c at) r e h = h
+store_takes (ask.View cs) r e h = h
+store_takes (ask.Commit at sets ensured view commuted sends) r e h = h
+store_takes (ask.Fail at view) r e h = h
+store_takes (ask.Peek c) r e h = h
+store_takes (ask.Send x) r e h = h
+store_takes (ask.Take g) r e h = h
+store_takes (ask.Finish g new) r e h = h
+store_takes (ask.OpenAt c) r e h = absurd e
+store_takes (ask.CloseAt c at new) r e h = absurd e
+store_takes (ask.Broke c at) r e h = absurd e
 
 -- ---- by what the reply says
 
@@ -49,9 +97,9 @@ module _ (t : PlainAtom → PlainShared) (s : PlainShared) (q : Ask) (v : Served
   by_atom reply.Idle y h = record { answers = (h.0, after t s q v cur (atom_with cur v.book) is_after same y h.1); which = inl h.1 }
   by_atom (reply.Opened p x) y h = record { answers = (h.0, after t s q v cur (atom_with cur v.book) is_after same y h.1); which = inl h.1 }
   by_atom reply.Full y h = record { answers = (h.0, after t s q v cur (atom_with cur v.book) is_after same y h.1); which = inl h.1 }
-  by_atom reply.Memory y h = record { answers = (h.0, ap t h.1 ∙ same); which = inr h.1 }
+  by_atom reply.Memory y h = record { answers = (atom_takes q v.reply h.0, ap t h.1 ∙ same); which = inr h.1 }
 
-module _ (t : PlainStore → PlainShared) (s : PlainShared) (q : Ask) (v : Served) (cur : PlainStore) (is_after : IsAfter s q v (t (store_after cur q v))) (same : t cur ≡ s) where
+module _ (t : PlainStore → PlainShared) (s : PlainShared) (q : Ask) (unnamed : atom_named q ≡ None) (v : Served) (cur : PlainStore) (is_after : IsAfter s q v (t (store_after cur q v))) (same : t cur ≡ s) where
   by_store : (r : Reply) (y : PlainStore) → world_store.Answers cur v (store_after cur q v) r y → Outcome t s q v cur (store_after cur q v) r y
   by_store (reply.At p) y h = record { answers = (h.0, after t s q v cur (store_after cur q v) is_after same y h.1); which = inl h.1 }
   by_store (reply.Is x) y h = record { answers = (h.0, after t s q v cur (store_after cur q v) is_after same y h.1); which = inl h.1 }
@@ -64,7 +112,7 @@ module _ (t : PlainStore → PlainShared) (s : PlainShared) (q : Ask) (v : Serve
   by_store reply.Idle y h = record { answers = (h.0, after t s q v cur (store_after cur q v) is_after same y h.1); which = inl h.1 }
   by_store (reply.Opened p x) y h = record { answers = (h.0, after t s q v cur (store_after cur q v) is_after same y h.1); which = inl h.1 }
   by_store reply.Full y h = record { answers = (h.0, after t s q v cur (store_after cur q v) is_after same y h.1); which = inl h.1 }
-  by_store reply.Memory y h = record { answers = (h.0, ap t h.1 ∙ same); which = inr h.1 }
+  by_store reply.Memory y h = record { answers = (store_takes q v.reply unnamed h.0, ap t h.1 ∙ same); which = inr h.1 }
 
 -- ---- the books
 
@@ -255,7 +303,7 @@ module _ (keeps : ServeKeeps) (cells : List CellDefinition) (store : PlainStore)
       next_store = after_store cells store atoms q w asks.book_is
 
       came : Outcome with_store (state_of cells store atoms) q w store (store_after store q w) r later
-      came = by_store with_store (state_of cells store atoms) q w store next_store refl r later h
+      came = by_store with_store (state_of cells store atoms) q unnamed w store next_store refl r later h
 
       pub store_answers : Answers (state_of cells store atoms) q (answer_to (state_of cells store atoms) a q) r (state_of cells later atoms)
       store_answers = subst (λ u. Answers (state_of cells store atoms) q u r (state_of cells later atoms)) (sym served) came.answers

@@ -3,12 +3,14 @@ use Rattle.std.specs.Prelude.{◌≡◌, ℕ, Bool, List, [], length}
 use Rattle.std.proofs.Common.{get_or}
 use Rattle.txs_asks.specs.SeenEvent.{home}
 use Rattle.txs_asks.specs.declared.ask.Ask.{Ask}
+use Rattle.txs_asks.specs.declared.ask.Ask.TheVariants as ask
 use Rattle.txs_asks.specs.declared.ask.Reply.{Reply}
 use Rattle.txs_asks.specs.declared.ask.Reply.TheVariants as reply
 use Rattle.txs_asks.specs.declared.event.Event.{Event}
 use Rattle.txs_value.specs.declared.cell.CellDefinition.{CellDefinition}
 use Rattle.txs_value.specs.declared.value.CellId.{CellId}
 use Rattle.txs_value.specs.declared.value.Value.{Value}
+use Rattle.txs_world.specs.Atom.{AtomTakesMemory}
 use Rattle.txs_world.specs.Store.{Served, TakesMemory}
 use Rattle.txs_runs.specs.Shared.{Shared, book_for, serve_on, may_ask, shared_after, world_of}
 
@@ -49,6 +51,21 @@ pub record IsAfter (s : PlainShared) (q : Ask) (v : Served) (t : PlainShared) : 
   pub threads : t.threads ≡ s.threads
   pub shared : shared_of t ≡ shared_after s.cells q v (shared_of s)
 
+-- whether this reply to this ask takes memory: to begin and to end a swap is for an atom's book, which tells without that it has changed
+abbrev pub TakesMemoryFor : Ask → Reply → Type 0
+TakesMemoryFor ask.Begin r = TakesMemory r
+TakesMemoryFor (ask.Look c at) r = TakesMemory r
+TakesMemoryFor (ask.View cs) r = TakesMemory r
+TakesMemoryFor (ask.Commit at sets ensured view commuted sends) r = TakesMemory r
+TakesMemoryFor (ask.Fail at view) r = TakesMemory r
+TakesMemoryFor (ask.Peek c) r = TakesMemory r
+TakesMemoryFor (ask.Send x) r = TakesMemory r
+TakesMemoryFor (ask.Take g) r = TakesMemory r
+TakesMemoryFor (ask.Finish g new) r = TakesMemory r
+TakesMemoryFor (ask.OpenAt c) r = AtomTakesMemory r
+TakesMemoryFor (ask.CloseAt c at new) r = AtomTakesMemory r
+TakesMemoryFor (ask.Broke c at) r = AtomTakesMemory r
+
 -- the reply that was served is given, and the state is one after it; where there was no memory for it the reply says so, and the state is as it was
 abbrev pub Answers : PlainShared → Ask → Served → Reply → PlainShared → Type 0
 Answers s q v (reply.At p) t = (reply.At p ≡ v.reply) × IsAfter s q v t
@@ -62,4 +79,4 @@ Answers s q v (reply.Action n x w) t = (reply.Action n x w ≡ v.reply) × IsAft
 Answers s q v reply.Idle t = (reply.Idle ≡ v.reply) × IsAfter s q v t
 Answers s q v (reply.Opened p x) t = (reply.Opened p x ≡ v.reply) × IsAfter s q v t
 Answers s q v reply.Full t = (reply.Full ≡ v.reply) × IsAfter s q v t
-Answers s q v reply.Memory t = TakesMemory v.reply × (t ≡ s)
+Answers s q v reply.Memory t = TakesMemoryFor q v.reply × (t ≡ s)

@@ -46,9 +46,11 @@ impl SharedState {
         number < self.cells.len() && self.cells[number].kind == cell.kind
     }
 
-    /// Answers an ask of an actor from the book that it is for, as a whole; no other book is looked at. The reply is `Full` exactly
+    /// Answers an ask of an actor from the book that it is for, as a whole; no other book changes. The reply is `Full` exactly
     /// where that book has as many events as it may have and the answer would add one, and `Memory` where there was no memory for
-    /// the event, or a value can have no more owners. After both the state is as before.
+    /// the event, for what is handed out or for what is put into mailboxes, or where a value can have no more owners: never to
+    /// begin a transaction, and never where an atom has changed. After both the state is as before.
+    #[inline(always)]
     pub fn serve(&mut self, actor: u16, ask: Ask) -> Reply
         requires { is_lawful self.old actor ask ≡ true }
         ensures { Answers self.old ask (answer_to self.old actor ask) result self.new }

@@ -61,19 +61,21 @@ use Rattle.txs_frame.specs.contracts.phase.Phase as phase_is
 use Rattle.txs_frame.specs.contracts.phase.Phase.TheInside as phase_in
 use Rattle.txs_stack.specs.contracts.stack.Stack as stack_is
 use Rattle.txs_stack.specs.contracts.stack.Stack.TheInside as stack_in
-use Rattle.txs_actor.specs.contracts.state.Origin as origin_is
-use Rattle.txs_actor.specs.contracts.state.Transaction as transaction_is
-use Rattle.txs_actor.specs.contracts.state.Pending as pending_is
-use Rattle.txs_actor.specs.contracts.kept.KeptTransaction as kept_transaction_is
-use Rattle.txs_actor.specs.contracts.kept.KeptTransaction.TheInside as kept_transaction_in
-use Rattle.txs_actor.specs.contracts.kept.KeptPending as kept_pending_is
-use Rattle.txs_actor.specs.contracts.kept.KeptPending.TheInside as kept_pending_in
-use Rattle.txs_actor.proofs.kept.Standing.TheSendSync as standing_sent
-use Rattle.txs_actor.proofs.kept.Wanted.TheSendSync as wanted_sent
+use Rattle.txs_transaction.specs.contracts.state.Origin as origin_is
+use Rattle.txs_transaction.specs.contracts.state.Transaction as transaction_is
+use Rattle.txs_transaction.specs.contracts.state.Pending as pending_is
+use Rattle.txs_transaction.specs.contracts.kept.KeptTransaction as kept_transaction_is
+use Rattle.txs_transaction.specs.contracts.kept.KeptTransaction.TheInside as kept_transaction_in
+use Rattle.txs_transaction.specs.contracts.kept.KeptPending as kept_pending_is
+use Rattle.txs_transaction.specs.contracts.kept.KeptPending.TheInside as kept_pending_in
+use Rattle.txs_transaction.proofs.kept.Standing.TheSendSync as standing_sent
+use Rattle.txs_transaction.proofs.kept.Wanted.TheSendSync as wanted_sent
 use Rattle.txs_actor.specs.contracts.actor.Actor as actor_is
 use Rattle.txs_actor.specs.contracts.actor.Actor.TheInside as actor_in
 use Rattle.txs_value.specs.contracts.cell.CellDefinition as cell_definition_is
 use Rattle.txs_world.specs.contracts.cell.StoreCell as store_cell_is
+use Rattle.txs_world.specs.contracts.cell.Cells as cells_is
+use Rattle.txs_world.specs.contracts.cell.Cells.TheInside as cells_in
 use Rattle.txs_mail.specs.contracts.mailbox.Mailbox as mailbox_is
 use Rattle.txs_mail.specs.contracts.mailbox.Mailbox.TheInside as mailbox_in
 use Rattle.txs_world.specs.contracts.atom.AtomBook as atom_book_is
@@ -193,8 +195,11 @@ mailbox_send = view_send mailbox_in.the_row _ _ _ _ (recorded_send (mailbox_in.t
 pub atom_book_send : IsSend atom_book_is.the_row
 atom_book_send = view_send atom_book_in.the_row _ _ _ _ (recorded_send (atom_book_in.the_field).row _ _ (atom_book_in.the_type).to_one (struct_send (S.shape atom_book_in.the_type) (cell_id_sent.the_field_send, (value_field_send, ((search (value_send, option.the_field_send, crosses, sendable) depth 60 fits 20000), ((search (plain_send, crosses, sendable) depth 60 fits 20000), ((search (event_send, plain_send, vec.the_send, crosses, sendable) depth 60 fits 20000), tt)))))))
 
+pub cells_send : IsSend cells_is.the_row
+cells_send = view_send cells_in.the_row _ _ _ _ (recorded_send (cells_in.the_field).row _ _ (cells_in.the_type).to_one (struct_send (S.shape cells_in.the_type) ((search (store_cell_send, vec.the_send, crosses, sendable) depth 60 fits 20000), ((search (plain_send, vec.the_send, crosses, sendable) depth 60 fits 20000), (plain_send _ _ _ _ _, tt)))))
+
 pub store_send : IsSend store_is.the_row
-store_send = view_send store_in.the_row _ _ _ _ (recorded_send (store_in.the_field).row _ _ (store_in.the_type).to_one (struct_send (S.shape store_in.the_type) ((search (global.the_field_send, crosses, sendable) depth 60 fits 20000), ((search (store_cell_send, vec.the_send, crosses, sendable) depth 60 fits 20000), ((search (plain_send, crosses, sendable) depth 60 fits 20000), ((search (value_field_send, plain_send, vec.the_send, crosses, sendable) depth 60 fits 20000), ((search (mailbox_send, plain_send, option.the_field_send, vec.the_send, fault_sent.the_send, crosses, sendable) depth 60 fits 20000), ((search (event_send, plain_send, vec.the_send, crosses, sendable) depth 60 fits 20000), ((search (value_send, vec.the_send, cell_id_sent.the_send, crosses, sendable) depth 60 fits 20000), ((search (action_send, crosses, sendable) depth 60 fits 20000), tt))))))))))
+store_send = view_send store_in.the_row _ _ _ _ (recorded_send (store_in.the_field).row _ _ (store_in.the_type).to_one (struct_send (S.shape store_in.the_type) ((search (global.the_field_send, crosses, sendable) depth 60 fits 20000), ((search (cells_send, crosses, sendable) depth 60 fits 20000), ((search (plain_send, crosses, sendable) depth 60 fits 20000), ((search (value_field_send, plain_send, vec.the_send, crosses, sendable) depth 60 fits 20000), ((search (mailbox_send, plain_send, option.the_field_send, vec.the_send, fault_sent.the_send, crosses, sendable) depth 60 fits 20000), ((search (event_send, plain_send, vec.the_send, crosses, sendable) depth 60 fits 20000), ((search (value_send, vec.the_send, cell_id_sent.the_send, crosses, sendable) depth 60 fits 20000), ((search (action_send, crosses, sendable) depth 60 fits 20000), tt))))))))))
 
 pub shared_state_send : IsSend shared_state_is.the_row
 shared_state_send = view_send shared_state_in.the_row _ _ _ _ (recorded_send (shared_state_in.the_field).row _ _ (shared_state_in.the_type).to_one (struct_send (S.shape shared_state_in.the_type) ((search (cell_definition_send, vec.the_send, crosses, sendable) depth 60 fits 20000), ((search (store_send, crosses, sendable) depth 60 fits 20000), ((search (atom_book_send, vec.the_send, crosses, sendable) depth 60 fits 20000), ((search (plain_send, vec.the_send, crosses, sendable) depth 60 fits 20000), tt))))))

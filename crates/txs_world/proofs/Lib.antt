@@ -1,6 +1,7 @@
 pub mod Actions
 pub mod Answering
 pub mod Atoms
+pub mod Counting
 pub mod Growth
 pub mod Kept
 pub mod Mailing

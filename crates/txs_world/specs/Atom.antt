@@ -12,7 +12,7 @@ use Rattle.txs_value.specs.declared.value.CellId.{CellId}
 use Rattle.txs_value.specs.declared.value.Value.{Value}
 use Rattle.txs_world.specs.Book.{value_or, may_name, Each}
 use Rattle.txs_world.specs.Kept.{StandsAt}
-use Rattle.txs_world.specs.Store.{Served, served, adds, TakesMemory}
+use Rattle.txs_world.specs.Store.{Served, served, adds}
 
 -- an atom as contracts see it: the cell, the value that it opened with, and its book
 pub record PlainAtom : Type 0 where
@@ -134,6 +134,21 @@ is_lawful_atom cell a (ask.Send x) book = false
 is_lawful_atom cell a (ask.Take g) book = false
 is_lawful_atom cell a (ask.Finish g new) book = false
 
+-- which replies of an atom's book take memory: those behind an event, and those that hand out its value; that it has changed is told without
+abbrev pub AtomTakesMemory : Reply → Type 0
+AtomTakesMemory (reply.At p) = ⊥
+AtomTakesMemory (reply.Is v) = Unit {0}
+AtomTakesMemory (reply.Views p vs) = ⊥
+AtomTakesMemory reply.Done = Unit {0}
+AtomTakesMemory (reply.Retry c) = ⊥
+AtomTakesMemory (reply.Changed c) = ⊥
+AtomTakesMemory (reply.AgentIsFailed g) = ⊥
+AtomTakesMemory (reply.Action n x v) = ⊥
+AtomTakesMemory reply.Idle = ⊥
+AtomTakesMemory (reply.Opened p v) = Unit {0}
+AtomTakesMemory reply.Full = ⊥
+AtomTakesMemory reply.Memory = ⊥
+
 -- the reply that was served is given, and the atom's book is the one after it; where there was no memory for it the book stays as it was
 abbrev pub AtomAnswers : PlainAtom → Served → Reply → PlainAtom → Type 0
 AtomAnswers s v (reply.At p) t = (reply.At p ≡ v.reply) × (t ≡ atom_with s v.book)
@@ -147,7 +162,7 @@ AtomAnswers s v (reply.Action n x w) t = (reply.Action n x w ≡ v.reply) × (t 
 AtomAnswers s v reply.Idle t = (reply.Idle ≡ v.reply) × (t ≡ atom_with s v.book)
 AtomAnswers s v (reply.Opened p x) t = (reply.Opened p x ≡ v.reply) × (t ≡ atom_with s v.book)
 AtomAnswers s v reply.Full t = (reply.Full ≡ v.reply) × (t ≡ atom_with s v.book)
-AtomAnswers s v reply.Memory t = TakesMemory v.reply × (t ≡ s)
+AtomAnswers s v reply.Memory t = AtomTakesMemory v.reply × (t ≡ s)
 
 -- an atom's parts agree
 pub record IsAtomKept (cell : CellId) (opening : Value) (value : Option Value) (swapped : ℕ) (views : List ℕ) (book : List Event) : Type 0 where

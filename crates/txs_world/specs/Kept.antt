@@ -1,4 +1,4 @@
--- How a store keeps its newest values, the places of its actors and the agents' mail beside its book.
+-- How a store keeps its newest values, the places of its actors and the agents' mail beside its book, and of its cells which actor is whose.
 use Rattle.std.specs.Prelude.{◌≡◌, ◌<◌, ◌≤◌, ℕ, true, false, Bool, ◌&&◌, ◌==◌, nat_lt, List, [], ◌∷◌, length, map, slice_index, Option, Some, None, if◌then◌else◌}
 use Rattle.std.proofs.Common.{get_or, set}
 use Rattle.txs_asks.specs.Ask.{Writes}
@@ -10,7 +10,7 @@ use Rattle.txs_asks.specs.declared.event.EventKind.TheVariants.{Read, Commit, Re
 use Rattle.txs_value.specs.declared.value.CellId.{CellId}
 use Rattle.txs_value.specs.declared.value.Value.{Value}
 use Rattle.txs_value.specs.declared.value.Value.TheVariants.{Nil}
-use Rattle.txs_world.specs.Book.{opening, newest, written, goes_on, Mail, mail_after, all_before, counts, Legal, Undisturbed}
+use Rattle.txs_world.specs.Book.{agents_below, opening, newest, written, goes_on, Mail, mail_after, all_before, counts, Legal, Undisturbed}
 use Rattle.txs_world.specs.Inboxes.{PlainInbox, inbox_of, no_inbox}
 use Rattle.txs_world.specs.declared.commit.End.{End}
 use Rattle.txs_world.specs.declared.commit.End.TheVariants.{Reruns, Redoes, Refuses, Commits}
@@ -85,6 +85,12 @@ IsEnd o1 o2 o3 (Reruns c) = o1 ≡ Some c
 IsEnd o1 o2 o3 (Redoes c) = (o1 ≡ None) × (o2 ≡ Some c)
 IsEnd o1 o2 o3 (Refuses g) = (o1 ≡ None) × (o2 ≡ None) × (o3 ≡ Some g)
 IsEnd o1 o2 o3 Commits = (o1 ≡ None) × (o2 ≡ None) × (o3 ≡ None)
+
+-- of each cell it is known how many agents there are before it, and how many there are
+pub record AreCounted (cells : List StoreCell) (before : List ℕ) (agents : ℕ) : Type 0 where
+  pub many : length before ≡ length cells
+  pub each : (k : ℕ) → k < length before → get_or before k 0 ≡ agents_below cells k
+  pub all : agents ≡ agents_below cells (length cells)
 
 -- a store's parts agree
 pub record IsKept (cells : List StoreCell) (threads : ℕ) (slots : List Slot) (inboxes : List PlainInbox) (views tries : List ℕ) (book : List Event) : Type 0 where

@@ -1,9 +1,15 @@
 //! The cells of a store.
 
-ghost use Rattle.std.specs.Prelude.{◌≡◌};
-ghost use Rattle.txs_world.specs.Store.{continues};
+ghost use Rattle.std.specs.Prelude.{◌≡◌, IfOk, if◌then◌else◌};
+ghost use Rattle.txs_value.specs.Forms.{same_kind};
+ghost use Rattle.txs_value.specs.declared.value.CellKind.TheVariants as kind;
+ghost use Rattle.txs_world.specs.Book.{agents_below};
+ghost use Rattle.txs_world.specs.Kept.{AreCounted};
+ghost use Rattle.txs_world.specs.Store.{continues, cell_of, cells_of};
 
-use txs_value::{CellKind, ErrorMode, Value};
+use std::alloc::{AllocError, Global};
+use std::marker::Model;
+use txs_value::{CellDefinition, CellKind, ErrorMode, Value, copy_value};
 
 /// A cell of a store: its kind, the value that it opened with, and of an agent whether it goes on after a fault.
 #[derive(Drop)]
@@ -13,9 +19,113 @@ pub struct StoreCell {
     pub goes_on: bool,
 }
 
+/// The cells of a store, and of each how many agents there are before it: which actor is whose is counted once, as they open.
+#[derive(Drop)]
+pub struct Cells {
+    all: Vec<StoreCell>,
+    before: Vec<usize>,
+    /// How many agents there are.
+    agents: usize,
+}
+
+impl Model for Cells {
+    ghost use Rattle.std.specs.Prelude.{List};
+    ghost use Rattle.std.specs.Coded.{codes};
+    ghost use Rattle.txs_value.specs.contracts.value.Value as value;
+    ghost use Rattle.txs_world.specs.declared.cell.StoreCell.{StoreCell};
+
+    ghost Value = { List StoreCell };
+
+    ghost coded = { Prim.hlevel (codes, value.the_row.coded) };
+
+    ghost view = { λ c. c.all.items };
+
+    ghost use Rattle.txs_world.specs.Kept.{AreCounted};
+
+    ghost invariant = { λ c. AreCounted c.all.items c.before.items c.agents };
+}
+
+impl Cells {
+    /// The cells of these definitions, without their names.
+    pub(crate) fn open(alloc: Global, definitions: &[CellDefinition]) -> Result<Cells, AllocError>
+        ensures { IfOk result (λ c. c ≡ cells_of definitions.now) }
+    {
+        let all = open_cells(alloc, definitions)?;
+        let (before, agents) = count_agents(alloc, all.as_slice())?;
+        Ok(Cells {
+            all,
+            before,
+            agents,
+        })
+    }
+
+    /// The cells, lent.
+    pub(crate) fn as_slice(&self) -> &[StoreCell]
+        ensures { result.now ≡ self.now }
+    {
+        self.all.as_slice()
+    }
+
+    /// How many agents there are among the cells with a lesser number.
+    pub(crate) fn agents_below(&self, number: u16) -> usize
+        ensures { result ≡ agents_below self.now number }
+    {
+        let number = usize::from(number);
+        if number < self.before.len() {
+            self.before[number]
+        } else {
+            self.agents
+        }
+    }
+}
+
+/// The cells of these definitions, without their names.
+fn open_cells(alloc: Global, definitions: &[CellDefinition]) -> Result<Vec<StoreCell>, AllocError>
+    ensures { IfOk result (λ v. v.items ≡ cells_of definitions.now) }
+{
+    let mut cells = Vec::with_capacity(alloc, definitions.len())?;
+    for definition in definitions {
+        cells.push(open_cell(definition)?)?;
+    }
+    Ok(cells)
+}
+
+/// The cell of this definition, which it shares the opening value with.
+fn open_cell(definition: &CellDefinition) -> Result<StoreCell, AllocError>
+    ensures { IfOk result (λ s. s ≡ cell_of definition.now) }
+{
+    let goes_on = continues(definition.error_mode);
+    let opening = copy_value(&definition.opening)?;
+    Ok(StoreCell {
+        kind: definition.kind,
+        opening,
+        goes_on,
+    })
+}
+
 /// Whether an agent of this error mode goes on after a fault.
 pub(crate) fn continues(mode: ErrorMode) -> bool
     ensures { result ≡ continues mode }
 {
     mode == ErrorMode::Continue
+}
+
+/// Of each cell how many agents there are before it, and how many there are. The cells are gone through once.
+fn count_agents(alloc: Global, cells: &[StoreCell]) -> Result<(Vec<usize>, usize), AllocError>
+    ensures { IfOk result (λ r. AreCounted cells.now r.0.items r.1) }
+{
+    let mut before = Vec::with_capacity(alloc, cells.len())?;
+    let mut agents = 0usize;
+    for cell in cells {
+        before.push(agents)?;
+        agents += agents_in(cell);
+    }
+    Ok((before, agents))
+}
+
+/// 1 for an agent, 0 for another cell.
+fn agents_in(cell: &StoreCell) -> usize
+    ensures { result ≡ (if same_kind cell.now.kind kind.Agent then 1 else 0) }
+{
+    if cell.kind == CellKind::Agent { 1 } else { 0 }
 }

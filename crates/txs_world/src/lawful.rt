@@ -1,41 +1,16 @@
 //! Which asks the store takes.
 
-ghost use Rattle.std.specs.Prelude.{◌≡◌, ◌≤◌, ◌<◌, ◌==◌, ◌↔◌, length, true, false, IsTrue, if◌then◌else◌};
+ghost use Rattle.std.specs.Prelude.{◌≡◌, ◌≤◌, ◌<◌, ◌==◌, ◌↔◌, length, true, false, IsTrue};
 ghost use Rattle.txs_asks.specs.declared.ask.Ask.TheVariants as ask;
-ghost use Rattle.txs_value.specs.Forms.{same_kind};
-ghost use Rattle.txs_value.specs.declared.value.CellKind.TheVariants as kind;
-ghost use Rattle.txs_world.specs.Book.{has_cell, has_ref, has_agent, has_readable, are_refs, has_refs, are_sends, cells_in, actor_of, agents_below, all_before, may_name, may_end};
+ghost use Rattle.txs_world.specs.Book.{has_cell, has_ref, has_agent, has_readable, are_refs, has_refs, are_sends, cells_in, actor_of, all_before, may_name, may_end};
 ghost use Rattle.txs_world.specs.Kept.{StandsAt};
 ghost use Rattle.txs_world.specs.Store.{is_lawful, may_ask, has_named, is_taken};
 
-use crate::cell::StoreCell;
 use crate::journal::stand_of;
 use crate::slot::are_apart;
 use crate::store::Store;
 use txs_asks::Ask;
 use txs_value::{Action, CellId, CellKind, Listed, Value};
-
-/// How many agents there are among the cells with a lesser number.
-fn agents_below(cells: &[StoreCell], number: u16) -> usize
-    ensures count { result ≡ agents_below cells.now number }
-    ensures few { result ≤ number }
-{
-    let mut agents = 0usize;
-    for (i, cell) in cells.iter().enumerate() {
-        if i >= usize::from(number) {
-            return agents;
-        }
-        agents += agents_in(cell);
-    }
-    agents
-}
-
-/// 1 for an agent, 0 for another cell.
-fn agents_in(cell: &StoreCell) -> usize
-    ensures { result ≡ (if same_kind cell.now.kind kind.Agent then 1 else 0) }
-{
-    if cell.kind == CellKind::Agent { 1 } else { 0 }
-}
 
 impl Store {
     /// Whether the actor may ask this of the store: it makes such asks, and the store has what it names.
@@ -107,10 +82,11 @@ impl Store {
     }
 
     /// Whether this is the agent's actor.
+    #[tactic(auto, using(crate::proofs::Counting::agents_few))]
     fn is_actor_of(&self, actor: u16, agent: CellId) -> bool
         ensures { result ≡ (actor == actor_of self.now.threads self.now.cells agent) }
     {
-        let agents = agents_below(self.cells.as_slice(), agent.number);
+        let agents = self.cells.agents_below(agent.number);
         usize::from(actor) == usize::from(self.threads) + agents
     }
 
@@ -119,7 +95,8 @@ impl Store {
         ensures { result ≡ has_cell self.now.cells cell }
     {
         let number = usize::from(cell.number);
-        number < self.cells.len() && self.cells[number].kind == cell.kind
+        let cells = self.cells.as_slice();
+        number < cells.len() && cells[number].kind == cell.kind
     }
 
     /// Whether it has this cell, and it is a ref.

@@ -15,10 +15,12 @@ use txs_value::limits::MOST_EVENTS;
 use txs_value::{CellId, Listed, Value, copy_value};
 
 impl Store {
-    /// Answers an ask of an actor, as a whole. The reply is `Full` exactly where the book has as many
-    /// events as it may have and the answer would add one, and `Memory` where there was no memory for
-    /// the event, or a value can have no more owners. After both the store is as before. A commit's event keeps the lists
-    /// of its ask.
+    /// Answers an ask of an actor, as a whole. The reply is `Full` exactly where the book has as many events as it may have and
+    /// the answer would add one. It is `Memory` where there was no memory for the event, for what is handed out (the list of a
+    /// `View`, the copy of an action at a `Take`), for what a `Commit` or a `Finish` writes (a commit's joined list is one), or
+    /// for what is put into mailboxes, or where a value can have no more owners. After both the store is as before. A commit's
+    /// event keeps the lists of its ask.
+    #[inline(always)]
     pub fn serve(&mut self, actor: u16, ask: Ask) -> Reply
         requires { is_lawful self.old actor ask ≡ true }
         ensures { Answers self.old (serve self.old.cells actor ask self.old.book) (store_after self.old ask (serve self.old.cells actor ask self.old.book)) result self.new }

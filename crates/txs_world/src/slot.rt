@@ -1,14 +1,14 @@
-//! The newest values of cells, and where each actor stands.
+//! The newest values of cells, and the lists of what an event writes.
 
 ghost use Rattle.std.specs.Prelude.{◌≡◌, ◌<◌, ◌≤◌, ◌++◌, ◌∷◌, [], length, set, true, IfOk, OnOk};
 ghost use Rattle.txs_world.specs.Book.{cells_in};
 ghost use Rattle.txs_world.specs.Kept.{slot_of, open_slots, put_all, all_below};
-ghost use Rattle.txs_world.specs.Store.{cell_of, cells_of, are_apart, merged};
+ghost use Rattle.txs_world.specs.Store.{are_apart, merged};
 ghost use Rattle.txs_world.specs.Places.{place_of, Ascend, is_first};
 
-use crate::cell::{StoreCell, continues};
+use crate::cell::StoreCell;
 use std::alloc::{AllocError, Global};
-use txs_value::{CellDefinition, CellId, Listed, Value, copy_value};
+use txs_value::{CellId, Listed, Value, copy_value};
 
 /// The newest value of a cell, and how many events the book has up to the last one that wrote it: 0
 /// where none did.
@@ -16,33 +16,6 @@ use txs_value::{CellDefinition, CellId, Listed, Value, copy_value};
 pub(crate) struct Slot {
     pub(crate) value: Value,
     pub(crate) written: u32,
-}
-
-/// The cells of these definitions, without their names.
-pub(crate) fn open_cells(
-    alloc: Global,
-    definitions: &[CellDefinition],
-) -> Result<Vec<StoreCell>, AllocError>
-    ensures { IfOk result (λ v. v.items ≡ cells_of definitions.now) }
-{
-    let mut cells = Vec::with_capacity(alloc, definitions.len())?;
-    for definition in definitions {
-        cells.push(open_cell(definition)?)?;
-    }
-    Ok(cells)
-}
-
-/// The cell of this definition, which it shares the opening value with.
-fn open_cell(definition: &CellDefinition) -> Result<StoreCell, AllocError>
-    ensures { IfOk result (λ s. s ≡ cell_of definition.now) }
-{
-    let goes_on = continues(definition.error_mode);
-    let opening = copy_value(&definition.opening)?;
-    Ok(StoreCell {
-        kind: definition.kind,
-        opening,
-        goes_on,
-    })
 }
 
 /// The values that the cells open with, which no event has written.

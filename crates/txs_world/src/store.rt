@@ -4,10 +4,10 @@ ghost use Rattle.std.specs.Prelude.{◌≡◌, ◌↔◌, [], length, true, fals
 ghost use Rattle.txs_world.specs.Book.{has_cell, has_agent, opening, newest, mail_after, Legal, Undisturbed};
 ghost use Rattle.txs_world.specs.Store.{PlainStore, store_with, cell_of, cells_of, none_taken};
 
-use crate::cell::{StoreCell, continues};
+use crate::cell::{Cells, StoreCell, continues};
 use crate::inbox::{Inbox, open_inboxes};
 use crate::journal::Journal;
-use crate::slot::{Slot, open_cells, open_slots};
+use crate::slot::{Slot, open_slots};
 use std::alloc::{AllocError, Global};
 use std::collections::VecDeque;
 use std::marker::Model;
@@ -18,7 +18,7 @@ use txs_value::{Action, CellDefinition, CellId, Fault, Value, same};
 #[derive(Drop)]
 pub struct Store {
     pub(crate) alloc: Global,
-    pub(crate) cells: Vec<StoreCell>,
+    pub(crate) cells: Cells,
     /// How many threads there are: actors have their numbers before those of agents.
     pub(crate) threads: u16,
     pub(crate) slots: Vec<Slot>,
@@ -39,11 +39,11 @@ impl Model for Store {
 
     ghost coded = { Prim.hlevel (codes, value.the_row.coded) };
 
-    ghost view = { λ s. store_with s.cells.items s.threads s.journal.book.items (taken_of (plain_inboxes s.inboxes.items)) };
+    ghost view = { λ s. store_with s.cells s.threads s.journal.book.items (taken_of (plain_inboxes s.inboxes.items)) };
 
     ghost use Rattle.txs_world.specs.Kept.{IsKept};
 
-    ghost invariant = { λ s. IsKept s.cells.items s.threads s.slots.items (plain_inboxes s.inboxes.items) s.journal.views.items s.journal.tries.items s.journal.book.items };
+    ghost invariant = { λ s. IsKept s.cells s.threads s.slots.items (plain_inboxes s.inboxes.items) s.journal.views.items s.journal.tries.items s.journal.book.items };
 }
 
 impl Store {
@@ -52,7 +52,7 @@ impl Store {
     pub fn open(alloc: Global, cells: &[CellDefinition], threads: u16) -> Result<Store, AllocError>
         ensures { IfOk result (λ s. s ≡ store_with (cells_of cells.now) threads [] (none_taken (cells_of cells.now))) }
     {
-        let cells = open_cells(alloc, cells)?;
+        let cells = Cells::open(alloc, cells)?;
         let slots = open_slots(alloc, cells.as_slice())?;
         let inboxes = open_inboxes(alloc, cells.as_slice())?;
         Ok(Store {
@@ -107,7 +107,7 @@ impl Store {
         self.inboxes[usize::from(agent.number)].fault
     }
 
-    /// How many actions an agent has still to run.
+    /// How many actions are in an agent's mailbox, with the one that is taken. An agent that has failed runs none of them.
     pub fn waiting(&self, agent: CellId) -> usize
         requires { has_agent self.now.cells agent ≡ true }
         ensures { result ≡ length (mail_after self.now.cells self.now.book agent.number).actions }
@@ -119,11 +119,12 @@ impl Store {
     pub fn made_for(&self, cells: &[CellDefinition]) -> bool
         ensures { IsTrue result ↔ (self.now.cells ≡ cells_of cells.now) }
     {
-        if self.cells.len() != cells.len() {
+        let own = self.cells();
+        if own.len() != cells.len() {
             return false;
         }
         for (i, definition) in cells.iter().enumerate() {
-            if !is_cell_of(&self.cells[i], definition) {
+            if !is_cell_of(&own[i], definition) {
                 return false;
             }
         }

@@ -20,7 +20,7 @@ returns-clause-done c =
     let xs = c.play_schedule.new.players.threads.items in
     let rs = c.in_ok-reports.reports.items in
     let reported : AreReported xs rs = search rules in
-    all_done c.done_is_undisturbed.ensures code c.args.max_steps (books_of c.play_schedule.new.shared) xs rs h.many h.threads reported
+    all_done c.done_is_undisturbed.ensures c.refused_is_undisturbed.ensures code c.args.max_steps (books_of c.play_schedule.new.shared) xs rs h.many h.threads reported
 
 pub returns-clause-played : goal.returns-clause-played
 returns-clause-played c =

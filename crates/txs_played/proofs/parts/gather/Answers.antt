@@ -79,7 +79,7 @@ returns-clause-done c =
     let first : c.from-threads.result ≡ s.threads = search rules in
     let told : AreReportsOf s (take c.from-threads.result ps) rs = search rules in
     let reported : AreReportsOf s (take s.threads ps) rs = subst (λ n. AreReportsOf s (take n ps) rs) first told in
-    all_done code limit s c.replay_runs.ensures c.done_is_undisturbed.ensures c.args.served ps rs (agreed code limit s c.args.served ps made each replayed) played reported
+    all_done code limit s c.replay_runs.ensures c.done_is_undisturbed.ensures c.refused_is_undisturbed.ensures c.args.served ps rs (agreed code limit s c.args.served ps made each replayed) played reported
 
 pub returns-clause-attended : goal.returns-clause-attended
 returns-clause-attended c =
@@ -121,7 +121,7 @@ returns-clause-explained c =
       fits = c.told_fits.ensures;
     } in
     all_explained by code limit s c.args.served ps rs agrees stands (as_many_threads code s ps rs made reported)
-    (all_done code limit s c.replay_runs.ensures c.done_is_undisturbed.ensures c.args.served ps rs agrees played reported)
+    (all_done code limit s c.replay_runs.ensures c.done_is_undisturbed.ensures c.refused_is_undisturbed.ensures c.args.served ps rs agrees played reported)
 
 pub returns-clause-all_explained : goal.returns-clause-all_explained
 returns-clause-all_explained c =

@@ -3,4 +3,4 @@ use Rattle.txs_world.specs.Store.{cells_of}
 use Rattle.txs_world.proofs.store.Store.made_for.Given as goal
 
 abbrev pub invariant-loop-i : goal.invariant-loop-i
-invariant-loop-i l = take l.i l.self-inside.cells.items ≡ cells_of (take l.i l.cells)
+invariant-loop-i l = take l.i l.own ≡ cells_of (take l.i l.cells)

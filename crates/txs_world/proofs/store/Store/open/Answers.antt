@@ -8,4 +8,4 @@ pub invariant_of-result : goal.invariant_of-result
 invariant_of-result c = opened_kept _ _ _ _ _ _ _ (search rules) (search rules) (search rules) (search rules) (search rules)
 
 pub returns : goal.returns
-returns c = opened_store _ _ _ _ _ c.in_ok-cells.ensures c.new.ensures.book (c.in_ok-inboxes.ensures ∙ ap open_inboxes c.as_slice-2.ensures.value)
+returns c = opened_store _ _ _ _ _ c.in_ok-cells.ensures c.new.ensures.book (c.in_ok-inboxes.ensures ∙ ap open_inboxes c.as_slice-2.ensures)

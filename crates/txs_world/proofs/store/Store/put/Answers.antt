@@ -12,7 +12,7 @@ pub invariant_of-self-in-Err-add : goal.invariant_of-self-in-Err-add
 invariant_of-self-in-Err-add c =
     let x = c.self.inside in
     let bs = plain_inboxes x.inboxes.items in
-    same_stands x.cells.items x.threads x.slots.items bs (plain_inboxes c.ready_at.new.inboxes.items) x.journal.views.items x.journal.tries.items c.add.new.self.views.items c.add.new.self.tries.items x.journal.book.items c.add.new.self.book.items
+    same_stands x.cells x.threads x.slots.items bs (plain_inboxes c.ready_at.new.inboxes.items) x.journal.views.items x.journal.tries.items c.add.new.self.views.items c.add.new.self.tries.items x.journal.book.items c.add.new.self.book.items
     c.ready_at.ensures.same c.in-Err-add.ensures.same_views c.in-Err-add.ensures.same_tries c.in-Err-add.ensures.same c.self.invariant
 
 pub invariant_of-self-in-Ok-add : goal.invariant_of-self-in-Ok-add
@@ -21,14 +21,14 @@ invariant_of-self-in-Ok-add c =
     let bs = plain_inboxes x.inboxes.items in
     let d = Send c.args.action in
     let room : length x.journal.book.items < most_events = subst (λ (s : PlainStore). length s.book < most_events) (sym c.self.view_is) c.requires.room in
-    let legal : LegalKind x.cells.items x.journal.book.items c.args.actor d = subst (λ (s : PlainStore). LegalKind s.cells s.book c.args.actor d) (sym c.self.view_is) c.requires.legal in
-    let made : makes x.cells.items x.threads c.args.actor d ≡ true = subst (λ (s : PlainStore). makes s.cells s.threads c.args.actor d ≡ true) (sym c.self.view_is) c.requires.thread in
-    sent x.cells.items x.threads x.slots.items bs (plain_inboxes c.put_at.new.inboxes.items) x.journal.views.items x.journal.tries.items c.add.new.self.views.items c.add.new.self.tries.items x.journal.book.items c.add.new.self.book.items
+    let legal : LegalKind x.cells x.journal.book.items c.args.actor d = subst (λ (s : PlainStore). LegalKind s.cells s.book c.args.actor d) (sym c.self.view_is) c.requires.legal in
+    let made : makes x.cells x.threads c.args.actor d ≡ true = subst (λ (s : PlainStore). makes s.cells s.threads c.args.actor d ≡ true) (sym c.self.view_is) c.requires.thread in
+    sent x.cells x.threads x.slots.items bs (plain_inboxes c.put_at.new.inboxes.items) x.journal.views.items x.journal.tries.items c.add.new.self.views.items c.add.new.self.tries.items x.journal.book.items c.add.new.self.book.items
     c.args.actor c.args.action c.self.invariant room made legal c.in-Ok-add.ensures.views c.in-Ok-add.ensures.tries c.in-Ok-add.ensures.added
     (c.put_at.ensures.put ∙ ap (λ b. mailed_all b (c.in-Ok.copy ∷ [])) c.ready_at.ensures.same ∙ ap (λ a. mailed_all bs (a ∷ [])) c.in-Ok.ensures.copy)
 
 pub returns-in-Ok-add-clause-added : goal.returns-in-Ok-add-clause-added
 returns-in-Ok-add-clause-added c =
     let x = c.self.inside in
-    stored c.args.self.now x.cells.items x.threads x.journal.book.items c.add.new.self.book.items (plain_inboxes x.inboxes.items) (plain_inboxes c.put_at.new.inboxes.items) (event_of c.args.actor (Send c.args.action))
+    stored c.args.self.now x.cells x.threads x.journal.book.items c.add.new.self.book.items (plain_inboxes x.inboxes.items) (plain_inboxes c.put_at.new.inboxes.items) (event_of c.args.actor (Send c.args.action))
     c.self.view_is c.in-Ok-add.ensures.added (entered_leaves _ _ _ (c.in-Ok.copy ∷ []) c.ready_at.ensures.same c.put_at.ensures.put)

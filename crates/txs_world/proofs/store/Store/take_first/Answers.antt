@@ -7,5 +7,5 @@ use Rattle.txs_world.proofs.store.Store.take_first.Goals as goal
 pub returns-clause-taken : goal.returns-clause-taken
 returns-clause-taken c =
     let x = c.self.inside in
-    handed c.args.self.now x.cells.items x.threads x.journal.book.items (plain_inboxes x.inboxes.items) (plain_inboxes c.take_at.new.inboxes.items) c.args.agent c.self.view_is c.in-Ok.ensures.taken
+    handed c.args.self.now x.cells x.threads x.journal.book.items (plain_inboxes x.inboxes.items) (plain_inboxes c.take_at.new.inboxes.items) c.args.agent c.self.view_is c.in-Ok.ensures.taken
     (ap is_some c.in-Ok.ensures.action)

@@ -13,24 +13,24 @@ use Rattle.txs_world.proofs.store.Store.write.Goals as goal
 pub prepare-requires : goal.prepare-requires
 prepare-requires c =
     let x = c.self.inside in
-    let legal : LegalKind x.cells.items x.journal.book.items c.args.actor (Commit c.args.at c.args.view c.args.writes c.args.sends) = subst (λ (s : PlainStore). LegalKind s.cells s.book c.args.actor (Commit c.args.at c.args.view c.args.writes c.args.sends)) (sym c.self.view_is) c.requires.legal in
-    sends_below x.cells.items (length x.inboxes.items) c.args.sends (many_inboxes x.cells.items x.threads x.slots.items x.inboxes.items x.journal.views.items x.journal.tries.items x.journal.book.items c.self.invariant) legal.1
+    let legal : LegalKind x.cells x.journal.book.items c.args.actor (Commit c.args.at c.args.view c.args.writes c.args.sends) = subst (λ (s : PlainStore). LegalKind s.cells s.book c.args.actor (Commit c.args.at c.args.view c.args.writes c.args.sends)) (sym c.self.view_is) c.requires.legal in
+    sends_below x.cells (length x.inboxes.items) c.args.sends (many_inboxes x.cells x.threads x.slots.items x.inboxes.items x.journal.views.items x.journal.tries.items x.journal.book.items c.self.invariant) legal.1
 
 pub put_all-requires : goal.put_all-requires
 put_all-requires c =
     let x = c.self.inside in
-    let legal : LegalKind x.cells.items x.journal.book.items c.args.actor (Commit c.args.at c.args.view c.args.writes c.args.sends) = subst (λ (s : PlainStore). LegalKind s.cells s.book c.args.actor (Commit c.args.at c.args.view c.args.writes c.args.sends)) (sym c.self.view_is) c.requires.legal in
-    subst (λ l. all_below (length x.slots.items) l ≡ true) (sym c.in-Ok.ensures.copies) (refs_below x.cells.items (length x.slots.items) 0 c.args.writes c.self.invariant.many legal.0)
+    let legal : LegalKind x.cells x.journal.book.items c.args.actor (Commit c.args.at c.args.view c.args.writes c.args.sends) = subst (λ (s : PlainStore). LegalKind s.cells s.book c.args.actor (Commit c.args.at c.args.view c.args.writes c.args.sends)) (sym c.self.view_is) c.requires.legal in
+    subst (λ l. all_below (length x.slots.items) l ≡ true) (sym c.in-Ok.ensures.copies) (refs_below x.cells (length x.slots.items) 0 c.args.writes c.self.invariant.many legal.0)
 
 pub mail_all-requires : goal.mail_all-requires
 mail_all-requires c =
     let x = c.self.inside in
     let now = c.prepare.new.inboxes.items in
-    let legal : LegalKind x.cells.items x.journal.book.items c.args.actor (Commit c.args.at c.args.view c.args.writes c.args.sends) = subst (λ (s : PlainStore). LegalKind s.cells s.book c.args.actor (Commit c.args.at c.args.view c.args.writes c.args.sends)) (sym c.self.view_is) c.requires.legal in
+    let legal : LegalKind x.cells x.journal.book.items c.args.actor (Commit c.args.at c.args.view c.args.writes c.args.sends) = subst (λ (s : PlainStore). LegalKind s.cells s.book c.args.actor (Commit c.args.at c.args.view c.args.writes c.args.sends)) (sym c.self.view_is) c.requires.legal in
     let is = c.in-Ok.ensures.queue in
-    let many = plain_same_many now x.inboxes.items c.prepare.ensures.same ∙ many_inboxes x.cells.items x.threads x.slots.items x.inboxes.items x.journal.views.items x.journal.tries.items x.journal.book.items c.self.invariant in
+    let many = plain_same_many now x.inboxes.items c.prepare.ensures.same ∙ many_inboxes x.cells x.threads x.slots.items x.inboxes.items x.journal.views.items x.journal.tries.items x.journal.book.items c.self.invariant in
     record {
-      places = subst (λ l. all_sent_below (length now) l ≡ true) (sym is) (sends_below x.cells.items (length now) c.args.sends many legal.1);
+      places = subst (λ l. all_sent_below (length now) l ≡ true) (sym is) (sends_below x.cells (length now) c.args.sends many legal.1);
       room = subst (λ l. HaveRoom (rooms now) l) (sym is) c.in-Ok.ensures.room;
     }
 
@@ -38,7 +38,7 @@ pub invariant_of-self-in_err-events : goal.invariant_of-self-in_err-events
 invariant_of-self-in_err-events c =
     let x = c.self.inside in
     let bs = plain_inboxes x.inboxes.items in
-    same_stands x.cells.items x.threads x.slots.items bs (plain_inboxes c.prepare.new.inboxes.items) x.journal.views.items x.journal.tries.items c.add.new.self.views.items c.add.new.self.tries.items x.journal.book.items c.add.new.self.book.items
+    same_stands x.cells x.threads x.slots.items bs (plain_inboxes c.prepare.new.inboxes.items) x.journal.views.items x.journal.tries.items c.add.new.self.views.items c.add.new.self.tries.items x.journal.book.items c.add.new.self.book.items
     c.prepare.ensures.same c.in_err-events.ensures.same_views c.in_err-events.ensures.same_tries c.in_err-events.ensures.same c.self.invariant
 
 pub invariant_of-self-2 : goal.invariant_of-self-2
@@ -47,10 +47,10 @@ invariant_of-self-2 c =
     let bs = plain_inboxes x.inboxes.items in
     let d = Commit c.args.at c.args.view c.args.writes c.args.sends in
     let room : length x.journal.book.items < most_events = subst (λ (s : PlainStore). length s.book < most_events) (sym c.self.view_is) c.requires.room in
-    let legal : LegalKind x.cells.items x.journal.book.items c.args.actor d = subst (λ (s : PlainStore). LegalKind s.cells s.book c.args.actor d) (sym c.self.view_is) c.requires.legal in
+    let legal : LegalKind x.cells x.journal.book.items c.args.actor d = subst (λ (s : PlainStore). LegalKind s.cells s.book c.args.actor d) (sym c.self.view_is) c.requires.legal in
     let guarded : Guarded x.journal.book.items d = subst (λ (s : PlainStore). Guarded s.book d) (sym c.self.view_is) c.requires.guarded in
-    let made : makes x.cells.items x.threads c.args.actor d ≡ true = subst (λ (s : PlainStore). makes s.cells s.threads c.args.actor d ≡ true) (sym c.self.view_is) c.requires.thread in
-    committed x.cells.items x.threads x.slots.items c.put_all.new.slots.items bs (plain_inboxes c.mail_all.new.inboxes.items) x.journal.views.items x.journal.tries.items c.add.new.self.views.items c.add.new.self.tries.items x.journal.book.items c.add.new.self.book.items
+    let made : makes x.cells x.threads c.args.actor d ≡ true = subst (λ (s : PlainStore). makes s.cells s.threads c.args.actor d ≡ true) (sym c.self.view_is) c.requires.thread in
+    committed x.cells x.threads x.slots.items c.put_all.new.slots.items bs (plain_inboxes c.mail_all.new.inboxes.items) x.journal.views.items x.journal.tries.items c.add.new.self.views.items c.add.new.self.tries.items x.journal.book.items c.add.new.self.book.items
     c.args.actor c.in_ok-events.events c.args.at c.args.view c.args.writes c.args.sends c.self.invariant room made legal guarded c.in_ok-events.ensures.views c.in_ok-events.ensures.tries c.in_ok-events.ensures.added c.in_ok-events.ensures.many
     (c.put_all.ensures ∙ ap (put_all c.in_ok-events.events x.slots.items) c.in-Ok.ensures.copies)
     (c.mail_all.ensures ∙ ap (λ b. mailed_all b c.prepare.new.queue.items) c.prepare.ensures.same ∙ ap (mailed_all bs) c.in-Ok.ensures.queue)
@@ -58,5 +58,5 @@ invariant_of-self-2 c =
 pub returns-clause-added : goal.returns-clause-added
 returns-clause-added c =
     let x = c.self.inside in
-    stored c.args.self.now x.cells.items x.threads x.journal.book.items c.add.new.self.book.items (plain_inboxes x.inboxes.items) (plain_inboxes c.mail_all.new.inboxes.items) (event_of c.args.actor (Commit c.args.at c.args.view c.args.writes c.args.sends))
+    stored c.args.self.now x.cells x.threads x.journal.book.items c.add.new.self.book.items (plain_inboxes x.inboxes.items) (plain_inboxes c.mail_all.new.inboxes.items) (event_of c.args.actor (Commit c.args.at c.args.view c.args.writes c.args.sends))
     c.self.view_is c.in_ok-events.ensures.added (entered_leaves _ _ _ c.prepare.new.queue.items c.prepare.ensures.same c.mail_all.ensures)

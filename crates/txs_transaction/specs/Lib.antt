@@ -1,0 +1,3 @@
+pub mod Effect
+pub mod Kept
+pub mod Transaction

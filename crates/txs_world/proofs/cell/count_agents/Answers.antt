@@ -1,0 +1,13 @@
+use Rattle.std.proofs.Common.{arith}
+use Rattle.txs_world.proofs.Counting.{counted_next, one_few}
+use Rattle.txs_world.proofs.cell.count_agents.Goals as goal
+
+pub loop-cell-preserved : goal.loop-cell-preserved
+loop-cell-preserved c =
+    let h = c.loop-cell in
+    let one = one_few c.cell-item.result in
+    let few = h.invariant.few in
+    record {
+      counted = counted_next c.args.cells.now h.cell-index c.cell-item.result h.before.items c.push.new.self.items h.agents c.agents_in-agents.result c.loop-cell-test.true c.cell-item.is c.in_ok-push.ensures.items c.agents_in-agents.ensures h.invariant.counted;
+      few = omega (arith, few, one, c.agents_in-agents.ensures);
+    }

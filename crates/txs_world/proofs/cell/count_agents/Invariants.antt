@@ -1,0 +1,10 @@
+use Rattle.std.proofs.Common.{◌≤◌, take}
+use Rattle.txs_world.specs.Kept.{AreCounted}
+use Rattle.txs_world.proofs.cell.count_agents.Given as goal
+
+abbrev pub invariant-loop-cell : goal.invariant-loop-cell
+invariant-loop-cell l =
+    record {
+      counted : AreCounted (take l.cell-index l.cells) l.before.items l.agents;
+      few : l.agents ≤ l.cell-index;
+    }
