@@ -1,5 +1,5 @@
 -- What is shared after an ask was served by the book that it is for.
-use Rattle.std.proofs.Common.{◌≡◌, ◌≢◌, ◌⊎◌, ◌<◌, ℕ, zero, suc, Bool, true, false, ◌&&◌, ◌==◌, nat_lt, List, [], ◌∷◌, length, map, get_or, set, Some, None, refl, sym, ap, subst, ◌∙◌, arith, inl, inr, if◌then◌else◌}
+use Rattle.std.proofs.Common.{◌≡◌, ◌≢◌, ◌⊎◌, ◌<◌, ℕ, zero, suc, Bool, true, false, ◌&&◌, ◌==◌, nat_lt, List, [], ◌∷◌, length, map, get_or, set, Option, Some, None, refl, sym, ap, subst, ◌∙◌, arith, inl, inr, if◌then◌else◌}
 use Rattle.std.proofs.Math.Path.{fun_ext}
 use Rattle.std.proofs.Math.Seq.{map-set_same}
 use Rattle.std.proofs.lemmas.Bool.{false≢true}
@@ -58,6 +58,10 @@ atom_takes (ask.OpenAt c) r h = h
 atom_takes (ask.CloseAt c at new) r h = h
 atom_takes (ask.Broke c at) r h = h
 
+abbrev is_none : {A : Type 0} → Option A → Type 0
+is_none None = Unit {0}
+is_none (Some x) = ⊥
+
 -- so does the store, of what is for no atom
 store_takes : (q : Ask) (r : Reply) → atom_named q ≡ None → TakesMemory r → TakesMemoryFor q r
 store_takes ask.Begin r e h = h
@@ -69,9 +73,9 @@ store_takes (ask.Peek c) r e h = h
 store_takes (ask.Send x) r e h = h
 store_takes (ask.Take g) r e h = h
 store_takes (ask.Finish g new) r e h = h
-store_takes (ask.OpenAt c) r e h = absurd e
-store_takes (ask.CloseAt c at new) r e h = absurd e
-store_takes (ask.Broke c at) r e h = absurd e
+store_takes (ask.OpenAt c) r e h = absurd (subst is_none (sym e) tt)
+store_takes (ask.CloseAt c at new) r e h = absurd (subst is_none (sym e) tt)
+store_takes (ask.Broke c at) r e h = absurd (subst is_none (sym e) tt)
 
 -- ---- by what the reply says
 

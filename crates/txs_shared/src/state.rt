@@ -164,7 +164,7 @@ impl SharedState {
         self.store.failure(agent)
     }
 
-    /// How many actions an agent has still to run.
+    /// How many actions are in an agent's mailbox, with the one that is taken; an agent that has failed runs none of them.
     pub fn waiting(&self, agent: CellId) -> usize
         requires { has_agent (cells_of self.now.cells) agent ≡ true }
         ensures { result ≡ length (mail_after (cells_of self.now.cells) (numbered_book self.now 0) agent.number).actions }
