@@ -1,7 +1,6 @@
 // That workers run at once: a gate holds one actor until another has passed, and gives up after many looks.
-use crate::seen::{cells_of, has_printed, ran};
+use crate::seen::leaves;
 use std::sync::atomic::{AtomicU64, Ordering};
-use std::test::Fail;
 use txs_threads::{AskKind, Gate, Moment};
 
 /// How often a gate looks before it gives up: a fifth of a second of a processor, in which each of four threads is run also where there are two processors.
@@ -44,6 +43,11 @@ impl Meeting {
         }
         self.gave_up.store(1, Ordering::SeqCst);
     }
+
+    /// Whether it gave up.
+    fn has_given_up(&self) -> bool {
+        self.gave_up.load(Ordering::SeqCst) == 1
+    }
 }
 
 impl Gate for Meeting {
@@ -62,32 +66,33 @@ impl Gate for Meeting {
 }
 
 #[test]
-fn two_at_once(rt: HostRuntime) -> Result<(), Fail> {
+fn two_at_once(rt: HostRuntime) {
     let gate = nobody_there(false);
-    let run = ran(&rt, rt.alloc(), READER, 2, 1_000, &gate)?;
-    assert_eq!(rt; gate.gave_up.load(Ordering::SeqCst), 0);
-    assert!(rt; has_printed(run.report.threads.as_slice(), 0, b"7\n"));
-    Ok(())
+    assert!(rt; leaves(&rt, rt.alloc(), READER, 2, 1_000, &gate, "7\ndone done 7 "));
+    assert!(rt; !gate.has_given_up());
 }
 
 #[test]
-fn four_at_once(rt: HostRuntime) -> Result<(), Fail> {
+fn four_at_once(rt: HostRuntime) {
     let gate = nobody_there(true);
-    let run = ran(&rt, rt.alloc(), FOUR, 4, 1_000, &gate)?;
-    assert_eq!(rt; gate.gave_up.load(Ordering::SeqCst), 0);
-    assert_eq!(rt;
-        cells_of(rt.alloc(), &run.shared)?.as_slice(),
-        b"4 ".as_slice()
+    assert!(rt;
+        leaves(
+            &rt,
+            rt.alloc(),
+            FOUR,
+            4,
+            1_000,
+            &gate,
+            "done done done done 4 "
+        )
     );
-    Ok(())
+    assert!(rt; !gate.has_given_up());
 }
 
-/// A gate that two workers pass leaves its mark where one worker runs all.
+/// A gate that two workers pass leaves its mark where one worker runs all: that keeps the reader to its end.
 #[test]
-fn one_gives_up(rt: HostRuntime) -> Result<(), Fail> {
+fn one_gives_up(rt: HostRuntime) {
     let gate = nobody_there(false);
-    let run = ran(&rt, rt.alloc(), READER, 1, 1_000, &gate)?;
-    assert_eq!(rt; gate.gave_up.load(Ordering::SeqCst), 1);
-    assert_eq!(rt; run.report.threads.len(), 2);
-    Ok(())
+    assert!(rt; leaves(&rt, rt.alloc(), READER, 1, 1_000, &gate, "0\ndone done 7 "));
+    assert!(rt; gate.has_given_up());
 }

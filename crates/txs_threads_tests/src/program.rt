@@ -4,7 +4,6 @@ ghost use Rattle.txs_tell_threads.specs.Runner.{IsRunnable, RunsLawfully};
 
 use std::alloc::Global;
 use std::sync::Wait;
-use std::test::Fail;
 use std::thread::Threads;
 use txs_code::Verified;
 use txs_machine::{Report, RunError};
@@ -13,17 +12,17 @@ use txs_shared::SharedState;
 use txs_threads::{Gathered, OpenGate, run_threads};
 use txs_words::Words;
 
-/// What the program writes for these words and this input, with what is written to the standard error behind it, and its status.
+/// Writes what the program does for these words and this input, and to the standard error: its status.
 fn written<T: Threads + Wait + Sync>(
     threads: &T,
     alloc: Global,
     words: &Words,
     input: &[u8],
-) -> (Vec<u8>, Vec<u8>, u8) {
+    output: &mut Vec<u8>,
+    errors: &mut Vec<u8>,
+) -> u8 {
     let mut reader = input;
-    let mut output = Vec::new(alloc);
-    let mut errors = Vec::new(alloc);
-    let status = play_with(
+    play_with(
         alloc,
         &|alloc: Global, code: &Verified, workers: usize, steps: u64| -> Result<
             (SharedState, Report),
@@ -40,10 +39,9 @@ fn written<T: Threads + Wait + Sync>(
         },
         words,
         &mut reader,
-        &mut output,
-        &mut errors,
-    );
-    (output, errors, status)
+        output,
+        errors,
+    )
 }
 
 /// Two threads, of which one waits for the other, and an agent to which a transaction sends.
@@ -51,6 +49,23 @@ const SCRIPT: &[u8] = b"(def r (ref 0)) (def g (agent 0))
 (defn wait [] (if (= (dosync @r) 5) (println :done) (recur)))
 (future (dosync (alter r + 1) (send g + 2)))
 (future (dosync (alter r + 4)) (wait))";
+
+/// Whether the program ends so for these words and this input, where it writes this, and this to the standard error.
+fn writes<T: Threads + Wait + Sync>(
+    threads: &T,
+    alloc: Global,
+    words: Words,
+    input: &[u8],
+    status: u8,
+    text: &[u8],
+    fault: &[u8],
+) -> bool {
+    let mut output = Vec::new(alloc);
+    let mut errors = Vec::new(alloc);
+    let ended = written(threads, alloc, &words, input, &mut output, &mut errors);
+    drop(words);
+    ended == status && output.as_slice() == text && errors.as_slice() == fault
+}
 
 /// The words of a run by so many workers, with the cells behind it.
 fn work(workers: u64) -> Words {
@@ -65,38 +80,75 @@ fn work(workers: u64) -> Words {
 }
 
 #[test]
-fn workers_run_a_script(rt: HostRuntime) -> Result<(), Fail> {
-    let (output, errors, status) = written(&rt, rt.alloc(), &work(2), SCRIPT);
-    assert_eq!(rt; output.as_slice(), b":done\nr 5\ng 2\n".as_slice());
-    assert!(rt; errors.is_empty() && status == 0);
-    Ok(())
+fn workers_run_a_script(rt: HostRuntime) {
+    assert!(rt;
+        writes(
+            &rt,
+            rt.alloc(),
+            work(2),
+            SCRIPT,
+            0,
+            b":done\nr 5\ng 2\n",
+            b""
+        )
+    );
 }
 
 #[test]
-fn no_worker_runs_nothing(rt: HostRuntime) -> Result<(), Fail> {
-    let (output, errors, status) = written(&rt, rt.alloc(), &work(0), SCRIPT);
-    assert_eq!(rt; errors.as_slice(), b"run failed: NoThread\n".as_slice());
-    assert!(rt; output.is_empty() && status == 4);
-    Ok(())
+fn no_worker_runs_nothing(rt: HostRuntime) {
+    assert!(rt;
+        writes(
+            &rt,
+            rt.alloc(),
+            work(0),
+            SCRIPT,
+            4,
+            b"",
+            b"run failed: NoThread\n"
+        )
+    );
 }
 
-#[test]
-fn workers_run_code(rt: HostRuntime) -> Result<(), Fail> {
-    let build = Words::Build {
+/// The code of the script in its byte form, or nothing where it isn't built.
+fn built<T: Threads + Wait + Sync>(threads: &T, alloc: Global) -> Vec<u8> {
+    let words = Words::Build {
         file: None,
-        out: String::new(rt.alloc()),
+        out: String::new(alloc),
         explain: false,
     };
-    let (code, _, built) = written(&rt, rt.alloc(), &build, SCRIPT);
-    let run = Words::WorkCode {
+    let mut code = Vec::new(alloc);
+    let mut errors = Vec::new(alloc);
+    let status = written(threads, alloc, &words, SCRIPT, &mut code, &mut errors);
+    drop(words);
+    if status != 0 {
+        code.clear();
+    }
+    code
+}
+
+/// The words of a run of code by two workers, with the cells behind it.
+fn work_code() -> Words {
+    Words::WorkCode {
         file: None,
         workers: 2,
         steps: 100_000_000,
         cells: true,
         events: false,
-    };
-    let (output, errors, status) = written(&rt, rt.alloc(), &run, code.as_slice());
-    assert_eq!(rt; output.as_slice(), b":done\nr 5\ng 2\n".as_slice());
-    assert!(rt; errors.is_empty() && built == 0 && status == 0);
-    Ok(())
+    }
+}
+
+#[test]
+fn workers_run_code(rt: HostRuntime) {
+    let code = built(&rt, rt.alloc());
+    assert!(rt;
+        writes(
+            &rt,
+            rt.alloc(),
+            work_code(),
+            code.as_slice(),
+            0,
+            b":done\nr 5\ng 2\n",
+            b""
+        )
+    );
 }

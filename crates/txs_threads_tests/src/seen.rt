@@ -1,14 +1,27 @@
-// What the tests look at: a script's run by workers, what its cells hold at the end, and how its threads and agents ended.
-use std::alloc::Global;
+// What the tests look at: a script's run by workers, and a text of what it leaves.
+ghost use Rattle.std.specs.Prelude.{◌≤◌, ◌+◌, length, IfOk};
+
+use std::alloc::{AllocError, Global};
 use std::sync::Wait;
-use std::test::Fail;
 use std::thread::Threads;
 use txs_asks::Outcome;
+use txs_code::Verified;
 use txs_compile::compile;
 use txs_machine::ThreadReport;
 use txs_shared::SharedState;
-use txs_threads::{Gate, Gathered, run_threads};
+use txs_threads::{Gate, Gathered, RunError, run_threads};
 use txs_value::{CellId, write_text};
+
+/// The code of a script. No test has one that isn't compiled: that counts as want of memory.
+pub fn code_of(alloc: Global, script: &str) -> Result<Verified, RunError>
+    ensures few { IfOk result (λ code. length code.threads + length code.cells ≤ 65535) }
+{
+    let Ok((program, code)) = compile(alloc, script.as_bytes()) else {
+        return Err(RunError::Memory);
+    };
+    drop(program);
+    Ok(code)
+}
 
 /// A script's run by so many workers.
 pub fn ran<R: Threads + Wait + Sync, G: Gate>(
@@ -18,14 +31,35 @@ pub fn ran<R: Threads + Wait + Sync, G: Gate>(
     workers: usize,
     max_steps: u64,
     gate: &G,
-) -> Result<Gathered, Fail> {
-    let (_, code) = compile(alloc, script.as_bytes())?;
-    Ok(run_threads(rt, alloc, &code, workers, max_steps, gate)?)
+) -> Result<Gathered, RunError> {
+    let code = code_of(alloc, script)?;
+    let run = run_threads(rt, alloc, &code, workers, max_steps, gate);
+    drop(code);
+    run
 }
 
-/// The texts of what all cells hold, in the order of the script, with a space behind each.
-pub fn cells_of(alloc: Global, shared: &SharedState) -> Result<Vec<u8>, Fail> {
-    let mut out = Vec::new(alloc);
+/// A word for how a thread or agent ended, with a space behind it: `spent` where it made as many steps as it may, and `idle` where it goes on.
+fn word_of(report: &ThreadReport, max_steps: u64) -> &'static str {
+    match report.outcome {
+        None => "idle ",
+        Some(Outcome::Done) => "done ",
+        Some(Outcome::Failed(_)) => "failed ",
+        Some(Outcome::StepsSpent) if report.steps == max_steps => "spent ",
+        Some(_) => "stopped ",
+    }
+}
+
+/// Adds what each of them printed, and behind it a word for how it ended.
+fn add_ends(out: &mut Vec<u8>, reports: &[ThreadReport], max_steps: u64) -> Result<(), AllocError> {
+    for report in reports {
+        out.extend_from_slice(report.printed.as_slice())?;
+        out.extend_from_slice(word_of(report, max_steps).as_bytes())?;
+    }
+    Ok(())
+}
+
+/// Adds what all cells hold, in the order of the script, with a space behind each.
+fn add_cells(out: &mut Vec<u8>, shared: &SharedState) -> Result<(), AllocError> {
     let cells = shared.cells();
     for (i, cell) in cells.iter().enumerate() {
         if let Ok(number) = u16::try_from(i) {
@@ -33,25 +67,46 @@ pub fn cells_of(alloc: Global, shared: &SharedState) -> Result<Vec<u8>, Fail> {
                 kind: cell.kind,
                 number,
             };
-            write_text(shared.newest(id), &mut out)?;
+            write_text(shared.newest(id), out)?;
             out.push(b' ')?;
         }
     }
-    Ok(out)
+    Ok(())
 }
 
-/// Whether the thread or agent with this number printed so.
-pub fn has_printed(reports: &[ThreadReport], k: usize, text: &[u8]) -> bool {
-    match reports.get(k) {
-        Some(report) => report.printed.as_slice() == text,
-        None => false,
+/// Adds how the threads of a run ended, and then its agents, and what its cells hold.
+fn add_run(out: &mut Vec<u8>, run: &Gathered, max_steps: u64) -> Result<(), AllocError> {
+    add_ends(out, run.report.threads.as_slice(), max_steps)?;
+    add_ends(out, run.report.agents.as_slice(), max_steps)?;
+    add_cells(out, &run.shared)
+}
+
+/// Whether a run, in which an actor makes so many steps at most, left this text: what each thread printed with a word for how it ended, the
+/// same of each agent, and what each cell holds.
+pub fn has_left(alloc: Global, run: &Gathered, max_steps: u64, text: &str) -> bool {
+    let mut out = Vec::new(alloc);
+    match add_run(&mut out, run, max_steps) {
+        Ok(()) => out.as_slice() == text.as_bytes(),
+        Err(_) => false,
     }
 }
 
-/// Whether the thread or agent with this number ended so, after so many steps.
-pub fn has_ended(reports: &[ThreadReport], k: usize, outcome: Option<Outcome>, steps: u64) -> bool {
-    match reports.get(k) {
-        Some(report) => report.outcome == outcome && report.steps == steps,
-        None => false,
+/// Whether a script's run by so many workers leaves this text, as `has_left` says.
+pub fn leaves<R: Threads + Wait + Sync, G: Gate>(
+    rt: &R,
+    alloc: Global,
+    script: &str,
+    workers: usize,
+    max_steps: u64,
+    gate: &G,
+    text: &str,
+) -> bool {
+    match ran(rt, alloc, script, workers, max_steps, gate) {
+        Ok(run) => {
+            let left = has_left(alloc, &run, max_steps, text);
+            drop(run);
+            left
+        }
+        Err(_) => false,
     }
 }
