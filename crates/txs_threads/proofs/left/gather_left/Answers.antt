@@ -1,8 +1,10 @@
 use Rattle.std.proofs.Common.{List, rules, subst, sym}
 use Rattle.txs_played.specs.Gather.{AllHaveDone, AllHaveAttended}
 use Rattle.txs_shared.specs.SharedState.{PlainShared}
+use Rattle.txs_machine.specs.RunOver.{IsStateOf}
 use Rattle.txs_machine.specs.declared.schedule.ThreadReport.{ThreadReport}
-use Rattle.txs_threads.specs.Run.{AllEnded}
+use Rattle.txs_threads.specs.Run.{AllEnded, AllDrained}
+use Rattle.txs_threads.proofs.Agents.{are_drained}
 use Rattle.txs_threads.proofs.Ended.{all_ended}
 use Rattle.txs_threads.proofs.left.gather_left.Goals as goal
 
@@ -22,3 +24,10 @@ returns-clause-ended c =
     let rans : List ThreadReport = c.in_ok-gathered.gathered.report.threads.items in
     let ended : AllEnded rans = search rules in
     all_ended rans ended
+
+pub returns-clause-drained : goal.returns-clause-drained
+returns-clause-drained c =
+    let g = c.in_ok-gathered.gathered in
+    let of : IsStateOf c.args.code.now g.shared = search rules in
+    let drained : AllDrained g.shared c.args.agents.now g.report.agents.items = search rules in
+    are_drained c.args.code.now g.shared c.args.agents.now g.report.agents.items of c.requires.agents drained
