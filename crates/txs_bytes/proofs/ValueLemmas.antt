@@ -1,25 +1,26 @@
 -- Values behind their tags, and how deep they are.
-use Rattle.std.proofs.Common.{◌≡◌, ℕ, Bool, zero, suc, ◌+◌, ◌-◌, ◌<◌, ◌≤◌, List, [], ◌∷◌, ◌++◌, length, Result, Ok, Err, refl, sym, ap, ◌∙◌, arith}
+use Rattle.std.proofs.Common.{◌≡◌, ℕ, Bool, zero, suc, ◌+◌, ◌-◌, ◌<◌, ◌≤◌, List, [], ◌∷◌, ◌++◌, length, None, Result, Ok, Err, refl, sym, ap, ◌∙◌, arith}
 use Rattle.txs_value.specs.PlainValue.{PlainValue, depth, row_depth, plain_row}
 use Rattle.txs_value.specs.View.{plain_of, plains_of}
 use Rattle.txs_value.specs.declared.value.CellKind.{CellKind}
 use Rattle.txs_value.specs.declared.value.Value.{Value}
 use Rattle.txs_bytes.specs.declared.error.Refusal.{Refusal}
 use Rattle.txs_bytes.specs.declared.tag.Tag.{Tag}
+use Rattle.txs_bytes.specs.declared.tag.Tag.TheVariants as tag
 use Rattle.txs_bytes.specs.declared.error.Stop.{Stop}
 use Rattle.txs_bytes.specs.declared.error.Stop.TheVariants as stops
 use Rattle.txs_bytes.specs.Format.{Format, Read, ◌>>=◌, Gives, Fails}
-use Rattle.txs_bytes.specs.ValueForm.{tag_format, value_body, value_over, value_format, item_format}
-
-pub value_is_over : (cells : Bool) (kinds : List CellKind) (room : ℕ) → value_format cells kinds room ≡ value_over cells kinds room (item_format cells kinds room)
-unfolding value_format
-value_is_over cells kinds zero = refl
-value_is_over cells kinds (suc room) = refl
+use Rattle.txs_bytes.specs.ValueForm.{tag_format, tag_test, value_body, value_over, value_format, item_format}
 
 pub value_read : (cells : Bool) (kinds : List CellKind) (room : ℕ) (bytes : List ℕ) → (value_format cells kinds room).read bytes ≡ (value_over cells kinds room (item_format cells kinds room)).read bytes
 unfolding value_format
 value_read cells kinds zero bytes = refl
 value_read cells kinds (suc room) bytes = refl
+
+-- where a vector may stand, there is room for its level
+pub room_is : (cells : Bool) (room : ℕ) → tag_test cells room tag.Vector ≡ None → 0 < room
+room_is cells zero h = absurd cc
+room_is cells (suc room) h = omega arith
 
 pub item_room : (cells : Bool) (kinds : List CellKind) (room : ℕ) → 0 < room → item_format cells kinds room ≡ value_format cells kinds (room - 1)
 item_room cells kinds zero h = absurd (omega (arith, h))

@@ -39,6 +39,27 @@ row_next ds i d old mid new e so_far one =
     let more : row_bytes (plain_row (take (i + 1) ds)) ≡ row_bytes (plain_row (take i ds)) ++ value_bytes d = rw add-one (row_suc ds i d e) in
     one ∙ ap (λ bs. bs ++ value_bytes d) so_far ∙ append_assoc old (row_bytes (plain_row (take i ds))) (value_bytes d) ∙ ap (λ bs. old ++ bs) (sym more)
 
+flat_suc : {A : Type 0} (f : A → List ℕ) (xs : List A) (i : ℕ) (x : A) → i < length xs → x ≡ get_or xs i x → flat_map f (take (suc i) xs) ≡ flat_map f (take i xs) ++ f x
+flat_suc f [] i x lt is = absurd (omega (arith, lt))
+flat_suc f (y ∷ xs) zero x lt is = flat_map-cons f y [] ∙ append-nil (f y) ∙ ap f (sym is)
+flat_suc f (y ∷ xs) (suc i) x lt is =
+    flat_map-cons f y (take (suc i) xs)
+    ∙ ap (λ bs. f y ++ bs) (flat_suc f xs i x (omega (arith, lt)) is)
+    ∙ sym (append_assoc (f y) (flat_map f (take i xs)) (f x))
+    ∙ ap (λ bs. bs ++ f x) (sym (flat_map-cons f y (take i xs)))
+
+-- one more item of a list was written behind its count
+pub flat_next : {A : Type 0} (f : A → List ℕ) (xs : List A) (i : ℕ) (x : A) (old front mid new : List ℕ) → i < length xs → x ≡ get_or xs i x → mid ≡ old ++ (front ++ flat_map f (take i xs)) → new ≡ mid ++ f x
+    → new ≡ old ++ (front ++ flat_map f (take (i + 1) xs))
+flat_next f xs i x old front mid new lt is so_far one =
+    let done = flat_map f (take i xs) in
+    let more : flat_map f (take (i + 1) xs) ≡ done ++ f x = rw add-one (flat_suc f xs i x lt is) in
+    one ∙ ap (λ bs. bs ++ f x) so_far ∙ append_assoc old (front ++ done) (f x) ∙ ap (λ bs. old ++ bs) (append_assoc front done (f x) ∙ ap (λ bs. front ++ bs) (sym more))
+
+-- all items were
+pub flat_done : {A : Type 0} (f : A → List ℕ) (xs : List A) (i : ℕ) (old front new : List ℕ) → length xs ≤ i → new ≡ old ++ (front ++ flat_map f (take i xs)) → new ≡ old ++ (front ++ flat_map f xs)
+flat_done {A} f xs i old front new le e = e ∙ ap (λ (ys : List A). old ++ (front ++ flat_map f ys)) (take_all i xs le)
+
 -- as many instructions stand beside their spans as there are
 pub paired_long : (is : List Instr) (ss : List Span) → length ss ≡ length is → length (paired is ss) ≡ length is
 paired_long [] ss n = refl
@@ -83,9 +104,8 @@ on_ok (Ok x) f h = f h
 on_ok (Err e) f h = tt
 
 -- a vector, written part by part
-pub vector_put : (old a b new : List ℕ) (ds : List PlainValue) → a ≡ old ++ 6 ∷ [] → b ≡ a ++ to_be_bytes w16 (length ds) → new ≡ b ++ row_bytes (plain_row ds) → new ≡ old ++ value_bytes (vector (plain_row ds))
-vector_put old a b new ds h k n =
-    let front : b ≡ old ++ (6 ∷ to_be_bytes w16 (length ds)) = k ∙ ap (λ (x : List ℕ). x ++ to_be_bytes w16 (length ds)) h ∙ append_assoc old (6 ∷ []) (to_be_bytes w16 (length ds)) in
+pub vector_put : (old mid new : List ℕ) (ds : List PlainValue) → mid ≡ old ++ 6 ∷ to_be_bytes w16 (length ds) → new ≡ mid ++ row_bytes (plain_row ds) → new ≡ old ++ value_bytes (vector (plain_row ds))
+vector_put old mid new ds front n =
     n ∙ ap (λ (x : List ℕ). x ++ row_bytes (plain_row ds)) front ∙ append_assoc old (6 ∷ to_be_bytes w16 (length ds)) (row_bytes (plain_row ds))
     ∙ ap (λ (xs : List PlainValue). old ++ (6 ∷ (to_be_bytes w16 (length xs) ++ row_bytes (plain_row ds)))) (sym (plain_row_again ds))
 

@@ -16,6 +16,10 @@ use Rattle.txs_code.specs.declared.instr.OpenForm.TheVariants as open_form
 use Rattle.txs_bytes.specs.declared.error.CodeErrorKind.TheVariants.{BadOpcode, BadOperand}
 use Rattle.txs_bytes.specs.declared.opcode.Opcode.{Opcode}
 use Rattle.txs_bytes.specs.declared.opcode.Opcode.TheVariants as opcode
+use Rattle.txs_bytes.specs.declared.operands.Called.{Called}
+use Rattle.txs_bytes.specs.declared.operands.Called.TheVariants as called
+use Rattle.txs_bytes.specs.declared.operands.Numbered.{Numbered}
+use Rattle.txs_bytes.specs.declared.operands.Numbered.TheVariants as numbered
 use Rattle.txs_bytes.specs.declared.tag.CalleeTag.{CalleeTag}
 use Rattle.txs_bytes.specs.declared.tag.CalleeTag.TheVariants as callee_tag
 use Rattle.txs_bytes.specs.Format.{Format, byte, number, tested, one_of, only, pair, mapped, tagged}
@@ -165,6 +169,22 @@ named _ = callee.Core ops.Add
 -- a callee and a count of arguments
 abbrev pub callee_and_count : ℕ → (Callee → ℕ → Instr) → Format Instr
 callee_and_count functions make = mapped (λ p. make p.0 p.1) (λ i. (named i, operand i)) (pair (callee_format functions) (λ c. number w16))
+
+-- the instruction of a callee and a count of arguments
+abbrev pub called_instr : Called → Callee → ℕ → Instr
+called_instr called.Commute = λ c. instr.Open (open_form.Commute c)
+called_instr called.Swap = λ c. instr.Open (open_form.Swap c)
+called_instr called.Send = instr.Send
+
+-- the instruction of which a number is the operand
+abbrev pub numbered_opcode : Numbered → Opcode
+numbered_opcode numbered.Local = opcode.Local
+numbered_opcode numbered.Store = opcode.Store
+numbered_opcode numbered.Jump = opcode.Jump
+numbered_opcode numbered.JumpFalse = opcode.JumpFalse
+numbered_opcode numbered.Vector = opcode.Vector
+numbered_opcode numbered.Print = opcode.Print
+numbered_opcode numbered.Alter = opcode.AlterOpen
 
 -- the operands behind an instruction's byte, where there are so many constants and functions
 abbrev pub operands : ℕ → ℕ → Opcode → Format Instr

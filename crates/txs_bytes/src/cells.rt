@@ -1,63 +1,64 @@
 //! Cells and constants, read.
 
-ghost use Rattle.std.specs.Prelude.{◌≡◌, IfOk, true};
+ghost use Rattle.std.specs.Prelude.{◌≡◌, true};
+ghost use Rattle.txs_value.specs.Places.{nth};
 ghost use Rattle.txs_bytes.specs.Format.{Gives, many_at};
-ghost use Rattle.txs_bytes.specs.CellForm.{kinds_of, kind_format, mode_format, constant_format, cell_format};
+ghost use Rattle.txs_bytes.specs.CellForm.{kinds, kinds_of, kind_format, modes, mode_format, constant_format, cell_format};
 
 use crate::error::{CodeErrorKind, Stop, refused};
 use crate::fields::{cell_name_at, room_for, u8_at};
 use crate::values::value_at;
-use std::alloc::{AllocError, Global};
+use std::alloc::Global;
 use txs_value::{CellDefinition, CellKind, ErrorMode, Value};
 
-/// A cell's kind.
-#[tactic(auto, unfolding(crate::specs::CellForm::kind_format))]
-fn kind_at(bytes: &[u8]) -> Result<(CellKind, &[u8]), Stop>
-    ensures { Gives (λ x. (x.0, x.1.now)) result (kind_format.read bytes.now) }
+/// The kind of this byte, if one has it.
+fn kind_of(byte: u8) -> Option<CellKind>
+    ensures { result ≡ nth kinds byte }
 {
-    let (byte, rest) = u8_at(bytes)?;
     match byte {
-        0 => Ok((CellKind::Ref, rest)),
-        1 => Ok((CellKind::Atom, rest)),
-        2 => Ok((CellKind::Agent, rest)),
-        _ => Err(refused(CodeErrorKind::BadOperand, bytes)),
+        0 => Some(CellKind::Ref),
+        1 => Some(CellKind::Atom),
+        2 => Some(CellKind::Agent),
+        _ => None,
     }
 }
 
-/// The error mode of a cell of this kind.
-#[tactic(auto, unfolding(crate::specs::CellForm::mode_format))]
-fn mode_at(kind: CellKind, bytes: &[u8]) -> Result<(ErrorMode, &[u8]), Stop>
-    ensures { Gives (λ x. (x.0, x.1.now)) result ((mode_format kind).read bytes.now) }
+/// The error mode of this byte that a cell of this kind may have, if one has it.
+fn mode_of(kind: CellKind, byte: u8) -> Option<ErrorMode>
+    ensures { result ≡ nth (modes kind) byte }
 {
-    let (byte, rest) = u8_at(bytes)?;
     match (kind, byte) {
-        (_, 0) => Ok((ErrorMode::Fail, rest)),
-        (CellKind::Agent, 1) => Ok((ErrorMode::Continue, rest)),
-        _ => Err(refused(CodeErrorKind::BadOperand, bytes)),
+        (_, 0) => Some(ErrorMode::Fail),
+        (CellKind::Agent, 1) => Some(ErrorMode::Continue),
+        _ => None,
     }
 }
 
-/// A value, where cells may stand or not, and are of these kinds.
-#[tactic(auto, unfolding(crate::specs::CellForm::constant_format))]
+/// A value, where cells may stand or not, and these are the cells.
 fn constant_at<'a>(
     alloc: Global,
     cells: bool,
-    kinds: &[CellKind],
+    defined: &[CellDefinition],
     bytes: &'a [u8],
 ) -> Result<(Value, &'a [u8]), Stop>
-    ensures { Gives (λ x. (x.0, x.1.now)) result ((constant_format cells kinds.now).read bytes.now) }
+    ensures { Gives (λ x. (x.0, x.1.now)) result ((constant_format cells (kinds_of defined.now)).read bytes.now) }
 {
-    let (value, rest) = value_at(alloc, cells, kinds, 32, bytes)?;
-    Ok((value, rest))
+    value_at(alloc, cells, defined, 32, bytes)
 }
 
 /// A cell.
-#[tactic(auto, unfolding(crate::specs::CellForm::cell_format))]
+#[tactic(auto, unfolding(crate::specs::CellForm::cell_format, crate::specs::CellForm::kind_format, crate::specs::CellForm::mode_format))]
 fn cell_at(alloc: Global, bytes: &[u8]) -> Result<(CellDefinition, &[u8]), Stop>
     ensures { Gives (λ x. (x.0, x.1.now)) result (cell_format.read bytes.now) }
 {
-    let (kind, rest) = kind_at(bytes)?;
-    let (error_mode, rest) = mode_at(kind, rest)?;
+    let (byte, behind) = u8_at(bytes)?;
+    let Some(kind) = kind_of(byte) else {
+        return Err(refused(CodeErrorKind::BadOperand, bytes));
+    };
+    let (byte, rest) = u8_at(behind)?;
+    let Some(error_mode) = mode_of(kind, byte) else {
+        return Err(refused(CodeErrorKind::BadOperand, behind));
+    };
     let (name, rest) = cell_name_at(alloc, rest)?;
     let (opening, rest) = constant_at(alloc, false, &[], rest)?;
     let cell = CellDefinition {
@@ -87,32 +88,21 @@ pub(crate) fn some_cells_at(
     Ok((cells, rest))
 }
 
-/// So many constants, where cells are of these kinds.
+/// So many constants, where these cells are.
 pub(crate) fn some_constants_at<'a>(
     alloc: Global,
-    kinds: &[CellKind],
+    defined: &[CellDefinition],
     count: u32,
     bytes: &'a [u8],
 ) -> Result<(Vec<Value>, &'a [u8]), Stop>
-    ensures { Gives (λ x. (x.0.items, x.1.now)) result (many_at (constant_format true kinds.now).read count bytes.now) }
+    ensures { Gives (λ x. (x.0.items, x.1.now)) result (many_at (constant_format true (kinds_of defined.now)).read count bytes.now) }
 {
     let mut constants = room_for(alloc, bytes.len().min(count as usize), bytes)?;
     let mut rest = bytes;
     for _ in 0..count {
-        let (constant, after) = constant_at(alloc, true, kinds, rest)?;
+        let (constant, after) = constant_at(alloc, true, defined, rest)?;
         constants.push(constant)?;
         rest = after;
     }
     Ok((constants, rest))
-}
-
-/// The kinds of cells.
-pub(crate) fn kinds_of(alloc: Global, cells: &[CellDefinition]) -> Result<Vec<CellKind>, AllocError>
-    ensures { IfOk result (λ kinds. kinds.items ≡ kinds_of cells.now) }
-{
-    let mut kinds = Vec::with_capacity(alloc, cells.len())?;
-    for cell in cells {
-        kinds.push(cell.kind)?;
-    }
-    Ok(kinds)
 }

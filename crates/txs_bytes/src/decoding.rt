@@ -2,28 +2,20 @@
 
 ghost use Rattle.std.specs.Prelude.{◌≡◌, IfOk, Ok};
 ghost use Rattle.txs_code.specs.PlainCode.{PlainCode};
+ghost use Rattle.txs_bytes.specs.CellForm.{kinds_of};
 ghost use Rattle.txs_bytes.specs.Format.{Gives, whole};
 ghost use Rattle.txs_bytes.specs.CodeForm.{Answers, HasForm, decoded, error_of, form, magic_format, cells_format, constants_format, code_format};
 
 use crate::bodies::program_at;
-use crate::cells::{kinds_of, some_cells_at, some_constants_at};
+use crate::cells::{some_cells_at, some_constants_at};
 use crate::error::{CodeError, CodeErrorKind, Stop, refused};
 use crate::fields::{u16_at, u32_at};
 use std::alloc::Global;
 use txs_code::Code;
-use txs_value::{CellDefinition, CellKind, Value};
+use txs_value::{CellDefinition, Value};
 
-/// The first four bytes.
-#[tactic(auto, unfolding(crate::specs::CodeForm::magic_format))]
-fn magic_at(bytes: &[u8]) -> Result<(u32, &[u8]), Stop>
-    ensures { Gives (λ x. (x.0, x.1.now)) result (magic_format.read bytes.now) }
-{
-    let (number, rest) = u32_at(bytes)?;
-    if number != 0x5458_5331 {
-        return Err(refused(CodeErrorKind::BadMagic, bytes));
-    }
-    Ok((number, rest))
-}
+/// `TXS1` as a number.
+const MAGIC: u32 = 0x5458_5331;
 
 /// The cells.
 #[tactic(auto, unfolding(crate::specs::CodeForm::cells_format))]
@@ -37,31 +29,33 @@ fn cells_at(alloc: Global, bytes: &[u8]) -> Result<(Vec<CellDefinition>, &[u8]),
     some_cells_at(alloc, count, rest)
 }
 
-/// The constants, where cells are of these kinds.
+/// The constants, where these cells are.
 #[tactic(auto, unfolding(crate::specs::CodeForm::constants_format))]
 fn constants_at<'a>(
     alloc: Global,
-    kinds: &[CellKind],
+    defined: &[CellDefinition],
     bytes: &'a [u8],
 ) -> Result<(Vec<Value>, &'a [u8]), Stop>
-    ensures { Gives (λ x. (x.0.items, x.1.now)) result ((constants_format kinds.now).read bytes.now) }
+    ensures { Gives (λ x. (x.0.items, x.1.now)) result ((constants_format (kinds_of defined.now)).read bytes.now) }
 {
     let (count, rest) = u32_at(bytes)?;
     if count > 1_000_000 {
         return Err(refused(CodeErrorKind::TooLarge, bytes));
     }
-    some_constants_at(alloc, kinds, count, rest)
+    some_constants_at(alloc, defined, count, rest)
 }
 
 /// Code, and the bytes behind it.
-#[tactic(auto, unfolding(crate::specs::CodeForm::code_format))]
+#[tactic(auto, unfolding(crate::specs::CodeForm::code_format, crate::specs::CodeForm::magic_format))]
 fn code_at(alloc: Global, bytes: &[u8]) -> Result<(Code, &[u8]), Stop>
     ensures { Gives (λ x. (x.0, x.1.now)) result (code_format.read bytes.now) }
 {
-    let (_, rest) = magic_at(bytes)?;
+    let (magic, rest) = u32_at(bytes)?;
+    if magic != MAGIC {
+        return Err(refused(CodeErrorKind::BadMagic, bytes));
+    }
     let (cells, rest) = cells_at(alloc, rest)?;
-    let kinds = kinds_of(alloc, &cells)?;
-    let (constants, rest) = constants_at(alloc, &kinds, rest)?;
+    let (constants, rest) = constants_at(alloc, &cells, rest)?;
     let ((functions, threads), rest) = program_at(alloc, constants.len(), rest)?;
     Ok((Code::new(cells, constants, functions, threads), rest))
 }

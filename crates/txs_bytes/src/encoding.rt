@@ -13,7 +13,7 @@ use crate::decoding::decode;
 use crate::error::CodeErrorKind;
 use crate::same::same_code;
 use crate::small::is_small;
-use crate::written::{put_name, put_placed, put_value};
+use crate::written::{put_behind, put_name, put_placed, put_value};
 use std::alloc::{AllocError, Global};
 use txs_code::{Body, Code, Instr};
 use txs_value::{CellDefinition, CellKind, ErrorMode, Span, Value};
@@ -44,8 +44,7 @@ fn put_cell(cell: &CellDefinition, out: &mut Vec<u8>) -> Result<(), AllocError>
     requires { IsWritable (plain_of cell.now.opening) }
     ensures { OnOk result (out.new.items ≡ out.old.items ++ cell_bytes cell.now) }
 {
-    out.push(kind_byte(cell.kind))?;
-    out.push(mode_byte(cell.error_mode))?;
+    put_behind(kind_byte(cell.kind), &[mode_byte(cell.error_mode)], out)?;
     put_name(&cell.name, out)?;
     put_value(&cell.opening, out)
 }
@@ -99,8 +98,7 @@ fn put_body(body: &Body, out: &mut Vec<u8>) -> Result<(), AllocError>
 {
     let instrs = body.instrs();
     let spans = body.spans();
-    out.push(body.parameters())?;
-    out.push(body.locals())?;
+    put_behind(body.parameters(), &[body.locals()], out)?;
     out.extend_from_slice(&(instrs.len() as u32).to_be_bytes())?;
     for i in 0..instrs.len() {
         put_placed(instr_at(instrs, i), span_at(spans, i), out)?;

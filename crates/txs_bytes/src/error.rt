@@ -71,7 +71,7 @@ impl Display for CodeErrorKind {
 
 /// Why bytes are no code, and the place of the field that is the reason, from 0: its first byte; the number of all bytes where they
 /// end too early; 0 for want of memory.
-#[derive(Clone, Copy, Debug, PartialEq, Eq)]
+#[derive(Clone, Copy, PartialEq, Eq)]
 pub struct CodeError {
     pub kind: CodeErrorKind,
     pub at: usize,

@@ -1,18 +1,21 @@
 //! The fields that code is made of.
 
-ghost use Rattle.std.specs.Prelude.{◌≡◌, ◌≤◌, length, IfOk, IsTrue, ◌↔◌, [], nat_lt, ◌==◌};
+ghost use Rattle.std.specs.Prelude.{◌≡◌, ℕ, ◌≤◌, length, IfOk, IsTrue, ◌↔◌, [], nat_lt, ◌==◌};
 ghost use Rattle.std.specs.Int.{w16, w32, w64};
 ghost use Rattle.std.specs.List.{list_all};
 ghost use Rattle.std.specs.Str.{is_utf8};
 ghost use Rattle.txs_value.specs.Names.{IsName, is_symbol_byte};
-ghost use Rattle.txs_bytes.specs.Format.{Gives, byte_at, bytes_at, number_at};
+ghost use Rattle.txs_value.specs.PlainValue.{depth};
+ghost use Rattle.txs_value.specs.View.{plain_of};
+ghost use Rattle.txs_bytes.specs.declared.tag.Tag.TheVariants as tag;
+ghost use Rattle.txs_bytes.specs.Format.{Gives, byte_at, bytes_at, never, number_at};
 ghost use Rattle.txs_bytes.specs.Names.{begins_foreign, begins_number, begins_with_digit, is_literal_word, names_cell};
-ghost use Rattle.txs_bytes.specs.ValueForm.{cell_name_format, keyword_format, text_format};
+ghost use Rattle.txs_bytes.specs.ValueForm.{cell_name_format, keyword_format, text_format, value_body};
 
 use crate::error::{CodeErrorKind, Stop, refused};
 use std::alloc::{AllocError, Global};
-use txs_value::value::is_symbol_byte;
-use txs_value::{Name, Text};
+use txs_value::value::is_name;
+use txs_value::{Name, Text, Value};
 
 /// A field of one byte, and the bytes behind it.
 #[tactic(auto, unfolding(crate::specs::Format::byte_at))]
@@ -30,11 +33,10 @@ pub(crate) fn u8_at(bytes: &[u8]) -> Result<(u8, &[u8]), Stop>
 pub(crate) fn u16_at(bytes: &[u8]) -> Result<(u16, &[u8]), Stop>
     ensures { Gives (λ x. (x.0, x.1.now)) result (number_at w16 bytes.now) }
 {
-    if bytes.len() < 2 {
-        return Err(refused(CodeErrorKind::Truncated, &[]));
+    match bytes.split_first_chunk::<2>() {
+        Some((number, rest)) => Ok((u16::from_be_bytes(*number), rest)),
+        None => Err(refused(CodeErrorKind::Truncated, &[])),
     }
-    let (front, rest) = bytes.split_at(2);
-    Ok((u16::from_be_bytes([front[0], front[1]]), rest))
 }
 
 /// A field of four bytes.
@@ -42,12 +44,10 @@ pub(crate) fn u16_at(bytes: &[u8]) -> Result<(u16, &[u8]), Stop>
 pub(crate) fn u32_at(bytes: &[u8]) -> Result<(u32, &[u8]), Stop>
     ensures { Gives (λ x. (x.0, x.1.now)) result (number_at w32 bytes.now) }
 {
-    if bytes.len() < 4 {
-        return Err(refused(CodeErrorKind::Truncated, &[]));
+    match bytes.split_first_chunk::<4>() {
+        Some((number, rest)) => Ok((u32::from_be_bytes(*number), rest)),
+        None => Err(refused(CodeErrorKind::Truncated, &[])),
     }
-    let (front, rest) = bytes.split_at(4);
-    let number = u32::from_be_bytes([front[0], front[1], front[2], front[3]]);
-    Ok((number, rest))
 }
 
 /// A field of eight bytes.
@@ -55,14 +55,10 @@ pub(crate) fn u32_at(bytes: &[u8]) -> Result<(u32, &[u8]), Stop>
 pub(crate) fn u64_at(bytes: &[u8]) -> Result<(u64, &[u8]), Stop>
     ensures { Gives (λ x. (x.0, x.1.now)) result (number_at w64 bytes.now) }
 {
-    if bytes.len() < 8 {
-        return Err(refused(CodeErrorKind::Truncated, &[]));
+    match bytes.split_first_chunk::<8>() {
+        Some((number, rest)) => Ok((u64::from_be_bytes(*number), rest)),
+        None => Err(refused(CodeErrorKind::Truncated, &[])),
     }
-    let (front, rest) = bytes.split_at(8);
-    let number = u64::from_be_bytes([
-        front[0], front[1], front[2], front[3], front[4], front[5], front[6], front[7],
-    ]);
-    Ok((number, rest))
 }
 
 /// A field of so many bytes.
@@ -86,11 +82,13 @@ pub(crate) fn room_for<T>(alloc: Global, count: usize, bytes: &[u8]) -> Result<V
     Vec::with_capacity(alloc, count)
 }
 
-/// Whether all bytes are of those that names are made of.
+/// Whether all of 1 to 255 bytes are of those that names are made of.
 fn all_symbol_bytes(bytes: &[u8]) -> bool
+    requires some { 1 ≤ length bytes.now }
+    requires few { length bytes.now ≤ 255 }
     ensures { result ≡ list_all is_symbol_byte bytes.now }
 {
-    bytes.iter().all(|b| is_symbol_byte(*b))
+    is_name(bytes)
 }
 
 /// Whether the first byte is a digit.
@@ -135,9 +133,11 @@ fn is_literal_word(bytes: &[u8]) -> bool
     bytes == b"nil".as_slice() || bytes == b"true".as_slice() || bytes == b"false".as_slice()
 }
 
-/// Whether the bytes may name a cell.
+/// Whether 1 to 255 bytes may name a cell.
 #[tactic(auto, unfolding(crate::specs::Names::names_cell))]
 fn names_cell(bytes: &[u8]) -> bool
+    requires some { 1 ≤ length bytes.now }
+    requires few { length bytes.now ≤ 255 }
     ensures value { result ≡ names_cell bytes.now }
     ensures symbols { IsTrue result → IsTrue (list_all is_symbol_byte bytes.now) }
 {
@@ -147,10 +147,11 @@ fn names_cell(bytes: &[u8]) -> bool
         && !is_literal_word(bytes)
 }
 
-/// The name of a keyword.
+/// A keyword.
 #[tactic(auto, unfolding(crate::specs::ValueForm::keyword_format))]
-pub(crate) fn keyword_at(alloc: Global, bytes: &[u8]) -> Result<(Name, &[u8]), Stop>
-    ensures { Gives (λ x. (x.0, x.1.now)) result (keyword_format.read bytes.now) }
+pub(crate) fn keyword_at(alloc: Global, bytes: &[u8]) -> Result<(Value, &[u8]), Stop>
+    ensures value { Gives (λ x. (plain_of x.0, x.1.now)) result ((value_body [] never tag.Key).read bytes.now) }
+    ensures depth { (room : ℕ) → IfOk result (λ x. depth (plain_of x.0) ≤ room) }
 {
     let (len, rest) = u8_at(bytes)?;
     if len == 0 {
@@ -160,7 +161,7 @@ pub(crate) fn keyword_at(alloc: Global, bytes: &[u8]) -> Result<(Name, &[u8]), S
     if !all_symbol_bytes(name) {
         return Err(refused(CodeErrorKind::BadOperand, rest));
     }
-    Ok((Name::from_bytes(alloc, name)?, after))
+    Ok((Value::Key(Name::from_bytes(alloc, name)?), after))
 }
 
 /// The name of a cell.
@@ -181,14 +182,15 @@ pub(crate) fn cell_name_at(alloc: Global, bytes: &[u8]) -> Result<(Name, &[u8]),
 
 /// A text.
 #[tactic(auto, unfolding(crate::specs::ValueForm::text_format))]
-pub(crate) fn text_at(alloc: Global, bytes: &[u8]) -> Result<(Text, &[u8]), Stop>
-    ensures { Gives (λ x. (x.0, x.1.now)) result (text_format.read bytes.now) }
+pub(crate) fn text_at(alloc: Global, bytes: &[u8]) -> Result<(Value, &[u8]), Stop>
+    ensures value { Gives (λ x. (plain_of x.0, x.1.now)) result ((value_body [] never tag.Text).read bytes.now) }
+    ensures depth { (room : ℕ) → IfOk result (λ x. depth (plain_of x.0) ≤ room) }
 {
     let (len, rest) = u16_at(bytes)?;
     let (text, after) = some_at(usize::from(len), rest)?;
     match str::from_utf8(text) {
         Ok(text) => Ok((
-            Text::from_string(alloc, String::from_str(alloc, text)?)?,
+            Value::Text(Text::from_string(alloc, String::from_str(alloc, text)?)?),
             after,
         )),
         Err(_) => Err(refused(CodeErrorKind::BadOperand, rest)),

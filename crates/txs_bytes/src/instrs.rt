@@ -8,25 +8,10 @@ ghost use Rattle.txs_bytes.specs.InstrForm.{opcode_format, operands, instr_forma
 use crate::error::{CodeErrorKind, Stop, refused};
 use crate::fields::{room_for, u8_at, u32_at};
 use crate::opcode::Opcode;
-use crate::operands::{
-    alter_at, call_at, commute_at, const_at, core_at, jump_at, jump_false_at, local_at, print_at,
-    send_at, store_at, swap_at, vector_at,
-};
+use crate::operands::{Called, Numbered, call_at, called_at, const_at, core_at, number_at};
 use std::alloc::Global;
 use txs_code::Instr;
 use txs_value::{LookForm, PutForm, Span, UpdateForm};
-
-/// Which instruction stands here.
-#[tactic(auto, unfolding(crate::specs::InstrForm::opcode_format))]
-fn opcode_at(bytes: &[u8]) -> Result<(Opcode, &[u8]), Stop>
-    ensures { Gives (λ x. (x.0, x.1.now)) result (opcode_format.read bytes.now) }
-{
-    let (byte, rest) = u8_at(bytes)?;
-    match Opcode::from_byte(byte) {
-        Some(opcode) => Ok((opcode, rest)),
-        None => Err(refused(CodeErrorKind::BadOpcode, bytes)),
-    }
-}
 
 /// The instruction of this byte whose operands stand here, where there are so many constants and functions.
 fn operands_at(
@@ -39,40 +24,31 @@ fn operands_at(
 {
     match opcode {
         Opcode::Const => const_at(constants, bytes),
-        Opcode::Local => local_at(bytes),
-        Opcode::Store => store_at(bytes),
+        Opcode::Local => number_at(Numbered::Local, bytes),
+        Opcode::Store => number_at(Numbered::Store, bytes),
         Opcode::Pop => Ok((Instr::Pop, bytes)),
-        Opcode::Jump => jump_at(bytes),
-        Opcode::JumpFalse => jump_false_at(bytes),
+        Opcode::Jump => number_at(Numbered::Jump, bytes),
+        Opcode::JumpFalse => number_at(Numbered::JumpFalse, bytes),
         Opcode::Core => core_at(bytes),
         Opcode::Call => call_at(functions, bytes),
         Opcode::Return => Ok((Instr::Return, bytes)),
-        Opcode::Vector => vector_at(bytes),
-        Opcode::Print => print_at(bytes),
+        Opcode::Vector => number_at(Numbered::Vector, bytes),
+        Opcode::Print => number_at(Numbered::Print, bytes),
         Opcode::Deref => Ok((Instr::Look(LookForm::Deref), bytes)),
         Opcode::TxBegin => Ok((Instr::TxBegin, bytes)),
         Opcode::TxEnd => Ok((Instr::TxEnd, bytes)),
         Opcode::RefSet => Ok((Instr::Put(PutForm::RefSet), bytes)),
-        Opcode::AlterOpen => alter_at(bytes),
+        Opcode::AlterOpen => number_at(Numbered::Alter, bytes),
         Opcode::AlterClose => Ok((Instr::Close(UpdateForm::Alter), bytes)),
-        Opcode::CommuteOpen => commute_at(functions, bytes),
+        Opcode::CommuteOpen => called_at(functions, Called::Commute, bytes),
         Opcode::CommuteClose => Ok((Instr::Close(UpdateForm::Commute), bytes)),
         Opcode::Ensure => Ok((Instr::Look(LookForm::Ensure), bytes)),
-        Opcode::SwapOpen => swap_at(functions, bytes),
+        Opcode::SwapOpen => called_at(functions, Called::Swap, bytes),
         Opcode::SwapClose => Ok((Instr::Close(UpdateForm::Swap), bytes)),
         Opcode::Reset => Ok((Instr::Put(PutForm::Reset), bytes)),
-        Opcode::Send => send_at(functions, bytes),
+        Opcode::Send => called_at(functions, Called::Send, bytes),
         Opcode::Halt => Ok((Instr::Halt, bytes)),
     }
-}
-
-/// An instruction, where there are so many constants and functions.
-#[tactic(auto, unfolding(crate::specs::InstrForm::instr_format))]
-fn instr_at(constants: usize, functions: usize, bytes: &[u8]) -> Result<(Instr, &[u8]), Stop>
-    ensures { Gives (λ x. (x.0, x.1.now)) result ((instr_format constants functions).read bytes.now) }
-{
-    let (opcode, rest) = opcode_at(bytes)?;
-    operands_at(constants, functions, opcode, rest)
 }
 
 /// A span, which doesn't end before it begins.
@@ -88,8 +64,8 @@ fn span_at(bytes: &[u8]) -> Result<(Span, &[u8]), Stop>
     Ok((Span { from, to }, after))
 }
 
-/// An instruction and its span.
-#[tactic(auto, unfolding(crate::specs::InstrForm::placed_format))]
+/// An instruction and its span, where there are so many constants and functions.
+#[tactic(auto, unfolding(crate::specs::InstrForm::placed_format, crate::specs::InstrForm::instr_format, crate::specs::InstrForm::opcode_format))]
 fn placed_at(
     constants: usize,
     functions: usize,
@@ -97,7 +73,11 @@ fn placed_at(
 ) -> Result<((Instr, Span), &[u8]), Stop>
     ensures { Gives (λ x. (x.0, x.1.now)) result ((placed_format constants functions).read bytes.now) }
 {
-    let (instr, rest) = instr_at(constants, functions, bytes)?;
+    let (byte, rest) = u8_at(bytes)?;
+    let Some(opcode) = Opcode::from_byte(byte) else {
+        return Err(refused(CodeErrorKind::BadOpcode, bytes));
+    };
+    let (instr, rest) = operands_at(constants, functions, opcode, rest)?;
     let (span, rest) = span_at(rest)?;
     Ok(((instr, span), rest))
 }

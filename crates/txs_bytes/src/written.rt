@@ -11,13 +11,20 @@ use std::alloc::AllocError;
 use txs_code::{Instr, OpenForm};
 use txs_value::{Callee, Items, Name, Span, Value};
 
+/// Appends a byte, and bytes behind it.
+pub(crate) fn put_behind(byte: u8, bytes: &[u8], out: &mut Vec<u8>) -> Result<(), AllocError>
+    ensures { OnOk result (out.new.items ≡ out.old.items ++ byte ∷ bytes.now) }
+{
+    out.push(byte)?;
+    out.extend_from_slice(bytes)
+}
+
 /// Appends a name behind its length.
 pub(crate) fn put_name(name: &Name, out: &mut Vec<u8>) -> Result<(), AllocError>
     ensures { OnOk result (out.new.items ≡ out.old.items ++ name_bytes name.now) }
 {
     let bytes = name.as_bytes();
-    out.push(bytes.len() as u8)?;
-    out.extend_from_slice(bytes)
+    put_behind(bytes.len() as u8, bytes, out)
 }
 
 /// Appends a value behind its tag.
@@ -27,32 +34,24 @@ pub(crate) fn put_value(value: &Value, out: &mut Vec<u8>) -> Result<(), AllocErr
     ensures { OnOk result (out.new.items ≡ out.old.items ++ value_bytes (plain_of value.now)) }
 {
     match value {
-        Value::Nil => Ok(out.push(0)?),
-        Value::Truth(false) => Ok(out.push(1)?),
-        Value::Truth(true) => Ok(out.push(2)?),
-        Value::Int(n) => {
-            out.push(3)?;
-            out.extend_from_slice(&n.cast_unsigned().to_be_bytes())
-        }
+        Value::Nil => put_behind(0, &[], out),
+        Value::Truth(false) => put_behind(1, &[], out),
+        Value::Truth(true) => put_behind(2, &[], out),
+        Value::Int(n) => put_behind(3, &n.cast_unsigned().to_be_bytes(), out),
         Value::Key(name) => {
-            out.push(4)?;
+            put_behind(4, &[], out)?;
             put_name(name, out)
         }
         Value::Text(text) => {
             let bytes = text.as_str().as_bytes();
-            out.push(5)?;
-            out.extend_from_slice(&(bytes.len() as u16).to_be_bytes())?;
+            put_behind(5, &(bytes.len() as u16).to_be_bytes(), out)?;
             out.extend_from_slice(bytes)
         }
         Value::Vector(items) => {
-            out.push(6)?;
-            out.extend_from_slice(&(items.len() as u16).to_be_bytes())?;
+            put_behind(6, &(items.len() as u16).to_be_bytes(), out)?;
             put_items(items, out)
         }
-        Value::Cell(cell) => {
-            out.push(7)?;
-            out.extend_from_slice(&cell.number.to_be_bytes())
-        }
+        Value::Cell(cell) => put_behind(7, &cell.number.to_be_bytes(), out),
     }
 }
 
@@ -73,14 +72,8 @@ fn put_callee(callee: Callee, out: &mut Vec<u8>) -> Result<(), AllocError>
     ensures { OnOk result (out.new.items ≡ out.old.items ++ callee_bytes callee) }
 {
     match callee {
-        Callee::Core(op) => {
-            out.push(0)?;
-            out.extend_from_slice(&u16::from(op.number()).to_be_bytes())
-        }
-        Callee::Function(function) => {
-            out.push(1)?;
-            out.extend_from_slice(&function.to_be_bytes())
-        }
+        Callee::Core(op) => put_behind(0, &u16::from(op.number()).to_be_bytes(), out),
+        Callee::Function(function) => put_behind(1, &function.to_be_bytes(), out),
     }
 }
 
@@ -92,11 +85,8 @@ fn put_operands(instr: Instr, out: &mut Vec<u8>) -> Result<(), AllocError>
         Instr::Const(number) | Instr::Jump(number) | Instr::JumpFalse(number) => {
             out.extend_from_slice(&number.to_be_bytes())
         }
-        Instr::Local(local) | Instr::Store(local) => Ok(out.push(local)?),
-        Instr::Core(op, count) => {
-            out.push(op.number())?;
-            out.extend_from_slice(&count.to_be_bytes())
-        }
+        Instr::Local(local) | Instr::Store(local) => put_behind(local, &[], out),
+        Instr::Core(op, count) => put_behind(op.number(), &count.to_be_bytes(), out),
         Instr::Call(number)
         | Instr::Vector(number)
         | Instr::Print(number)

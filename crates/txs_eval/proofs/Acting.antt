@@ -1,5 +1,5 @@
 -- What the evaluator's parts give is what the meaning says: forms on cells, and the ends of transactions.
-use Rattle.std.proofs.Common.{◌≡◌, ℕ, zero, suc, ◌+◌, ◌<◌, ◌==◌, ◌&&◌, Bool, true, false, if◌then◌else◌, List, [], ◌∷◌, ◌++◌, length, get_or, drop, Option, Some, None, Result, Ok, Err, refl, sym, ap, ◌∙◌, subst, subst₂, arith}
+use Rattle.std.proofs.Common.{◌≡◌, ℕ, zero, suc, ◌+◌, ◌<◌, ◌==◌, ◌&&◌, Bool, true, false, if◌then◌else◌, List, [], ◌∷◌, ◌++◌, length, get_or, drop, Option, Some, None, Result, Ok, Err, MatchResult, refl, sym, ap, ◌∙◌, subst, arith}
 use Rattle.std.proofs.lemmas.Bool.{false≢true}
 use Rattle.std.proofs.lemmas.List.{drop_more}
 use Rattle.txs_asks.specs.Ask.{Writes, buffered, with_write, same_value, same_writes, same_actions}
@@ -7,7 +7,7 @@ use Rattle.txs_asks.specs.SeenEvent.{SeenEvent}
 use Rattle.txs_asks.specs.declared.event.EventKind.{EventKind}
 use Rattle.txs_frame.specs.Frame.{Work, commuted, set_writes, commutes_of, by_ref, phase_work}
 use Rattle.txs_frame.specs.declared.frame.Commute.{Commute}
-use Rattle.txs_eval.specs.Evaluated.{Part, part, is_on, forms_on, calls_on, around_it, Stops, Gives, GivesOf, Told, ToldOf, Yields, Ate, EatsNone, BodyStops, Runs, SoundCommutes, acts, act_means, inside_means, outside_means, quiet, applied, redone_means, final_means, transacting, at_end, eat_means, end_means, commit_means, fail_means, refuse_means, body_means, thread_state, tx_state, tx_run, stop_without_fault}
+use Rattle.txs_eval.specs.Evaluated.{Part, part, is_on, forms_on, calls_on, around_it, Stops, Gives, GivesOf, Told, ToldOf, Yields, Ate, EatsNone, BodyStops, Runs, SoundCommutes, acts, act_means, inside_means, outside_means, quiet, applied, redone_means, final_means, thread_state, tx_state, tx_run, stop_without_fault}
 use Rattle.txs_eval.specs.Events.{seen_event}
 use Rattle.txs_tree.specs.Known.{Known}
 use Rattle.txs_tree.specs.Meaning.{Completion, Completes, Recurs, Faults, Retries, Waits, OutOfTurns, Invalid, bind, Applies, Effects, apply, call_at}
@@ -93,30 +93,32 @@ module _ {S : Type 0} (s : S) (x : Setting) (sound : SoundFunctions [] (function
       bind_agrees s (commute_writes (quiet x span) w (world_of r) tt) (commute_writes real w (world_of r) s) (λ ws t. Completes (merged (set_writes w) ws) t) (λ ws t. Completes (merged (set_writes w) ws) t)
       (redone_agrees (phase_work w) (valued (commuted w) (world_of r)) (sound_by (callable x) (commuted w) w.commutes h)) (λ ws. refl)
 
--- the commutes of one ref more
-module _ (x : Setting) (span : Span) (cs : List Commute) (ds : List CellId) (i : ℕ) (other d : CellId) (lt : i < length ds) (is : d ≡ get_or ds i other) (ws : Writes) where
-  phase_next : redone_means x span (by_ref (drop i ds) cs) ws ≡ bind (redone_means x span (commutes_of d.number cs) ws) (λ us t. redone (quiet x span) (by_ref (drop (i + 1) ds) cs) us t)
-  phase_next =
-      ap (λ l. redone_means x span (by_ref l cs) ws) (drop_more ds i other lt ∙ ap (λ c. c ∷ drop (i + 1) ds) (sym is))
-      ∙ redone-append (quiet x span) (commutes_of d.number cs) (by_ref (drop (i + 1) ds) cs) ws tt
+-- one commute more
+module _ (x : Setting) (span : Span) (cs : List Commute) (i : ℕ) (c : Commute) (lt : i < length cs) (is : c ≡ get_or cs i c) (ws : Writes) where
+  redone_next : redone_means x span (drop i cs) ws ≡ bind (redone_means x span (c ∷ []) ws) (λ us t. redone (quiet x span) (drop (i + 1) cs) us t)
+  redone_next =
+      ap (λ l. redone_means x span l ws) (drop_more cs i c lt ∙ ap (λ d. d ∷ drop (i + 1) cs) (sym is))
+      ∙ redone-append (quiet x span) (c ∷ []) (drop (i + 1) cs) ws tt
 
-  pub phase_stop : (y : ThreadStop) → Told {A = Writes} (Err y) (redone_means x span (commutes_of d.number cs) ws) → Told {A = Writes} (Err y) (redone_means x span (by_ref (drop i ds) cs) ws)
-  phase_stop y h =
-      subst (λ c. Told {A = Writes} (Err y) c) (sym phase_next) (stops_bind true y tt (redone_means x span (commutes_of d.number cs) ws) (λ us t. redone (quiet x span) (by_ref (drop (i + 1) ds) cs) us t) h)
+  pub redone_stop : (y : ThreadStop) → Told {A = Writes} (Err y) (redone_means x span (c ∷ []) ws) → Told {A = Writes} (Err y) (redone_means x span (drop i cs) ws)
+  redone_stop y h =
+      subst (λ d. Told {A = Writes} (Err y) d) (sym redone_next) (stops_bind true y tt (redone_means x span (c ∷ []) ws) (λ us t. redone (quiet x span) (drop (i + 1) cs) us t) h)
 
-  pub phase_more : (us : Writes) → redone_means x span (commutes_of d.number cs) ws ≡ Completes us tt → redone_means x span (by_ref (drop i ds) cs) ws ≡ redone_means x span (by_ref (drop (i + 1) ds) cs) us
-  phase_more us h = phase_next ∙ ap (λ c. bind c (λ vs t. redone (quiet x span) (by_ref (drop (i + 1) ds) cs) vs t)) h
+  pub redone_more : (us : Writes) → redone_means x span (c ∷ []) ws ≡ Completes us tt → redone_means x span (drop i cs) ws ≡ redone_means x span (drop (i + 1) cs) us
+  redone_more us h = redone_next ∙ ap (λ d. bind d (λ vs t. redone (quiet x span) (drop (i + 1) cs) vs t)) h
 
 -- the whole phase, and then the writes
-module _ (x : Setting) (span : Span) (w : Work) (r : PlainView) (ds : List CellId) (is : ds ≡ commuted w) where
-  abbrev phase : Completion (Unit {0}) Writes
-  phase = redone_means x span (by_ref ds w.commutes) (valued ds (world_of r))
+module _ (x : Setting) (span : Span) (w : Work) (r : PlainView) (cs : List Commute) (first : Writes) (are : cs ≡ phase_work w) (begin : first ≡ valued (commuted w) (world_of r)) where
+  pub phase_sound : SoundCommutes (callable x) w.commutes → SoundCommutes (callable x) cs
+  phase_sound h = subst (λ l. SoundCommutes (callable x) l) (sym are) (sound_by (callable x) (commuted w) w.commutes h)
 
-  finals_are : final_means x w r span ≡ bind phase (λ ws t. Completes (merged (set_writes w) ws) t)
-  finals_are = ap (λ l. bind (redone_means x span (by_ref l w.commutes) (valued l (world_of r))) (λ ws t. Completes (merged (set_writes w) ws) t)) (sym is)
+  finals_are : final_means x w r span ≡ bind (redone_means x span cs first) (λ ws t. Completes (merged (set_writes w) ws) t)
+  finals_are = ap (λ l. bind (redone_means x span l (valued (commuted w) (world_of r))) (λ ws t. Completes (merged (set_writes w) ws) t)) (sym are) ∙ ap (λ us. bind (redone_means x span cs us) (λ ws t. Completes (merged (set_writes w) ws) t)) (sym begin)
 
-  pub finals_stop : (y : ThreadStop) → Told {A = Writes} (Err y) phase → Told {A = Writes} (Err y) (final_means x w r span)
-  finals_stop y h = subst (λ c. Told {A = Writes} (Err y) c) (sym finals_are) (stops_bind true y tt phase (λ ws t. Completes (merged (set_writes w) ws) t) h)
+  pub finals_stop : (y : ThreadStop) → Told {A = Writes} (Err y) (redone_means x span cs first) → Told {A = Writes} (Err y) (final_means x w r span)
+  finals_stop y h = subst (λ c. Told {A = Writes} (Err y) c) (sym finals_are) (stops_bind true y tt (redone_means x span cs first) (λ ws t. Completes (merged (set_writes w) ws) t) h)
 
-  pub finals_done : (ws sets last : Writes) → phase ≡ Completes ws tt → sets ≡ set_writes w → last ≡ merged sets ws → final_means x w r span ≡ Completes last tt
-  finals_done ws sets last h set made = finals_are ∙ ap (λ c. bind c (λ us t. Completes (merged (set_writes w) us) t)) h ∙ ap (λ l. Completes l tt) (sym (made ∙ ap (λ l. merged l ws) set))
+  -- the writes, where there was memory for them
+  pub finals_done : {V : Type 0} (f : V → Writes) (ws : Writes) (res : Result V ThreadStop) → redone_means x span cs first ≡ Completes ws tt → MatchResult res (λ last. f last ≡ merged (set_writes w) ws) (λ y. y ≡ Memory) → ToldOf f res (final_means x w r span)
+  finals_done f ws (Ok last) h made = finals_are ∙ ap (λ c. bind c (λ us t. Completes (merged (set_writes w) us) t)) h ∙ ap (λ l. Completes l tt) (sym made)
+  finals_done f ws (Err y) h made = subst (λ z. Stops true z tt (final_means x w r span)) (sym made) tt

@@ -3,9 +3,11 @@ use Rattle.std.proofs.Common.{◌≡◌, ℕ, zero, suc, ◌+◌, ◌-◌, ◌<�
 use Rattle.std.proofs.lemmas.Bool.{false≢true}
 use Rattle.txs_asks.specs.Ask.{Writes, same_writes, same_actions}
 use Rattle.txs_asks.specs.SeenEvent.{SeenEvent}
-use Rattle.txs_eval.specs.Evaluated.{Stops, Gives, GivesOf, Told, ToldOf, Yields, Ate, EatsNone, BodyStops, Runs, SoundCommutes, forms_on, calls_on, around_it, means, final_means, transacting, at_end, eat_means, end_means, commit_means, settle_means, ComesTo, fail_means, refuse_means, body_means, dosync_means, part, is_on, thread_state, tx_state, tx_run, stop_without_fault}
+use Rattle.txs_asks.specs.declared.event.EventKind.{EventKind}
+use Rattle.txs_asks.specs.declared.event.EventKind.TheVariants.{Read, Commit, Retry, Fail, Refused, Send as Sent, SendRefused, Act as Acted, Swap as Swapped, Broke}
+use Rattle.txs_eval.specs.Evaluated.{Stops, Gives, GivesOf, Told, ToldOf, Yields, Ate, EatsNone, BodyStops, Runs, SoundCommutes, forms_on, calls_on, around_it, means, final_means, transacting, at_end, eat_means, carried_on, ended, end_view, closes, commit_closes, refuse_closes, commits, end_stop, is_refusal, run_as, body_means, dosync_means, part, is_on, thread_state, tx_state, tx_run}
 use Rattle.txs_eval.specs.Events.{seen_event}
-use Rattle.txs_tree.specs.Meaning.{Completion, Completes, Recurs, Faults, Retries, Waits, OutOfTurns, Invalid, closed, Applies, apply, eval, call_at}
+use Rattle.txs_tree.specs.Meaning.{Completion, Completes, Recurs, Faults, Retries, Waits, OutOfTurns, Invalid, bind, closed, Applies, apply, eval, call_at}
 use Rattle.txs_tree.specs.Known.{Known}
 use Rattle.txs_eval.specs.Setting.{Setting, callable, on_view}
 use Rattle.txs_tree.specs.Sound.{SoundFunctions, SoundTree, in_dosync}
@@ -29,7 +31,7 @@ use Rattle.txs_value.specs.declared.fault.Span.{Span}
 use Rattle.txs_value.specs.declared.value.Value.{Value}
 use Rattle.txs_eval.proofs.Acting.{finals_agree}
 use Rattle.txs_eval.proofs.Applying.{carried}
-use Rattle.txs_eval.proofs.Evaluation.{stops_again}
+use Rattle.txs_eval.proofs.Evaluation.{stops_again, stops_bind}
 use Rattle.txs_eval.proofs.Forms.{faultless_stop, faulted_stop}
 use Rattle.txs_eval.proofs.Recurs.{keeps_sound}
 
@@ -68,123 +70,202 @@ module _ (x inner : Setting) (w : PlainView) (same : inner ≡ on_view x w) (bod
       → SoundCommutes (callable x) (tx_state out.tx).done.commutes
   body_keeps sound d v out h is = keeps_sound x w sound body d env tx_start (tx_state out.tx) v h tt (body_told (Ok v) out is)
 
--- what ran so, where there was memory for it
-pub ran_so : (res : Result Transacted ThreadStop) (r : Transacted) (m : Mark) (body : Tree) (env : List Value) (c : Completion TxState Value) → MatchResult res (λ q. q ≡ r) (λ y. y ≡ Memory) → Runs (Ok r) m body env c → Runs res m body env c
-ran_so (Ok q) r m body env c g h = subst (λ p. Runs (Ok p) m body env c) (sym g) h
-ran_so (Err y) r m body env c g h = subst (λ p. BodyStops p c) (sym g) tt
+  -- what ran, where the body gave this
+  module _ (m : Mark) (f : Value → Transacted) (out : State) (as_given : (v : Value) → (f v).result ≡ v) (worked : (v : Value) → (f v).work ≡ out.tx)
+      (made : (v : Value) → tx_run (f v) ≡ record { body = body; locals = env; wanted = m.wanted; result = (f v).result; state = tx_state (f v).work }) where
+    runs_as : (g : Result Value ThreadStop) → Yields inner g out (means inner body env start) → Runs (run_as f g) m body env (body_means x body env w)
+    runs_as (Ok v) h =
+        (body_done v out h ∙ ap (λ u. Completes u (tx_state out.tx)) (sym (as_given v)) ∙ ap (λ k. Completes (f v).result (tx_state k)) (sym (worked v)), made v)
+    runs_as (Err y) h = body_stop y out h
 
-pub ran_sound : (res : Result Transacted ThreadStop) (r : Transacted) (ks : List Known) → MatchResult res (λ q. q ≡ r) (λ y. y ≡ Memory) → SoundCommutes ks r.work.done.commutes → IfOk res (λ run. SoundCommutes ks run.work.done.commutes)
-ran_sound (Ok q) r ks g h = subst (λ p. SoundCommutes ks p.work.done.commutes) (sym g) h
-ran_sound (Err y) r ks g h = tt
+    pub ran_given : (g : Result Value ThreadStop) (res : Result Transacted ThreadStop) → res ≡ run_as f g → Yields inner g out (means inner body env start) → Runs res m body env (body_means x body env w)
+    ran_given g res is h = subst (λ p. Runs p m body env (body_means x body env w)) (sym is) (runs_as g h)
+
+    sound_as : (sound : SoundFunctions [] (functions_of x.functions)) (d : ℕ) → SoundTree (callable x) in_dosync d None body → (g : Result Value ThreadStop) → Yields inner g out (means inner body env start)
+        → IfOk (run_as f g) (λ q. SoundCommutes (callable x) q.work.done.commutes)
+    sound_as sound d fits (Ok v) h = subst (λ k. SoundCommutes (callable x) k.done.commutes) (sym (worked v)) (body_keeps sound d v out fits h)
+    sound_as sound d fits (Err y) h = tt
+
+    pub ran_sound : (sound : SoundFunctions [] (functions_of x.functions)) (d : ℕ) → SoundTree (callable x) in_dosync d None body → (g : Result Value ThreadStop) (res : Result Transacted ThreadStop) → res ≡ run_as f g → Yields inner g out (means inner body env start)
+        → IfOk res (λ q. SoundCommutes (callable x) q.work.done.commutes)
+    ran_sound sound d fits g res is h = subst (λ p. IfOk p (λ q. SoundCommutes (callable x) q.work.done.commutes)) (sym is) (sound_as sound d fits g h)
 
 -- ---- its end
 
-over_faultless : (t : ThreadState) (c : Completion TxState Value) (go : Value → TxState → Completion ThreadState Value) (y : ThreadStop) → BodyStops y c → Stops false (stop_without_fault y) t (over t c go (λ g. Invalid))
-over_faultless t c go (Fault f) h = (refl, ap (λ r. over t r go (λ g. Invalid)) h.1)
-over_faultless t c go Event h = absurd h
-over_faultless t c go Wrong h = absurd h
-over_faultless t c go Turns h = ap (λ r. over t r go (λ g. Invalid)) h.1
-over_faultless t c go Memory h = tt
+pub carried_stop : {A : Type 0} (t : ThreadState) (c : Completion TxState Value) (go : Value → TxState → Completion ThreadState A) (y : ThreadStop) → BodyStops y c → Stops false y t (carried_on t c go)
+carried_stop t c go (Fault f) h = ap (λ r. carried_on t r go) h.1
+carried_stop t c go Event h = absurd h
+carried_stop t c go Wrong h = absurd h
+carried_stop t c go Turns h = ap (λ r. carried_on t r go) h.1
+carried_stop t c go Memory h = tt
 
-over_fault : (t : ThreadState) (c : Completion TxState Value) (go : Value → TxState → Completion ThreadState Value) (y : ThreadStop) → BodyStops y c → Stops false y t (over t c go (λ g. Faults g t))
-over_fault t c go (Fault f) h = ap (λ r. over t r go (λ g. Faults g t)) h.1
-over_fault t c go Event h = absurd h
-over_fault t c go Wrong h = absurd h
-over_fault t c go Turns h = ap (λ r. over t r go (λ g. Faults g t)) h.1
-over_fault t c go Memory h = tt
+abbrev IsNothing : Option PlainView → Type 0
+IsNothing None = Unit {0}
+IsNothing (Some w) = ⊥
+
+abbrev view_or : PlainView → Option PlainView → PlainView
+view_or v None = v
+view_or v (Some w) = w
 
 -- a run that is noted behind those before it
-runs_append : (rs : List Transacted) (r : Transacted) → map tx_run (rs ++ r ∷ []) ≡ map tx_run rs ++ tx_run r ∷ []
+pub runs_append : (rs : List Transacted) (r : Transacted) → map tx_run (rs ++ r ∷ []) ≡ map tx_run rs ++ tx_run r ∷ []
 runs_append [] r = refl
 runs_append (q ∷ rs) r = ap (λ l. tx_run q ∷ l) (runs_append rs r)
 
--- a commit of a transaction that ran so
-module _ (x : Setting) (sound : SoundFunctions [] (functions_of x.functions)) (span : Span) (r : Transacted) (calm : SoundCommutes (callable x) r.work.done.commutes) (e : Seen) (t : ThreadState) (ws : Writes) (sent : List Action) where
-  settled : (res : Result Writes ThreadStop) → Told res (final_means x r.work.done (plain_view e.here) span) → Gives false res t (final_writes (at_end x span) r.work.done (world_of (plain_view e.here)) t)
-  settled res h =
-      carried false t res (final_means x r.work.done (plain_view e.here) span) (final_writes (at_end x span) r.work.done (world_of (plain_view e.here)) t) (finals_agree t x sound (forms_on None (around_it x)) true span r.work.done (plain_view e.here) calm) h
-
-  settle_given : (b : Bool) → ComesTo (Ok b) (final_means x r.work.done (plain_view e.here) span) r.work.done ws sent → settle_means x span (tx_run r) (seen_event e) ws sent t ≡ meant b r.result (with_tx (tx_run r) t)
-  settle_given b h =
-      ap (λ c. faultless c (λ us t1. meant (same_writes us ws && same_actions r.work.done.sends sent) r.result (with_tx (tx_run r) t1))) (settled (Ok h.0) h.1) ∙ ap (λ k. meant k r.result (with_tx (tx_run r) t)) (sym h.2)
-
-  pub settle_other : ComesTo (Ok false) (final_means x r.work.done (plain_view e.here) span) r.work.done ws sent → settle_means x span (tx_run r) (seen_event e) ws sent t ≡ Invalid
-  settle_other h = settle_given false h
-
-  pub settle_same : ComesTo (Ok true) (final_means x r.work.done (plain_view e.here) span) r.work.done ws sent → (res : Result Value ThreadStop) (u : ThreadState)
-      → MatchResult res (λ v. (v ≡ r.result) × (u ≡ with_tx (tx_run r) t)) (λ y. y ≡ Memory) → Gives false res u (settle_means x span (tx_run r) (seen_event e) ws sent t)
-  settle_same h (Ok v) u g = settle_given true h ∙ ap (λ w. Completes w (with_tx (tx_run r) t)) (sym g.0) ∙ ap (λ s. Completes v s) (sym g.1)
-  settle_same h (Err y) u g = subst (λ z. Stops false z u (settle_means x span (tx_run r) (seen_event e) ws sent t)) (sym g) tt
-
-  pub settle_stop : (y : ThreadStop) → ComesTo (Err y) (final_means x r.work.done (plain_view e.here) span) r.work.done ws sent → Stops false (stop_without_fault y) t (settle_means x span (tx_run r) (seen_event e) ws sent t)
-  settle_stop y h =
-      faultless_stop y t (final_writes (at_end x span) r.work.done (world_of (plain_view e.here)) t) (λ us t1. meant (same_writes us ws && same_actions r.work.done.sends sent) r.result (with_tx (tx_run r) t1)) (settled (Err y) h)
-
-module _ (x : Setting) (m : Mark) (body : Tree) (env : List Value) (e : Seen) (t : ThreadState) where
-  abbrev d : Transacting
-  d = transacting x m body env
-
-  abbrev f : Applies ThreadState
-  f = at_end x m.span
-
+-- the body on a world, and then the commutes on another one
+module _ (x : Setting) (m : Mark) (body : Tree) (env : List Value) (r w : PlainView) (t : ThreadState) where
   abbrev outcome : Completion TxState Value
-  outcome = body_means x body env (plain_view e.start)
+  outcome = body_means x body env r
 
-  abbrev commits : Writes → List Action → Value → TxState → Completion ThreadState Value
-  commits ws sent v y = settle_means x m.span (run_of d v y) (seen_event e) ws sent t
+  abbrev finals_of : TxState → Completion ThreadState Writes
+  finals_of y = final_writes (at_end x m.span) y.done (world_of w) t
 
-  abbrev fails : Value → TxState → Completion ThreadState Value
-  fails v y = faulted (final_writes f y.done (world_of (plain_view e.view)) t) (λ g t1. Faults g t1)
-
-  abbrev refuses : Value → TxState → Completion ThreadState Value
-  refuses v y = faultless (final_writes f y.done (world_of (plain_view e.view)) t) (λ us t1. Faults (fault_at AgentFailed m.span) (with_tx (run_of d v y) t1))
+  abbrev with_finals : Value → TxState → Completion ThreadState (TxRun × Writes)
+  with_finals v y = bind (finals_of y) (λ ws t1. Completes (run_of (transacting x m body env) v y, ws) t1)
 
   -- where the body gives no value
-  module _ (y : ThreadStop) (h : BodyStops y outcome) where
-    pub commit_unrun : (ws : Writes) (sent : List Action) → Stops false (stop_without_fault y) t (commit_means x m body env (seen_event e) ws sent t)
-    commit_unrun ws sent = over_faultless t outcome (commits ws sent) y h
-
-    pub refuse_unrun : Stops false (stop_without_fault y) t (refuse_means x m body env (seen_event e) t)
-    refuse_unrun = over_faultless t outcome refuses y h
-
-    pub fail_unrun : Stops false y t (fail_means x m body env (seen_event e) t)
-    fail_unrun = over_fault t outcome fails y h
-
-  -- a commit whose body gives a value
-  pub commit_run : (r : Transacted) → Runs (Ok r) m body env outcome → (ws : Writes) (sent : List Action) → commit_means x m body env (seen_event e) ws sent t ≡ settle_means x m.span (tx_run r) (seen_event e) ws sent t
-  commit_run r run ws sent = ap (λ c. over t c (commits ws sent) (λ g. Invalid)) run.0 ∙ ap (λ q. settle_means x m.span q (seen_event e) ws sent t) (sym run.1)
+  pub ended_unrun : (y : ThreadStop) → BodyStops y outcome → Stops false y t (ended x m body env r w t)
+  ended_unrun y h = carried_stop t outcome with_finals y h
 
   -- where it gives one
-  module _ (sound : SoundFunctions [] (functions_of x.functions)) (r : Transacted) (run : Runs (Ok r) m body env outcome) (calm : SoundCommutes (callable x) r.work.done.commutes) where
-    finals : (w : PlainView) (res : Result Writes ThreadStop) → Told res (final_means x r.work.done w m.span) → Gives false res t (final_writes f r.work.done (world_of w) t)
-    finals w res h = carried false t res (final_means x r.work.done w m.span) (final_writes f r.work.done (world_of w) t) (finals_agree t x sound (forms_on None (around_it x)) true m.span r.work.done w calm) h
+  module _ (sound : SoundFunctions [] (functions_of x.functions)) (q : Transacted) (run : Runs (Ok q) m body env outcome) (calm : SoundCommutes (callable x) q.work.done.commutes) where
+    finals : (res : Result Writes ThreadStop) → Told res (final_means x q.work.done w m.span) → Gives false res t (finals_of (tx_state q.work))
+    finals res h = carried false t res (final_means x q.work.done w m.span) (finals_of (tx_state q.work)) (finals_agree t x sound (forms_on None (around_it x)) true m.span q.work.done w calm) h
 
-    noted : (rs us : List Transacted) → t.txs ≡ map tx_run rs → us ≡ rs ++ r ∷ [] → t.txs ++ run_of d r.result (tx_state r.work) ∷ [] ≡ map tx_run us
-    noted rs us before pushed =
-        ap (λ l. l ++ run_of d r.result (tx_state r.work) ∷ []) before ∙ ap (λ k. map tx_run rs ++ k ∷ []) (sym run.1) ∙ sym (ap (λ l. map tx_run l) pushed ∙ runs_append rs r)
+    ended_run : ended x m body env r w t ≡ with_finals q.result (tx_state q.work)
+    ended_run = ap (λ c. carried_on t c with_finals) run.0
 
-    fail_run : fail_means x m body env (seen_event e) t ≡ fails r.result (tx_state r.work)
-    fail_run = ap (λ c. over t c fails (λ g. Faults g t)) run.0
+    pub ended_stop : (y : ThreadStop) → Told {A = Writes} (Err y) (final_means x q.work.done w m.span) → Stops false y t (ended x m body env r w t)
+    ended_stop y h =
+        subst (λ c. Stops false y t c) (sym ended_run) (stops_bind false y t (finals_of (tx_state q.work)) (λ ws t1. Completes (run_of (transacting x m body env) q.result (tx_state q.work), ws) t1) (finals (Err y) h))
 
-    pub fail_stop : (y : ThreadStop) → Told {A = Writes} (Err y) (final_means x r.work.done (plain_view e.view) m.span) → Stops false y t (fail_means x m body env (seen_event e) t)
-    fail_stop y h = subst (λ c. Stops false y t c) (sym fail_run) (faulted_stop y t (final_writes f r.work.done (world_of (plain_view e.view)) t) (finals (plain_view e.view) (Err y) h))
+    pub ended_done : (last : Writes) → Told (Ok last) (final_means x q.work.done w m.span) → ended x m body env r w t ≡ Completes (tx_run q, last) t
+    ended_done last h =
+        ended_run ∙ ap (λ c. bind c (λ ws t1. Completes (run_of (transacting x m body env) q.result (tx_state q.work), ws) t1)) (finals (Ok last) h) ∙ ap (λ k. Completes (k, last) t) (sym run.1)
 
-    pub fail_given : (last : Writes) → Told (Ok last) (final_means x r.work.done (plain_view e.view) m.span) → fail_means x m body env (seen_event e) t ≡ Invalid
-    fail_given last h = fail_run ∙ ap (λ c. faulted c (λ g t1. Faults g t1)) (finals (plain_view e.view) (Ok last) h)
+-- ---- what the event makes of it
 
-    refuse_run : refuse_means x m body env (seen_event e) t ≡ refuses r.result (tx_state r.work)
-    refuse_run = ap (λ c. over t c refuses (λ g. Invalid)) run.0
+faultless_pair : (c : Completion ThreadState Writes) (k : TxRun) (go : (TxRun × Writes) → ThreadState → Completion ThreadState Value) → faultless c (λ ws s. go (k, ws) s) ≡ faultless (bind c (λ ws s. Completes (k, ws) s)) go
+faultless_pair (Completes ws s) k go = refl
+faultless_pair (Recurs vs s) k go = refl
+faultless_pair (Faults f s) k go = refl
+faultless_pair (Retries s) k go = refl
+faultless_pair (Waits s) k go = refl
+faultless_pair (OutOfTurns s) k go = refl
+faultless_pair Invalid k go = refl
 
-    pub refuse_stop : (y : ThreadStop) → Told {A = Writes} (Err y) (final_means x r.work.done (plain_view e.view) m.span) → Stops false (stop_without_fault y) t (refuse_means x m body env (seen_event e) t)
-    refuse_stop y h =
-        subst (λ c. Stops false (stop_without_fault y) t c) (sym refuse_run)
-        (faultless_stop y t (final_writes f r.work.done (world_of (plain_view e.view)) t) (λ us t1. Faults (fault_at AgentFailed m.span) (with_tx (run_of d r.result (tx_state r.work)) t1)) (finals (plain_view e.view) (Err y) h))
+faulted_pair : (c : Completion ThreadState Writes) (k : TxRun) → faulted c (λ g s. Faults g s) ≡ faulted {A = TxRun × Writes} (bind c (λ ws s. Completes (k, ws) s)) (λ g s. Faults g s)
+faulted_pair (Completes ws s) k = refl
+faulted_pair (Recurs vs s) k = refl
+faulted_pair (Faults f s) k = refl
+faulted_pair (Retries s) k = refl
+faulted_pair (Waits s) k = refl
+faulted_pair (OutOfTurns s) k = refl
+faulted_pair Invalid k = refl
 
-    pub refuse_given : (last : Writes) → Told (Ok last) (final_means x r.work.done (plain_view e.view) m.span) → (rs us : List Transacted) → t.txs ≡ map tx_run rs → us ≡ rs ++ r ∷ []
-        → refuse_means x m body env (seen_event e) t ≡ Faults (fault_at AgentFailed m.span) (record t { txs = map tx_run us })
-    refuse_given last h rs us before pushed =
-        refuse_run ∙ ap (λ c. faultless c (λ ws t1. Faults (fault_at AgentFailed m.span) (with_tx (run_of d r.result (tx_state r.work)) t1))) (finals (plain_view e.view) (Ok last) h)
-        ∙ ap (λ l. Faults (fault_at AgentFailed m.span) (record t { txs = l })) (noted rs us before pushed)
+module _ (t : ThreadState) (run : Value → TxState → TxRun) (last : TxState → Completion ThreadState Writes) where
+  abbrev both : Value → TxState → Completion ThreadState (TxRun × Writes)
+  both v y = bind (last y) (λ ws s. Completes (run v y, ws) s)
+
+  over_faultless : (c : Completion TxState Value) (go : (TxRun × Writes) → ThreadState → Completion ThreadState Value) → over t c (λ v y. faultless (last y) (λ ws s. go (run v y, ws) s)) (λ g. Invalid) ≡ faultless (carried_on t c both) go
+  over_faultless (Completes v y) go = faultless_pair (last y) (run v y) go
+  over_faultless (Recurs vs y) go = refl
+  over_faultless (Faults f y) go = refl
+  over_faultless (Retries y) go = refl
+  over_faultless (Waits y) go = refl
+  over_faultless (OutOfTurns y) go = refl
+  over_faultless Invalid go = refl
+
+  over_faulted : (c : Completion TxState Value) → over t c (λ v y. faulted (last y) (λ g s. Faults g s)) (λ g. Faults g t) ≡ faulted (carried_on t c both) (λ g s. Faults g s)
+  over_faulted (Completes v y) = faulted_pair (last y) (run v y)
+  over_faulted (Recurs vs y) = refl
+  over_faulted (Faults f y) = refl
+  over_faulted (Retries y) = refl
+  over_faulted (Waits y) = refl
+  over_faulted (OutOfTurns y) = refl
+  over_faulted Invalid = refl
+
+no_view : {w : PlainView} → None ≡ Some w → ⊥
+no_view h = subst IsNothing h tt
+
+module _ (x : Setting) (m : Mark) (body : Tree) (env : List Value) (t : ThreadState) (r q c w : PlainView) where
+  abbrev run : Value → TxState → TxRun
+  run v y = run_of (transacting x m body env) v y
+
+  -- an event of the end
+  pub ends_viewed : (k : EventKind) → end_view k q c ≡ Some w → ends_tx (transacting x m body env) (at_end x m.span) k (world_of r) (world_of q) (world_of c) t ≡ closes k m.span (ended x m body env r w t)
+  ends_viewed (Commit at view writes sent) h =
+      over_faultless t run (λ y. final_writes (at_end x m.span) y.done (world_of c) t) (body_means x body env r) (λ p s. meant (same_writes p.1 writes && same_actions p.0.state.done.sends sent) p.0.result (with_tx p.0 s))
+      ∙ ap (λ o. commit_closes writes sent (ended x m body env r (view_or c o) t)) h
+  ends_viewed (Fail at view) h =
+      over_faulted t run (λ y. final_writes (at_end x m.span) y.done (world_of q) t) (body_means x body env r)
+      ∙ ap (λ o. faulted (ended x m body env r (view_or q o) t) (λ g s. Faults g s)) h
+  ends_viewed (Refused at view agent) h =
+      over_faultless t run (λ y. final_writes (at_end x m.span) y.done (world_of q) t) (body_means x body env r) (λ p s. Faults (fault_at AgentFailed m.span) (with_tx p.0 s))
+      ∙ ap (λ o. refuse_closes m.span (ended x m body env r (view_or q o) t)) h
+  ends_viewed (Read d) h = absurd (no_view h)
+  ends_viewed (Retry since d b) h = absurd (no_view h)
+  ends_viewed (Sent a) h = absurd (no_view h)
+  ends_viewed (SendRefused d) h = absurd (no_view h)
+  ends_viewed (Acted d n v) h = absurd (no_view h)
+  ends_viewed (Swapped v) h = absurd (no_view h)
+  ends_viewed (Broke at) h = absurd (no_view h)
+
+  -- any other event
+  pub ends_unviewed : (k : EventKind) → end_view k q c ≡ None → ends_tx (transacting x m body env) (at_end x m.span) k (world_of r) (world_of q) (world_of c) t ≡ Invalid
+  ends_unviewed (Commit at view writes sent) h = absurd (no_view (sym h))
+  ends_unviewed (Fail at view) h = absurd (no_view (sym h))
+  ends_unviewed (Refused at view agent) h = absurd (no_view (sym h))
+  ends_unviewed (Read d) h = refl
+  ends_unviewed (Retry since d b) h = refl
+  ends_unviewed (Sent a) h = refl
+  ends_unviewed (SendRefused d) h = refl
+  ends_unviewed (Acted d n v) h = refl
+  ends_unviewed (Swapped v) h = refl
+  ends_unviewed (Broke at) h = refl
+
+-- a run that is noted, if it is the one that is meant
+pub noted : (b : Bool) → b ≡ true → (v : Value) (t u : ThreadState) (res : Result Value ThreadStop) → MatchResult res (λ w. (w ≡ v) × (u ≡ t)) (λ y. y ≡ Memory) → Gives false res u (meant b v t)
+noted b is v t u (Ok w) h = ap (λ k. meant k v t) is ∙ ap (λ z. Completes z t) (sym h.0) ∙ ap (λ s. Completes w s) (sym h.1)
+noted b is v t u (Err y) h = subst (λ z. Stops false z u (meant b v t)) (sym h) tt
+
+-- a stop of the body or a commute
+pub end_stops : (k : EventKind) (span : Span) (y : ThreadStop) (t : ThreadState) (c : Completion ThreadState (TxRun × Writes)) → Stops false y t c → Stops false (end_stop k y) t (closes k span c)
+end_stops (Commit at view writes sent) span y t c h = faultless_stop y t c (λ r s. meant (same_writes r.1 writes && same_actions r.0.state.done.sends sent) r.0.result (with_tx r.0 s)) h
+end_stops (Fail at view) span y t c h = faulted_stop y t c h
+end_stops (Refused at view agent) span y t c h = faultless_stop y t c (λ r s. Faults (fault_at AgentFailed span) (with_tx r.0 s)) h
+end_stops (Read d) span y t c h = (refl, refl)
+end_stops (Retry since d b) span y t c h = (refl, refl)
+end_stops (Sent a) span y t c h = (refl, refl)
+end_stops (SendRefused d) span y t c h = (refl, refl)
+end_stops (Acted d n v) span y t c h = (refl, refl)
+end_stops (Swapped v) span y t c h = (refl, refl)
+end_stops (Broke at) span y t c h = (refl, refl)
+
+module _ (span : Span) (r : TxRun) (ws : Writes) (t : ThreadState) where
+  pub closes_refused : (k : EventKind) → is_refusal k ≡ true → closes k span (Completes (r, ws) t) ≡ Faults (fault_at AgentFailed span) (with_tx r t)
+  closes_refused (Refused at view agent) h = refl
+  closes_refused (Commit at view writes sent) h = absurd (false≢true h)
+  closes_refused (Fail at view) h = absurd (false≢true h)
+  closes_refused (Read d) h = absurd (false≢true h)
+  closes_refused (Retry since d b) h = absurd (false≢true h)
+  closes_refused (Sent a) h = absurd (false≢true h)
+  closes_refused (SendRefused d) h = absurd (false≢true h)
+  closes_refused (Acted d n v) h = absurd (false≢true h)
+  closes_refused (Swapped v) h = absurd (false≢true h)
+  closes_refused (Broke at) h = absurd (false≢true h)
+
+  pub closes_other : (k : EventKind) → is_refusal k ≡ false → closes k span (Completes (r, ws) t) ≡ meant (commits k ws r.state.done.sends) r.result (with_tx r t)
+  closes_other (Refused at view agent) h = absurd (false≢true (sym h))
+  closes_other (Commit at view writes sent) h = refl
+  closes_other (Fail at view) h = refl
+  closes_other (Read d) h = refl
+  closes_other (Retry since d b) h = refl
+  closes_other (Sent a) h = refl
+  closes_other (SendRefused d) h = refl
+  closes_other (Acted d n v) h = refl
+  closes_other (Swapped v) h = refl
+  closes_other (Broke at) h = refl
 
 -- ---- the events that it eats
 

@@ -1,11 +1,12 @@
 -- What a thread means, by what its body means.
 use Rattle.std.proofs.Common.{◌≡◌, ℕ, zero, suc, ◌<◌, Bool, true, false, List, [], ◌∷◌, length, get_or, Option, Some, None, Result, Ok, Err, IfOk, IfSome, refl, sym, ap, ◌∙◌, subst, subst₂, arith}
+use Rattle.std.proofs.lemmas.Bool.{false≢true}
 use Rattle.txs_value.specs.Places.{nth}
 use Rattle.txs_value.specs.declared.cell.CellDefinition.{CellDefinition}
 use Rattle.txs_value.specs.declared.value.Value.{Value}
 use Rattle.txs_asks.specs.SeenEvent.{SeenEvent}
 use Rattle.txs_asks.specs.declared.event.Outcome.{Outcome}
-use Rattle.txs_eval.specs.Evaluated.{Account, Concluded, Gives, GivesOf, Stops, Yields, Tells, TellsTx, thread_source, source_in, means, around_it, forms_on, thread_state, tx_state, idle}
+use Rattle.txs_eval.specs.Evaluated.{Account, Concluded, Gives, GivesOf, Stops, Yields, Tells, TellsTx, Waitless, thread_source, source_in, means, around_it, forms_on, thread_state, tx_state, idle}
 use Rattle.txs_tree.specs.Known.{known}
 use Rattle.txs_tree.specs.Meaning.{Completion, Completes, Faults, Waits, OutOfTurns, Invalid, closed, eval, call_at}
 use Rattle.txs_eval.specs.Setting.{Setting, callable, zone_in}
@@ -101,6 +102,15 @@ module _ (cells : List CellDefinition) (fs : List Function) (n : ℕ) (node : Tr
       let x = around_it (whole cells fs n (Some w)) in
       let from : TxState → Completion TxState Value = λ t. eval (forms_on (Some w) x (length fs)) (call_at (forms_on (Some w) x) n (functions_of fs) (length fs)) n true node vs t in
       closed_gives r (tx_state out.tx) (from tx_start) (subst (λ t. Gives true r (tx_state out.tx) (from t)) fresh here)
+
+-- nothing is waited for in a transaction
+pub waitless : {S A : Type 0} (r : Result A ThreadStop) (s : S) (c : Completion S A) → Gives true r s c → Waitless r
+waitless (Ok v) s c h = tt
+waitless (Err (Fault f)) s c h = tt
+waitless (Err Event) s c h = absurd (false≢true (sym h.0))
+waitless (Err Wrong) s c h = absurd (false≢true (sym h.0))
+waitless (Err Turns) s c h = tt
+waitless (Err Memory) s c h = tt
 
 pub tells_value : (m : TxMeaning) (v : Value) (x : TxWork) (c : Completion TxState Value) → c ≡ Completes v (tx_state x) → m ≡ record { result = Ok v; done = x.done; reads = x.reads.items; used = x.used } → TellsTx (Ok m) c
 tells_value m v x c h is = subst (λ y. TellsTx (Ok m) y) (sym h) is

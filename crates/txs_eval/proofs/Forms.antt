@@ -1,14 +1,15 @@
 -- Forms on cells, one after the other: what the parts give is what the form means.
-use Rattle.std.proofs.Common.{◌≡◌, ℕ, suc, ◌||◌, Bool, true, false, if◌then◌else◌, List, [], ◌∷◌, ◌++◌, length, Option, Some, None, Result, Ok, Err, refl, sym, ap, ◌∙◌, subst, arith}
+use Rattle.std.proofs.Common.{◌≡◌, ℕ, suc, ◌||◌, Bool, true, false, if◌then◌else◌, List, [], ◌∷◌, ◌++◌, length, Option, Some, None, Result, Ok, Err, MatchResult, refl, sym, ap, ◌∙◌, subst, arith}
 use Rattle.std.proofs.lemmas.Bool.{false≢true}
 use Rattle.txs_asks.specs.Ask.{same_value}
 use Rattle.txs_asks.specs.SeenEvent.{SeenEvent, home}
 use Rattle.txs_asks.specs.declared.event.EventKind.{EventKind}
 use Rattle.txs_asks.specs.declared.event.EventKind.TheVariants.{Read, Commit, Retry, Fail, Refused, Send as Sent, SendRefused, Act as Acted, Swap as Swapped, Broke}
 use Rattle.txs_frame.specs.Frame.{set_ref, commute_ref, hold_send}
-use Rattle.txs_eval.specs.Evaluated.{Stops, Gives, GivesOf, Told, Ate, EatsNone, ReadyIn, with_use, forms_on, calls_on, around_it, acts, inside_means, outside_means, alter_means, commute_means, swap_means, applied, of_one, stop_without_fault, swapped_to, no_value, with_work, swap_of, is_broke, part, is_on, Yields, Finishes, call_means, finish_means, tx_state, thread_state}
+use Rattle.txs_eval.specs.Evaluated.{Stops, Gives, GivesOf, Told, Ate, EatsNone, ReadyIn, with_use, forms_on, calls_on, around_it, acts, inside_means, outside_means, alter_means, commute_means, swap_means, applied, of_one, stop_without_fault, swapped_to, no_value, with_work, swap_of, is_broke, part, is_on, Yields, Finishes, Steps, step_of, call_means, finish_means, tx_state, thread_state}
 use Rattle.txs_eval.specs.Events.{seen_event}
 use Rattle.txs_eval.specs.Shapes.{form_of_act}
+use Rattle.txs_operations.specs.Core.{core, vector_of}
 use Rattle.txs_tree.specs.Meaning.{Completion, Completes, Recurs, Faults, Retries, Waits, OutOfTurns, Invalid, bind, result_of, allowed, Applies, Effects, apply, call_at}
 use Rattle.txs_eval.specs.Setting.{Setting, callable, on_view, zone_on}
 use Rattle.txs_tree.specs.Sound.{SoundCallee, PureCall, SoundFunctions, MayStand, in_thread, in_dosync}
@@ -20,7 +21,8 @@ use Rattle.txs_eval.specs.Views.{PlainView, plain_view, world_of}
 use Rattle.txs_eval.specs.declared.shape.Act.{Act}
 use Rattle.txs_eval.specs.declared.shape.Act.TheVariants.{Look as a_look, Put as a_put, Update as an_update, Send as a_send}
 use Rattle.txs_eval.specs.declared.shape.Strict.{Strict}
-use Rattle.txs_eval.specs.declared.shape.Strict.TheVariants.{Println as a_println}
+use Rattle.txs_eval.specs.declared.shape.Strict.TheVariants.{Core as a_core, Call as a_call, Vector as a_vector, Println as a_println}
+use Rattle.txs_eval.specs.declared.evaluate.Step.{Step}
 use Rattle.txs_eval.specs.declared.seen.Seen.{Seen}
 use Rattle.txs_eval.specs.declared.state.State.{State}
 use Rattle.txs_eval.specs.declared.stop.ThreadStop.{ThreadStop}
@@ -38,6 +40,7 @@ use Rattle.txs_value.specs.declared.form.PutForm.TheVariants.{RefSet, Reset}
 use Rattle.txs_value.specs.declared.form.Standing.{Standing}
 use Rattle.txs_value.specs.declared.form.Standing.TheVariants.{Anywhere, Inside, Outside}
 use Rattle.txs_value.specs.declared.op.Callee.{Callee}
+use Rattle.txs_value.specs.declared.op.Op.{Op}
 use Rattle.txs_value.specs.declared.op.Callee.TheVariants.{Function}
 use Rattle.txs_value.specs.declared.value.CellId.{CellId}
 use Rattle.txs_value.specs.declared.value.CellKind.TheVariants.{Agent}
@@ -45,6 +48,7 @@ use Rattle.txs_value.specs.declared.value.Value.{Value}
 use Rattle.txs_value.specs.declared.value.Value.TheVariants.{Nil, Truth, Int, Key, Text, Vector, Cell}
 use Rattle.txs_eval.proofs.Applying.{callee_agrees, told_applies, told_from}
 use Rattle.txs_eval.proofs.Evaluation.{stops_bind}
+use Rattle.txs_eval.proofs.Shaping.{stepped}
 use Rattle.txs_tree.proofs.PureLaw.{Agrees}
 
 -- ---- the cell that a form takes
@@ -354,7 +358,28 @@ print_on : (o : Option PlainView) (x : Surroundings) (d : ℕ) (vs : List Value)
 print_on None x d vs st st1 may line = ap (λ t. Completes Nil t) (sym line)
 print_on (Some r) x d vs st st1 may line = absurd may
 
-pub print_done : (x : Setting) (strict : Strict) (span : Span) (vs : List Value) (st st1 : State) → strict ≡ a_println → Finishes x strict (length vs)
-    → thread_state st1.thread ≡ record (thread_state st.thread) { printed = (thread_state st.thread).printed ++ printed_line vs } → finish_means x strict span vs st ≡ Completes Nil (part x.world st1)
-print_done x strict span vs st st1 is fits line =
-    subst (λ k. Finishes x k (length vs) → finish_means x k span vs st ≡ Completes Nil (part x.world st1)) (sym is) (λ may. print_on x.world (around_it x) x.depth vs st st1 may line) fits
+printed : (x : Setting) (span : Span) (vs : List Value) (st : State) (line : List ℕ) → Finishes x a_println (length vs) → (st1 : State) → thread_state st1.thread ≡ record (thread_state st.thread) { printed = line } → (r : Result Value ThreadStop)
+    → MatchResult r (λ v. (v ≡ Nil) × (line ≡ (thread_state st.thread).printed ++ printed_line vs)) (λ y. y ≡ Memory) → Yields x r st1 (finish_means x a_println span vs st)
+printed x span vs st line may st1 after (Ok v) h =
+    print_on x.world (around_it x) x.depth vs st st1 may (after ∙ ap (λ l. record (thread_state st.thread) { printed = l }) h.1) ∙ ap (λ u. Completes u (part x.world st1)) (sym h.0)
+printed x span vs st line may st1 after (Err y) h = subst (λ z. Stops (is_on x.world) z (part x.world st1) (finish_means x a_println span vs st)) (sym h) tt
+
+module _ (x : Setting) (strict : Strict) (span : Span) (vs : List Value) (st out : State) (r : Result Value ThreadStop) (s : Result Step ThreadStop) (as_given : s ≡ step_of r) where
+  -- what is done with the values gives this
+  finished : (k : Strict) → strict ≡ k → Yields x r out (finish_means x k span vs st) → Steps x s out (finish_means x strict span vs st)
+  finished k is h = subst (λ j. Steps x s out (finish_means x j span vs st)) (sym is) (stepped x r s out (finish_means x k span vs st) as_given h)
+
+  pub call_done : (f : ℕ) → strict ≡ a_call f → Yields x r out (call_means x f vs st) → Steps x s out (finish_means x strict span vs st)
+  call_done f is h = finished (a_call f) is h
+
+module _ (x : Setting) (strict : Strict) (span : Span) (vs : List Value) (st : State) (r : Result Value ThreadStop) (s : Result Step ThreadStop) (as_given : s ≡ step_of r) where
+  pub core_done : (op : Op) → strict ≡ a_core op → Told r (result_of (core op vs) span tt) → Steps x s st (finish_means x strict span vs st)
+  core_done op is h = finished x strict span vs st st r s as_given (a_core op) is (gives_result (is_on x.world) (part x.world st) (core op vs) span r h)
+
+  pub vector_done : strict ≡ a_vector → Told r (result_of (vector_of vs) span tt) → Steps x s st (finish_means x strict span vs st)
+  vector_done is h = finished x strict span vs st st r s as_given a_vector is (gives_result (is_on x.world) (part x.world st) (vector_of vs) span r h)
+
+  -- a line is printed, where there was memory for it
+  pub print_done : (line : List ℕ) → strict ≡ a_println → Finishes x strict (length vs) → (st1 : State) → thread_state st1.thread ≡ record (thread_state st.thread) { printed = line }
+      → MatchResult r (λ v. (v ≡ Nil) × (line ≡ (thread_state st.thread).printed ++ printed_line vs)) (λ y. y ≡ Memory) → Steps x s st1 (finish_means x strict span vs st)
+  print_done line is fits st1 after h = finished x strict span vs st st1 r s as_given a_println is (printed x span vs st line (subst (λ k. Finishes x k (length vs)) is fits) st1 after r h)

@@ -3,7 +3,7 @@ use Rattle.std.specs.Prelude.{◌≡◌, ◌&&◌, ◌==◌, ◌||◌, ◌-◌, 
 use Rattle.txs_asks.specs.Ask.{Writes, same_value, same_writes, same_actions}
 use Rattle.txs_asks.specs.SeenEvent.{SeenEvent, home}
 use Rattle.txs_asks.specs.declared.event.EventKind.{EventKind}
-use Rattle.txs_asks.specs.declared.event.EventKind.TheVariants.{Read, Send as Sent, SendRefused, Swap as Swapped, Broke}
+use Rattle.txs_asks.specs.declared.event.EventKind.TheVariants.{Read, Commit as Committed, Fail as Failing, Refused as Refusing, Send as Sent, SendRefused, Swap as Swapped, Broke}
 use Rattle.txs_asks.specs.declared.event.Outcome.{Outcome}
 use Rattle.txs_asks.specs.declared.event.Outcome.TheVariants.{Done, Failed}
 use Rattle.txs_frame.specs.Frame.{Work}
@@ -458,33 +458,65 @@ end_means x m body env e t = ends_tx (transacting x m body env) (at_end x m.span
 abbrev pub body_means : Setting → Tree → List Value → PlainView → Completion TxState Value
 body_means x body env r = tx_meaning x.turns (functions_of x.functions) x.depth body env (world_of r)
 
--- whether the final writes and the sends of what was done are these, or a commute stops so
-abbrev pub ComesTo : Result Bool ThreadStop → Completion (Unit {0}) Writes → Work → Writes → List Action → Type 0
-ComesTo (Ok b) c w writes sent = (last : Writes) × (c ≡ Completes last tt) × (b ≡ (same_writes last writes && same_actions w.sends sent))
-ComesTo (Err y) c w writes sent = Told {A = Writes} (Err y) c
+-- what follows a body that gave a value; a fault of the body is one of the thread
+abbrev pub carried_on : {A : Type 0} → ThreadState → Completion TxState Value → (Value → TxState → Completion ThreadState A) → Completion ThreadState A
+carried_on t (Completes v y) go = go v y
+carried_on t (Recurs vs y) go = Invalid
+carried_on t (Faults f y) go = Faults f t
+carried_on t (Retries y) go = Invalid
+carried_on t (Waits y) go = Invalid
+carried_on t (OutOfTurns y) go = OutOfTurns t
+carried_on t Invalid go = Invalid
 
--- a commit with these writes and sends of a transaction that ran so
-abbrev pub settle_means : Setting → Span → TxRun → SeenEvent → Writes → List Action → ThreadState → Completion ThreadState Value
-settle_means x span run e writes sent t =
-    faultless (final_writes (at_end x span) run.state.done e.C t) (λ ws t1. meant (same_writes ws writes && same_actions run.state.done.sends sent) run.result (with_tx run t1))
+-- its body on a world, and then its commutes on another one: the run with its final writes
+abbrev pub ended : Setting → Mark → Tree → List Value → PlainView → PlainView → ThreadState → Completion ThreadState (TxRun × Writes)
+ended x m body env r w t =
+    let d = transacting x m body env in
+    carried_on t (d.on (world_of r)) (λ v y. bind (final_writes (at_end x m.span) y.done (world_of w) t) (λ ws t1. Completes (run_of d v y, ws) t1))
+
+-- the world of its commutes, if the event is one of its end
+abbrev pub end_view : EventKind → PlainView → PlainView → Option PlainView
+end_view (Committed at view writes sent) q c = Some c
+end_view (Failing at view) q c = Some q
+end_view (Refusing at view agent) q c = Some q
+end_view _ q c = None
 
 -- a commit with these writes and sends
-abbrev pub commit_means : Setting → Mark → Tree → List Value → SeenEvent → Writes → List Action → ThreadState → Completion ThreadState Value
-commit_means x m body env e writes sent t =
-    let d = transacting x m body env in
-    over t (d.on e.R) (λ v y. settle_means x m.span (run_of d v y) e writes sent t) (λ g. Invalid)
-
--- a failure
-abbrev pub fail_means : Setting → Mark → Tree → List Value → SeenEvent → ThreadState → Completion ThreadState Value
-fail_means x m body env e t =
-    let d = transacting x m body env in
-    over t (d.on e.R) (λ v y. faulted (final_writes (at_end x m.span) y.done e.Q t) (λ g t1. Faults g t1)) (λ g. Faults g t)
+abbrev pub commit_closes : Writes → List Action → Completion ThreadState (TxRun × Writes) → Completion ThreadState Value
+commit_closes writes sent c = faultless c (λ r t. meant (same_writes r.1 writes && same_actions r.0.state.done.sends sent) r.0.result (with_tx r.0 t))
 
 -- a refusal
-abbrev pub refuse_means : Setting → Mark → Tree → List Value → SeenEvent → ThreadState → Completion ThreadState Value
-refuse_means x m body env e t =
-    let d = transacting x m body env in
-    over t (d.on e.R) (λ v y. faultless (final_writes (at_end x m.span) y.done e.Q t) (λ ws t1. Faults (fault_at AgentFailed m.span) (with_tx (run_of d v y) t1))) (λ g. Invalid)
+abbrev pub refuse_closes : Span → Completion ThreadState (TxRun × Writes) → Completion ThreadState Value
+refuse_closes span c = faultless c (λ r t. Faults (fault_at AgentFailed span) (with_tx r.0 t))
+
+-- what the event makes of the run
+abbrev pub closes : EventKind → Span → Completion ThreadState (TxRun × Writes) → Completion ThreadState Value
+closes (Committed at view writes sent) span c = commit_closes writes sent c
+closes (Failing at view) span c = faulted c (λ g t. Faults g t)
+closes (Refusing at view agent) span c = refuse_closes span c
+closes _ span c = Invalid
+
+-- why there is no value at the event, where the body or a commute stops so
+abbrev pub end_stop : EventKind → ThreadStop → ThreadStop
+end_stop (Committed at view writes sent) y = stop_without_fault y
+end_stop (Failing at view) y = y
+end_stop (Refusing at view agent) y = stop_without_fault y
+end_stop _ y = OtherEvent
+
+-- whether the event is a refusal
+abbrev pub is_refusal : EventKind → Bool
+is_refusal (Refusing at view agent) = true
+is_refusal _ = false
+
+-- whether the event is a commit with these final writes and sends
+abbrev pub commits : EventKind → Writes → List Action → Bool
+commits (Committed at view writes sent) last held = same_writes last writes && same_actions held sent
+commits _ last held = false
+
+-- a run, where the body gave a value
+abbrev pub run_as : (Value → Transacted) → Result Value ThreadStop → Result Transacted ThreadStop
+run_as f (Ok v) = Ok (f v)
+run_as f (Err y) = Err y
 
 -- a body that gives no value on a world
 abbrev pub BodyStops : ThreadStop → Completion TxState Value → Type 0
@@ -509,6 +541,15 @@ TellsTx (Ok m) _ = ⊥
 TellsTx (Err FullMemory) c = ⊤
 TellsTx (Err FewTurns) (OutOfTurns t) = ⊤
 TellsTx (Err y) c = ⊥
+
+-- nothing is waited for, and nothing is wrong
+abbrev pub Waitless : {A : Type 0} → Result A ThreadStop → Type 0
+Waitless (Ok v) = Unit {0}
+Waitless (Err (Fault f)) = Unit {0}
+Waitless (Err NoEvent) = ⊥
+Waitless (Err OtherEvent) = ⊥
+Waitless (Err NoTurns) = Unit {0}
+Waitless (Err Memory) = Unit {0}
 
 -- ---- a pure callee
 

@@ -1,23 +1,26 @@
 //! The meaning of nodes, by plain recursion: outside every transaction on a thread's events, and in one on one world.
 
 ghost use Rattle.std.specs.Prelude.{true, false, ◌≡◌, ◌≤◌, ◌-◌, ◌+◌, ◌++◌, ◌∷◌, [], suc, Bool, length, take, drop, None, Some, IsTrue, IfOk, OnOk, MatchResult};
-ghost use Rattle.txs_frame.specs.Frame.{commutes_of};
+ghost use Rattle.txs_frame.specs.Frame.{commuted, phase_work, set_writes};
 ghost use Rattle.txs_operations.specs.Core.{core, takes, vector_of, is_false as is_false_value};
-ghost use Rattle.txs_eval.specs.Evaluated.{Told, ToldOf, Gives, Steps, Yields, GivesAll, Ready, ReadyIn, Finishes, RefCell, Runs, SoundCommutes, means, all_mean, do_means, if_means, let_means, locals_mean, loop_means, turns_mean, call_means, finish_means, strict_means, form_means, act_means, inside_means, outside_means, alter_means, commute_means, swap_means, applied, dosync_means, eat_means, end_means, commit_means, settle_means, ComesTo, fail_means, refuse_means, body_means, final_means, redone_means, step_of, swapped_to, no_value, thread_state, tx_state, tx_run};
+ghost use Rattle.txs_eval.specs.Evaluated.{Told, ToldOf, Gives, Steps, Yields, GivesAll, Ready, ReadyIn, Finishes, RefCell, Runs, SoundCommutes, means, all_mean, do_means, if_means, let_means, locals_mean, loop_means, turns_mean, call_means, finish_means, strict_means, form_means, act_means, inside_means, outside_means, alter_means, commute_means, swap_means, applied, dosync_means, eat_means, end_means, body_means, final_means, redone_means, step_of, swapped_to, no_value, run_as, thread_state, tx_state, tx_run};
 ghost use Rattle.txs_eval.specs.declared.evaluate.Step.TheVariants.{Value as AValue};
 ghost use Rattle.txs_eval.specs.declared.stop.ThreadStop.TheVariants.{Memory};
 ghost use Rattle.txs_tree.specs.Meaning.{result_of};
 ghost use Rattle.txs_eval.specs.Setting.{callable, zone_in};
 ghost use Rattle.txs_tree.specs.Sound.{InSomeTail, SoundCall, SoundCallee, SoundTree, SoundAll, SoundDo, SoundLet, in_thread, in_dosync};
+ghost use Rattle.txs_tree.specs.Transaction.{valued as first_values, merged};
 ghost use Rattle.txs_tree.specs.Tree.{count};
 ghost use Rattle.txs_tree.specs.View.{tree_of, trees_of, mark_of};
 ghost use Rattle.txs_eval.specs.Events.{seen_event};
 ghost use Rattle.txs_eval.specs.Views.{plain_view, world_of};
 ghost use Rattle.txs_value.specs.Limits.{reruns};
 ghost use Rattle.txs_value.specs.Printed.{printed_line};
+ghost use Rattle.txs_value.specs.declared.value.Value.TheVariants.{Nil};
 
+use crate::closing::{close, end_stop, end_view};
 use crate::context::Context;
-use crate::same::{same_commit, same_value};
+use crate::same::same_value;
 use crate::seen::Seen;
 use crate::shape::{Act, Shape, Strict, shape_of};
 use crate::state::{Progress, State, Transacted, TxWork};
@@ -27,12 +30,11 @@ use crate::view::RefView;
 use crate::work::take_cell;
 use crate::writes::{merge, put_write, value_in, valued};
 use std::alloc::{AllocError, Global};
-use txs_asks::EventKind;
 use txs_frame::{Commute, TxFrame};
 use txs_operations::{apply, is_false, make_vector};
 use txs_tree::Node;
 use txs_value::{
-    Action, Callee, CellForm, CellId, Fault, FaultKind, Listed, LookForm, Op, PutForm, Span, Stop,
+    Callee, CellForm, CellId, Fault, FaultKind, Listed, LookForm, Op, PutForm, Span, Stop,
     UpdateForm, Value, copy_value, write_line,
 };
 
@@ -123,12 +125,12 @@ fn no_value(given: Result<Value, ThreadStop>) -> Result<Value, ThreadStop>
     }
 }
 
-/// Appends the line of these values.
-fn print_line(values: Vec<Value>, printed: &mut Vec<u8>) -> Result<(), AllocError>
-    ensures { OnOk result (printed.new.items ≡ printed.old.items ++ printed_line values.items) }
+/// Appends the line of these values, and gives nil.
+fn print_line(values: Vec<Value>, printed: &mut Vec<u8>) -> Result<Value, ThreadStop>
+    ensures { MatchResult result (λ v. (v ≡ Nil) × (printed.new.items ≡ printed.old.items ++ printed_line values.items)) (λ y. y ≡ Memory) }
 {
     write_line(values.as_slice(), printed)?;
-    Ok(())
+    Ok(Value::Nil)
 }
 
 /// Puts the values in the place of the locals from there on.
@@ -139,15 +141,23 @@ fn rebind(locals: &mut Vec<Value>, from: usize, mut values: Vec<Value>) -> Resul
     locals.append(&mut values)
 }
 
+/// Appends the same values.
+fn push_copies(values: &mut Vec<Value>, others: &[Value]) -> Result<(), AllocError>
+    ensures { OnOk result (values.new.items ≡ values.old.items ++ others.now) }
+{
+    for other in others {
+        values.push(copy_value(other)?)?;
+    }
+    Ok(())
+}
+
 /// The same values behind a first one.
 fn with_first(alloc: Global, first: Value, others: &[Value]) -> Result<Vec<Value>, AllocError>
     ensures { IfOk result (λ vs. vs.items ≡ first ∷ others.now) }
 {
-    let mut values = Vec::with_capacity(alloc, 1)?;
+    let mut values = Vec::new(alloc);
     values.push(first)?;
-    for other in others {
-        values.push(copy_value(other)?)?;
-    }
+    push_copies(&mut values, others)?;
     Ok(values)
 }
 
@@ -156,30 +166,54 @@ pub(crate) fn copy_locals(alloc: Global, values: &[Value]) -> Result<Vec<Value>,
     ensures { IfOk result (λ copies. copies.items ≡ values.now) }
 {
     let mut copies = Vec::with_capacity(alloc, values.len())?;
-    for value in values {
-        copies.push(copy_value(value)?)?;
-    }
+    push_copies(&mut copies, values)?;
     Ok(copies)
 }
 
-/// A transaction that came to its end with this result, where it did this work.
+/// A transaction whose body gave this with these locals, where it did this work.
 fn ran<'a>(
-    alloc: Global,
     dosync: Dosync<'a>,
-    locals: &[Value],
-    value: Value,
+    locals: Vec<Value>,
+    given: Result<Value, ThreadStop>,
     work: TxWork,
 ) -> Result<Transacted<'a>, ThreadStop>
-    ensures { MatchResult result (λ run. run ≡ record { body = dosync.entry.body; locals = locals.now; wanted = dosync.entry.wanted; result = value; work = work }) (λ y. y ≡ Memory) }
+    ensures { result ≡ run_as (λ v. record { body = dosync.entry.body; locals = locals.items; wanted = dosync.entry.wanted; result = v; work = work }) given }
 {
-    let copies = copy_locals(alloc, locals)?;
-    Ok(Transacted {
-        body: dosync.body,
-        locals: Listed::from_vec(copies),
-        wanted: dosync.wanted,
-        result: value,
-        work,
-    })
+    match given {
+        Ok(value) => Ok(Transacted {
+            body: dosync.body,
+            locals: Listed::from_vec(locals),
+            wanted: dosync.wanted,
+            result: value,
+            work,
+        }),
+        Err(stop) => Err(stop),
+    }
+}
+
+/// What is done before the commutes: those of them in turn, and the values that their refs have in the world.
+fn commuting(
+    alloc: Global,
+    done: &TxFrame,
+    world: &RefView<'_>,
+) -> Result<(Vec<Commute>, Vec<(CellId, Value)>), AllocError>
+    ensures { IfOk result (λ p. (p.0.items ≡ phase_work done.now) × (p.1.items ≡ first_values (commuted done.now) (world_of (plain_view world.now)))) }
+{
+    let commuted = done.commuted()?;
+    let writes = valued(alloc, commuted.as_slice(), world)?;
+    Ok((done.phase_work()?, writes))
+}
+
+/// The values that were set, and these behind them.
+fn with_sets(
+    done: &TxFrame,
+    writes: Vec<(CellId, Value)>,
+) -> Result<Vec<(CellId, Value)>, ThreadStop>
+    ensures { MatchResult result (λ last. last.items ≡ merged (set_writes done.now) writes.items) (λ y. y ≡ Memory) }
+{
+    let mut last = done.writes()?;
+    merge(&mut last, writes.as_slice())?;
+    Ok(last)
 }
 
 /// The node's value with these locals.
@@ -299,13 +333,10 @@ fn finish<'a>(
 {
     match strict {
         Strict::Recur => Ok(Step::Recur(values)),
-        Strict::Core(op) => Ok(Step::Value(operate(alloc, op, values, span)?)),
-        Strict::Call(function) => Ok(Step::Value(call(alloc, context, function, values, state)?)),
-        Strict::Vector => Ok(Step::Value(collect(alloc, values, span)?)),
-        Strict::Println => {
-            print_line(values, &mut state.thread.printed)?;
-            Ok(Step::Value(Value::Nil))
-        }
+        Strict::Core(op) => as_step(operate(alloc, op, values, span)),
+        Strict::Call(function) => as_step(call(alloc, context, function, values, state)),
+        Strict::Vector => as_step(collect(alloc, values, span)),
+        Strict::Println => as_step(print_line(values, &mut state.thread.printed)),
     }
 }
 
@@ -350,7 +381,7 @@ fn evaluate_do<'a>(
         unreachable!()
     };
     for node in before {
-        evaluate(alloc, context, node, locals, state)?;
+        drop(evaluate(alloc, context, node, locals, state)?);
     }
     evaluate_tail(alloc, context, last, locals, state)
 }
@@ -609,11 +640,9 @@ fn evaluate_dosync<'a>(
     ensures kept { OnOk result (locals.new.items ≡ locals.old.items) }
 {
     if context.world().is_some() {
-        let value = evaluate(alloc, context, dosync.body, locals, state)?;
-        return Ok(Step::Value(value));
+        return as_step(evaluate(alloc, context, dosync.body, locals, state));
     }
-    let value = eat_dosync(alloc, context, dosync, locals, &mut state.thread)?;
-    Ok(Step::Value(value))
+    as_step(eat_dosync(alloc, context, dosync, locals, &mut state.thread))
 }
 
 /// A transaction eats retries, and then the event of its end.
@@ -657,152 +686,19 @@ fn end_dosync<'a>(
         (end_means context.now (mark_of dosync.entry.span dosync.entry.wanted) (tree_of dosync.entry.body.now) locals.old.items (seen_event event.now) (thread_state thread.old)) }
     ensures kept { OnOk result (locals.new.items ≡ locals.old.items) }
 {
-    match event.kind {
-        EventKind::Commit { writes, sends, .. } => {
-            commit(
-                alloc,
-                context,
-                dosync,
-                event,
-                writes.as_slice(),
-                sends.as_slice(),
-                locals,
-                thread,
-            )
-        }
-        EventKind::Fail { .. } => fail(alloc, context, dosync, event, locals, thread),
-        EventKind::Refused { .. } => refuse(alloc, context, dosync, event, locals, thread),
-        _ => Err(ThreadStop::Wrong),
-    }
-}
-
-/// A commit: neither the body nor a commute faults, and the writes and sends are those of the event.
-#[cycle(evaluate)]
-fn commit<'a>(
-    alloc: Global,
-    context: &Context<'a>,
-    dosync: Dosync<'a>,
-    event: &'a Seen<'a>,
-    writes: &'a [(CellId, Value)],
-    sends: &'a [Action],
-    locals: &mut Vec<Value>,
-    thread: &mut Progress<'a>,
-) -> Result<Value, ThreadStop>
-    requires { SoundTree (callable context.now) in_dosync (length locals.old.items) None (tree_of dosync.body.now) }
-    ensures value { Gives false result (thread_state thread.new)
-        (commit_means context.now (mark_of dosync.entry.span dosync.entry.wanted) (tree_of dosync.entry.body.now) locals.old.items (seen_event event.now) writes.now sends.now (thread_state thread.old)) }
-    ensures kept { OnOk result (locals.new.items ≡ locals.old.items) }
-{
-    match run_body(alloc, context, dosync, event.start, locals) {
-        Ok(run) => settle(
-            alloc,
-            context,
-            run,
-            event,
-            writes,
-            sends,
-            dosync.span,
-            thread,
-        ),
-        Err(stop) => Err(stop.without_fault()),
-    }
-}
-
-/// A commit whose body ran so: no commute faults, and the writes and sends are those of the event.
-#[cycle(evaluate)]
-fn settle<'a>(
-    alloc: Global,
-    context: &Context<'a>,
-    run: Transacted<'a>,
-    event: &'a Seen<'a>,
-    writes: &'a [(CellId, Value)],
-    sends: &'a [Action],
-    span: Span,
-    thread: &mut Progress<'a>,
-) -> Result<Value, ThreadStop>
-    requires { SoundCommutes (callable context.now) run.work.done.commutes }
-    ensures { Gives false result (thread_state thread.new)
-        (settle_means context.now span (tx_run run.entry) (seen_event event.now) writes.now sends.now (thread_state thread.old)) }
-{
     context.is_sound();
-    let done = &run.work.done;
-    match is_commit(alloc, context, done, &event.here, writes, sends, span) {
-        Ok(true) => thread.note(run),
-        Ok(false) => Err(ThreadStop::Wrong),
-        Err(stop) => Err(stop.without_fault()),
-    }
-}
-
-/// Whether what was done comes to these writes and sends on a world.
-#[cycle(evaluate)]
-fn is_commit<'a>(
-    alloc: Global,
-    context: &Context<'a>,
-    done: &TxFrame,
-    world: &RefView<'a>,
-    writes: &'a [(CellId, Value)],
-    sends: &'a [Action],
-    span: Span,
-) -> Result<bool, ThreadStop>
-    requires { SoundCommutes (callable context.now) done.now.commutes }
-    ensures { ComesTo result (final_means context.now done.now (plain_view world.now) span) done.now writes.now sends.now }
-{
-    let last = final_writes(alloc, context, done, *world, span)?;
-    Ok(same_commit(last.as_slice(), done.sends(), writes, sends))
-}
-
-/// A failure: the body's fault, else the first one of the commutes on the world that was viewed.
-#[cycle(evaluate)]
-fn fail<'a>(
-    alloc: Global,
-    context: &Context<'a>,
-    dosync: Dosync<'a>,
-    event: &'a Seen<'a>,
-    locals: &mut Vec<Value>,
-    thread: &mut Progress<'a>,
-) -> Result<Value, ThreadStop>
-    requires { SoundTree (callable context.now) in_dosync (length locals.old.items) None (tree_of dosync.body.now) }
-    ensures value { Gives false result (thread_state thread.new)
-        (fail_means context.now (mark_of dosync.entry.span dosync.entry.wanted) (tree_of dosync.entry.body.now) locals.old.items (seen_event event.now) (thread_state thread.old)) }
-    ensures kept { OnOk result (locals.new.items ≡ locals.old.items) }
-{
-    context.is_sound();
-    let run = run_body(alloc, context, dosync, event.start, locals)?;
-    match final_writes(alloc, context, &run.work.done, event.view, dosync.span) {
-        Ok(_) => Err(ThreadStop::Wrong),
-        Err(stop) => Err(stop),
-    }
-}
-
-/// A refusal: neither the body nor a commute faults, and the agent of a held send has failed.
-#[cycle(evaluate)]
-fn refuse<'a>(
-    alloc: Global,
-    context: &Context<'a>,
-    dosync: Dosync<'a>,
-    event: &'a Seen<'a>,
-    locals: &mut Vec<Value>,
-    thread: &mut Progress<'a>,
-) -> Result<Value, ThreadStop>
-    requires { SoundTree (callable context.now) in_dosync (length locals.old.items) None (tree_of dosync.body.now) }
-    ensures value { Gives false result (thread_state thread.new)
-        (refuse_means context.now (mark_of dosync.entry.span dosync.entry.wanted) (tree_of dosync.entry.body.now) locals.old.items (seen_event event.now) (thread_state thread.old)) }
-    ensures kept { OnOk result (locals.new.items ≡ locals.old.items) }
-{
+    let world = match end_view(event) {
+        Some(world) => world,
+        None => return Err(ThreadStop::Wrong),
+    };
     let run = match run_body(alloc, context, dosync, event.start, locals) {
         Ok(run) => run,
-        Err(stop) => return Err(stop.without_fault()),
+        Err(stop) => return Err(end_stop(event.kind, stop)),
     };
-    context.is_sound();
-    let done = &run.work.done;
-    if let Err(stop) = final_writes(alloc, context, done, event.view, dosync.span) {
-        return Err(stop.without_fault());
+    match final_writes(alloc, context, &run.work.done, world, dosync.span) {
+        Ok(last) => close(event.kind, run, last, dosync.span, thread),
+        Err(stop) => Err(end_stop(event.kind, stop)),
     }
-    thread.txs.push(run)?;
-    Err(ThreadStop::Fault(Fault {
-        kind: FaultKind::AgentFailed,
-        span: dosync.span,
-    }))
 }
 
 /// The body of a dosync on a world, as if it ran alone.
@@ -821,9 +717,10 @@ fn run_body<'a>(
 {
     context.is_sound();
     let inner = context.on(world);
+    let copies = copy_locals(alloc, locals.as_slice())?;
     let mut state = State::new(alloc, &[]);
-    let result = evaluate(alloc, &inner, dosync.body, locals, &mut state)?;
-    ran(alloc, dosync, locals.as_slice(), result, state.tx)
+    let given = evaluate(alloc, &inner, dosync.body, locals, &mut state);
+    ran(dosync, copies, given, state.tx)
 }
 
 /// The final writes: each ref that was set has its value, each other commuted ref what its commutes make of the world.
@@ -838,33 +735,25 @@ fn final_writes<'a>(
     requires { SoundCommutes (callable context.now) done.now.commutes }
     ensures { ToldOf (λ ws. ws.items) result (final_means context.now done.now (plain_view world.entry) span) }
 {
-    let commuted = done.commuted()?;
-    let mut writes = valued(alloc, commuted.as_slice(), &world)?;
-    for cell in commuted.as_slice() {
-        redo(alloc, context, done.commutes(), cell, &mut writes, span)?;
-    }
-    let mut last = done.writes()?;
-    merge(&mut last, writes.as_slice())?;
-    Ok(last)
+    let (work, mut writes) = commuting(alloc, done, &world)?;
+    redo(alloc, context, work.as_slice(), &mut writes, span)?;
+    with_sets(done, writes)
 }
 
-/// The commutes of one ref in turn, each of which makes the ref's value anew.
+/// Commutes in turn, each of which makes its ref's value anew.
 #[cycle(evaluate)]
 fn redo<'a>(
     alloc: Global,
     context: &Context<'a>,
     commutes: &[Commute],
-    cell: &CellId,
     writes: &mut Vec<(CellId, Value)>,
     span: Span,
 ) -> Result<(), ThreadStop>
     requires { SoundCommutes (callable context.now) commutes.now }
-    ensures { ToldOf (λ _. writes.new.items) result (redone_means context.now span (commutes_of cell.now.number commutes.now) writes.old.items) }
+    ensures { ToldOf (λ _. writes.new.items) result (redone_means context.now span commutes.now writes.old.items) }
 {
     for commute in commutes {
-        if commute.cell.number == cell.number {
-            redo_one(alloc, context, commute, writes, span)?;
-        }
+        redo_one(alloc, context, commute, writes, span)?;
     }
     Ok(())
 }
@@ -928,9 +817,9 @@ fn evaluate_let<'a>(
 {
     let before = locals.len();
     bind_locals(alloc, context, nodes, locals, state)?;
-    let step = evaluate_tail(alloc, context, body, locals, state)?;
+    let given = evaluate_tail(alloc, context, body, locals, state);
     locals.truncate(before);
-    Ok(step)
+    given
 }
 
 /// What the body gives in the last of its turns, of which the first has the nodes' values as further locals.
@@ -951,9 +840,9 @@ fn evaluate_loop<'a>(
 {
     let before = locals.len();
     bind_locals(alloc, context, nodes, locals, state)?;
-    let value = run_turns(alloc, context, body, before, locals, state)?;
+    let given = run_turns(alloc, context, body, before, locals, state);
     locals.truncate(before);
-    Ok(Step::Value(value))
+    as_step(given)
 }
 
 /// The turns of a body, whose own locals are those from `before` on: what it gives in the last one.

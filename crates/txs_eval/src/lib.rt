@@ -4,6 +4,7 @@
 //! `eval_pure` the pure meaning of a callee.
 #![tactic(auto)]
 
+mod closing;
 mod context;
 mod evaluate;
 pub mod meaning;

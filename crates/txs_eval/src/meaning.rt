@@ -42,13 +42,20 @@ pub struct ThreadMeaning {
     pub txs: Listed<TxMeaning>,
 }
 
+/// What is told of a transaction.
+fn told_one(run: Transacted<'_>) -> TxMeaning
+    ensures { result ≡ told_run run.entry }
+{
+    meaning_of(Ok(run.result), run.work)
+}
+
 /// What is told of these transactions.
 fn told(alloc: Global, runs: Vec<Transacted<'_>>) -> Result<Listed<TxMeaning>, AllocError>
     ensures { IfOk result (λ txs. txs ≡ map told_run runs.entry.items) }
 {
     let mut txs = Vec::with_capacity(alloc, runs.len())?;
     for run in runs {
-        txs.push(meaning_of(Ok(run.result), run.work))?;
+        txs.push(told_one(run))?;
     }
     Ok(Listed::from_vec(txs))
 }

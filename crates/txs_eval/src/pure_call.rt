@@ -1,9 +1,9 @@
 //! What a pure callee means.
 
 ghost use Rattle.std.specs.Prelude.{◌≡◌, ◌≤◌, ℕ, List, IfOk, length, true};
-ghost use Rattle.txs_eval.specs.Evaluated.{PureGives};
+ghost use Rattle.txs_eval.specs.Evaluated.{PureGives, Told, Waitless};
 ghost use Rattle.txs_tree.specs.Known.{known};
-ghost use Rattle.txs_tree.specs.Meaning.{result_of};
+ghost use Rattle.txs_tree.specs.Meaning.{Completion, result_of};
 ghost use Rattle.txs_tree.specs.Pure.{PureCallee, Lasts, pure_meaning, nowhere};
 ghost use Rattle.txs_tree.specs.Sound.{PureCall};
 ghost use Rattle.txs_tree.specs.Tree.{PlainFunction};
@@ -113,7 +113,16 @@ fn call_function(
     let context = Context::new(program.cells(), program.functions(), turns, Some(nowhere));
     let locals = copy_locals(alloc, values)?;
     let mut state = State::new(alloc, &[]);
-    match call(alloc, &context, number, locals, &mut state) {
+    let given = call(alloc, &context, number, locals, &mut state);
+    answer(given)
+}
+
+/// What is told of a call that met no event.
+fn answer(given: Result<Value, ThreadStop>) -> Result<Value, EvalStop>
+    requires { Waitless given }
+    ensures { (c : Completion (Unit {0}) AnyValue) → Told given c → PureGives result c }
+{
+    match given {
         Ok(value) => Ok(value),
         Err(ThreadStop::Fault(fault)) => Err(EvalStop::Fault(fault)),
         Err(ThreadStop::Event | ThreadStop::Wrong) => unreachable!(),

@@ -1,12 +1,14 @@
 //! What a transaction means on one world of refs.
 
-ghost use Rattle.std.specs.Prelude.{◌≡◌, length, IfOk, None};
-ghost use Rattle.txs_eval.specs.Evaluated.{TellsTx};
+ghost use Rattle.std.specs.Prelude.{◌≡◌, length, IfOk, None, true};
+ghost use Rattle.txs_eval.specs.Evaluated.{Gives, TellsTx, Waitless, tx_state};
 ghost use Rattle.txs_tree.specs.Known.{known};
 ghost use Rattle.txs_tree.specs.Sound.{SoundTree, in_dosync};
-ghost use Rattle.txs_tree.specs.Transaction.{tx_meaning};
+ghost use Rattle.txs_tree.specs.Meaning.{Completion};
+ghost use Rattle.txs_tree.specs.Transaction.{TxState, tx_meaning};
 ghost use Rattle.txs_tree.specs.View.{functions_of, tree_of};
 ghost use Rattle.txs_eval.specs.Views.{plain_view, world_of};
+ghost use Rattle.txs_value.specs.declared.value.Value.{Value as AnyValue};
 
 use crate::context::Context;
 use crate::evaluate::{copy_locals, evaluate};
@@ -59,11 +61,23 @@ pub fn eval_tx<'a>(
     let context = Context::new(program.cells(), program.functions(), turns, Some(world));
     let mut locals = copy_locals(alloc, values)?;
     let mut state = State::new(alloc, &[]);
-    match evaluate(alloc, &context, node, &mut locals, &mut state) {
-        Ok(value) => Ok(meaning_of(Ok(value), state.tx)),
-        Err(ThreadStop::Fault(fault)) => Ok(meaning_of(Err(fault), state.tx)),
-        Err(ThreadStop::Turns) => Err(EvalStop::Turns),
-        Err(ThreadStop::Memory) => Err(EvalStop::Memory),
-        Err(ThreadStop::Event | ThreadStop::Wrong) => unreachable!(),
+    let gave = evaluate(alloc, &context, node, &mut locals, &mut state);
+    tell_tx(gave, state.tx)
+}
+
+/// What is told of a body that met no event, and gave this and did this work.
+fn tell_tx(gave: Result<Value, ThreadStop>, work: TxWork) -> Result<TxMeaning, EvalStop>
+    requires { Waitless gave }
+    ensures { (c : Completion TxState AnyValue) → Gives true gave (tx_state work) c → TellsTx result c }
+{
+    let stop = match gave {
+        Ok(value) => return Ok(meaning_of(Ok(value), work)),
+        Err(stop) => stop,
+    };
+    match stop {
+        ThreadStop::Fault(fault) => Ok(meaning_of(Err(fault), work)),
+        ThreadStop::Turns => Err(EvalStop::Turns),
+        ThreadStop::Memory => Err(EvalStop::Memory),
+        ThreadStop::Event | ThreadStop::Wrong => unreachable!(),
     }
 }

@@ -1,6 +1,6 @@
 //! Nodes of what is resolved: of forms without parts, and of special forms by the nodes of their parts.
 
-ghost use Rattle.std.specs.Prelude.{◌≡◌, ◌<◌, ◌≤◌, ◌+◌, ◌-◌, [], ◌∷◌, ◌++◌, List, false, length, map, Ok, IfOk, IfSome, OnOk};
+ghost use Rattle.std.specs.Prelude.{◌≡◌, ◌<◌, ◌≤◌, ◌+◌, ◌-◌, [], ◌∷◌, ◌++◌, List, false, true, is_some, length, map, Ok, IfOk, IfSome, OnOk};
 ghost use Rattle.txs_expand.specs.Expressions.{change_node, choice_node, single_node, leaf_node, binding_node, sequence_node, spot_mark, symbol_node};
 ghost use Rattle.txs_nodes.specs.Given.{row, IsBehind, Pushes, Puts, Shows};
 ghost use Rattle.txs_nodes.specs.Made.{couple_node, simple_tree, with_room, IsMade, IsSimple, Makes};
@@ -41,9 +41,10 @@ impl Nodes {
         }
     }
 
-    /// The only node, unless it is lost.
+    /// The only node. None where nodes are lost, or where there is none.
     pub fn into_one(self) -> Option<Node>
-        ensures { IfSome result (λ n. (t : Tree) → Shows self (t ∷ []) → tree_of n ≡ t) }
+        ensures node { IfSome result (λ n. (t : Tree) → Shows self (t ∷ []) → tree_of n ≡ t) }
+        ensures stays { self.lost ≡ false → 0 < length self.items.items → is_some result ≡ true }
     {
         if self.lost {
             return None;

@@ -1,4 +1,5 @@
 pub mod Adds
+pub mod Asked
 pub mod Callees
 pub mod Gather
 pub mod Goes

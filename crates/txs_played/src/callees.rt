@@ -1,7 +1,7 @@
 //! Which functions an action may call.
 
 ghost use Rattle.std.specs.Prelude.{◌≡◌, ◌<◌, ◌↔◌, ℕ, suc, true, length, Some, IsTrue, IfOk, OnOk};
-ghost use Rattle.txs_code.specs.PlainCode.{parameters_of};
+ghost use Rattle.txs_code.specs.PlainCode.{CodeBody, parameters_of};
 ghost use Rattle.txs_played.specs.Callees.{AreCallees, HandsOutSent, IsBodyOf, IsCallee, IsSentAmong, IsSentAt, IsSentIn, MarksMore, SendWithin, TakesSent, sent_by};
 ghost use Rattle.txs_value.specs.Places.{nth};
 ghost use Rattle.txs_verify.specs.Marks.{mark_at};
@@ -83,26 +83,18 @@ fn mark_body(
     Ok(())
 }
 
-/// Marks the functions that the bodies of functions send.
-fn mark_functions(alloc: Global, code: &Verified, marks: &mut Vec<bool>) -> Result<(), AllocError>
+/// Marks the functions that these bodies of the code send.
+fn mark_bodies(
+    alloc: Global,
+    code: &Verified,
+    bodies: &[Body],
+    marks: &mut Vec<bool>,
+) -> Result<(), AllocError>
+    requires of { (k : ℕ) (b : CodeBody) → nth bodies.now k ≡ Some b → IsBodyOf code.now b }
     requires many { length marks.old.items ≡ length code.now.functions }
     ensures many { length marks.new.items ≡ length marks.old.items }
-    ensures more { OnOk result (MarksMore (IsSentAmong code.now code.now.functions (length code.now.functions)) marks.old.items marks.new.items) }
+    ensures more { OnOk result (MarksMore (IsSentAmong code.now bodies.now (length bodies.now)) marks.old.items marks.new.items) }
 {
-    let bodies = code.code().functions();
-    for f in 0..bodies.len() {
-        mark_body(alloc, code, &bodies[f], marks)?;
-    }
-    Ok(())
-}
-
-/// Marks the functions that the bodies of threads send.
-fn mark_threads(alloc: Global, code: &Verified, marks: &mut Vec<bool>) -> Result<(), AllocError>
-    requires many { length marks.old.items ≡ length code.now.functions }
-    ensures many { length marks.new.items ≡ length marks.old.items }
-    ensures more { OnOk result (MarksMore (IsSentAmong code.now code.now.threads (length code.now.threads)) marks.old.items marks.new.items) }
-{
-    let bodies = code.code().threads();
     for k in 0..bodies.len() {
         mark_body(alloc, code, &bodies[k], marks)?;
     }
@@ -118,9 +110,11 @@ pub fn sent_functions(alloc: Global, code: &Verified) -> Result<Vec<bool>, Alloc
     ensures one_each { IfOk result (λ marks. length marks.items ≡ length code.now.functions) }
     ensures callees { IfOk result (λ marks. AreCallees code.now marks.items) }
 {
-    let mut marks = vec![in alloc; false; code.code().functions().len()]?;
-    mark_functions(alloc, code, &mut marks)?;
-    mark_threads(alloc, code, &mut marks)?;
+    let functions = code.code().functions();
+    let threads = code.code().threads();
+    let mut marks = vec![in alloc; false; functions.len()]?;
+    mark_bodies(alloc, code, functions, &mut marks)?;
+    mark_bodies(alloc, code, threads, &mut marks)?;
     Ok(marks)
 }
 

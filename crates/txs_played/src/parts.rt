@@ -8,6 +8,7 @@ ghost use Rattle.txs_machine.specs.Schedule.{IsExplainedBy};
 ghost use Rattle.txs_played.specs.Adds.{adds_event, kept_trace, IsNotedBehind};
 ghost use Rattle.txs_played.specs.Gather.{StoppedSo, IsPlayer, AreWhole, ArePlayed, ArePlayers, IsMadeFor, kept_by, Agrees, IsReportOf, AreReportsOf, AllHaveDone, AllHaveAttended};
 ghost use Rattle.txs_machine.specs.declared.run_error.RunError.TheVariants.{JournalMismatch, Memory};
+ghost use Rattle.txs_replay.specs.Replay.{AreReplayed};
 ghost use Rattle.txs_shared.specs.SharedState.{shared_of};
 
 use crate::played::Played;
@@ -236,6 +237,86 @@ fn take_kept(alloc: Global, played: Vec<Played<'_>>) -> Result<Vec<KeptEntries>,
     Ok(kept)
 }
 
+/// Whether they are the actors of a run over what is shared: one for each thread and behind these one for each agent, each made with this code and for
+/// `max_steps` steps, and each with all that it should have kept.
+///
+/// # Errors
+/// `Memory` where one of them lost something; `JournalMismatch` where they aren't.
+fn check_actors(
+    code: &Verified,
+    max_steps: u64,
+    shared: &SharedState,
+    played: &[Played<'_>],
+) -> Result<(), RunError>
+    ensures made { OnOk result (IsMadeFor code.now shared.now (length played.now)) }
+    ensures each { OnOk result (ArePlayers code.now max_steps shared.now 0 played.now) }
+    ensures played { OnOk result (ArePlayed played.now) }
+    ensures few { OnOk result (length played.now ≤ 65536) }
+    ensures differs { IfErr result (λ e. e ≡ JournalMismatch → IsMadeFor code.now shared.now (length played.now) → ArePlayers code.now max_steps shared.now 0 played.now → ⊥) }
+    ensures refusals { IfErr result (λ e. (e ≡ JournalMismatch) ⊎ (e ≡ Memory)) }
+{
+    if !are_whole(played) {
+        return Err(RunError::Memory);
+    }
+    if !is_made_for(code, shared, played.len()) {
+        return Err(RunError::JournalMismatch);
+    }
+    if !are_players(code, max_steps, shared, played) {
+        return Err(RunError::JournalMismatch);
+    }
+    Ok(())
+}
+
+/// Whether what they kept, `served` asks in all, is answered from the beginning as it was and leads to what is shared.
+///
+/// # Errors
+/// `JournalMismatch` where it isn't so; `Memory` where there was no memory to tell.
+fn check_kept(
+    alloc: Global,
+    shared: &SharedState,
+    served: u64,
+    played: Vec<Played<'_>>,
+) -> Result<(), RunError>
+    requires { length played.items ≤ 65536 }
+    ensures replayed { OnOk result (AreReplayed shared.now served (kept_by played.entry.items)) }
+    ensures differs { IfErr result (λ e. e ≡ JournalMismatch → AreReplayed shared.now served (kept_by played.entry.items) → ⊥) }
+    ensures refusals { IfErr result (λ e. (e ≡ JournalMismatch) ⊎ (e ≡ Memory)) }
+{
+    let kept = take_kept(alloc, played)?;
+    if !replays(alloc, shared, served, kept)? {
+        return Err(RunError::JournalMismatch);
+    }
+    Ok(())
+}
+
+/// The report of the actors of a run, where they agree with what is shared.
+///
+/// # Errors
+/// `JournalMismatch` where they don't agree; `Memory` where there was no memory, also of an actor that lost what it should have kept.
+#[tactic(auto, using(crate::proofs::Gathering::made_of))]
+fn compare(
+    alloc: Global,
+    code: &Verified,
+    max_steps: u64,
+    shared: &SharedState,
+    served: u64,
+    played: Vec<Played<'_>>,
+) -> Result<Report, RunError>
+    ensures agrees { IfOk result (λ r. Agrees code.now max_steps shared.now served played.entry.items) }
+    ensures played { IfOk result (λ r. ArePlayed played.entry.items) }
+    ensures threads { IfOk result (λ r. AreReportsOf shared.now (take shared.now.threads played.entry.items) r.threads.items) }
+    ensures agents { IfOk result (λ r. AreReportsOf shared.now (drop shared.now.threads played.entry.items) r.agents.items) }
+    ensures differs { IfErr result (λ e. e ≡ JournalMismatch → Agrees code.now max_steps shared.now served played.entry.items → ⊥) }
+    ensures refusals { IfErr result (λ e. (e ≡ JournalMismatch) ⊎ (e ≡ Memory)) }
+{
+    let actors = played.as_slice();
+    check_actors(code, max_steps, shared, actors)?;
+    let threads = usize::from(shared.threads());
+    let report = report_parts(alloc, shared, actors, threads)?;
+    check_kept(alloc, shared, served, played)?;
+    Ok(report)
+}
+
 /// The comparison of the actors of a run with what they share: they agree where there is one for each thread and behind these one for each agent, each
 /// was made with this code and for `max_steps` steps, and what they kept, `served` asks in all, is answered from the beginning as it was and leads to
 /// these books. Then the report is that of these actors: the books told each just what it kept, it is where its code comes to on that within its steps,
@@ -243,7 +324,6 @@ fn take_kept(alloc: Global, played: Vec<Played<'_>>) -> Result<Vec<KeptEntries>,
 ///
 /// # Errors
 /// `JournalMismatch` where they don't agree; `Memory` where there was no memory, also of an actor that lost what it should have kept.
-#[tactic(auto, using(crate::proofs::Gathering::made_of))]
 pub fn gather(
     alloc: Global,
     code: &Verified,
@@ -276,20 +356,6 @@ pub fn gather(
     unwritten_stays();
     let _rooms = code.rooms();
     let _stands = shared.events();
-    if !are_whole(played.as_slice()) {
-        return Err(RunError::Memory);
-    }
-    if !is_made_for(code, &shared, played.len()) {
-        return Err(RunError::JournalMismatch);
-    }
-    if !are_players(code, max_steps, &shared, played.as_slice()) {
-        return Err(RunError::JournalMismatch);
-    }
-    let threads = usize::from(shared.threads());
-    let report = report_parts(alloc, &shared, played.as_slice(), threads)?;
-    let kept = take_kept(alloc, played)?;
-    if !replays(alloc, &shared, served, kept)? {
-        return Err(RunError::JournalMismatch);
-    }
+    let report = compare(alloc, code, max_steps, &shared, served, played)?;
     Ok(Gathered { shared, report })
 }

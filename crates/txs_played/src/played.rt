@@ -1,12 +1,13 @@
 //! An actor with what it kept.
 
-ghost use Rattle.std.specs.Prelude.{◌≡◌, ◌≤◌, ◌<◌, ◌↔◌, [], length, map, true, false, Some, None, IsTrue, OnOk, IfOk};
+ghost use Rattle.std.specs.Prelude.{◌≡◌, ◌≤◌, ◌<◌, ◌↔◌, [], length, map, true, false, Some, None, IsTrue};
 ghost use Rattle.txs_actor.specs.PlainActor.{HandsOut, Lives, MayAnswerIf, answered, unanswered};
 ghost use Rattle.txs_actor.specs.Turns.{IsNew, Turns, TurnsOf};
 ghost use Rattle.txs_actor.specs.declared.outcome.Turn.TheVariants as turned;
 ghost use Rattle.txs_asks.specs.declared.ask.Ask.{Ask as AnAsk};
 ghost use Rattle.txs_asks.specs.declared.event.Outcome.{Outcome as AnOutcome};
 ghost use Rattle.txs_asks.specs.declared.event.Outcome.TheVariants as outcome;
+ghost use Rattle.txs_played.specs.Asked.{asked_after};
 ghost use Rattle.txs_played.specs.Callees.{AreCallees, HandsOutSent};
 ghost use Rattle.txs_played.specs.Gather.{HasFullBook};
 ghost use Rattle.txs_played.specs.Played.{PlainPlayed, HasPlayed, MayBeTold, new_player, kept_after, stopped_after, kept_of};
@@ -14,7 +15,7 @@ ghost use Rattle.txs_replay.specs.Replay.{entry_of};
 ghost use Rattle.txs_value.specs.Limits.{most_events};
 
 use crate::callees::hands_out;
-use std::alloc::{AllocError, Global};
+use std::alloc::Global;
 use std::marker::Model;
 use std::mem;
 use txs_actor::{Actor, Turn, actors_run, may_answer};
@@ -60,13 +61,26 @@ impl<'a> Model for Played<'a> {
     ghost invariant = { λ p. IsWell (record { code = p.code.now; actor = p.actor; kept = p.kept; stopped = p.stopped; lost = p.lost }) p.asked × AreCallees p.code.now p.callees.now × IsMadeWith p.limit p.actor };
 }
 
-/// A copy of an ask, where there is room to keep it.
-fn copy_kept(alloc: Global, kept: &mut KeptEntries, ask: &Ask) -> Result<Ask, AllocError>
+/// Where a turn asks, a copy of its ask, with room to keep it, is the ask that has no reply yet. False where there was no memory for that.
+fn note_ask(alloc: Global, kept: &mut KeptEntries, asked: &mut Option<Ask>, turn: &Turn) -> bool
     ensures same { kept.new ≡ kept.old }
-    ensures copy { IfOk result (λ q. q ≡ ask.now) }
+    ensures noted { IsTrue result → asked.new ≡ asked_after turn.now asked.old }
+    ensures lost { result ≡ false → asked.new ≡ asked.old }
 {
-    kept.reserve()?;
-    copy_ask(alloc, ask)
+    let ask = match turn {
+        Turn::Asks(ask) => ask,
+        Turn::Went | Turn::Ended(_) => return true,
+    };
+    let Ok(()) = kept.reserve() else {
+        return false;
+    };
+    match copy_ask(alloc, ask) {
+        Ok(copy) => {
+            drop(mem::replace(asked, Some(copy)));
+            true
+        }
+        Err(_) => false,
+    }
 }
 
 /// Whether a book of these events has as many as it may have.
@@ -77,8 +91,9 @@ fn is_full(events: &[Event]) -> bool
     events.len() >= MOST_EVENTS
 }
 
-/// Keeps an ask with a copy of its reply, or as the one at which the actor was stopped; one that has no action for an agent is put away.
-fn keep(
+/// Keeps an ask with a copy of its reply, or as the one at which the actor was stopped; one that has no action for an agent is put away. Whether it was lost,
+/// as there was no memory to keep it.
+fn keep_or_lose(
     alloc: Global,
     kept: &mut KeptEntries,
     stopped: &mut Option<Ask>,
@@ -86,25 +101,32 @@ fn keep(
     reply: &Reply,
     at: u32,
     number: u64,
-) -> Result<(), AllocError>
-    ensures kept { OnOk result (kept.new ≡ kept_after reply.now (kept_of ask reply.now at number) kept.old) }
-    ensures stopped { OnOk result (stopped.new ≡ stopped_after reply.now ask stopped.old) }
+) -> bool
+    ensures kept { result ≡ false → kept.new ≡ kept_after reply.now (kept_of ask reply.now at number) kept.old }
+    ensures stopped { result ≡ false → stopped.new ≡ stopped_after reply.now ask stopped.old }
 {
     if let Reply::Idle = reply {
         drop(ask);
-        return Ok(());
+        return false;
     }
     if !is_exchanged(reply) {
         drop(mem::replace(stopped, Some(ask)));
-        return Ok(());
+        return false;
     }
-    let copy = copy_reply(alloc, reply)?;
-    kept.push(Kept {
+    let Ok(copy) = copy_reply(alloc, reply) else {
+        drop(ask);
+        return true;
+    };
+    let entry = Kept {
         ask,
         reply: copy,
         at,
         number,
-    })
+    };
+    match kept.push(entry) {
+        Ok(()) => false,
+        Err(_) => true,
+    }
 }
 
 impl<'a> Played<'a> {
@@ -158,21 +180,13 @@ impl<'a> Played<'a> {
         if self.lost {
             return Turn::Ended(Outcome::Memory);
         }
-        match self.actor.run(self.code, budget) {
-            Turn::Went => Turn::Went,
-            Turn::Ended(outcome) => Turn::Ended(outcome),
-            Turn::Asks(ask) => match copy_kept(self.alloc, &mut self.kept, &ask) {
-                Ok(copy) => {
-                    drop(mem::replace(&mut self.asked, Some(copy)));
-                    Turn::Asks(ask)
-                }
-                Err(_) => {
-                    self.lost = true;
-                    drop(ask);
-                    Turn::Ended(Outcome::Memory)
-                }
-            },
+        let turn = self.actor.run(self.code, budget);
+        if note_ask(self.alloc, &mut self.kept, &mut self.asked, &turn) {
+            return turn;
         }
+        self.lost = true;
+        drop(turn);
+        Turn::Ended(Outcome::Memory)
     }
 
     /// A turn of the actor. Where it asks, and there is no memory to keep the ask, it has ended so from then on.
@@ -208,12 +222,13 @@ impl<'a> Played<'a> {
     {
         actors_run();
         if self.lost {
+            drop(reply);
             return;
         }
         let Some(ask) = self.asked.take() else {
             unreachable!();
         };
-        let keeping = keep(
+        self.lost = keep_or_lose(
             self.alloc,
             &mut self.kept,
             &mut self.stopped,
@@ -222,13 +237,7 @@ impl<'a> Played<'a> {
             at,
             number,
         );
-        match keeping {
-            Ok(()) => self.actor.answer(self.code, reply),
-            Err(_) => {
-                self.lost = true;
-                self.actor.answer(self.code, reply);
-            }
-        }
+        self.actor.answer(self.code, reply);
     }
 
     /// The number of its actor.
@@ -329,7 +338,16 @@ impl<'a> Played<'a> {
     pub fn into_kept(self) -> KeptEntries
         ensures { result ≡ self.entry.kept }
     {
-        let Played { kept, .. } = self;
+        let Played {
+            actor,
+            asked,
+            kept,
+            stopped,
+            ..
+        } = self;
+        drop(actor);
+        drop(asked);
+        drop(stopped);
         kept
     }
 }

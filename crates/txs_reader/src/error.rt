@@ -18,7 +18,7 @@ pub enum ReadErrorKind {
     Unclosed,
     /// A closing bracket that doesn't fit what is open.
     Unopened,
-    /// A word that isn't one of Clojure.
+    /// A word that reads as nothing in this language, though Clojure may read it: a symbol of letters beyond ASCII is one.
     BadToken,
     /// A whole number past the 64-bit range.
     NumberTooLarge,

@@ -1,5 +1,5 @@
 -- Beginnings of what is to be written to a stream.
-use Rattle.std.proofs.Common.{◌≡◌, ℕ, List, [], ◌++◌, Option, Result, Ok, Err, OnOk, OnErr, sym, ap, ◌∙◌, append_assoc}
+use Rattle.std.proofs.Common.{ℕ, List, [], ◌++◌, Option, Result, Ok, Err, OnOk, OnErr, sym, ap, ◌∙◌, append_assoc}
 use Rattle.std.proofs.KnownBytes.{Appends-trans, Appends-kept}
 use Rattle.std.specs.Io.KnownBytes.{Appends, Keeps}
 use Rattle.txs_disasm.proofs.SentLemmas.{Sent-all}
@@ -21,6 +21,17 @@ begun_more a b c all more p k = record {
     bytes = all ++ k.sent.bytes;
     got = Appends-trans a b c all k.sent.bytes p k.sent.got;
     whole = ap (λ (l : List ℕ). all ++ l) k.sent.whole ∙ sym (append_assoc all k.sent.bytes k.left);
+  };
+}
+
+-- a beginning of these bytes, and of more behind them
+pub begun_longer : (a b : Option (List ℕ)) (all more : List ℕ) → IsBegun a b all → IsBegun a b (all ++ more)
+begun_longer a b all more k = record {
+  left = k.left ++ more;
+  sent = record {
+    bytes = k.sent.bytes;
+    got = k.sent.got;
+    whole = ap (λ (l : List ℕ). l ++ more) k.sent.whole ∙ append_assoc k.sent.bytes k.left more;
   };
 }
 

@@ -27,6 +27,11 @@ pub ok_maps : {A E : Type 0} (r : Result A E) (P Q : A → Type 0) → ((x : A) 
 ok_maps (Ok x) P Q f h = f x h
 ok_maps (Err e) P Q f h = tt
 
+-- what follows from three things that hold of an answer, if it is one
+pub ok_three : {A E : Type 0} (r : Result A E) (P Q R S : A → Type 0) → ((x : A) → P x → Q x → R x → S x) → IfOk r P → IfOk r Q → IfOk r R → IfOk r S
+ok_three (Ok x) P Q R S f p q r = f x p q r
+ok_three (Err e) P Q R S f p q r = tt
+
 -- what follows from what holds where an answer is one
 pub on_ok : {A E : Type 0} (r : Result A E) (P Q : Type 0) → (P → Q) → OnOk r P → OnOk r Q
 on_ok (Ok x) P Q f h = f h

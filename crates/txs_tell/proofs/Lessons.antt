@@ -1,6 +1,7 @@
 -- A line with what explains it: there is a sentence exactly where there is a line.
-use Rattle.std.proofs.Common.{◌≡◌, ◌≢◌, ◌++◌, ◌∙◌, ℕ, List, [], ◌∷◌, Option, Some, None, refl, sym}
-use Rattle.txs_tell.specs.Lines.{Script, IsLesson, failed_line, lesson_of, refusal_line, stopped_line}
+use Rattle.std.proofs.Common.{◌≡◌, ◌≢◌, ◌++◌, ◌∙◌, ℕ, List, [], ◌∷◌, Option, Some, None, codes, refl, sym, ap, append_assoc}
+use Rattle.txs_tell.specs.Lines.{Script, IsLesson, at_place, failed_line, lesson_of, refusal_line, stopped_line}
+use Rattle.txs_value.specs.Faults.{fault_name}
 use Rattle.txs_value.specs.declared.fault.Fault.{Fault}
 use Rattle.txs_value.specs.declared.fault.Span.{Span}
 
@@ -22,6 +23,33 @@ is_stopped_line (x ∷ xs) why e = cc
 -- a line with its sentence
 pub line_told : (script : Script) (line : List ℕ) (at : Option Span) (errors advice : List ℕ) → line ≢ [] → errors ≡ line ++ lesson_of script.file script.text at (Some advice) → IsLesson script line at errors
 line_told script line at errors advice there is = record { advice = Some advice; told = (λ none. cc, λ e. absurd (there e)); is = is }
+
+-- the same behind other lines
+pub told_behind : (script : Script) (line : List ℕ) (at : Option Span) (old new advice : List ℕ) → line ≢ [] → new ≡ (old ++ line) ++ lesson_of script.file script.text at (Some advice)
+    → (l : List ℕ) × IsLesson script line at l × (new ≡ old ++ l)
+told_behind script line at old new advice there is =
+    let lesson : List ℕ = lesson_of script.file script.text at (Some advice) in
+    (line ++ lesson, line_told script line at (line ++ lesson) advice there refl, is ∙ append_assoc old line lesson)
+
+-- four parts of a line, behind what stands before it
+four_assoc : (old a b c d : List ℕ) → (old ++ a) ++ b ++ c ++ d ≡ old ++ (a ++ b ++ c ++ d)
+four_assoc old a b c d = ap (λ (l : List ℕ). l ++ c ++ d) (append_assoc old a b) ∙ ap (λ (l : List ℕ). l ++ d) (append_assoc old (a ++ b) c) ∙ append_assoc old (a ++ b ++ c) d
+
+-- of one that failed
+pub failed_behind : (script : Script) (f : Fault) (front old begun ended new advice : List ℕ) → begun ≡ old ++ front → ended ≡ failed_line begun f → new ≡ ended ++ lesson_of script.file script.text (Some f.span) (Some advice)
+    → (l : List ℕ) × IsLesson script (failed_line front f) (Some f.span) l × (new ≡ old ++ l)
+failed_behind script f front old begun ended new advice b e n =
+    let lesson : List ℕ = lesson_of script.file script.text (Some f.span) (Some advice) in
+    let line : ended ≡ old ++ failed_line front f = e ∙ ap (λ (l : List ℕ). failed_line l f) b ∙ four_assoc old front (codes " failed: ") (fault_name f.kind) (at_place f.span) in
+    told_behind script (failed_line front f) (Some f.span) old new advice (is_failed_line front f) (n ∙ ap (λ (l : List ℕ). l ++ lesson) line)
+
+-- of one that was stopped
+pub stopped_behind : (script : Script) (why front old begun ended new advice : List ℕ) → begun ≡ old ++ front → ended ≡ stopped_line begun why → new ≡ ended ++ lesson_of script.file script.text None (Some advice)
+    → (l : List ℕ) × IsLesson script (stopped_line front why) None l × (new ≡ old ++ l)
+stopped_behind script why front old begun ended new advice b e n =
+    let lesson : List ℕ = lesson_of script.file script.text None (Some advice) in
+    let line : ended ≡ old ++ stopped_line front why = e ∙ ap (λ (l : List ℕ). stopped_line l why) b ∙ four_assoc old front (codes " stopped: ") why (codes "\n") in
+    told_behind script (stopped_line front why) None old new advice (is_stopped_line front why) (n ∙ ap (λ (l : List ℕ). l ++ lesson) line)
 
 -- without a sentence nothing is explained
 unexplained : (file : Option (List ℕ)) (text : List ℕ) (at : Option Span) → lesson_of file text at None ≡ []

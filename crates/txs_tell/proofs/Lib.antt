@@ -1,3 +1,4 @@
+pub mod Answered
 pub mod Begun
 pub mod Fronts
 pub mod Lessons

@@ -1,7 +1,6 @@
 //! What is told of agents: which have failed, and whose actors were stopped.
 
-ghost use Rattle.std.specs.Prelude.{◌≡◌, ◌≤◌, ◌++◌, ℕ, List, length, drop, [], max, true, IfOk, OnErr, OnOk};
-ghost use Rattle.txs_value.specs.Printed.{Extends};
+ghost use Rattle.std.specs.Prelude.{◌≡◌, ◌≤◌, ◌++◌, ℕ, List, length, drop, [], max, true, IfOk, OnOk};
 ghost use Rattle.txs_tell.specs.AgentLines.{AgentTold, AreAgentsTold, EndTold, end_status, failed_by, failure_of, named_from, status_of_agents, with_named};
 ghost use Rattle.txs_tell.specs.Lent.{script_of};
 ghost use Rattle.txs_tell.specs.Lines.{agent_front};
@@ -9,22 +8,12 @@ ghost use Rattle.txs_world.specs.Book.{has_cell};
 ghost use Rattle.txs_world.specs.Store.{cells_of};
 
 use crate::explain::Script;
-use crate::told::{Told, of_end};
-use std::alloc::{AllocError, Global};
+use crate::told::{Front, Told, tell_end};
+use std::alloc::AllocError;
 use txs_asks::Outcome;
 use txs_machine::ThreadReport;
 use txs_shared::SharedState;
 use txs_value::{CellDefinition, CellId, CellKind, Fault};
-
-/// How an agent's line begins.
-fn agent_front(alloc: Global, name: &[u8]) -> Result<Vec<u8>, AllocError>
-    ensures { IfOk result (λ line. line.items ≡ agent_front name.now) }
-{
-    let mut line = Vec::new(alloc);
-    line.extend_from_slice(b"agent ")?;
-    line.extend_from_slice(name)?;
-    Ok(line)
-}
 
 /// How an agent ended that has failed by this fault, if it has.
 fn failed_by(fault: Option<Fault>) -> Option<Outcome>
@@ -38,7 +27,6 @@ fn failed_by(fault: Option<Fault>) -> Option<Outcome>
 
 /// Adds the line of an agent that has ended so, if it has, and its status, where that is higher.
 fn add_end(
-    alloc: Global,
     told: &mut Told,
     script: Script<'_>,
     name: &[u8],
@@ -46,22 +34,16 @@ fn add_end(
 ) -> Result<(), AllocError>
     ensures output { told.new.output.items ≡ told.old.output.items }
     ensures errors { OnOk result ((line : List ℕ) × EndTold (script_of script.entry) (agent_front name.now) end line × (told.new.errors.items ≡ told.old.errors.items ++ line)) }
-    ensures kept { Extends told.old.errors.items told.new.errors.items }
     ensures status { OnOk result (told.new.status ≡ max told.old.status (end_status end)) }
 {
-    let Some(outcome) = end else {
-        return Ok(());
-    };
-    let front = agent_front(alloc, name)?;
-    let more = of_end(alloc, script, front, outcome)?;
-    told.errors.extend_from_slice(more.errors.as_slice())?;
-    told.status = told.status.max(more.status);
-    Ok(())
+    match end {
+        Some(outcome) => tell_end(told, script, Front::Agent(name), outcome),
+        None => Ok(()),
+    }
 }
 
 /// Adds what is told of an agent: that it has failed, and behind that, that its actor was stopped.
 fn add_agent(
-    alloc: Global,
     told: &mut Told,
     script: Script<'_>,
     name: &[u8],
@@ -70,16 +52,14 @@ fn add_agent(
 ) -> Result<(), AllocError>
     ensures output { told.new.output.items ≡ told.old.output.items }
     ensures errors { OnOk result ((lines : List ℕ) × AgentTold (script_of script.entry) name.now failure outcome lines × (told.new.errors.items ≡ told.old.errors.items ++ lines)) }
-    ensures kept { Extends told.old.errors.items told.new.errors.items }
     ensures status { OnOk result (told.new.status ≡ max (max told.old.status (end_status (failed_by failure))) (end_status outcome)) }
 {
-    add_end(alloc, told, script, name, failed_by(failure))?;
-    add_end(alloc, told, script, name, outcome)
+    add_end(told, script, name, failed_by(failure))?;
+    add_end(told, script, name, outcome)
 }
 
 /// Adds what is told of the cell with this number, where it is an agent, whose entry is the first of these. Answers the entries behind it.
 fn add_cell<'a>(
-    alloc: Global,
     told: &mut Told,
     script: Script<'_>,
     cell: &CellDefinition,
@@ -92,7 +72,6 @@ fn add_cell<'a>(
     ensures output { told.new.output.items ≡ told.old.output.items }
     ensures rest { IfOk result (λ rest. rest.now ≡ drop (length (with_named cell.now.kind number cell.now.name [])) entries.now) }
     ensures errors { OnOk result ((lines : List ℕ) × AreAgentsTold (script_of script.entry) (failure_of shared.now) (with_named cell.now.kind number cell.now.name []) entries.now lines × (told.new.errors.items ≡ told.old.errors.items ++ lines)) }
-    ensures kept { Extends told.old.errors.items told.new.errors.items }
     ensures status { OnOk result (told.new.status ≡ status_of_agents told.old.status (failure_of shared.now) (with_named cell.now.kind number cell.now.name []) entries.now) }
 {
     let CellKind::Agent = cell.kind else {
@@ -107,13 +86,12 @@ fn add_cell<'a>(
     };
     let failure = shared.failure(agent);
     let name = cell.name.as_bytes();
-    add_agent(alloc, told, script, name, failure, entry.outcome)?;
+    add_agent(told, script, name, failure, entry.outcome)?;
     Ok(rest)
 }
 
-/// Adds what is told of all agents.
-fn add_cells(
-    alloc: Global,
+/// Adds what is told of all agents, in the order of their definitions. There is an entry for each.
+pub fn add_agents(
     told: &mut Told,
     script: Script<'_>,
     cells: &[CellDefinition],
@@ -125,40 +103,11 @@ fn add_cells(
     requires one_each { length agents.now ≡ length (named_from 0 cells.now) }
     ensures output { told.new.output.items ≡ told.old.output.items }
     ensures errors { OnOk result ((lines : List ℕ) × AreAgentsTold (script_of script.entry) (failure_of shared.now) (named_from 0 cells.now) agents.now lines × (told.new.errors.items ≡ told.old.errors.items ++ lines)) }
-    ensures kept { Extends told.old.errors.items told.new.errors.items }
     ensures status { OnOk result (told.new.status ≡ status_of_agents told.old.status (failure_of shared.now) (named_from 0 cells.now) agents.now) }
 {
     let mut rest = agents;
     for (number, cell) in cells.iter().enumerate() {
-        rest = add_cell(alloc, told, script, cell, number as u16, rest, shared)?;
+        rest = add_cell(told, script, cell, number as u16, rest, shared)?;
     }
     Ok(())
-}
-
-/// Adds what is told of all agents, in the order of their definitions. There is an entry for each. After an error nothing is added.
-pub fn add_agents(
-    alloc: Global,
-    told: &mut Told,
-    script: Script<'_>,
-    cells: &[CellDefinition],
-    agents: &[ThreadReport],
-    shared: &SharedState,
-) -> Result<(), AllocError>
-    requires few { length cells.now ≤ 1000 }
-    requires made { shared.now.cells ≡ cells.now }
-    requires one_each { length agents.now ≡ length (named_from 0 cells.now) }
-    ensures output { told.new.output.items ≡ told.old.output.items }
-    ensures errors { OnOk result ((lines : List ℕ) × AreAgentsTold (script_of script.entry) (failure_of shared.now) (named_from 0 cells.now) agents.now lines × (told.new.errors.items ≡ told.old.errors.items ++ lines)) }
-    ensures status { OnOk result (told.new.status ≡ status_of_agents told.old.status (failure_of shared.now) (named_from 0 cells.now) agents.now) }
-    ensures errors_kept { OnErr result (told.new.errors.items ≡ told.old.errors.items) }
-    ensures status_kept { OnErr result (told.new.status ≡ told.old.status) }
-{
-    let length = told.errors.len();
-    let status = told.status;
-    let done = add_cells(alloc, told, script, cells, agents, shared);
-    if done.is_err() {
-        told.errors.truncate(length);
-        told.status = status;
-    }
-    done
 }

@@ -1,9 +1,9 @@
 //! What stands behind a line on the standard error where it is explained: the place in the script, the line
 //! of the script with carets below it, and what to do.
 
-ghost use Rattle.std.specs.Prelude.{◌≡◌, ◌++◌, OnErr, OnOk};
+ghost use Rattle.std.specs.Prelude.{◌≡◌, ◌∷◌, ◌++◌, [], decimal, OnErr, OnOk};
 ghost use Rattle.txs_value.specs.Printed.{Extends};
-ghost use Rattle.txs_tell.specs.Explained.{place_line, shown, explained};
+ghost use Rattle.txs_tell.specs.Explained.{place_line, shown_where, explained};
 
 use itoa::Buffer;
 use std::alloc::AllocError;
@@ -18,26 +18,50 @@ pub struct Script<'a> {
     pub file: Option<&'a str>,
 }
 
+/// Appends a line.
+pub(crate) fn write_line(out: &mut Vec<u8>, line: &str) -> Result<(), AllocError>
+    ensures ok { OnOk result (out.new.items ≡ out.old.items ++ (line.now ++ 10 ∷ [])) }
+    ensures kept { Extends out.old.items out.new.items }
+{
+    out.extend_from_slice(line.as_bytes())?;
+    Ok(out.push(b'\n')?)
+}
+
+/// Appends a colon and a number.
+fn write_part(out: &mut Vec<u8>, number: usize) -> Result<(), AllocError>
+    ensures ok { OnOk result (out.new.items ≡ out.old.items ++ (58 ∷ decimal number)) }
+    ensures kept { Extends out.old.items out.new.items }
+{
+    let mut buffer = Buffer::new();
+    out.push(b':')?;
+    out.extend_from_slice(buffer.format(number).as_bytes())
+}
+
 /// Appends the line that names a place: the file, the line and the column, both from 1.
 fn write_place(out: &mut Vec<u8>, file: &str, text: &[u8], offset: usize) -> Result<(), AllocError>
     ensures ok { OnOk result (out.new.items ≡ out.old.items ++ place_line file.now text.now offset) }
     ensures kept { Extends out.old.items out.new.items }
 {
     let place = position(text, offset);
-    let mut buffer = Buffer::new();
     out.extend_from_slice(file.as_bytes())?;
-    out.push(b':')?;
-    out.extend_from_slice(buffer.format(place.line).as_bytes())?;
-    out.push(b':')?;
-    out.extend_from_slice(buffer.format(place.column).as_bytes())?;
+    write_part(out, place.line)?;
+    write_part(out, place.column)?;
     Ok(out.push(b'\n')?)
 }
 
-/// Appends the lines that show a place.
-fn write_shown(out: &mut Vec<u8>, file: &str, text: &[u8], at: Span) -> Result<(), AllocError>
-    ensures ok { OnOk result (out.new.items ≡ out.old.items ++ shown file.now text.now at) }
+/// Appends the lines that show a place, if there is one.
+fn write_shown(
+    out: &mut Vec<u8>,
+    file: &str,
+    text: &[u8],
+    at: Option<Span>,
+) -> Result<(), AllocError>
+    ensures ok { OnOk result (out.new.items ≡ out.old.items ++ shown_where file.now text.now at) }
     ensures kept { Extends out.old.items out.new.items }
 {
+    let Some(at) = at else {
+        return Ok(());
+    };
     write_place(out, file, text, at.from as usize)?;
     write_pointed(text, at.from as usize, at.to as usize, out)
 }
@@ -53,11 +77,8 @@ fn append_explained(
     ensures ok { OnOk result (out.new.items ≡ out.old.items ++ explained file.now text.now at advice.now) }
     ensures kept { Extends out.old.items out.new.items }
 {
-    if let Some(at) = at {
-        write_shown(out, file, text, at)?;
-    }
-    out.extend_from_slice(advice.as_bytes())?;
-    Ok(out.push(b'\n')?)
+    write_shown(out, file, text, at)?;
+    write_line(out, advice)
 }
 
 /// Appends what explains a line: a place of the script, if the line has one, as the file's name, line and

@@ -1,7 +1,7 @@
 //! Plays a script: reads it, does with it what is wanted, and writes what is told of it.
 
 ghost use Rattle.std.specs.Prelude.{◌++◌, codes, IfOk, IfSome};
-ghost use Rattle.txs_tell.specs.Lent.{text_in, told_of, wanted_of};
+ghost use Rattle.txs_tell.specs.Lent.{answer_of, text_in, told_of, wanted_of};
 ghost use Rattle.txs_tell.specs.Told.{Told as PlainTold, IsBegun, StreamTells, Tells, Written, front};
 
 use crate::explain::Script;
@@ -60,6 +60,26 @@ pub fn write_told<W: Write, F: Write>(
     status
 }
 
+/// Writes what is told, or that there was no memory for it. Answers the status.
+pub(crate) fn write_answer<W: Write, F: Write>(
+    told: Result<Told, AllocError>,
+    writer: &mut W,
+    faults: &mut F,
+) -> u8
+    ensures { Written (W.contents writer.old) (W.contents writer.new) (F.contents faults.old) (F.contents faults.new) (answer_of told) result }
+{
+    match told {
+        Ok(told) => write_told(
+            told.output.as_slice(),
+            told.errors.as_slice(),
+            told.status,
+            writer,
+            faults,
+        ),
+        Err(_) => write_told(&[], b"out of memory\n", SPENT, writer, faults),
+    }
+}
+
 /// Does with the reader's script what is wanted, and writes what is told of it. Where a file is named, lines on the
 /// standard error are explained under its name. Answers the status: 0 where all ended, 1 for a script that is refused, 2
 /// for a play that names no actor or a stream that couldn't be read or written, 3 for a thread or an agent that failed, 4 for want of steps or memory; the highest
@@ -75,14 +95,6 @@ pub fn play_script<R: Read, W: Write, F: Write>(
     ensures { IfSome (R.remaining reader.old) (λ input. (t : PlainTold) × Tells (record { text = front input; file = text_in file.entry }) (wanted_of wanted.entry) t
         × Written (W.contents writer.old) (W.contents writer.new) (F.contents faults.old) (F.contents faults.new) t result) }
 {
-    match use_stream(alloc, wanted, file, reader) {
-        Ok(told) => write_told(
-            told.output.as_slice(),
-            told.errors.as_slice(),
-            told.status,
-            writer,
-            faults,
-        ),
-        Err(_) => write_told(&[], b"out of memory\n", SPENT, writer, faults),
-    }
+    let told = use_stream(alloc, wanted, file, reader);
+    write_answer(told, writer, faults)
 }

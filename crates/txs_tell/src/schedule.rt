@@ -7,7 +7,7 @@ ghost use Rattle.txs_tell.specs.Lent.{text_in};
 ghost use Rattle.txs_tell.specs.Told.{Told as PlainTold, ListTells, ScheduleTells, Written, front, list_name};
 
 use crate::explain::Script;
-use crate::play::{play_script, write_told};
+use crate::play::{play_script, write_answer, write_told};
 use crate::told::{SPENT, Use, wrong_list};
 use std::alloc::Global;
 use std::io::{Read, Write};
@@ -40,16 +40,8 @@ pub fn refuse_list<W: Write, F: Write>(
         text: turns.as_bytes(),
         file: list_name(file),
     };
-    match wrong_list(alloc, list, wrong) {
-        Ok(told) => write_told(
-            told.output.as_slice(),
-            told.errors.as_slice(),
-            told.status,
-            writer,
-            faults,
-        ),
-        Err(_) => write_told(&[], b"out of memory\n", SPENT, writer, faults),
-    }
+    let told = wrong_list(alloc, list, wrong);
+    write_answer(told, writer, faults)
 }
 
 /// Runs the reader's script by a list of plays and then in rounds, and writes what is told of it, as `play_script` does. A

@@ -10,7 +10,8 @@ ghost use Rattle.txs_shared.specs.SharedState.{shared_of, numbered_book};
 ghost use Rattle.txs_tell.specs.AgentLines.{named_from};
 ghost use Rattle.txs_tell.specs.Lent.{script_of, told_of, wanted_of};
 ghost use Rattle.txs_tell.specs.Lines.{all_printed};
-ghost use Rattle.txs_tell.specs.Told.{EndsTold, RunAnswers, ScriptTells, FormTold, Check, Listing, Build, Run, cells_told, events_told, run_status};
+ghost use Rattle.txs_tell.specs.Told.{EndsTold, IsCompiled, RunAnswers, ScriptTells, FormTold, Run, cells_told, events_told, run_status};
+ghost use Rattle.txs_tree.specs.View.{program_of};
 
 use crate::agents::add_agents;
 use crate::cells::write_cells;
@@ -45,7 +46,7 @@ pub fn of_report(
 {
     let mut told = of_threads(alloc, script, report)?;
     let agents = report.agents.as_slice();
-    add_agents(alloc, &mut told, script, cells, agents, shared)?;
+    add_agents(&mut told, script, cells, agents, shared)?;
     Ok(told)
 }
 
@@ -136,31 +137,46 @@ pub fn tell_book(
     Ok(())
 }
 
-/// Runs the script, and tells of its cells and events where they are wanted.
-fn run_script(
+/// Adds to what is told of a run what stands behind it.
+fn with_book(
+    mut told: Told,
+    cells: bool,
+    events: bool,
+    program: &Program,
+    shared: &SharedState,
+) -> Result<Told, AllocError>
+    requires made { shared.now.cells ≡ program.now.cells }
+    ensures output { IfOk result (λ t. t.output.items ≡ (told.output.items ++ cells_told cells program.now.cells shared.now) ++ events_told events (numbered_book shared.now 0)) }
+    ensures errors { IfOk result (λ t. t.errors.items ≡ told.errors.items) }
+    ensures status { IfOk result (λ t. t.status ≡ told.status) }
+{
+    tell_book(&mut told, cells, events, program, shared)?;
+    Ok(told)
+}
+
+/// Runs the code of a script that compiles over its state, and tells of its cells and events where they are wanted.
+fn run_compiled(
     alloc: Global,
     script: Script<'_>,
+    program: &Program,
+    code: &Verified,
     plays: &[Play],
     steps: u64,
     cells: bool,
     events: bool,
+    shared: &mut SharedState,
 ) -> Result<Told, AllocError>
+    requires compiled { IsCompiled script.text.now (program_of program.now) code.now }
+    requires few { length code.now.threads ≤ 64 }
+    requires few_cells { length code.now.cells ≤ 1000 }
+    requires of { IsStateOf code.now shared.old }
+    requires unused { shared_of shared.old ≡ untouched code.now.cells }
     ensures { IfOk result (λ t. ScriptTells (script_of script.entry) (told_of t) (Run plays.now steps cells events)) }
 {
-    let (program, code) = match compile(alloc, script.text) {
-        Ok(compiled) => compiled,
-        Err(error) => {
-            let told = refused(alloc, script, &error)?;
-            return Ok(told);
-        }
-    };
-    let mut shared = open_state(alloc, &code)?;
-    let Some(mut told) = run_code(alloc, script, &code, plays, steps, &mut shared)? else {
-        let told = complaint(alloc, UNUSABLE, "run failed: NoActor")?;
-        return Ok(told);
-    };
-    tell_book(&mut told, cells, events, &program, &shared)?;
-    Ok(told)
+    match run_code(alloc, script, code, plays, steps, shared)? {
+        Some(told) => with_book(told, cells, events, program, shared),
+        None => complaint(alloc, UNUSABLE, "run failed: NoActor"),
+    }
 }
 
 /// What is told of a script that compiles, where nothing runs.
@@ -171,21 +187,6 @@ fn accepted(alloc: Global) -> Result<Told, AllocError>
 {
     let output = Vec::from_slice(alloc, b"ok\n")?;
     Ok(answer(output, alloc))
-}
-
-/// Compiles the script, and runs nothing.
-fn check_script(alloc: Global, script: Script<'_>) -> Result<Told, AllocError>
-    ensures { IfOk result (λ t. ScriptTells (script_of script.entry) (told_of t) Check) }
-{
-    let _compiled = match compile(alloc, script.text) {
-        Ok(compiled) => compiled,
-        Err(error) => {
-            let told = refused(alloc, script, &error)?;
-            return Ok(told);
-        }
-    };
-    let told = accepted(alloc)?;
-    Ok(told)
 }
 
 /// The listing of the code, on the standard output.
@@ -201,21 +202,6 @@ fn listing_of(alloc: Global, code: &Verified) -> Result<Told, AllocError>
     }
 }
 
-/// Compiles the script and lists its code. Nothing runs.
-fn list_script(alloc: Global, script: Script<'_>) -> Result<Told, AllocError>
-    ensures { IfOk result (λ t. ScriptTells (script_of script.entry) (told_of t) Listing) }
-{
-    let (_program, code) = match compile(alloc, script.text) {
-        Ok(compiled) => compiled,
-        Err(error) => {
-            let told = refused(alloc, script, &error)?;
-            return Ok(told);
-        }
-    };
-    let told = listing_of(alloc, &code)?;
-    Ok(told)
-}
-
 /// The byte form of the code, on the standard output.
 fn form_of(alloc: Global, code: &Verified) -> Result<Told, AllocError>
     requires { HasForm code.now }
@@ -225,34 +211,52 @@ fn form_of(alloc: Global, code: &Verified) -> Result<Told, AllocError>
     Ok(answer(bytes, alloc))
 }
 
-/// Compiles the script and writes its code in its byte form. Nothing runs.
-fn build_script(alloc: Global, script: Script<'_>) -> Result<Told, AllocError>
-    ensures { IfOk result (λ t. ScriptTells (script_of script.entry) (told_of t) Build) }
-{
-    let (_program, code) = match compile(alloc, script.text) {
-        Ok(compiled) => compiled,
-        Err(error) => {
-            let told = refused(alloc, script, &error)?;
-            return Ok(told);
-        }
-    };
-    let told = form_of(alloc, &code)?;
-    Ok(told)
-}
-
-/// Does with the script what is wanted.
-pub fn use_script(alloc: Global, script: Script<'_>, wanted: Use<'_>) -> Result<Told, AllocError>
+/// Does with a script that compiles what is wanted.
+fn use_compiled(
+    alloc: Global,
+    script: Script<'_>,
+    program: &Program,
+    code: &Verified,
+    wanted: Use<'_>,
+) -> Result<Told, AllocError>
+    requires compiled { IsCompiled script.text.now (program_of program.now) code.now }
+    requires form { HasForm code.now }
+    requires few { length code.now.threads ≤ 64 }
+    requires few_cells { length code.now.cells ≤ 1000 }
     ensures { IfOk result (λ t. ScriptTells (script_of script.entry) (told_of t) (wanted_of wanted.entry)) }
 {
     match wanted {
-        Use::Check => check_script(alloc, script),
-        Use::Listing => list_script(alloc, script),
-        Use::Build => build_script(alloc, script),
+        Use::Check => accepted(alloc),
+        Use::Listing => listing_of(alloc, code),
+        Use::Build => form_of(alloc, code),
         Use::Run {
             plays,
             steps,
             cells,
             events,
-        } => run_script(alloc, script, plays, steps, cells, events),
+        } => {
+            let mut shared = open_state(alloc, code)?;
+            run_compiled(
+                alloc,
+                script,
+                program,
+                code,
+                plays,
+                steps,
+                cells,
+                events,
+                &mut shared,
+            )
+        }
+    }
+}
+
+/// Compiles the script, and does with it what is wanted; or tells why it is refused.
+pub fn use_script(alloc: Global, script: Script<'_>, wanted: Use<'_>) -> Result<Told, AllocError>
+    ensures { IfOk result (λ t. ScriptTells (script_of script.entry) (told_of t) (wanted_of wanted.entry)) }
+{
+    match compile(alloc, script.text) {
+        Ok(compiled) => use_compiled(alloc, script, &compiled.0, &compiled.1, wanted),
+        Err(error) => refused(alloc, script, &error),
     }
 }

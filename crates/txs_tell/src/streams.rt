@@ -15,7 +15,7 @@ use txs_value::limits::MOST_SCRIPT;
 const MAX_BYTES: u64 = MOST_SCRIPT as u64 + 1;
 
 /// Why the bytes of a stream aren't there.
-#[derive(Clone, Copy, Debug, PartialEq, Eq, Error)]
+#[derive(Clone, Copy, Debug, Error)]
 pub enum ReadFault {
     /// The stream couldn't be read.
     #[error("read failed")]
@@ -44,7 +44,7 @@ pub fn read_bytes<R: Read>(alloc: Global, reader: &mut R) -> Result<Vec<u8>, Rea
 }
 
 /// A stream that couldn't be written.
-#[derive(Clone, Copy, Debug, PartialEq, Eq, Error)]
+#[derive(Clone, Copy, Debug, Error)]
 #[error("write failed")]
 pub struct WriteFault;
 

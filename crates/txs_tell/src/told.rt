@@ -1,16 +1,16 @@
 //! What the program tells of a script: its lines on both streams, and its status.
 
-ghost use Rattle.std.specs.Prelude.{◌≡◌, ◌≢◌, ◌≤◌, ◌++◌, ℕ, List, max, length, [], codes, decimal, Some, None, IfOk, OnOk};
+ghost use Rattle.std.specs.Prelude.{◌≡◌, ◌≢◌, ◌≤◌, ◌++◌, ℕ, List, max, length, [], codes, decimal, Some, None, IfOk, IfSome, OnOk};
 ghost use Rattle.txs_compile.specs.Compiled.{IsRefusal};
 ghost use Rattle.txs_compile.specs.declared.compile_error.CompileError.TheVariants.{Memory};
-ghost use Rattle.txs_tell.specs.Lent.{text_in, script_of, told_of};
+ghost use Rattle.txs_tell.specs.Lent.{front_of, text_in, script_of, told_of};
 ghost use Rattle.txs_tell.specs.Lines.{IsLesson, at_place, lesson_of, list_place, refusal_line, refused_line, refused_place, thread_front, failed_line, stopped_line, end_line, end_place, status_of, how_ended, all_printed, status_from, AreLessons};
 ghost use Rattle.txs_tell.specs.Told.{ScriptTells, Wanted};
 
 use crate::advice::{
     OF_JOURNAL, OF_LIST, OF_MEMORY, OF_STEPS, of_check, of_fault, of_read, of_resolve,
 };
-use crate::explain::{Script, write_explained};
+use crate::explain::{Script, write_explained, write_line};
 use itoa::Buffer;
 use std::alloc::{AllocError, Global};
 use txs_asks::Outcome;
@@ -25,6 +25,22 @@ pub struct Told {
     pub output: Vec<u8>,
     pub errors: Vec<u8>,
     pub status: u8,
+}
+
+/// Of whom a line tells: of the thread with this number, or of the agent with this name.
+#[derive(Clone, Copy)]
+pub(crate) enum Front<'a> {
+    Thread(u16),
+    Agent(&'a [u8]),
+}
+
+/// What the line of a refusal tells: its number and name, the place, and what to do about it.
+#[derive(Clone, Copy)]
+struct Refusal {
+    number: u8,
+    name: &'static str,
+    at: Span,
+    advice: &'static str,
 }
 
 /// What is done with a script.
@@ -81,8 +97,7 @@ pub fn complaint(alloc: Global, status: u8, line: &str) -> Result<Told, AllocErr
     ensures status { IfOk result (λ t. t.status ≡ status) }
 {
     let mut errors = Vec::new(alloc);
-    errors.extend_from_slice(line.as_bytes())?;
-    errors.push(b'\n')?;
+    write_line(&mut errors, line)?;
     Ok(Told {
         output: Vec::new(alloc),
         errors,
@@ -105,32 +120,12 @@ fn explain(
     }
 }
 
-/// A line on the standard error alone, and behind it what explains it, where that is wanted.
-fn lesson(
-    alloc: Global,
-    script: Script<'_>,
-    status: u8,
-    mut line: Vec<u8>,
-    at: Option<Span>,
-    advice: &str,
-) -> Result<Told, AllocError>
-    ensures output { IfOk result (λ t. t.output.items ≡ []) }
-    ensures errors { IfOk result (λ t. t.errors.items ≡ line.items ++ lesson_of (text_in script.entry.file) script.entry.text.now at (Some advice.now)) }
-    ensures status { IfOk result (λ t. t.status ≡ status) }
-{
-    explain(&mut line, script, at, advice)?;
-    Ok(Told {
-        output: Vec::new(alloc),
-        errors: line,
-        status,
-    })
-}
-
-/// Appends a number.
-fn write_number(line: &mut Vec<u8>, number: u32) -> Result<(), AllocError>
-    ensures { OnOk result (line.new.items ≡ line.old.items ++ decimal number) }
+/// Appends a number behind these bytes.
+fn write_number(line: &mut Vec<u8>, before: &[u8], number: u32) -> Result<(), AllocError>
+    ensures { OnOk result (line.new.items ≡ line.old.items ++ (before.now ++ decimal number)) }
 {
     let mut buffer = Buffer::new();
+    line.extend_from_slice(before)?;
     line.extend_from_slice(buffer.format(number).as_bytes())
 }
 
@@ -138,34 +133,32 @@ fn write_number(line: &mut Vec<u8>, number: u32) -> Result<(), AllocError>
 fn write_place(line: &mut Vec<u8>, at: Span) -> Result<(), AllocError>
     ensures { OnOk result (line.new.items ≡ line.old.items ++ at_place at) }
 {
-    line.extend_from_slice(b" at ")?;
-    write_number(line, at.from)?;
-    line.extend_from_slice(b"..")?;
-    write_number(line, at.to)?;
+    write_number(line, b" at ", at.from)?;
+    write_number(line, b"..", at.to)?;
     Ok(line.push(b'\n')?)
 }
 
-/// The line of a refusal.
-fn refusal_line(alloc: Global, number: u8, name: &str, at: Span) -> Result<Vec<u8>, AllocError>
-    ensures { IfOk result (λ line. line.items ≡ refusal_line number name.now at) }
+/// Appends the line of a refusal.
+fn refusal_line(line: &mut Vec<u8>, number: u8, name: &str, at: Span) -> Result<(), AllocError>
+    ensures { OnOk result (line.new.items ≡ line.old.items ++ refusal_line number name.now at) }
 {
-    let mut line = Vec::new(alloc);
-    line.extend_from_slice(b"refused ")?;
-    write_number(&mut line, u32::from(number))?;
+    write_number(line, b"refused ", u32::from(number))?;
     line.push(b' ')?;
     line.extend_from_slice(name.as_bytes())?;
-    write_place(&mut line, at)?;
-    Ok(line)
+    write_place(line, at)
 }
 
-/// How a thread's line begins.
-fn thread_front(alloc: Global, k: u16) -> Result<Vec<u8>, AllocError>
-    ensures { IfOk result (λ line. line.items ≡ thread_front k) }
+/// Appends how a line begins.
+fn write_front(line: &mut Vec<u8>, front: Front<'_>) -> Result<(), AllocError>
+    ensures { OnOk result (line.new.items ≡ line.old.items ++ front_of front.entry) }
 {
-    let mut line = Vec::new(alloc);
-    line.extend_from_slice(b"thread ")?;
-    write_number(&mut line, u32::from(k))?;
-    Ok(line)
+    match front {
+        Front::Thread(k) => write_number(line, b"thread ", u32::from(k)),
+        Front::Agent(name) => {
+            line.extend_from_slice(b"agent ")?;
+            line.extend_from_slice(name)
+        }
+    }
 }
 
 /// Appends how the line of one that failed ends.
@@ -186,52 +179,45 @@ fn end_stopped(line: &mut Vec<u8>, why: &[u8]) -> Result<(), AllocError>
     Ok(line.push(b'\n')?)
 }
 
-/// What is told of a refused script.
-fn refusal(
-    alloc: Global,
-    script: Script<'_>,
-    number: u8,
-    name: &str,
-    at: Span,
-    advice: &str,
-) -> Result<Told, AllocError>
-    ensures output { IfOk result (λ t. t.output.items ≡ []) }
-    ensures errors { IfOk result (λ t. IsLesson (script_of script.entry) (refusal_line number name.now at) (Some at) t.errors.items) }
-    ensures status { IfOk result (λ t. t.status ≡ 1) }
-{
-    let line = refusal_line(alloc, number, name, at)?;
-    let told = lesson(alloc, script, REFUSED, line, Some(at), advice)?;
-    Ok(told)
-}
-
-/// What is told of a script that isn't compiled, but for why it isn't. Of want of memory the program tells otherwise.
-fn of_error(alloc: Global, script: Script<'_>, error: &CompileError) -> Result<Told, AllocError>
-    ensures told { IfOk result (λ t. error.now ≢ Memory) }
-    ensures output { IfOk result (λ t. t.output.items ≡ []) }
-    ensures errors { IfOk result (λ t. IsLesson (script_of script.entry) (refused_line error.now) (refused_place error.now) t.errors.items) }
-    ensures status { IfOk result (λ t. t.status ≡ 1) }
+/// The refusal of a script that isn't compiled, but for one for want of memory, of which the program tells otherwise.
+fn refusal_of(error: &CompileError) -> Option<Refusal>
+    ensures told { IfSome result (λ r. error.now ≢ Memory) }
+    ensures line { IfSome result (λ r. refused_line error.now ≡ refusal_line r.number r.name.now r.at) }
+    ensures place { IfSome result (λ r. refused_place error.now ≡ Some r.at) }
 {
     match error {
-        CompileError::Read(e) => {
-            let Some(advice) = of_read(e.kind) else {
-                return Err(AllocError);
-            };
-            refusal(alloc, script, e.kind.number(), e.kind.name(), e.at, advice)
-        }
-        CompileError::Resolve(e) => {
-            let Some(advice) = of_resolve(e.kind) else {
-                return Err(AllocError);
-            };
-            refusal(alloc, script, e.kind.number(), e.kind.name(), e.at, advice)
-        }
-        CompileError::Check(e) => {
-            let Some(advice) = of_check(e.kind) else {
-                return Err(AllocError);
-            };
-            refusal(alloc, script, e.kind.number(), e.kind.name(), e.at, advice)
-        }
-        CompileError::Memory => Err(AllocError),
+        CompileError::Read(e) => Some(Refusal {
+            number: e.kind.number(),
+            name: e.kind.name(),
+            at: e.at,
+            advice: of_read(e.kind)?,
+        }),
+        CompileError::Resolve(e) => Some(Refusal {
+            number: e.kind.number(),
+            name: e.kind.name(),
+            at: e.at,
+            advice: of_resolve(e.kind)?,
+        }),
+        CompileError::Check(e) => Some(Refusal {
+            number: e.kind.number(),
+            name: e.kind.name(),
+            at: e.at,
+            advice: of_check(e.kind)?,
+        }),
+        CompileError::Memory => None,
     }
+}
+
+/// Appends the line of a refusal, and what explains it.
+fn write_refusal(
+    errors: &mut Vec<u8>,
+    script: Script<'_>,
+    refusal: Refusal,
+) -> Result<(), AllocError>
+    ensures { OnOk result (errors.new.items ≡ (errors.old.items ++ refusal_line refusal.number refusal.name.now refusal.at) ++ lesson_of (text_in script.entry.file) script.entry.text.now (Some refusal.at) (Some refusal.advice.now)) }
+{
+    refusal_line(errors, refusal.number, refusal.name, refusal.at)?;
+    explain(errors, script, Some(refusal.at), refusal.advice)
 }
 
 /// What is told of a script that isn't compiled, whatever is wanted of it.
@@ -239,8 +225,16 @@ pub fn refused(alloc: Global, script: Script<'_>, error: &CompileError) -> Resul
     requires { IsRefusal script.text.now error.now }
     ensures { IfOk result (λ t. (wanted : Wanted) → ScriptTells (script_of script.entry) (told_of t) wanted) }
 {
-    let told = of_error(alloc, script, error)?;
-    Ok(told)
+    let Some(refusal) = refusal_of(error) else {
+        return Err(AllocError);
+    };
+    let mut errors = Vec::new(alloc);
+    write_refusal(&mut errors, script, refusal)?;
+    Ok(Told {
+        output: Vec::new(alloc),
+        errors,
+        status: REFUSED,
+    })
 }
 
 /// Where the item stands that says no play, if its places are numbers of 32 bits.
@@ -257,20 +251,17 @@ fn list_place(wrong: WrongPlay) -> Option<Span>
     })
 }
 
-/// The line of a list of plays that is wrong there.
-fn list_refusal(
-    alloc: Global,
+/// Appends the line of a list of plays that is wrong there, and what explains it.
+fn write_wrong_list(
+    errors: &mut Vec<u8>,
     list: Script<'_>,
     at: Option<Span>,
     advice: &str,
-) -> Result<Told, AllocError>
-    ensures output { IfOk result (λ t. t.output.items ≡ []) }
-    ensures errors { IfOk result (λ t. IsLesson (script_of list.entry) (codes "wrong list\n") at t.errors.items) }
-    ensures status { IfOk result (λ t. t.status ≡ 2) }
+) -> Result<(), AllocError>
+    ensures { OnOk result ((line : List ℕ) × IsLesson (script_of list.entry) (codes "wrong list\n") at line × (errors.new.items ≡ errors.old.items ++ line)) }
 {
-    let line = Vec::from_slice(alloc, b"wrong list\n")?;
-    let told = lesson(alloc, list, UNUSABLE, line, at, advice)?;
-    Ok(told)
+    errors.extend_from_slice(b"wrong list\n")?;
+    explain(errors, list, at, advice)
 }
 
 /// What is told of a list of plays that has an item which says none.
@@ -279,41 +270,42 @@ pub fn wrong_list(alloc: Global, list: Script<'_>, wrong: WrongPlay) -> Result<T
     ensures errors { IfOk result (λ t. IsLesson (script_of list.entry) (codes "wrong list\n") (list_place wrong) t.errors.items) }
     ensures status { IfOk result (λ t. t.status ≡ 2) }
 {
-    list_refusal(alloc, list, list_place(wrong), OF_LIST)
+    let mut errors = Vec::new(alloc);
+    write_wrong_list(&mut errors, list, list_place(wrong), OF_LIST)?;
+    Ok(Told {
+        output: Vec::new(alloc),
+        errors,
+        status: UNUSABLE,
+    })
 }
 
-/// What is told of one that failed, whose line begins so.
-fn failed(
-    alloc: Global,
+/// Appends the line of one that failed, and what explains it.
+fn write_failed(
+    errors: &mut Vec<u8>,
     script: Script<'_>,
-    mut line: Vec<u8>,
+    front: Front<'_>,
     fault: Fault,
-) -> Result<Told, AllocError>
-    ensures output { IfOk result (λ t. t.output.items ≡ []) }
-    ensures errors { IfOk result (λ t. IsLesson (script_of script.entry) (failed_line line.items fault) (Some fault.span) t.errors.items) }
-    ensures status { IfOk result (λ t. t.status ≡ 3) }
+) -> Result<(), AllocError>
+    ensures { OnOk result ((line : List ℕ) × IsLesson (script_of script.entry) (failed_line (front_of front.entry) fault) (Some fault.span) line × (errors.new.items ≡ errors.old.items ++ line)) }
 {
-    end_failed(&mut line, fault)?;
-    let advice = of_fault(fault.kind);
-    let told = lesson(alloc, script, FAILED, line, Some(fault.span), advice)?;
-    Ok(told)
+    write_front(errors, front)?;
+    end_failed(errors, fault)?;
+    explain(errors, script, Some(fault.span), of_fault(fault.kind))
 }
 
-/// What is told of one that was stopped, whose line begins so.
-fn stopped(
-    alloc: Global,
+/// Appends the line of one that was stopped, and what explains it.
+fn write_stopped(
+    errors: &mut Vec<u8>,
     script: Script<'_>,
-    mut line: Vec<u8>,
+    front: Front<'_>,
     why: &[u8],
     advice: &str,
-) -> Result<Told, AllocError>
-    ensures output { IfOk result (λ t. t.output.items ≡ []) }
-    ensures errors { IfOk result (λ t. IsLesson (script_of script.entry) (stopped_line line.items why.now) None t.errors.items) }
-    ensures status { IfOk result (λ t. t.status ≡ 4) }
+) -> Result<(), AllocError>
+    ensures { OnOk result ((line : List ℕ) × IsLesson (script_of script.entry) (stopped_line (front_of front.entry) why.now) None line × (errors.new.items ≡ errors.old.items ++ line)) }
 {
-    end_stopped(&mut line, why)?;
-    let told = lesson(alloc, script, SPENT, line, None, advice)?;
-    Ok(told)
+    write_front(errors, front)?;
+    end_stopped(errors, why)?;
+    explain(errors, script, None, advice)
 }
 
 /// Nothing on either stream.
@@ -325,24 +317,48 @@ pub fn nothing(alloc: Global) -> Told
     answer(Vec::new(alloc), alloc)
 }
 
-/// What is told of a thread, an agent or an agent's actor that ended so, but for what it printed. Its line, if there is one, begins so.
-pub(crate) fn of_end(
-    alloc: Global,
+/// Appends the line that tells how a thread, an agent or an agent's actor ended, if there is one, and what explains it.
+fn write_end(
+    errors: &mut Vec<u8>,
     script: Script<'_>,
-    front: Vec<u8>,
+    front: Front<'_>,
     outcome: Outcome,
-) -> Result<Told, AllocError>
-    ensures output { IfOk result (λ t. t.output.items ≡ []) }
-    ensures errors { IfOk result (λ t. IsLesson (script_of script.entry) (end_line front.items outcome) (end_place outcome) t.errors.items) }
-    ensures status { IfOk result (λ t. t.status ≡ status_of outcome) }
+) -> Result<(), AllocError>
+    ensures { OnOk result ((line : List ℕ) × IsLesson (script_of script.entry) (end_line (front_of front.entry) outcome) (end_place outcome) line × (errors.new.items ≡ errors.old.items ++ line)) }
 {
     match outcome {
-        Outcome::Done => Ok(nothing(alloc)),
-        Outcome::Failed(fault) => failed(alloc, script, front, fault),
-        Outcome::StepsSpent => stopped(alloc, script, front, b"StepsSpent", OF_STEPS),
-        Outcome::JournalFull => stopped(alloc, script, front, b"JournalFull", OF_JOURNAL),
-        Outcome::Memory => stopped(alloc, script, front, b"Memory", OF_MEMORY),
+        Outcome::Done => Ok(()),
+        Outcome::Failed(fault) => write_failed(errors, script, front, fault),
+        Outcome::StepsSpent => write_stopped(errors, script, front, b"StepsSpent", OF_STEPS),
+        Outcome::JournalFull => write_stopped(errors, script, front, b"JournalFull", OF_JOURNAL),
+        Outcome::Memory => write_stopped(errors, script, front, b"Memory", OF_MEMORY),
     }
+}
+
+/// How one that ended so counts in the status.
+fn status_of(outcome: Outcome) -> u8
+    ensures { result ≡ status_of outcome }
+{
+    match outcome {
+        Outcome::Done => DONE,
+        Outcome::Failed(_) => FAILED,
+        Outcome::StepsSpent | Outcome::JournalFull | Outcome::Memory => SPENT,
+    }
+}
+
+/// Adds what is told of a thread, an agent or an agent's actor that ended so, but for what it printed: its line, if there is one, and the status, where it is higher.
+pub(crate) fn tell_end(
+    told: &mut Told,
+    script: Script<'_>,
+    front: Front<'_>,
+    outcome: Outcome,
+) -> Result<(), AllocError>
+    ensures output { told.new.output.items ≡ told.old.output.items }
+    ensures errors { OnOk result ((line : List ℕ) × IsLesson (script_of script.entry) (end_line (front_of front.entry) outcome) (end_place outcome) line × (told.new.errors.items ≡ told.old.errors.items ++ line)) }
+    ensures status { told.new.status ≡ max told.old.status (status_of outcome) }
+{
+    told.status = told.status.max(status_of(outcome));
+    write_end(&mut told.errors, script, front, outcome)
 }
 
 /// How a thread ended; every thread of a run has.
@@ -357,7 +373,6 @@ fn how_ended(outcome: Option<Outcome>) -> Outcome
 
 /// Adds what is told of a thread that has run: what it printed, the line that tells how it ended, and the status, where it is higher.
 fn add_thread(
-    alloc: Global,
     told: &mut Told,
     script: Script<'_>,
     k: u16,
@@ -367,12 +382,8 @@ fn add_thread(
     ensures errors { OnOk result ((line : List ℕ) × IsLesson (script_of script.entry) (end_line (thread_front k) (how_ended thread.now.outcome)) (end_place (how_ended thread.now.outcome)) line × (told.new.errors.items ≡ told.old.errors.items ++ line)) }
     ensures status { OnOk result (told.new.status ≡ max told.old.status (status_of (how_ended thread.now.outcome))) }
 {
-    let front = thread_front(alloc, k)?;
-    let end = of_end(alloc, script, front, how_ended(thread.outcome))?;
     told.output.extend_from_slice(thread.printed.as_slice())?;
-    told.errors.extend_from_slice(end.errors.as_slice())?;
-    told.status = told.status.max(end.status);
-    Ok(())
+    tell_end(told, script, Front::Thread(k), how_ended(thread.outcome))
 }
 
 /// What is told of all threads that have run, in their order.
@@ -384,7 +395,7 @@ pub fn of_threads(alloc: Global, script: Script<'_>, report: &Report) -> Result<
 {
     let mut told = nothing(alloc);
     for (k, thread) in report.threads.iter().enumerate() {
-        add_thread(alloc, &mut told, script, k as u16, thread)?;
+        add_thread(&mut told, script, k as u16, thread)?;
     }
     Ok(told)
 }

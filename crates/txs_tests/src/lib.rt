@@ -1,9 +1,16 @@
 //! What no contract says of the program, and no row of txs_examples shows: the program beside the evaluators, streams that
-//! fail, and the limits of programs.
+//! fail, and the limits of programs; and of running threads: that a report comes and is no mismatch, that workers run at once,
+//! and that parts that don't agree are told.
 #![tactic(auto)]
 
 #[cfg(test)]
+mod agents;
+#[cfg(test)]
+mod at_once;
+#[cfg(test)]
 mod building;
+#[cfg(test)]
+mod by_hand;
 #[cfg(test)]
 mod code;
 #[cfg(test)]
@@ -15,4 +22,10 @@ mod meanings;
 #[cfg(test)]
 mod program;
 #[cfg(test)]
+mod runs;
+#[cfg(test)]
+mod seen;
+#[cfg(test)]
 mod streams;
+#[cfg(test)]
+mod workers;

@@ -1,4 +1,5 @@
 pub mod Agents
+pub mod Answered
 pub mod Crossing
 pub mod Ended
 pub mod Mail

@@ -1,7 +1,12 @@
 -- What several workers did.
-use Rattle.std.specs.Prelude.{◌≡◌, ℕ, true, List, [], ◌∷◌, Some, None}
+use Rattle.std.specs.Prelude.{◌≡◌, ℕ, true, List, [], ◌∷◌, length, Some, None}
+use Rattle.txs_code.specs.PlainCode.{PlainCode}
+use Rattle.txs_machine.specs.Agents.{agents_of, AreDrained, AreExplainedBy}
+use Rattle.txs_machine.specs.RunOver.{IsStateOf}
+use Rattle.txs_machine.specs.Schedule.{HaveEnded, IsExplainedBy}
 use Rattle.txs_machine.specs.declared.schedule.ThreadReport.{ThreadReport}
-use Rattle.txs_shared.specs.SharedState.{PlainShared, numbered_book}
+use Rattle.txs_played.specs.Gather.{AllHaveDone, AllHaveAttended}
+use Rattle.txs_shared.specs.SharedState.{PlainShared, numbered_book, shared_of}
 use Rattle.txs_value.specs.Places.{nth}
 use Rattle.txs_value.specs.declared.value.CellId.{CellId}
 use Rattle.txs_world.specs.Book.{has_agent}
@@ -25,3 +30,15 @@ abbrev pub AllDrained : PlainShared → List CellId → List ThreadReport → Ty
 AllDrained s [] rs = Unit {0}
 AllDrained s (g ∷ gs) [] = Unit {0}
 AllDrained s (g ∷ gs) (r ∷ rs) = IsDrained s g r × AllDrained s gs rs
+
+-- what is left of a run, its state and the entries of its threads and agents: all that `run_threads` says of them
+pub record IsLeft (code : PlainCode) (limit : ℕ) (s : PlainShared) (threads agents : List ThreadReport) : Type 0 where
+  pub of : IsStateOf code s
+  pub one_each : length threads ≡ length code.threads
+  pub agents_each : length agents ≡ length (agents_of code)
+  pub ended : HaveEnded threads
+  pub drained : AreDrained code (shared_of s) agents
+  pub done : AllHaveDone code limit s threads
+  pub attended : AllHaveAttended code limit s agents
+  pub explained : IsExplainedBy code (shared_of s) threads
+  pub all_explained : AreExplainedBy code (shared_of s) threads agents

@@ -1,9 +1,11 @@
 //! What lies under the one lock.
 
-ghost use Rattle.std.specs.Prelude.{◌≡◌, ◌↔◌, false, IfSome, IsTrue, None};
+ghost use Rattle.std.proofs.Common.{get_or};
+ghost use Rattle.std.specs.Prelude.{◌≡◌, ◌<◌, ◌≤◌, ◌+◌, ◌-◌, ◌↔◌, false, length, IfSome, IsTrue, None};
 ghost use Rattle.txs_shared.specs.SharedState.{is_lawful, answer_to, Answers};
 
 use crate::player::Player;
+use std::alloc::{AllocError, Global};
 use std::mem;
 use txs_asks::{Ask, Event, EventKind, Reply};
 use txs_replay::replay::is_exchanged;
@@ -50,7 +52,10 @@ impl Server {
     /// Whether an action waits for the agent of this actor.
     #[tactic(auto, using(crate::proofs::Mail::taker_is_agent))]
     fn has_mail(&self, actor: u16, agent: CellId) -> bool {
-        if !self.shared.lawful(actor, &Ask::Take { agent }) {
+        let take = Ask::Take { agent };
+        let lawful = self.shared.lawful(actor, &take);
+        drop(take);
+        if !lawful {
             return false;
         }
         self.shared.failure(agent).is_none() && self.shared.waiting(agent) > 0
@@ -70,7 +75,49 @@ pub struct Actors<P> {
     pub live: usize,
 }
 
+/// The agent whose actor has this number: those of agents come behind those of so many threads.
+pub(crate) fn agent_at(agents: &[CellId], threads: u16, number: u16) -> CellId
+    requires behind { threads ≤ number }
+    requires there { number < threads + length agents.now }
+    ensures { result ≡ get_or agents.now (number - threads) result }
+{
+    agents[usize::from(number - threads)]
+}
+
 impl<P: Player> Actors<P> {
+    /// None, and no room for any.
+    fn new(alloc: Global) -> Actors<P> {
+        Actors {
+            ready: Vec::new(alloc),
+            parked: Vec::new(alloc),
+            down: Vec::new(alloc),
+            live: 0,
+        }
+    }
+
+    /// Makes room for so many actors, all of them live, and places for those of the agents among so many cells.
+    pub fn make_room(&mut self, actors: usize, cells: usize) -> Result<(), AllocError> {
+        self.ready.reserve(actors)?;
+        self.down.reserve(actors)?;
+        self.parked.reserve(cells)?;
+        for _ in 0..cells {
+            self.parked.push(None)?;
+        }
+        self.live = actors;
+        Ok(())
+    }
+
+    /// Adds an actor before its first turn, with its number, where there is room for it: a thread's is ready, and the next one, and an agent's is parked.
+    pub fn add(&mut self, agents: &[CellId], threads: u16, number: u16, played: P)
+        requires { number < threads + length agents.now }
+    {
+        if number < threads {
+            let _ = self.ready.push(played);
+            return;
+        }
+        self.park(agent_at(agents, threads, number), played);
+    }
+
     /// One is live no more: whether it was the last.
     fn one_less(&mut self) -> bool {
         self.live = self.live.saturating_sub(1);
@@ -93,13 +140,19 @@ impl<P: Player> Actors<P> {
         self.one_less()
     }
 
-    /// Wakes an agent's actor, if it is parked: whether it was.
-    fn wake(&mut self, agent: CellId) -> bool {
-        let number = usize::from(agent.number);
-        if number >= self.parked.len() {
+    /// Wakes every agent's actor that is parked.
+    pub fn wake_all(&mut self) {
+        for cell in 0..self.parked.len() {
+            self.wake(cell);
+        }
+    }
+
+    /// Wakes the actor of the agent that this cell is, if it is parked: whether it was.
+    fn wake(&mut self, cell: usize) -> bool {
+        if cell >= self.parked.len() {
             return false;
         }
-        let Some(played) = self.parked[number].take() else {
+        let Some(played) = self.parked[cell].take() else {
             return false;
         };
         self.live = self.live.saturating_add(1);
@@ -153,11 +206,11 @@ fn is_done(served: &Option<Served>) -> bool {
 /// Wakes the agents to which an event sent actions: whether one was parked.
 fn wake_by<P: Player>(actors: &mut Actors<P>, event: &Event) -> bool {
     match &event.kind {
-        EventKind::Send { action } => actors.wake(action.agent),
+        EventKind::Send { action } => actors.wake(usize::from(action.agent.number)),
         EventKind::Commit { sends, .. } => {
             let mut woke = false;
             for action in sends.as_slice() {
-                woke |= actors.wake(action.agent);
+                woke |= actors.wake(usize::from(action.agent.number));
             }
             woke
         }
@@ -166,6 +219,14 @@ fn wake_by<P: Player>(actors: &mut Actors<P>, event: &Event) -> bool {
 }
 
 impl<P: Player> Desk<P> {
+    /// What lies under the lock before there are actors.
+    pub fn new(alloc: Global, shared: SharedState) -> Desk<P> {
+        Desk {
+            server: Server { shared, served: 0 },
+            actors: Actors::new(alloc),
+        }
+    }
+
     /// Serves an ask, if the actor may ask it, and wakes the agents to which it sent actions, in one step. An ask that it may not ask is refused, and no other.
     pub fn serve(&mut self, actor: u16, ask: Ask) -> Step
         ensures served { IfSome result.served (λ v. Answers self.old.server.shared ask (answer_to self.old.server.shared actor ask) v.reply self.new.server.shared) }

@@ -3,7 +3,7 @@
 use txs_asks::Ask;
 
 /// Which ask was answered.
-#[derive(Clone, Copy, Debug, PartialEq, Eq)]
+#[derive(Clone, Copy, PartialEq, Eq)]
 pub enum AskKind {
     Begin,
     Look,
@@ -20,7 +20,7 @@ pub enum AskKind {
 }
 
 /// Where an actor is.
-#[derive(Clone, Copy, Debug, PartialEq, Eq)]
+#[derive(Clone, Copy, PartialEq, Eq)]
 pub enum Moment {
     /// Before some turns: as many as the gate allows, or up to an ask or its end.
     Local,

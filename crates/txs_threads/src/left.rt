@@ -1,13 +1,9 @@
 //! What the workers leave: everything after the joins, without a handle.
 
-ghost use Rattle.std.specs.Prelude.{◌≡◌, ◌↔◌, ◌⊎◌, ℕ, length, Some, None, true, IsTrue, IfOk, IfErr};
-ghost use Rattle.txs_machine.specs.Agents.{agents_of, AreDrained, AreExplainedBy};
-ghost use Rattle.txs_machine.specs.RunOver.{IsStateOf};
-ghost use Rattle.txs_machine.specs.Schedule.{HaveEnded, IsExplainedBy};
+ghost use Rattle.std.specs.Prelude.{◌≡◌, ◌⊎◌, length, true, IsTrue, IfOk, IfErr};
+ghost use Rattle.txs_machine.specs.Agents.{agents_of};
 ghost use Rattle.txs_machine.specs.declared.run_error.RunError.TheVariants.{JournalMismatch, Memory};
-ghost use Rattle.txs_played.specs.Gather.{AllHaveDone, AllHaveAttended};
-ghost use Rattle.txs_shared.specs.SharedState.{shared_of};
-ghost use Rattle.txs_threads.specs.Run.{AllEnded, AreAgents, IsDrained, AllDrained};
+ghost use Rattle.txs_threads.specs.Run.{AllEnded, AreAgents, IsDrained, AllDrained, IsLeft};
 ghost use Rattle.txs_world.specs.Book.{has_agent};
 ghost use Rattle.txs_world.specs.Store.{cells_of};
 
@@ -29,8 +25,11 @@ fn answer_ask(server: &mut Server, played: &mut Played<'_>, ask: Ask) -> bool {
     matches!(next, Next::GoesOn | Next::Again)
 }
 
-/// Turns an actor up to its next ask, which is served and answered, or to its end: whether it goes on.
+/// Turns an actor that hasn't ended up to its next ask, which is served and answered, or to its end: whether it goes on.
 fn play_one(server: &mut Server, played: &mut Played<'_>) -> bool {
+    if played.outcome().is_some() {
+        return false;
+    }
     for _ in 0..u64::MAX {
         match Player::run(played, u64::MAX) {
             Some(Turn::Went) => {}
@@ -45,9 +44,7 @@ fn play_one(server: &mut Server, played: &mut Played<'_>) -> bool {
 fn play_round(server: &mut Server, actors: &mut Vec<Played<'_>>) -> bool {
     let mut more = false;
     for one in actors.iter_mut() {
-        if one.outcome().is_none() && play_one(server, one) {
-            more = true;
-        }
+        more |= play_one(server, one);
     }
     more
 }
@@ -68,27 +65,19 @@ fn put_all<P: Player>(all: &mut Vec<P>, more: Vec<P>) {
     }
 }
 
-/// Adds those that are there to others, which have room for them.
-fn put_parked<P: Player>(all: &mut Vec<P>, parked: Vec<Option<P>>) {
-    for place in parked {
-        if let Some(one) = place {
-            let _ = all.push(one);
-        }
-    }
-}
-
 /// All actors, in the order of their numbers.
-fn all_of<P: Player>(actors: Actors<P>) -> Vec<P> {
+fn all_of<P: Player>(mut actors: Actors<P>) -> Vec<P> {
+    actors.wake_all();
     let Actors {
-        ready,
+        mut ready,
         parked,
-        mut down,
+        down,
         ..
     } = actors;
-    put_all(&mut down, ready);
-    put_parked(&mut down, parked);
-    down.sort_unstable_by_key(|p| p.place());
-    down
+    drop(parked);
+    put_all(&mut ready, down);
+    ready.sort_unstable_by_key(|p| p.place());
+    ready
 }
 
 /// Whether each of these entries is of an actor that has ended.
@@ -131,8 +120,20 @@ fn are_drained(shared: &SharedState, agents: &[CellId], rans: &[ThreadReport]) -
     true
 }
 
+/// Whether each thread of a report has ended, and nothing waits for an agent of it that goes on.
+fn is_whole(gathered: &Gathered, agents: &[CellId]) -> bool
+    requires agents { AreAgents gathered.now.shared agents.now }
+    requires one_each { length gathered.now.report.agents.items ≡ length agents.now }
+    ensures ended { IsTrue result → AllEnded gathered.now.report.threads.items }
+    ensures drained { IsTrue result → AllDrained gathered.now.shared agents.now gathered.now.report.agents.items }
+{
+    if !have_ended(gathered.report.threads.as_slice()) {
+        return false;
+    }
+    are_drained(&gathered.shared, agents, gathered.report.agents.as_slice())
+}
+
 /// Plays in rounds what the workers left unended, and compares the actors, in the order of their numbers, with what they share; each may make so many steps.
-#[tactic(auto, using(crate::proofs::Agents::are_agents, crate::proofs::Agents::are_drained))]
 pub fn gather_left(
     alloc: Global,
     code: &Verified,
@@ -141,15 +142,7 @@ pub fn gather_left(
     desk: Desk<Played<'_>>,
 ) -> Result<Gathered, RunError>
     requires agents { agents.now ≡ agents_of code.now }
-    ensures of { IfOk result (λ g. IsStateOf code.now g.shared) }
-    ensures one_each { IfOk result (λ g. length g.report.threads.items ≡ length code.now.threads) }
-    ensures agents_each { IfOk result (λ g. length g.report.agents.items ≡ length (agents_of code.now)) }
-    ensures ended { IfOk result (λ g. HaveEnded g.report.threads.items) }
-    ensures drained { IfOk result (λ g. AreDrained code.now (shared_of g.shared) g.report.agents.items) }
-    ensures done { IfOk result (λ g. AllHaveDone code.now max_steps g.shared g.report.threads.items) }
-    ensures attended { IfOk result (λ g. AllHaveAttended code.now max_steps g.shared g.report.agents.items) }
-    ensures explained { IfOk result (λ g. IsExplainedBy code.now (shared_of g.shared) g.report.threads.items) }
-    ensures all_explained { IfOk result (λ g. AreExplainedBy code.now (shared_of g.shared) g.report.threads.items g.report.agents.items) }
+    ensures left { IfOk result (λ g. IsLeft code.now max_steps g.shared g.report.threads.items g.report.agents.items) }
     ensures refusals { IfErr result (λ e. (e ≡ JournalMismatch) ⊎ (e ≡ Memory)) }
 {
     let Desk { mut server, actors } = desk;
@@ -157,11 +150,9 @@ pub fn gather_left(
     play_rounds(&mut server, &mut all);
     let Server { shared, served } = server;
     let gathered = gather(alloc, code, max_steps, shared, served, all)?;
-    if !have_ended(gathered.report.threads.as_slice()) {
-        return Err(RunError::JournalMismatch);
+    if is_whole(&gathered, agents) {
+        return Ok(gathered);
     }
-    if !are_drained(&gathered.shared, agents, gathered.report.agents.as_slice()) {
-        return Err(RunError::JournalMismatch);
-    }
-    Ok(gathered)
+    drop(gathered);
+    Err(RunError::JournalMismatch)
 }

@@ -6,7 +6,7 @@ use txs_asks::Reply;
 use txs_played::Played;
 
 /// What an actor that asked is to do next.
-#[derive(Clone, Copy, PartialEq, Eq)]
+#[derive(Clone, Copy)]
 pub enum Next {
     /// It goes on.
     GoesOn,

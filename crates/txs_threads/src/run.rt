@@ -9,9 +9,10 @@ ghost use Rattle.txs_machine.specs.declared.run_error.RunError.TheVariants.{NoTh
 ghost use Rattle.txs_played.specs.Callees.{AreCallees};
 ghost use Rattle.txs_played.specs.Gather.{AllHaveDone, AllHaveAttended};
 ghost use Rattle.txs_shared.specs.SharedState.{shared_of};
+ghost use Rattle.txs_threads.specs.Run.{IsLeft};
 
 use crate::actors::{agents_in, open_all};
-use crate::desk::{Desk, Parking, Server, Step};
+use crate::desk::{Desk, Parking, Step};
 use crate::gate::{Gate, Moment, kind_of};
 use crate::left::gather_left;
 use crate::player::{Next, Player};
@@ -38,7 +39,7 @@ enum Message<P> {
     Stop,
 }
 
-/// How it stands with an actor that was run for a while.
+/// How it stands with an actor that was run for a while, or up to an ask.
 #[derive(Clone, Copy)]
 enum Standing {
     /// It goes on, and is handed on.
@@ -49,6 +50,17 @@ enum Standing {
     Down,
 }
 
+/// What came of turns of an actor, up to an ask that was served.
+#[derive(Clone, Copy)]
+enum Turned {
+    /// It asked nothing yet.
+    Went,
+    /// It asked, and goes on.
+    Asked,
+    /// Its worker lets it go.
+    Stands(Standing),
+}
+
 /// Serves an ask under the lock, and lets go.
 fn serve<R: Wait, P: Player>(rt: &R, desk: &Mutex<Desk<P>>, actor: u16, ask: Ask) -> Step {
     desk.lock(rt).serve(actor, ask)
@@ -57,6 +69,11 @@ fn serve<R: Wait, P: Player>(rt: &R, desk: &Mutex<Desk<P>>, actor: u16, ask: Ask
 /// The next actor that is ready.
 fn next<R: Wait, P: Player>(rt: &R, desk: &Mutex<Desk<P>>) -> Option<P> {
     desk.lock(rt).next()
+}
+
+/// Sends the word that no actor is live.
+fn send_stop<R: Wait, P: Player>(rt: &R, to: &Sender<Message<P>>) {
+    let _ = to.send(rt, Message::Stop);
 }
 
 /// Hands an actor on, or puts it down where that can't be: whether it was the last that was live.
@@ -92,28 +109,6 @@ fn hand_on_ready<R: Wait, P: Player>(
     false
 }
 
-/// Serves an actor's ask, hands on the agents that it woke, and hands the actor the answer.
-fn serve_ask<R: Wait, P: Player, G: Gate>(
-    rt: &R,
-    desk: &Mutex<Desk<P>>,
-    to: &Sender<Message<P>>,
-    gate: &G,
-    played: &mut P,
-    ask: Ask,
-) -> Next {
-    let actor = played.place();
-    let kind = kind_of(&ask);
-    let Step { served, woke } = serve(rt, desk, actor, ask);
-    if woke {
-        let _ = hand_on_ready(rt, desk, to);
-    }
-    let next = played.hear(served);
-    if next != Next::Broken {
-        gate.pass(actor, Moment::Answered(kind));
-    }
-    next
-}
-
 /// The agent for which an action is to be taken, if that is what is asked.
 fn taker(ask: &Ask) -> Option<CellId> {
     match ask {
@@ -130,6 +125,56 @@ fn idle(taker: Option<CellId>) -> Standing {
     }
 }
 
+/// What came of an ask, by what the actor is to do next; it may have been for an action for this agent.
+fn after_answer(next: Next, taker: Option<CellId>) -> Turned {
+    match next {
+        Next::GoesOn => Turned::Asked,
+        Next::Again => Turned::Stands(Standing::GoesOn),
+        Next::Idle => Turned::Stands(idle(taker)),
+        Next::Broken => Turned::Stands(Standing::Down),
+    }
+}
+
+/// Serves an actor's ask, hands on the agents that it woke, and hands the actor the answer.
+fn serve_ask<R: Wait, P: Player, G: Gate>(
+    rt: &R,
+    desk: &Mutex<Desk<P>>,
+    to: &Sender<Message<P>>,
+    gate: &G,
+    played: &mut P,
+    ask: Ask,
+) -> Turned {
+    let actor = played.place();
+    let kind = kind_of(&ask);
+    let agent = taker(&ask);
+    let Step { served, woke } = serve(rt, desk, actor, ask);
+    if woke {
+        let _ = hand_on_ready(rt, desk, to);
+    }
+    let next = played.hear(served);
+    if !matches!(next, Next::Broken) {
+        gate.pass(actor, Moment::Answered(kind));
+    }
+    after_answer(next, agent)
+}
+
+/// Turns an actor so often at most, up to its next ask, which is served.
+fn turn_once<R: Wait, P: Player, G: Gate>(
+    rt: &R,
+    desk: &Mutex<Desk<P>>,
+    to: &Sender<Message<P>>,
+    gate: &G,
+    played: &mut P,
+    budget: u64,
+) -> Turned {
+    gate.pass(played.place(), Moment::Local);
+    match played.run(budget) {
+        Some(Turn::Went) => Turned::Went,
+        Some(Turn::Asks(ask)) => serve_ask(rt, desk, to, gate, played, ask),
+        Some(Turn::Ended(_)) | None => Turned::Stands(Standing::Down),
+    }
+}
+
 /// Runs an actor up to so many asks, to a retry, until nothing waits for it, or to its end.
 fn play<R: Wait, P: Player, G: Gate>(
     rt: &R,
@@ -138,25 +183,16 @@ fn play<R: Wait, P: Player, G: Gate>(
     gate: &G,
     played: &mut P,
 ) -> Standing {
-    let number = played.place();
     let budget = gate.most_turns().max(1);
     let mut left = ASKS;
     for _ in rt.forever() {
         if left == 0 {
             return Standing::GoesOn;
         }
-        gate.pass(number, Moment::Local);
-        let ask = match played.run(budget) {
-            Some(Turn::Went) => continue,
-            Some(Turn::Asks(ask)) => ask,
-            Some(Turn::Ended(_)) | None => return Standing::Down,
-        };
-        let agent = taker(&ask);
-        match serve_ask(rt, desk, to, gate, played, ask) {
-            Next::GoesOn => left -= 1,
-            Next::Again => left = 0,
-            Next::Idle => return idle(agent),
-            Next::Broken => return Standing::Down,
+        match turn_once(rt, desk, to, gate, played, budget) {
+            Turned::Went => {}
+            Turned::Asked => left -= 1,
+            Turned::Stands(standing) => return standing,
         }
     }
     Standing::Down
@@ -234,14 +270,14 @@ fn work<R: Wait, P: Player, G: Gate>(
             break;
         }
     }
-    let _ = to.send(rt, Message::Stop);
+    send_stop(rt, to);
 }
 
 /// Hands the workers what is ready, or the word to stop where nothing is live.
 fn feed<R: Wait, P: Player>(rt: &R, desk: &Mutex<Desk<P>>, to: &Sender<Message<P>>) {
     let none = desk.lock(rt).is_over();
     if none || hand_on_ready(rt, desk, to) {
-        let _ = to.send(rt, Message::Stop);
+        send_stop(rt, to);
     }
 }
 
@@ -265,8 +301,10 @@ fn run_workers<R: Threads + Wait + Sync, P: Player + Send, G: Gate>(
         {
             for _ in 0..workers {
                 let worker = scope.spawn(move || work(rt, desk, to, from, gate));
-                if worker.is_err() {
-                    let _ = to.send(rt, Message::Stop);
+                let refused = worker.is_err();
+                drop(worker);
+                if refused {
+                    send_stop(rt, to);
                     return false;
                 }
             }
@@ -274,6 +312,30 @@ fn run_workers<R: Threads + Wait + Sync, P: Player + Send, G: Gate>(
             true
         },
     )
+}
+
+/// Has all actors of the desk run by so many workers, who hand them on over a channel with room for so many messages. It returns when all workers have.
+///
+/// # Errors
+/// `NoThread` where a worker couldn't be started, and nothing was run; `Memory` where there was none for the channel.
+fn run_desk<R: Threads + Wait + Sync, P: Player + Send, G: Gate>(
+    rt: &R,
+    alloc: Global,
+    desk: &Mutex<Desk<P>>,
+    room: usize,
+    gate: &G,
+    workers: usize,
+) -> Result<(), RunError>
+    ensures { IfErr result (λ e. (e ≡ NoThread) ⊎ (e ≡ Memory)) }
+{
+    let (to, from) = crossbeam_channel::bounded(alloc, room)?;
+    let started = run_workers(rt, desk, &to, &from, gate, workers);
+    drop(to);
+    drop(from);
+    if started {
+        return Ok(());
+    }
+    Err(RunError::NoThread)
 }
 
 /// What lies under the lock before anything was done.
@@ -291,11 +353,15 @@ fn open_desk<'a>(
     requires few { length code.now.threads + length code.now.cells ≤ 65535 }
 {
     let shared = SharedState::open(alloc, code.code().cells(), threads)?;
-    let actors = open_all(alloc, code, callees, agents, threads, max_steps)?;
-    Ok(Desk {
-        server: Server { shared, served: 0 },
-        actors,
-    })
+    let mut desk = Desk::new(alloc, shared);
+    let actors = &mut desk.actors;
+    match open_all(actors, alloc, code, callees, agents, threads, max_steps) {
+        Ok(()) => Ok(desk),
+        Err(refused) => {
+            drop(desk);
+            Err(refused)
+        }
+    }
 }
 
 /// Runs the actors of a code, whose actions call these functions and whose agents are these, by so many workers; an actor makes no more than `max_steps`
@@ -314,25 +380,22 @@ fn run_actors<R: Threads + Wait + Sync, G: Gate>(
     requires agents { agents.now ≡ agents_of code.now }
     requires few { length code.now.threads + length code.now.cells ≤ 65535 }
     requires workers { workers ≤ 64 }
-    ensures of { IfOk result (λ g. IsStateOf code.now g.shared) }
-    ensures one_each { IfOk result (λ g. length g.report.threads.items ≡ length code.now.threads) }
-    ensures agents_each { IfOk result (λ g. length g.report.agents.items ≡ length (agents_of code.now)) }
-    ensures ended { IfOk result (λ g. HaveEnded g.report.threads.items) }
-    ensures drained { IfOk result (λ g. AreDrained code.now (shared_of g.shared) g.report.agents.items) }
-    ensures done { IfOk result (λ g. AllHaveDone code.now max_steps g.shared g.report.threads.items) }
-    ensures attended { IfOk result (λ g. AllHaveAttended code.now max_steps g.shared g.report.agents.items) }
-    ensures explained { IfOk result (λ g. IsExplainedBy code.now (shared_of g.shared) g.report.threads.items) }
-    ensures all_explained { IfOk result (λ g. AreExplainedBy code.now (shared_of g.shared) g.report.threads.items g.report.agents.items) }
+    ensures left { IfOk result (λ g. IsLeft code.now max_steps g.shared g.report.threads.items g.report.agents.items) }
     ensures refusals { IfErr result (λ e. (e ≡ NoThread) ⊎ (e ≡ JournalMismatch) ⊎ (e ≡ Memory)) }
 {
     let threads = code.code().threads().len();
-    let (to, from) = crossbeam_channel::bounded(alloc, threads + agents.len() + workers + 1)?;
+    let room = threads + agents.len() + workers + 1;
     let desk = open_desk(alloc, code, callees, agents, threads as u16, max_steps)?;
     let desk = Mutex::new(desk);
-    if !run_workers(rt, &desk, &to, &from, gate, workers) {
-        return Err(RunError::NoThread);
+    let ran = run_desk(rt, alloc, &desk, room, gate, workers);
+    let desk = desk.into_inner();
+    match ran {
+        Ok(()) => gather_left(alloc, code, agents, max_steps, desk),
+        Err(refused) => {
+            drop(desk);
+            Err(refused)
+        }
     }
-    gather_left(alloc, code, agents, max_steps, desk.into_inner())
 }
 
 /// Runs all threads and agents of the code by so many workers, each on a thread of its own, until each thread has ended and nothing waits for an

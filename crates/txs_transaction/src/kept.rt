@@ -12,10 +12,8 @@ use std::alloc::{AllocError, Global};
 use std::marker::Model;
 use std::mem;
 use txs_stack::Stack;
+use txs_value::limits::RERUNS;
 use txs_value::{CellId, Span};
-
-/// How often a transaction may run again.
-const RERUNS: u16 = 9_999;
 
 /// How often a transaction that runs may run again, and how many inner ones it has.
 #[derive(Clone, Copy)]

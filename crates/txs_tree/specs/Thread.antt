@@ -129,7 +129,7 @@ ends_tx d f (Commit at view writes sent) R Q C t =
 -- a failure: the body's fault, else the first one of the commutes on the world that was viewed
 ends_tx d f (Fail at view) R Q C t =
     over t (d.on R) (λ v x. faulted (final_writes f x.done Q t) (λ g t1. Faults g t1)) (λ g. Faults g t)
--- a refusal: neither the body nor a commute faults, and the agent of a held send has failed
+-- a refusal: neither the body nor a commute faults; that the agent had failed is told by the journal, and not asked here
 ends_tx d f (Refused at view agent) R Q C t =
     over t (d.on R) (λ v x. faultless (final_writes f x.done Q t) (λ ws t1. Faults (fault_at AgentFailed d.mark.span) (with_tx (run_of d v x) t1))) (λ g. Invalid)
 ends_tx d f _ R Q C t = Invalid

@@ -1,7 +1,7 @@
 -- Which values the forms on cells take.
 use Rattle.std.specs.Prelude.{ℕ, Result, Ok, Err}
 use Rattle.txs_value.specs.declared.fault.FaultKind.{FaultKind}
-use Rattle.txs_value.specs.declared.fault.FaultKind.TheVariants.{NotACell, NotARef, OutsideOnly}
+use Rattle.txs_value.specs.declared.fault.FaultKind.TheVariants.{NotACell, NotARef}
 use Rattle.txs_value.specs.declared.value.CellId.{CellId}
 use Rattle.txs_value.specs.declared.value.CellKind.{CellKind}
 use Rattle.txs_value.specs.declared.value.CellKind.TheVariants.{Ref, Atom, Agent}
@@ -17,16 +17,6 @@ abbrev pub of_kind_ref : FaultKind → CellKind → CellId → Result CellId Fau
 of_kind_ref k Ref c = Ok c
 of_kind_ref k Atom c = Err k
 of_kind_ref k Agent c = Err k
-
--- `deref` outside a transaction takes any cell
-abbrev pub any_cell : Value → Result CellId FaultKind
-any_cell (Cell c) = Ok c
-any_cell _ = Err NotACell
-
--- `deref` in a transaction takes a ref
-abbrev pub readable_cell : Value → Result CellId FaultKind
-readable_cell (Cell c) = of_kind_ref OutsideOnly c.kind c
-readable_cell _ = Err NotACell
 
 -- a form for refs takes a ref
 abbrev pub ref_cell : Value → Result CellId FaultKind

@@ -1,23 +1,13 @@
 //! Leaves in a row, by themselves and as a branch that several vectors may share.
-ghost use Rattle.std.specs.Prelude.{◌≡◌, ◌<◌, ◌≤◌, ◌+◌, ◌++◌, ◌∷◌, length, take, drop, IfOk, OnOk, OnErr, Some};
+ghost use Rattle.std.specs.Prelude.{◌≡◌, ◌<◌, ◌+◌, ◌++◌, ◌∷◌, length, take, drop, OnOk, OnErr, Some};
 ghost use Rattle.std.specs.List.{slice_get};
 ghost use Rattle.txs_value.specs.Rows.{joined, AreRows};
 ghost use Rattle.txs_value.specs.View.{plain_of};
 
+use crate::copy::{Share, copy_row};
 use crate::value::{Branch, Leaf, Value};
 use std::alloc::{AllocError, Global};
 use std::sync::Arc;
-
-/// The same leaves in a list of its own, with room for one more.
-pub(crate) fn copy_leaves(alloc: Global, leaves: &[Leaf]) -> Result<Vec<Leaf>, AllocError>
-    ensures { IfOk result (λ c. c.items ≡ leaves.now) }
-{
-    let mut copies = Vec::with_capacity(alloc, leaves.len() + 1)?;
-    for leaf in leaves {
-        copies.push_reserved(leaf.share()?);
-    }
-    Ok(copies)
-}
 
 /// The value at a place of full leaves.
 pub(crate) fn value_in(leaves: &[Leaf], place: usize) -> &Value
@@ -48,38 +38,15 @@ pub(crate) fn put_in(
     Ok(())
 }
 
-impl Branch {
-    /// The branch of these leaves.
-    pub(crate) fn from_vec(alloc: Global, leaves: Vec<Leaf>) -> Result<Branch, AllocError>
-        requires { AreRows 32 32 leaves.items }
-        ensures { IfOk result (λ b. b ≡ joined leaves.items) }
-    {
-        Ok(Branch {
-            shared: Arc::new(alloc, leaves)?,
-        })
-    }
-
-    /// The leaves, in a list that is copied only where others share it.
-    pub(crate) fn into_vec(self, alloc: Global) -> Result<Vec<Leaf>, AllocError>
-        ensures value { IfOk result (λ v. joined v.items ≡ self) }
-        ensures rows { IfOk result (λ v. AreRows 32 32 v.items) }
-    {
-        let Branch { shared } = self;
-        match Arc::try_unwrap(shared) {
-            Ok(leaves) => Ok(leaves),
-            Err(shared) => copy_leaves(alloc, shared.as_slice()),
-        }
-    }
-
-    /// The same branch, in the same memory.
-    pub(crate) fn share(&self) -> Result<Branch, AllocError>
-        ensures { IfOk result (λ b. b ≡ self.now) }
-    {
+impl Share for Branch {
+    fn share(&self) -> Result<Branch, AllocError> {
         Ok(Branch {
             shared: Arc::try_clone(&self.shared)?,
         })
     }
+}
 
+impl Branch {
     /// The value at a place.
     pub(crate) fn get(&self, place: usize) -> &Value
         requires { place < length self.now }
@@ -95,10 +62,12 @@ impl Branch {
         ensures err { OnErr result (self.new ≡ self.old) }
     {
         if let Some(leaves) = Arc::get_mut(&mut self.shared) {
-            put_in(alloc, leaves, place, item)?;
-            return Ok(());
+            return put_in(alloc, leaves, place, item);
         }
-        let mut leaves = copy_leaves(alloc, self.shared.as_slice())?;
+        let Ok(mut leaves) = copy_row(alloc, self.shared.as_slice()) else {
+            drop(item);
+            return Err(AllocError);
+        };
         put_in(alloc, &mut leaves, place, item)?;
         self.shared = Arc::new(alloc, leaves)?;
         Ok(())

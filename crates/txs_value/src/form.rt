@@ -10,7 +10,7 @@ use crate::fault::FaultKind;
 use crate::value::{CellId, CellKind, Value};
 
 /// Forms that read a cell.
-#[derive(Clone, Copy, PartialEq, Eq)]
+#[derive(Clone, Copy)]
 pub enum LookForm {
     /// `deref`, also written `@`
     Deref,
@@ -19,7 +19,7 @@ pub enum LookForm {
 }
 
 /// Forms that give a cell a value.
-#[derive(Clone, Copy, PartialEq, Eq)]
+#[derive(Clone, Copy)]
 pub enum PutForm {
     /// `ref-set`
     RefSet,
@@ -28,7 +28,7 @@ pub enum PutForm {
 }
 
 /// Forms that give a cell what a callee makes of its value.
-#[derive(Clone, Copy, PartialEq, Eq)]
+#[derive(Clone, Copy)]
 pub enum UpdateForm {
     /// `alter`
     Alter,
@@ -39,7 +39,7 @@ pub enum UpdateForm {
 }
 
 /// All forms on cells.
-#[derive(Clone, Copy, PartialEq, Eq)]
+#[derive(Clone, Copy)]
 pub enum CellForm {
     /// It reads the cell.
     Look(LookForm),
@@ -52,7 +52,7 @@ pub enum CellForm {
 }
 
 /// Where a form may stand.
-#[derive(Clone, Copy, PartialEq, Eq)]
+#[derive(Clone, Copy)]
 pub enum Standing {
     /// In transactions and outside them.
     Anywhere,
@@ -64,7 +64,7 @@ pub enum Standing {
 
 /// What a form asks of the shared state before it gives its value. What a transaction asks where it begins and ends, it asks
 /// for all its forms together.
-#[derive(Clone, Copy, PartialEq, Eq)]
+#[derive(Clone, Copy)]
 pub enum FormAsk {
     /// Nothing, since the transaction keeps what it says.
     Nothing,

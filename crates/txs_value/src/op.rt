@@ -5,7 +5,7 @@ ghost use Rattle.txs_value.specs.Operations.{op_name, op_number};
 ghost use Rattle.txs_value.specs.declared.op.Op.{Op as AnOp};
 
 /// The 27 core operations, in the order of their numbers from 0.
-#[derive(Clone, Copy, Debug, PartialEq, Eq)]
+#[derive(Clone, Copy, PartialEq, Eq)]
 pub enum Op {
     Add,
     Subtract,
@@ -35,6 +35,9 @@ pub enum Op {
     Peek,
     Pop,
 }
+
+/// How many core operations there are.
+const COUNT: u8 = 27;
 
 /// The core operations by their numbers.
 const OPERATIONS: [Op; 27] = [
@@ -107,35 +110,7 @@ impl Op {
     pub fn number(self) -> u8
         ensures { result ≡ op_number self }
     {
-        match self {
-            Op::Add => 0,
-            Op::Subtract => 1,
-            Op::Multiply => 2,
-            Op::Inc => 3,
-            Op::Dec => 4,
-            Op::Quot => 5,
-            Op::Rem => 6,
-            Op::Mod => 7,
-            Op::Equal => 8,
-            Op::NotEqual => 9,
-            Op::Less => 10,
-            Op::Greater => 11,
-            Op::LessOrEqual => 12,
-            Op::GreaterOrEqual => 13,
-            Op::Max => 14,
-            Op::Min => 15,
-            Op::Not => 16,
-            Op::IsNil => 17,
-            Op::IsZero => 18,
-            Op::IsPositive => 19,
-            Op::IsNegative => 20,
-            Op::Count => 21,
-            Op::Nth => 22,
-            Op::Conj => 23,
-            Op::Assoc => 24,
-            Op::Peek => 25,
-            Op::Pop => 26,
-        }
+        self as u8
     }
 
     /// The operation of this number, if there is one.
@@ -143,7 +118,7 @@ impl Op {
         ensures { MatchOption result ((op : AnOp) → op_number op ≢ number) (λ op. op_number op ≡ number) }
     {
         let operations = &OPERATIONS;
-        if number < 27 {
+        if number < COUNT {
             Some(operations[usize::from(number)])
         } else {
             None

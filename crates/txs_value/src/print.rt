@@ -53,7 +53,7 @@ fn print_line(values: &[Value], out: &mut Vec<u8>) -> Result<(), AllocError>
     ensures kept { Extends out.old.items out.new.items }
 {
     print_row(values, out)?;
-    Ok(out.push(b'\n')?)
+    out.extend_from_slice(b"\n")
 }
 
 fn kind_text(kind: CellKind) -> &'static [u8]
@@ -72,7 +72,7 @@ fn separate(i: usize, out: &mut Vec<u8>) -> Result<(), AllocError>
     ensures kept { Extends out.old.items out.new.items }
 {
     if i > 0 {
-        out.push(b' ')?;
+        return out.extend_from_slice(b" ");
     }
     Ok(())
 }
@@ -95,12 +95,12 @@ fn print(value: &Value, out: &mut Vec<u8>) -> Result<(), AllocError>
         Value::Vector(items) => {
             out.push(b'[')?;
             print_items(items, out)?;
-            Ok(out.push(b']')?)
+            out.extend_from_slice(b"]")
         }
         Value::Cell(cell) => {
             out.extend_from_slice(kind_text(cell.kind))?;
             out.extend_from_slice(Buffer::new().format(cell.number).as_bytes())?;
-            Ok(out.push(b']')?)
+            out.extend_from_slice(b"]")
         }
     }
 }

@@ -1,48 +1,29 @@
 //! What a long vector's owners share: full branches, and full leaves behind them.
-ghost use Rattle.std.specs.Prelude.{◌≡◌, ◌<◌, ◌≤◌, ◌+◌, ◌++◌, ◌∷◌, length, take, drop, IfOk, OnOk, OnErr, Some};
+ghost use Rattle.std.specs.Prelude.{◌≡◌, ◌<◌, ◌≤◌, ◌+◌, ◌++◌, ◌∷◌, length, take, drop, IfOk, OnOk, Some};
 ghost use Rattle.std.specs.List.{slice_get};
 ghost use Rattle.txs_value.specs.Limits.{most_items};
 ghost use Rattle.txs_value.specs.View.{plain_of};
 
-use crate::branch::{copy_leaves, put_in, value_in};
+use crate::branch::{put_in, value_in};
+use crate::copy::{copy_row, taken};
 use crate::value::{Branch, Leaf, Rows, Value};
 use std::alloc::{AllocError, Global};
 use std::mem;
+use std::sync::Arc;
 
-/// The same branches in a list of its own, with room for one more.
-fn copy_branches(alloc: Global, branches: &[Branch]) -> Result<Vec<Branch>, AllocError>
-    ensures { IfOk result (λ c. c.items ≡ branches.now) }
-{
-    let mut copies = Vec::with_capacity(alloc, branches.len() + 1)?;
-    for branch in branches {
-        copies.push_reserved(branch.share()?);
+impl Clone for Rows {
+    ghost is_clone = { λ a b. b ≡ a };
+
+    /// The same rows, in lists of their own.
+    fn clone(&self) -> Result<Rows, AllocError> {
+        let alloc = *self.leaves.allocator();
+        let branches = copy_row(alloc, self.branches.as_slice())?;
+        let leaves = copy_row(alloc, self.leaves.as_slice())?;
+        Ok(Rows { branches, leaves })
     }
-    Ok(copies)
 }
 
 impl Rows {
-    /// One leaf.
-    pub(crate) fn one(alloc: Global, leaf: Leaf) -> Result<Rows, AllocError>
-        requires { length leaf ≡ 32 }
-        ensures { IfOk result (λ r. r ≡ leaf) }
-    {
-        let mut leaves = Vec::new(alloc);
-        leaves.push(leaf)?;
-        Ok(Rows {
-            branches: Vec::new(alloc),
-            leaves,
-        })
-    }
-
-    /// The same rows, in lists of their own.
-    pub(crate) fn copy(&self, alloc: Global) -> Result<Rows, AllocError>
-        ensures { IfOk result (λ r. r ≡ self.now) }
-    {
-        let branches = copy_branches(alloc, self.branches.as_slice())?;
-        let leaves = copy_leaves(alloc, self.leaves.as_slice())?;
-        Ok(Rows { branches, leaves })
-    }
-
     /// How many values there are.
     pub(crate) fn len(&self) -> usize
         ensures value { result ≡ length self.now }
@@ -89,11 +70,14 @@ impl Rows {
             self.leaves.push(leaf)?;
             return Ok(());
         }
-        let mut next = Vec::new(alloc);
-        next.push(leaf)?;
+        let Ok(mut next) = Vec::with_capacity(alloc, 32) else {
+            drop(leaf);
+            return Err(AllocError);
+        };
+        next.push_reserved(leaf);
         let full = mem::replace(&mut self.leaves, next);
-        let branch = Branch::from_vec(alloc, full)?;
-        self.branches.push(branch)?;
+        let shared = Arc::new(alloc, full)?;
+        self.branches.push(Branch { shared })?;
         Ok(())
     }
 
@@ -109,7 +93,8 @@ impl Rows {
         let Some(branch) = self.branches.pop() else {
             unreachable!()
         };
-        let mut leaves = branch.into_vec(alloc)?;
+        let Branch { shared } = branch;
+        let mut leaves = taken(alloc, shared)?;
         let Some(last) = leaves.pop() else {
             unreachable!()
         };

@@ -76,143 +76,127 @@ pub enum Words {
     Faulty(String),
 }
 
+/// A command, or that there was no memory for it.
+type Built<'a> = Result<Command<'a>, AllocError>;
+
 /// The file of a command.
 fn file_arg<'a>(alloc: Global) -> Arg<'a> {
     Arg::new(alloc, "FILE").help("The script; without it, standard input")
 }
 
-/// The flag by which a command explains what it complains of.
-fn explain_arg<'a>(alloc: Global) -> Arg<'a> {
-    Arg::new(alloc, "explain")
-        .long("explain")
-        .help("Shows the place of a refusal or a fault, and what to do")
+/// An option that is there or isn't.
+fn flag<'a>(alloc: Global, name: &'a str, help: &'a str) -> Arg<'a> {
+    Arg::new(alloc, name)
+        .long(name)
+        .help(help)
         .action(ArgAction::SetTrue)
 }
 
-/// The flag by which a command takes code in place of a script.
-fn code_arg<'a>(alloc: Global) -> Result<Arg<'a>, AllocError> {
-    Arg::new(alloc, "code")
-        .long("code")
-        .help("Takes code in its byte form, as build writes it")
-        .action(ArgAction::SetTrue)
-        .conflicts_with("explain")
-}
-
-/// A command that compiles a script and runs nothing.
-fn compiling_command<'a>(
-    alloc: Global,
-    name: &'a str,
-    about: &'a str,
-) -> Result<Command<'a>, AllocError> {
-    Command::new(alloc, name)
-        .about(about)
-        .arg(explain_arg(alloc))?
-        .arg(file_arg(alloc))
+/// An option with a value.
+fn option<'a>(alloc: Global, name: &'a str, help: &'a str) -> Arg<'a> {
+    Arg::new(alloc, name)
+        .long(name)
+        .help(help)
+        .action(ArgAction::Set)
 }
 
 /// The option of how many steps an actor makes.
 fn steps_arg<'a>(alloc: Global) -> Arg<'a> {
-    Arg::new(alloc, "steps")
-        .long("steps")
-        .help("How many steps an actor makes at most")
-        .action(ArgAction::Set)
-        .value_parser(value_parser!(u64).range(1..=1_000_000_000_000))
-}
-
-/// The options of what is printed behind what the threads print.
-fn with_lines<'a>(alloc: Global, command: Command<'a>) -> Result<Command<'a>, AllocError> {
-    let cells = Arg::new(alloc, "cells")
-        .long("cells")
-        .help("Prints each cell with its newest value")
-        .action(ArgAction::SetTrue);
-    let events = Arg::new(alloc, "events")
-        .long("events")
-        .help("Prints each event of the journal")
-        .action(ArgAction::SetTrue);
-    command.arg(cells)?.arg(events)
+    option(alloc, "steps", "How many steps an actor makes at most").value_parser(value_parser!(
+        u64
+    ).range(1..=1_000_000_000_000))
 }
 
 /// The option of how many workers run a script or code.
 fn workers_arg<'a>(alloc: Global) -> Arg<'a> {
-    Arg::new(alloc, "workers")
-        .long("workers")
-        .help("How many workers run the threads at once")
-        .action(ArgAction::Set)
-        .value_parser(value_parser!(u64).range(1..=64))
+    option(alloc, "workers", "How many workers run the threads at once").value_parser(value_parser!(
+        u64
+    ).range(1..=64))
+}
+
+/// A command with one more option. The command is taken as it was made, so that nothing else is alive where memory runs out.
+fn with_arg<'a>(command: Built<'a>, arg: Arg<'a>) -> Built<'a> {
+    command?.arg(arg)
+}
+
+/// A command with the flag by which it explains what it complains of.
+fn with_explain<'a>(alloc: Global, command: Built<'a>) -> Built<'a> {
+    let help = "Shows the place of a refusal or a fault, and what to do";
+    with_arg(command, flag(alloc, "explain", help))
+}
+
+/// A command with the flag by which it takes code in place of a script.
+fn with_code<'a>(alloc: Global, command: Built<'a>) -> Built<'a> {
+    let help = "Takes code in its byte form, as build writes it";
+    match flag(alloc, "code", help).conflicts_with("explain") {
+        Ok(arg) => with_arg(command, arg),
+        Err(error) => Err(error),
+    }
+}
+
+/// A command that compiles a script and runs nothing.
+fn compiling_command<'a>(alloc: Global, name: &'a str, about: &'a str) -> Built<'a> {
+    let command = Ok(Command::new(alloc, name).about(about));
+    with_arg(with_explain(alloc, command), file_arg(alloc))
+}
+
+/// A command that runs, with the options that each such command has, behind one of its own.
+fn running_command<'a>(alloc: Global, name: &'a str, about: &'a str, own: Arg<'a>) -> Built<'a> {
+    let command = with_arg(Ok(Command::new(alloc, name).about(about)), own);
+    let command = with_arg(command, steps_arg(alloc));
+    let cells = flag(alloc, "cells", "Prints each cell with its newest value");
+    let command = with_arg(command, cells);
+    let events = flag(alloc, "events", "Prints each event of the journal");
+    let command = with_code(alloc, with_arg(command, events));
+    with_arg(with_explain(alloc, command), file_arg(alloc))
 }
 
 /// The command that runs.
-fn run_command<'a>(alloc: Global) -> Result<Command<'a>, AllocError> {
-    let command = Command::new(alloc, "run")
-        .about("Runs a script")
-        .arg(workers_arg(alloc))?
-        .arg(steps_arg(alloc))?;
-    with_lines(alloc, command)?
-        .arg(code_arg(alloc)?)?
-        .arg(explain_arg(alloc))?
-        .arg(file_arg(alloc))
+fn run_command<'a>(alloc: Global) -> Built<'a> {
+    running_command(alloc, "run", "Runs a script", workers_arg(alloc))
 }
 
 /// The command that runs by a schedule.
-fn schedule_command<'a>(alloc: Global) -> Result<Command<'a>, AllocError> {
-    let turns = Arg::new(alloc, "turns")
-        .long("turns")
-        .help("Which threads go on first, as 0,1,t0x3")
-        .action(ArgAction::Set);
-    let command = Command::new(alloc, "schedule")
-        .about("Runs a script by a schedule")
-        .arg(turns)?
-        .arg(steps_arg(alloc))?;
-    with_lines(alloc, command)?
-        .arg(code_arg(alloc)?)?
-        .arg(explain_arg(alloc))?
-        .arg(file_arg(alloc))
+fn schedule_command<'a>(alloc: Global) -> Built<'a> {
+    let turns = option(alloc, "turns", "Which threads go on first, as 0,1,t0x3");
+    running_command(alloc, "schedule", "Runs a script by a schedule", turns)
 }
 
 /// The command that writes code.
-fn build_command<'a>(alloc: Global) -> Result<Command<'a>, AllocError> {
-    let out = Arg::new(alloc, "out")
-        .long("out")
-        .value_name("F")
-        .help("The file that the byte form of the code is written to")
-        .action(ArgAction::Set)
-        .required(true);
-    compiling_command(alloc, "build", "Writes the code of a script to a file")?.arg(out)
+fn build_command<'a>(alloc: Global) -> Built<'a> {
+    let out = option(
+        alloc,
+        "out",
+        "The file that the byte form of the code is written to",
+    );
+    let command = compiling_command(alloc, "build", "Writes the code of a script to a file");
+    with_arg(command, out.value_name("F").required(true))
 }
 
 /// The command that lists code, of a script or in its byte form.
-fn listing_command<'a>(alloc: Global) -> Result<Command<'a>, AllocError> {
-    compiling_command(alloc, "dis", "Lists the code of a script")?.arg(code_arg(alloc)?)
+fn listing_command<'a>(alloc: Global) -> Built<'a> {
+    with_code(
+        alloc,
+        compiling_command(alloc, "dis", "Lists the code of a script"),
+    )
 }
 
-/// A command with one more below it. Both are taken as they are handed in, so that no other is alive where memory runs out.
-fn with_command<'a>(
-    command: Command<'a>,
-    below: Result<Command<'a>, AllocError>,
-) -> Result<Command<'a>, AllocError> {
-    command.subcommand(below?)
-}
-
-/// A command that compiles a script and runs nothing, below another.
-fn with_compiling<'a>(
-    alloc: Global,
-    command: Command<'a>,
-    name: &'a str,
-    about: &'a str,
-) -> Result<Command<'a>, AllocError> {
-    with_command(command, compiling_command(alloc, name, about))
+/// A command with one more below it.
+fn with_command<'a>(command: Built<'a>, below: Built<'a>) -> Built<'a> {
+    command?.subcommand(below?)
 }
 
 /// The commands and their options.
-fn command<'a>(alloc: Global) -> Result<Command<'a>, AllocError> {
+fn command<'a>(alloc: Global) -> Built<'a> {
     let all = Command::new(alloc, "txs")
         .about("Compiles and runs transaction scripts")
         .subcommand_required(true)
         .disable_help_subcommand(true);
-    let all = with_compiling(alloc, all, "check", "Checks a script without running it")?;
-    let all = with_command(all, listing_command(alloc))?;
-    let all = with_command(all, build_command(alloc))?;
-    let all = with_command(all, run_command(alloc))?;
+    let check = compiling_command(alloc, "check", "Checks a script without running it");
+    let all = with_command(Ok(all), check);
+    let all = with_command(all, listing_command(alloc));
+    let all = with_command(all, build_command(alloc));
+    let all = with_command(all, run_command(alloc));
     with_command(all, schedule_command(alloc))
 }
 

@@ -1,23 +1,27 @@
 -- What the store answers, by what was found.
-use Rattle.std.proofs.Common.{◌≡◌, ℕ, suc, Bool, true, false, nat_lt, List, [], ◌∷◌, ◌++◌, length, set, Option, Some, None, refl, sym, ap, subst, ◌∙◌, arith, if◌then◌else◌}
-use Rattle.std.specs.Prelude.{is_some}
-use Rattle.std.proofs.lemmas.Bool.{false≢true}
+use Rattle.std.proofs.Common.{◌≡◌, ◌<◌, ◌≤◌, ℕ, suc, Bool, true, false, nat_lt, List, [], ◌∷◌, ◌++◌, length, set, Option, Some, None, Result, refl, sym, ap, subst, ◌∙◌, arith, if◌then◌else◌}
+use Rattle.std.specs.Prelude.{is_some, ◌↔◌}
+use Rattle.std.proofs.lemmas.Bool.{false≢true, ltb-true}
+use Rattle.std.proofs.lemmas.Bool.Decides.{nat_tests}
 use Rattle.txs_asks.specs.Ask.{Writes}
 use Rattle.txs_asks.specs.declared.ask.Ask.TheVariants as ask
 use Rattle.txs_asks.specs.declared.ask.Reply.{Reply}
 use Rattle.txs_asks.specs.declared.ask.Reply.TheVariants as reply
 use Rattle.txs_asks.specs.declared.event.Event.{Event}
-use Rattle.txs_asks.specs.declared.event.EventKind.TheVariants.{Commit, Retry, Refused}
+use Rattle.txs_asks.specs.declared.event.EventKind.{EventKind}
+use Rattle.txs_asks.specs.declared.event.EventKind.TheVariants.{Commit, Retry, Refused, Act}
 use Rattle.txs_value.specs.Cells.{World}
+use Rattle.txs_value.specs.Limits.{most_events}
 use Rattle.txs_value.specs.declared.action.Action.{Action}
+use Rattle.txs_value.specs.declared.fault.Fault.{Fault}
 use Rattle.txs_value.specs.declared.value.CellId.{CellId}
 use Rattle.txs_value.specs.declared.value.Value.{Value}
-use Rattle.txs_world.specs.Book.{cells_in, opening, after, newest, written, least_written, first_failed, mail_after, LegalKind, Guarded}
+use Rattle.txs_world.specs.Book.{cells_in, opening, after, newest, written, least_written, first_failed, is_failed, mail_after, LegalKind, Guarded}
 use Rattle.txs_world.specs.Kept.{IsEnd}
-use Rattle.txs_world.specs.Store.{PlainStore, store_with, Served, served, adds, merged, is_lawful, looks, commits, first_action, next_action, takes, hands_out, serve, store_after, Answers, Replies}
+use Rattle.txs_world.specs.Store.{PlainStore, store_with, Served, served, adds, merged, is_lawful, looks, commits, first_action, next_action, takes, hands_out, serve, store_after, TakesMemory, event_of, sends_to, Answers, Replies}
 use Rattle.txs_world.specs.declared.commit.End.{End}
 use Rattle.txs_world.specs.declared.commit.End.TheVariants.{Reruns, Redoes, Refuses, Commits}
-use Rattle.txs_world.proofs.Merging.{ltb_yes, refs_has, Finds, finds, untouched_parts}
+use Rattle.txs_world.proofs.Merging.{ltb_yes, ltb_no, refs_has, Finds, finds, untouched_parts}
 use Rattle.txs_world.proofs.Older.{after_unwritten, ends}
 use Rattle.txs_world.proofs.Serves.{Lawful, lawful_commit, refs_tested, legal_commit, guarded_commit, FindsFailed, finds_failed}
 
@@ -33,6 +37,73 @@ looked s w a c p v e is =
 -- no memory for it
 pub looked_not : (s : PlainStore) (w : World) (a : ℕ) (c : CellId) (p : ℕ) → written c.number p s.book ≡ false → Replies s (looks (written c.number p s.book) w a c p s.book) reply.Memory s
 looked_not s w a c p e = subst (λ b. Replies s (looks b w a c p s.book) reply.Memory s) (sym e) (tt, refl)
+
+-- ---- an event that the book may have room for
+
+-- a reply that takes memory
+answers_so : (s : PlainStore) (v : Served) (next : PlainStore) (r : Reply) (t : PlainStore) → TakesMemory r → r ≡ v.reply → t ≡ next → Answers s v next r t
+answers_so s v next (reply.At p) t m e is = absurd m
+answers_so s v next (reply.Is x) t m e is = (e, is)
+answers_so s v next (reply.Views p xs) t m e is = (e, is)
+answers_so s v next reply.Done t m e is = (e, is)
+answers_so s v next (reply.Retry c) t m e is = (e, is)
+answers_so s v next (reply.Changed c) t m e is = (e, is)
+answers_so s v next (reply.AgentIsFailed g) t m e is = (e, is)
+answers_so s v next (reply.Action n x w) t m e is = (e, is)
+answers_so s v next reply.Idle t m e is = absurd m
+answers_so s v next (reply.Opened p x) t m e is = (e, is)
+answers_so s v next reply.Full t m e is = absurd m
+answers_so s v next reply.Memory t m e is = absurd m
+
+-- it stands in the book, which has room
+pub told : (s t : PlainStore) (a : ℕ) (d : EventKind) (r : Reply) → TakesMemory r → length s.book < most_events → t ≡ store_with s.cells s.threads (s.book ++ event_of a d ∷ []) s.taken → Replies s (adds a d r s.book) r t
+told s t a d r m lt is =
+    subst (λ b. Replies s (if b then served r (s.book ++ event_of a d ∷ []) else served reply.Full s.book) r t) (sym (ltb_yes (length s.book) most_events lt))
+    (answers_so s (served r (s.book ++ event_of a d ∷ [])) (store_with s.cells s.threads (s.book ++ event_of a d ∷ []) s.taken) r t m refl is)
+
+-- there is no memory for it
+pub told_not : (s t : PlainStore) (a : ℕ) (d : EventKind) (r : Reply) → TakesMemory r → length s.book < most_events → t ≡ s → Replies s (adds a d r s.book) reply.Memory t
+told_not s t a d r m lt is = subst (λ b. Replies s (if b then served r (s.book ++ event_of a d ∷ []) else served reply.Full s.book) reply.Memory t) (sym (ltb_yes (length s.book) most_events lt)) (m, is)
+
+-- the book has no room
+pub told_full : (s : PlainStore) (a : ℕ) (d : EventKind) (r : Reply) → most_events ≤ length s.book → Replies s (adds a d r s.book) reply.Full s
+told_full s a d r le = subst (λ b. Replies s (if b then served r (s.book ++ event_of a d ∷ []) else served reply.Full s.book) reply.Full s) (sym (ltb_no (length s.book) most_events le)) (refl, refl)
+
+-- where it isn't said to be full
+pub has_room : (b : Bool) (n most : ℕ) → (b ≡ true) ↔ (most ≤ n) → b ≡ false → n < most
+has_room b n most h e = go (nat_lt n most) refl
+  where
+    no_less : nat_lt n most ≡ false → most ≤ n
+    no_less q = grind (arith, nat_tests)
+
+    go : (t : Bool) → nat_lt n most ≡ t → n < most
+    go true q = ltb-true n most q
+    go false q = absurd (false≢true (sym e ∙ h.1 (no_less q)))
+
+-- an action is over
+pub acted_so : (s t : PlainStore) (a : ℕ) (g : CellId) (new : Result Value Fault) → length s.book < most_events
+    → t ≡ store_with s.cells s.threads (s.book ++ event_of a (Act g (suc (mail_after s.cells s.book g.number).acts) new) ∷ []) (set s.taken g.number false)
+    → Answers s (serve s.cells a (ask.Finish g new) s.book) (store_after s (ask.Finish g new) (serve s.cells a (ask.Finish g new) s.book)) reply.Done t
+acted_so s t a g new lt is =
+    let e = event_of a (Act g (suc (mail_after s.cells s.book g.number).acts) new) in
+    subst (λ b. Answers s (if b then served reply.Done (s.book ++ e ∷ []) else served reply.Full s.book) (store_after s (ask.Finish g new) (if b then served reply.Done (s.book ++ e ∷ []) else served reply.Full s.book)) reply.Done t) (sym (ltb_yes (length s.book) most_events lt)) (refl, is)
+
+-- there is no memory for that
+pub acted_not : (s t : PlainStore) (a : ℕ) (g : CellId) (new : Result Value Fault) → length s.book < most_events → t ≡ s
+    → Answers s (serve s.cells a (ask.Finish g new) s.book) (store_after s (ask.Finish g new) (serve s.cells a (ask.Finish g new) s.book)) reply.Memory t
+acted_not s t a g new lt is =
+    let e = event_of a (Act g (suc (mail_after s.cells s.book g.number).acts) new) in
+    subst (λ b. Answers s (if b then served reply.Done (s.book ++ e ∷ []) else served reply.Full s.book) (store_after s (ask.Finish g new) (if b then served reply.Done (s.book ++ e ∷ []) else served reply.Full s.book)) reply.Memory t) (sym (ltb_yes (length s.book) most_events lt)) (tt, is)
+
+-- there is no room for that
+pub acted_full : (s : PlainStore) (a : ℕ) (g : CellId) (new : Result Value Fault) → most_events ≤ length s.book → Answers s (serve s.cells a (ask.Finish g new) s.book) (store_after s (ask.Finish g new) (serve s.cells a (ask.Finish g new) s.book)) reply.Full s
+acted_full s a g new le =
+    let e = event_of a (Act g (suc (mail_after s.cells s.book g.number).acts) new) in
+    subst (λ b. Answers s (if b then served reply.Done (s.book ++ e ∷ []) else served reply.Full s.book) (store_after s (ask.Finish g new) (if b then served reply.Done (s.book ++ e ∷ []) else served reply.Full s.book)) reply.Full s) (sym (ltb_no (length s.book) most_events le)) (refl, refl)
+
+-- a send, by whether its agent has failed
+pub sends_so : (s t : PlainStore) (a : ℕ) (x : Action) (r : Reply) (b : Bool) → is_failed s.cells s.book x.agent ≡ b → Replies s (sends_to b a x s.book) r t → Replies s (sends_to (is_failed s.cells s.book x.agent) a x s.book) r t
+sends_so s t a x r b e h = subst (λ f. Replies s (sends_to f a x s.book) r t) (sym e) h
 
 -- ---- the end of a transaction
 

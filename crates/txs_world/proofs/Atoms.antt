@@ -1,5 +1,5 @@
 -- An atom's parts agree from its opening on, and after each event.
-use Rattle.std.proofs.Common.{◌≡◌, ◌≤◌, ◌<◌, ℕ, zero, suc, Bool, true, false, nat_lt, ◌==◌, ◌||◌, List, [], ◌∷◌, ◌++◌, length, Option, Some, None, refl, ap, subst, sym, ◌∙◌, arith, length-append, if◌then◌else◌}
+use Rattle.std.proofs.Common.{◌≡◌, ◌≤◌, ◌<◌, ℕ, zero, suc, Bool, true, false, nat_lt, ◌==◌, ◌||◌, List, [], ◌∷◌, ◌++◌, length, Option, Some, None, Result, Ok, Err, refl, ap, subst, sym, ◌∙◌, arith, length-append, if◌then◌else◌}
 use Rattle.std.proofs.lemmas.Bool.{ltb-true, false≢true}
 use Rattle.txs_asks.specs.declared.ask.Ask.{Ask}
 use Rattle.txs_asks.specs.declared.ask.Ask.TheVariants as ask
@@ -11,13 +11,18 @@ use Rattle.txs_asks.specs.declared.event.EventKind.TheVariants.{Read, Commit, Re
 use Rattle.txs_value.specs.Limits.{most_events}
 use Rattle.txs_value.specs.declared.value.CellId.{CellId}
 use Rattle.txs_value.specs.declared.value.Value.{Value}
-use Rattle.txs_world.specs.Atom.{serve_atom, is_lawful_atom, closes_at, swapped_to, atom_after, is_swap, swapped_since, LegalAtomKind, LegalAtom, IsAtomKept}
+use Rattle.std.specs.Prelude.{OnErr, OnOk}
+use Rattle.txs_world.specs.Atom.{PlainAtom, atom_with, serve_atom, is_lawful_atom, closes_at, swapped_to, atom_after, is_swap, swapped_since, LegalAtomKind, LegalAtom, IsAtomKept}
 use Rattle.txs_world.specs.Book.{value_or, may_name}
 use Rattle.txs_world.specs.Kept.{StandsAt, Marked, StandAsBefore}
 use Rattle.txs_world.specs.Store.{event_of, adds, served}
 use Rattle.txs_world.proofs.Growth.{neither, each_more}
 use Rattle.txs_world.proofs.Merging.{both}
 use Rattle.txs_world.proofs.Kept.{actor_more}
+
+-- an atom by its parts
+abbrev pub atom_of : CellId → Value → List Event → PlainAtom
+atom_of c v book = record { cell = c; opening = v; book = book }
 
 or_true : (b : Bool) → (b || true) ≡ true
 or_true true = refl
@@ -100,6 +105,16 @@ atom_swapped c v new value o n m views vs book more a h lt marks is same many =
 pub atom_stands : (c : CellId) (v : Value) (o : Option Value) (n : ℕ) (views vs : List ℕ) (book more : List Event) → StandAsBefore views vs → more ≡ book → IsAtomKept c v o n views book → IsAtomKept c v o n vs more
 atom_stands c v o n views vs book more all is h =
     subst (IsAtomKept c v o n vs) (sym is) (record { newest = h.newest; since = h.since; not_since = h.not_since; all = λ a. subst (StandsAt true book a) (sym (all a)) (h.all a); legal = h.legal })
+
+-- whether one that gives no value stands in the book or not
+pub atom_pushed : {E : Type 0} (r : Result ℕ E) (c : CellId) (v : Value) (o : Option Value) (n : ℕ) (views vs : List ℕ) (book more : List Event) (a : ℕ) (d : EventKind) → IsAtomKept c v o n views book → length book < most_events → LegalAtomKind c book a d → is_swap d ≡ false
+    → OnOk r (Marked true a (suc (length book)) views vs) → OnOk r (more ≡ book ++ event_of a d ∷ []) → OnErr r (StandAsBefore views vs) → OnErr r (more ≡ book) → IsAtomKept c v o n vs more
+atom_pushed (Ok m) c v o n views vs book more a d h lt l off marks is as_before same = atom_quiet c v o n views vs book more a d h lt l off marks is
+atom_pushed (Err e) c v o n views vs book more a d h lt l off marks is as_before same = atom_stands c v o n views vs book more as_before same h
+
+-- the atom with one more event
+pub atom_stored : (s : PlainAtom) (c : CellId) (v : Value) (book more : List Event) (e : Event) → atom_of c v book ≡ s → more ≡ book ++ e ∷ [] → atom_of c v more ≡ atom_with s (s.book ++ e ∷ [])
+atom_stored s c v book more e is added = subst (λ (u : PlainAtom). atom_of c v more ≡ atom_with u (u.book ++ e ∷ [])) is (ap (atom_of c v) added)
 
 -- ---- laws
 

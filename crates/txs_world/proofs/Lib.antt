@@ -4,6 +4,7 @@ pub mod Atoms
 pub mod Counting
 pub mod Growth
 pub mod Kept
+pub mod Lists
 pub mod Mailing
 pub mod Merging
 pub mod Older

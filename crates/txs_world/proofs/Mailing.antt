@@ -7,7 +7,7 @@ use Rattle.std.proofs.lemmas.List.{get_or-set_same, get_or-set_other, length-set
 use Rattle.txs_asks.specs.declared.event.Event.{Event}
 use Rattle.txs_asks.specs.declared.event.EventKind.{EventKind}
 use Rattle.txs_asks.specs.declared.event.EventKind.TheVariants.{Read, Commit, Retry, Fail, Refused, Send, SendRefused, Act, Swap, Broke}
-use Rattle.txs_mail.specs.Mailbox.{first, next}
+use Rattle.txs_mail.specs.Mailbox.{PlainMailbox, RoomedMailbox, first, next}
 use Rattle.txs_value.specs.declared.action.Action.{Action}
 use Rattle.txs_value.specs.Places.{nth}
 use Rattle.txs_value.specs.declared.fault.Fault.{Fault}
@@ -21,15 +21,15 @@ use Rattle.txs_world.specs.declared.slot.Slot.{Slot}
 use Rattle.txs_world.specs.declared.inbox.Inbox.{Inbox}
 use Rattle.txs_world.proofs.Merging.{both}
 
--- what holds anyhow holds where there is an error
-pub on_err : {T E : Type 0} (r : Result T E) (P : Type 0) → P → OnErr r P
-on_err (Ok v) P p = tt
-on_err (Err e) P p = p
-
 -- what follows where there is none
 pub on_ok : {T E : Type 0} (r : Result T E) (P Q : Type 0) → (P → Q) → OnOk r P → OnOk r Q
 on_ok (Ok v) P Q f p = f p
 on_ok (Err e) P Q f p = tt
+
+-- the same of an error
+pub if_err : {T E : Type 0} (r : Result T E) (P Q : Type 0) → (P → Q) → OnErr r P → OnErr r Q
+if_err (Ok v) P Q f p = tt
+if_err (Err e) P Q f p = f p
 
 pub equal : (a b : ℕ) → (a == b) ≡ true → a ≡ b
 equal a b e = grind (arith, nat_tests)
@@ -234,6 +234,14 @@ inbox_is cells threads slots bs views tries book n i b h lt is at =
     subst (λ (y : Inbox). plain_inbox y ≡ inbox_of (goes_on (nth cells n)) y.mailbox.plain.is_taken (mail_after cells book n)) (sym e) there
 
 -- ---- one inbox of a list, which was read and has become another
+
+-- an inbox with another mailbox
+abbrev pub with_mailbox : Inbox → RoomedMailbox → Inbox
+with_mailbox b m = record { mailbox = m; fault = b.fault; acts = b.acts; promised = b.promised }
+
+-- the same without its room
+pub plain_mailbox : (b : Inbox) (m : RoomedMailbox) (p : PlainMailbox) → m.plain ≡ p → plain_inbox (with_mailbox b m) ≡ record { mailbox = p; fault = b.fault; acts = b.acts }
+plain_mailbox b m p e = ap (λ (q : PlainMailbox). let x : PlainInbox = record { mailbox = q; fault = b.fault; acts = b.acts } in x) e
 
 -- what was read, without its room
 pub old_plain : (bs : List Inbox) (i n : ℕ) (old : Inbox) → old ≡ get_or bs i old → i ≡ n → n < length bs → plain_inbox old ≡ get_or (plain_inboxes bs) n no_inbox
@@ -465,6 +473,11 @@ pub below_next : (n : ℕ) (xs : List Action) (i : ℕ) → all_sent_below n (dr
 below_next n xs i h =
     let e : suc i ≡ i + 1 = omega arith in
     subst (λ k. all_sent_below n (drop k xs) ≡ true) e (below_suc n xs i h)
+
+-- no actions enter
+pub none_mailed : (bs : List PlainInbox) (xs : List Action) → length xs ≡ 0 → mailed_all bs xs ≡ bs
+none_mailed bs [] e = refl
+none_mailed bs (x ∷ xs) e = absurd (omega (arith, e))
 
 -- as many inboxes, where they are the same without their room
 pub plain_same_many : (bs cs : List Inbox) → plain_inboxes bs ≡ plain_inboxes cs → length bs ≡ length cs

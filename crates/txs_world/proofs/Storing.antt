@@ -1,6 +1,8 @@
 -- What becomes of a store's book and of what is taken.
-use Rattle.std.proofs.Common.{◌≡◌, ◌≤◌, ◌<◌, ◌+◌, ℕ, suc, true, false, List, [], ◌∷◌, ◌++◌, length, get_or, set, Option, Result, sym, ap, ◌∙◌, subst, arith, Fits, w32}
+use Rattle.std.proofs.Common.{◌≡◌, ◌≤◌, ◌<◌, ◌+◌, ℕ, zero, suc, Bool, nat_lt, true, false, List, [], ◌∷◌, ◌++◌, length, get_or, set, Option, Result, refl, sym, ap, ◌∙◌, subst, arith, Fits, w32}
 use Rattle.std.specs.Prelude.{is_some}
+use Rattle.std.proofs.lemmas.Bool.{ltb-true}
+use Rattle.std.proofs.lemmas.Bool.Decides.{nat_tests}
 use Rattle.txs_asks.specs.declared.event.Event.{Event}
 use Rattle.txs_asks.specs.declared.event.EventKind.TheVariants.{Act}
 use Rattle.txs_mail.specs.Mailbox.{IsMailbox, next}
@@ -10,15 +12,15 @@ use Rattle.txs_value.specs.declared.action.Action.{Action}
 use Rattle.txs_value.specs.declared.fault.Fault.{Fault}
 use Rattle.txs_value.specs.declared.value.CellId.{CellId}
 use Rattle.txs_value.specs.declared.value.Value.{Value}
-use Rattle.txs_world.specs.Book.{goes_on, has_agent, is_failed, mail_after, waits}
+use Rattle.txs_world.specs.Book.{goes_on, has_agent, has_cell, has_ref, is_failed, mail_after, newest, opening, waits, written}
 use Rattle.txs_world.specs.Inboxes.{PlainInbox, plain_inbox, plain_inboxes, no_inbox, open_inboxes, mailed_all, finished, taken_up, taken_of}
-use Rattle.txs_world.specs.Kept.{IsKept}
-use Rattle.txs_world.specs.Store.{PlainStore, store_with, event_of, is_taken, none_taken}
+use Rattle.txs_world.specs.Kept.{IsKept, IsSlot, no_slot}
+use Rattle.txs_world.specs.Store.{PlainStore, store_with, event_of, is_taken, next_action, none_taken}
 use Rattle.txs_world.specs.declared.cell.StoreCell.{StoreCell}
 use Rattle.txs_world.specs.declared.inbox.Inbox.{Inbox}
 use Rattle.txs_world.specs.declared.slot.Slot.{Slot}
-use Rattle.txs_world.proofs.Kept.{agent_in, taken_waits}
-use Rattle.txs_world.proofs.Mailing.{inbox_is, few_acts, taken_is, taken_set, taken_mailed, none_open, many_inboxes}
+use Rattle.txs_world.proofs.Kept.{agent_in, cell_in, ref_in, taken_waits}
+use Rattle.txs_world.proofs.Mailing.{inbox_is, next_is, few_acts, taken_is, taken_set, taken_mailed, none_open, many_inboxes}
 use Rattle.txs_world.proofs.Sizes.{fits_next}
 
 -- a store as it opens
@@ -32,6 +34,10 @@ pub stored : (s : PlainStore) (cells : List StoreCell) (threads : ℕ) (book mor
 stored s cells threads book more old now e is added same =
     subst (λ (u : PlainStore). store_with cells threads more (taken_of now) ≡ store_with u.cells u.threads (u.book ++ e ∷ []) u.taken) is
     (ap (λ b. store_with cells threads b (taken_of now)) added ∙ ap (store_with cells threads (book ++ e ∷ [])) same)
+
+-- no event, and inboxes as they were
+pub unstored : (s : PlainStore) (cells : List StoreCell) (threads : ℕ) (book more : List Event) (old now : List PlainInbox) → store_with cells threads book (taken_of old) ≡ s → more ≡ book → now ≡ old → store_with cells threads more (taken_of now) ≡ s
+unstored s cells threads book more old now is none same = ap (λ b. store_with cells threads b (taken_of now)) none ∙ ap (λ u. store_with cells threads book (taken_of u)) same ∙ is
 
 -- actions that enter leave what is taken
 pub entered_leaves : (old mid now : List PlainInbox) (xs : List Action) → mid ≡ old → now ≡ mailed_all mid xs → taken_of now ≡ taken_of old
@@ -64,6 +70,24 @@ acts_read s cells threads slots bs views tries book i b g is h has at there =
     let in_cells = agent_in cells g (subst (λ (u : PlainStore). has_agent u.cells g ≡ true) (sym is) has) in
     ap (λ (y : PlainInbox). y.acts) (inbox_is cells threads slots bs views tries book g.number i b h in_cells at there) ∙ ap (λ (u : PlainStore). (mail_after u.cells u.book g.number).acts) is
 
+-- the fault that its agent keeps
+pub fault_read : (s : PlainStore) (cells : List StoreCell) (threads : ℕ) (slots : List Slot) (bs : List Inbox) (views tries : List ℕ) (book : List Event) (i : ℕ) (b : Inbox) (g : CellId) → store_with cells threads book (taken_of (plain_inboxes bs)) ≡ s
+    → IsKept cells threads slots (plain_inboxes bs) views tries book → has_agent s.cells g ≡ true → i ≡ g.number → b ≡ get_or bs i b → b.fault ≡ (mail_after s.cells s.book g.number).fault
+fault_read s cells threads slots bs views tries book i b g is h has at there =
+    let in_cells = agent_in cells g (subst (λ (u : PlainStore). has_agent u.cells g ≡ true) (sym is) has) in
+    ap (λ (y : PlainInbox). y.fault) (inbox_is cells threads slots bs views tries book g.number i b h in_cells at there) ∙ ap (λ (u : PlainStore). (mail_after u.cells u.book g.number).fault) is
+
+-- what it runs next
+pub next_of : (s : PlainStore) (cells : List StoreCell) (threads : ℕ) (slots : List Slot) (bs : List Inbox) (views tries : List ℕ) (book : List Event) (g : CellId) → store_with cells threads book (taken_of (plain_inboxes bs)) ≡ s
+    → IsKept cells threads slots (plain_inboxes bs) views tries book → has_agent s.cells g ≡ true → next (get_or (plain_inboxes bs) g.number no_inbox).mailbox ≡ next_action s.cells s.book g
+next_of s cells threads slots bs views tries book g is h has =
+    let in_cells = agent_in cells g (subst (λ (u : PlainStore). has_agent u.cells g ≡ true) (sym is) has) in
+    let many = h.as_many in
+    let below : g.number < length (plain_inboxes bs) = omega (arith, in_cells, many) in
+    ap (λ (p : PlainInbox). next p.mailbox) (h.mail g.number below)
+    ∙ next_is (goes_on (nth cells g.number)) (get_or (plain_inboxes bs) g.number no_inbox).mailbox.is_taken (mail_after cells book g.number)
+    ∙ ap (λ (u : PlainStore). next_action u.cells u.book g) is
+
 -- there is a number for its next one
 pub next_fits : (s : PlainStore) (cells : List StoreCell) (threads : ℕ) (slots : List Slot) (bs : List Inbox) (views tries : List ℕ) (book : List Event) (i : ℕ) (b : Inbox) (g : CellId) → store_with cells threads book (taken_of (plain_inboxes bs)) ≡ s
     → IsKept cells threads slots (plain_inboxes bs) views tries book → has_agent s.cells g ≡ true → i ≡ g.number → b ≡ get_or bs i b → Fits w32 (b.acts + 1)
@@ -85,3 +109,38 @@ taken_stands s cells threads slots bs views tries book i b g is h has at there b
     ap (λ (y : Inbox). y.mailbox.plain.is_taken) there ∙ taken_is bs i b in_boxes ∙ ap (λ k. get_or (taken_of (plain_inboxes bs)) k false) at ∙ ap (λ (u : PlainStore). get_or u.taken g.number false) is ∙ taken in
     let r = taken_waits (goes_on (nth cells g.number)) (mail_after cells book g.number) (plain_inbox b) (inbox_is cells threads slots bs views tries book g.number i b h in_cells at there) box up in
     subst (λ (u : PlainStore). (is_failed u.cells u.book g ≡ false) × (waits (mail_after u.cells u.book g.number).actions ≡ true)) is r
+
+-- ---- a slot that was read
+
+default_free : {A : Type 0} (xs : List A) (k : ℕ) (d e : A) → k < length xs → get_or xs k d ≡ get_or xs k e
+default_free [] k d e lt = absurd (omega (arith, lt))
+default_free (x ∷ xs) zero d e lt = refl
+default_free (x ∷ xs) (suc k) d e lt = default_free xs k d e (omega (arith, lt))
+
+slot_is : (cells : List StoreCell) (threads : ℕ) (slots : List Slot) (boxes : List PlainInbox) (views tries : List ℕ) (book : List Event) (n i : ℕ) (x : Slot) → IsKept cells threads slots boxes views tries book → n < length cells → i ≡ n → x ≡ get_or slots i x → IsSlot (opening cells) book n x
+slot_is cells threads slots boxes views tries book n i x h lt is at =
+    let many = h.many in
+    let below : n < length slots = omega (arith, lt, many) in
+    subst (IsSlot (opening cells) book n) (default_free slots n no_slot x below ∙ sym (subst (λ k. x ≡ get_or slots k x) is at)) (h.values n below)
+
+-- the newest value of its cell
+pub newest_read : (s : PlainStore) (cells : List StoreCell) (threads : ℕ) (slots : List Slot) (boxes : List PlainInbox) (views tries : List ℕ) (book : List Event) (i : ℕ) (x : Slot) (c : CellId) → store_with cells threads book (taken_of boxes) ≡ s
+    → IsKept cells threads slots boxes views tries book → has_cell s.cells c ≡ true → i ≡ c.number → x ≡ get_or slots i x → x.value ≡ newest (opening s.cells) s.book c.number
+newest_read s cells threads slots boxes views tries book i x c is h has at there =
+    let in_cells = cell_in cells c (subst (λ (u : PlainStore). has_cell u.cells c ≡ true) (sym is) has) in
+    (slot_is cells threads slots boxes views tries book c.number i x h in_cells at there).value ∙ ap (λ (u : PlainStore). newest (opening u.cells) u.book c.number) is
+
+-- whether its cell was written at a place or later
+pub written_read : (s : PlainStore) (cells : List StoreCell) (threads : ℕ) (slots : List Slot) (boxes : List PlainInbox) (views tries : List ℕ) (book : List Event) (i : ℕ) (x : Slot) (c : CellId) (p : ℕ) → store_with cells threads book (taken_of boxes) ≡ s
+    → IsKept cells threads slots boxes views tries book → has_ref s.cells c ≡ true → i ≡ c.number → x ≡ get_or slots i x → nat_lt p x.written ≡ written c.number p s.book
+written_read s cells threads slots boxes views tries book i x c p is h has at there = go (nat_lt p x.written) refl ∙ ap (λ (u : PlainStore). written c.number p u.book) is
+  where
+    in_cells : c.number < length cells
+    in_cells = ref_in cells c (subst (λ (u : PlainStore). has_ref u.cells c ≡ true) (sym is) has)
+
+    no_less : nat_lt p x.written ≡ false → x.written ≤ p
+    no_less q = grind (arith, nat_tests)
+
+    go : (t : Bool) → nat_lt p x.written ≡ t → t ≡ written c.number p book
+    go true q = sym ((slot_is cells threads slots boxes views tries book c.number i x h in_cells at there).since p (ltb-true p x.written q))
+    go false q = sym ((slot_is cells threads slots boxes views tries book c.number i x h in_cells at there).not_since p (no_less q))

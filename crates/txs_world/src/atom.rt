@@ -138,7 +138,7 @@ impl AtomBook {
             return Reply::Full;
         }
         match self.push(actor, EventKind::Broke { at }) {
-            Ok(()) => Reply::Done,
+            Ok(_) => Reply::Done,
             Err(_) => Reply::Memory,
         }
     }
@@ -150,9 +150,17 @@ impl AtomBook {
         if self.is_full() {
             return Reply::Full;
         }
-        match self.read(actor) {
-            Ok(value) => Reply::Is(value),
-            Err(_) => Reply::Memory,
+        let value = match self.share_newest() {
+            Ok(value) => value,
+            Err(_) => return Reply::Memory,
+        };
+        let cell = self.cell;
+        match self.push(actor, EventKind::Read { cell }) {
+            Ok(_) => Reply::Is(value),
+            Err(_) => {
+                drop(value);
+                Reply::Memory
+            }
         }
     }
 
@@ -178,34 +186,15 @@ impl AtomBook {
         place < self.swapped
     }
 
-    /// Adds an event that gives no value.
-    fn push(&mut self, actor: u16, kind: EventKind) -> Result<(), AllocError>
+    /// Adds an event that gives no value, and answers how many there are with it.
+    fn push(&mut self, actor: u16, kind: EventKind) -> Result<u32, AllocError>
         requires room { length self.old.book < most_events }
         requires legal { LegalAtomKind self.old.cell self.old.book actor kind }
         requires quiet { is_swap kind ≡ false }
         ensures added { OnOk result (self.new ≡ atom_with self.old (self.old.book ++ event_of actor kind ∷ [])) }
         ensures same { OnErr result (self.new ≡ self.old) }
     {
-        self.journal.add(actor, kind)?;
-        Ok(())
-    }
-
-    /// Adds a read, and shares the newest value.
-    fn read(&mut self, actor: u16) -> Result<Value, AllocError>
-        requires { length self.old.book < most_events }
-        ensures value { IfOk result (λ v. v ≡ atom_newest self.old) }
-        ensures added { OnOk result (self.new ≡ atom_with self.old (self.old.book ++ event_of actor (event.Read self.old.cell) ∷ [])) }
-        ensures same { OnErr result (self.new ≡ self.old) }
-    {
-        let value = self.share_newest()?;
-        let cell = self.cell;
-        match self.push(actor, EventKind::Read { cell }) {
-            Ok(()) => Ok(value),
-            Err(refused) => {
-                drop(value);
-                Err(refused)
-            }
-        }
+        self.journal.add(actor, kind)
     }
 
     /// Adds a swap. The book and the atom share the new value.

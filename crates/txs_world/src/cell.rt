@@ -1,11 +1,11 @@
 //! The cells of a store.
 
-ghost use Rattle.std.specs.Prelude.{◌≡◌, IfOk, if◌then◌else◌};
+ghost use Rattle.std.specs.Prelude.{◌≡◌, ◌≤◌, [], IfOk, if◌then◌else◌, length, vec_capacity};
 ghost use Rattle.txs_value.specs.Forms.{same_kind};
 ghost use Rattle.txs_value.specs.declared.value.CellKind.TheVariants as kind;
 ghost use Rattle.txs_world.specs.Book.{agents_below};
 ghost use Rattle.txs_world.specs.Kept.{AreCounted};
-ghost use Rattle.txs_world.specs.Store.{continues, cell_of, cells_of};
+ghost use Rattle.txs_world.specs.Store.{continues, cells_of};
 
 use std::alloc::{AllocError, Global};
 use std::marker::Model;
@@ -51,7 +51,8 @@ impl Cells {
         ensures { IfOk result (λ c. c ≡ cells_of definitions.now) }
     {
         let all = open_cells(alloc, definitions)?;
-        let (before, agents) = count_agents(alloc, all.as_slice())?;
+        let mut before = Vec::with_capacity(alloc, all.len())?;
+        let agents = count_agents(&mut before, all.as_slice());
         Ok(Cells {
             all,
             before,
@@ -79,28 +80,20 @@ impl Cells {
     }
 }
 
-/// The cells of these definitions, without their names.
+/// The cells of these definitions, without their names. They share the opening values with their definitions.
 fn open_cells(alloc: Global, definitions: &[CellDefinition]) -> Result<Vec<StoreCell>, AllocError>
     ensures { IfOk result (λ v. v.items ≡ cells_of definitions.now) }
 {
     let mut cells = Vec::with_capacity(alloc, definitions.len())?;
     for definition in definitions {
-        cells.push(open_cell(definition)?)?;
+        let opening = copy_value(&definition.opening)?;
+        cells.push_reserved(StoreCell {
+            kind: definition.kind,
+            opening,
+            goes_on: continues(definition.error_mode),
+        });
     }
     Ok(cells)
-}
-
-/// The cell of this definition, which it shares the opening value with.
-fn open_cell(definition: &CellDefinition) -> Result<StoreCell, AllocError>
-    ensures { IfOk result (λ s. s ≡ cell_of definition.now) }
-{
-    let goes_on = continues(definition.error_mode);
-    let opening = copy_value(&definition.opening)?;
-    Ok(StoreCell {
-        kind: definition.kind,
-        opening,
-        goes_on,
-    })
 }
 
 /// Whether an agent of this error mode goes on after a fault.
@@ -110,17 +103,18 @@ pub(crate) fn continues(mode: ErrorMode) -> bool
     mode == ErrorMode::Continue
 }
 
-/// Of each cell how many agents there are before it, and how many there are. The cells are gone through once.
-fn count_agents(alloc: Global, cells: &[StoreCell]) -> Result<(Vec<usize>, usize), AllocError>
-    ensures { IfOk result (λ r. AreCounted cells.now r.0.items r.1) }
+/// How many agents there are, and in a list with room for it how many before each cell. The cells are gone through once.
+fn count_agents(before: &mut Vec<usize>, cells: &[StoreCell]) -> usize
+    requires empty { before.old.items ≡ [] }
+    requires room { length cells.now ≤ vec_capacity before.old }
+    ensures { AreCounted cells.now before.new.items result }
 {
-    let mut before = Vec::with_capacity(alloc, cells.len())?;
     let mut agents = 0usize;
     for cell in cells {
-        before.push(agents)?;
+        before.push_reserved(agents);
         agents += agents_in(cell);
     }
-    Ok((before, agents))
+    agents
 }
 
 /// 1 for an agent, 0 for another cell.

@@ -1,6 +1,6 @@
 //! How a transaction ends that has not faulted.
 
-ghost use Rattle.std.specs.Prelude.{◌≡◌, ◌<◌, nat_lt, ◌++◌, ◌∷◌, [], length, true, false, OnOk, OnErr};
+ghost use Rattle.std.specs.Prelude.{◌≡◌, ◌<◌, nat_lt, ◌++◌, ◌∷◌, [], length, true, false, OnOk};
 ghost use Rattle.txs_asks.specs.declared.ask.Ask.TheVariants as ask;
 ghost use Rattle.txs_asks.specs.declared.ask.Reply.TheVariants as reply;
 ghost use Rattle.txs_asks.specs.declared.event.EventKind.TheVariants as event;
@@ -9,10 +9,10 @@ ghost use Rattle.txs_world.specs.Book.{cells_in, are_refs, are_sends, has_ref, h
 ghost use Rattle.txs_world.specs.Inboxes.{plain_inboxes, all_sent_below, rooms, HaveRoom};
 ghost use Rattle.txs_world.specs.Kept.{IsEnd};
 ghost use Rattle.txs_world.specs.Places.{Ascend};
-ghost use Rattle.txs_world.specs.Store.{store_with, is_lawful, event_of, adds, are_apart, merged, serve, Replies};
+ghost use Rattle.txs_world.specs.Store.{is_lawful, adds, are_apart, merged, serve, Replies};
 
 use crate::inbox::{Inbox, fill_queue, mail_all, make_room_for};
-use crate::slot::{fill, join_writes, put_all};
+use crate::slot::{append, join_writes, put_all};
 use crate::store::Store;
 use std::alloc::{AllocError, Global};
 use std::collections::VecDeque;
@@ -64,7 +64,8 @@ fn prepare(
     ensures queue { OnOk result (queue.new.items ≡ sends.now) }
     ensures room { OnOk result (HaveRoom (rooms inboxes.new.items) sends.now) }
 {
-    fill(copies, writes.as_slice())?;
+    copies.clear();
+    append(copies, writes.as_slice())?;
     fill_queue(alloc, queue, sends.as_slice())?;
     make_room_for(inboxes, sends.as_slice())
 }
@@ -129,7 +130,6 @@ impl Store {
     }
 
     /// The least of what was set or ensured that was written at this place or later.
-    #[tactic(auto, using(crate::proofs::Merging::least_joined))]
     fn least_tested(&self, at: u32, sets: &[(CellId, Value)], ensured: &[CellId]) -> Option<CellId>
         requires sets { has_refs self.now.cells (cells_in sets.now) ≡ true }
         requires ensured { has_refs self.now.cells ensured.now ≡ true }
@@ -256,42 +256,17 @@ impl Store {
             drop(sends);
             return Reply::Full;
         }
-        match self.join(actor, at, view, sets, commuted, sends) {
-            Ok(()) => Reply::Done,
-            Err(_) => Reply::Memory,
-        }
-    }
-
-    /// Adds a commit of what was set and commuted.
-    fn join(
-        &mut self,
-        actor: u16,
-        at: u32,
-        view: u32,
-        sets: Listed<(CellId, Value)>,
-        commuted: &[(CellId, Value)],
-        sends: Listed<Action>,
-    ) -> Result<(), AllocError>
-        requires room { length self.old.book < most_events }
-        requires thread { nat_lt actor self.old.threads ≡ true }
-        requires ascend { Ascend 0 commuted.now }
-        requires apart { are_apart (cells_in commuted.now) (cells_in sets) ≡ true }
-        requires legal { LegalKind self.old.cells self.old.book actor (event.Commit at view (merged sets commuted.now) sends) }
-        requires guarded { Guarded self.old.book (event.Commit at view (merged sets commuted.now) sends) }
-        ensures added { OnOk result (self.new ≡ store_with self.old.cells self.old.threads (self.old.book ++ event_of actor (event.Commit at view (merged sets commuted.now) sends) ∷ []) self.old.taken) }
-        ensures same { OnErr result (self.new ≡ self.old) }
-    {
         match join_writes(self.alloc, sets, commuted) {
             Ok(writes) => self.write(actor, at, view, writes, sends),
-            Err(refused) => {
+            Err(_) => {
                 drop(sends);
-                Err(refused)
+                Reply::Memory
             }
         }
     }
 
-    /// Adds a commit, writes what it wrote and puts its sends into the inboxes. The book keeps the lists; the slots share their
-    /// values, and the inboxes have copies of the actions.
+    /// Adds a commit, for which the book has room, writes what it wrote and puts its sends into the inboxes. The book keeps the
+    /// lists; the slots share their values, and the inboxes have copies of the actions.
     fn write(
         &mut self,
         actor: u16,
@@ -299,13 +274,12 @@ impl Store {
         view: u32,
         writes: Listed<(CellId, Value)>,
         sends: Listed<Action>,
-    ) -> Result<(), AllocError>
+    ) -> Reply
         requires room { length self.old.book < most_events }
         requires thread { nat_lt actor self.old.threads ≡ true }
         requires legal { LegalKind self.old.cells self.old.book actor (event.Commit at view writes sends) }
         requires guarded { Guarded self.old.book (event.Commit at view writes sends) }
-        ensures added { OnOk result (self.new ≡ store_with self.old.cells self.old.threads (self.old.book ++ event_of actor (event.Commit at view writes sends) ∷ []) self.old.taken) }
-        ensures same { OnErr result (self.new ≡ self.old) }
+        ensures { Replies self.old (adds actor (event.Commit at view writes sends) reply.Done self.old.book) result self.new }
     {
         match prepare(
             self.alloc,
@@ -316,10 +290,10 @@ impl Store {
             &sends,
         ) {
             Ok(()) => (),
-            Err(refused) => {
+            Err(_) => {
                 drop(writes);
                 drop(sends);
-                return Err(refused);
+                return Reply::Memory;
             }
         }
         let kind = EventKind::Commit {
@@ -328,10 +302,14 @@ impl Store {
             writes,
             sends,
         };
-        let events = self.journal.add(actor, kind)?;
-        // From here on nothing fails.
-        put_all(&mut self.slots, &mut self.spare, events);
-        mail_all(&mut self.inboxes, &mut self.queue);
-        Ok(())
+        match self.journal.add(actor, kind) {
+            Ok(events) => {
+                // From here on nothing fails.
+                put_all(&mut self.slots, &mut self.spare, events);
+                mail_all(&mut self.inboxes, &mut self.queue);
+                Reply::Done
+            }
+            Err(_) => Reply::Memory,
+        }
     }
 }

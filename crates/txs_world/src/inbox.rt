@@ -1,10 +1,10 @@
 //! What a store knows of its agents beside their states.
 
-ghost use Rattle.std.specs.Prelude.{◌≡◌, ◌+◌, ◌<◌, ◌≤◌, ◌∷◌, [], ℕ, suc, false, length, set, true, Some, is_some, IfOk, OnErr, OnOk};
+ghost use Rattle.std.specs.Prelude.{◌≡◌, ◌+◌, ◌<◌, ◌≤◌, ◌∷◌, [], ℕ, false, length, set, true, Some, is_some, IfOk, OnErr, OnOk};
 ghost use Rattle.std.proofs.Common.{get_or};
 ghost use Rattle.txs_mail.specs.Mailbox.{next};
 ghost use Rattle.txs_world.specs.Book.{sent_to};
-ghost use Rattle.txs_world.specs.Inboxes.{plain_inbox, plain_inboxes, no_inbox, open_inboxes, with_action, mailed_all, taken_up, finished, all_sent_below, rooms, HaveRoom, promises, Promised};
+ghost use Rattle.txs_world.specs.Inboxes.{plain_inbox, plain_inboxes, no_inbox, open_inboxes, mailed_all, taken_up, finished, all_sent_below, rooms, HaveRoom, promises, Promised};
 
 use crate::cell::StoreCell;
 use std::alloc::{AllocError, Global};
@@ -24,43 +24,6 @@ pub(crate) struct Inbox {
 }
 
 impl Inbox {
-    /// Makes room for so many more actions.
-    fn reserve(&mut self, additional: usize) -> Result<(), AllocError>
-        ensures same { plain_inbox self.new ≡ plain_inbox self.old }
-        ensures room { OnOk result (additional ≤ self.new.mailbox.room) }
-        ensures kept { self.old.mailbox.room ≤ self.new.mailbox.room }
-    {
-        self.mailbox.reserve(additional)
-    }
-
-    /// Promises room for one more action.
-    fn promise(&mut self)
-        requires { self.old.promised < usize.MAX }
-        ensures same { plain_inbox self.new ≡ plain_inbox self.old }
-        ensures promised { self.new.promised ≡ suc self.old.promised }
-    {
-        self.promised += 1;
-    }
-
-    /// Makes the room that was promised.
-    fn keep_promise(&mut self) -> Result<(), AllocError>
-        ensures same { plain_inbox self.new ≡ plain_inbox self.old }
-        ensures promised { self.new.promised ≡ self.old.promised }
-        ensures room { OnOk result (self.old.promised ≤ self.new.mailbox.room) }
-        ensures kept { self.old.mailbox.room ≤ self.new.mailbox.room }
-    {
-        self.mailbox.reserve(self.promised)
-    }
-
-    /// Puts an action behind the others.
-    fn put(&mut self, action: Action)
-        requires { 0 < self.old.mailbox.room }
-        ensures put { plain_inbox self.new ≡ with_action action (plain_inbox self.old) }
-        ensures room { self.new.mailbox.room + 1 ≡ self.old.mailbox.room }
-    {
-        self.mailbox.put_reserved(action);
-    }
-
     /// A copy of the next action, which is taken. Where there is no memory for it, none is.
     fn take(&mut self, alloc: Global) -> Result<Action, AllocError>
         requires free { self.old.mailbox.plain.is_taken ≡ false }
@@ -102,12 +65,12 @@ pub(crate) fn open_inboxes(alloc: Global, cells: &[StoreCell]) -> Result<Vec<Inb
 {
     let mut inboxes = Vec::with_capacity(alloc, cells.len())?;
     for cell in cells {
-        inboxes.push(Inbox {
+        inboxes.push_reserved(Inbox {
             mailbox: Mailbox::new(alloc, cell.goes_on),
             fault: None,
             acts: 0,
             promised: 0,
-        })?;
+        });
     }
     Ok(inboxes)
 }
@@ -121,13 +84,16 @@ pub(crate) fn fill_queue(
     ensures { OnOk result (queue.new.items ≡ actions.now) }
 {
     queue.clear();
+    queue.reserve(actions.len())?;
     for action in actions {
-        queue.push_back(copy_action(alloc, action)?)?;
+        let copy = copy_action(alloc, action)?;
+        queue.push_back_reserved(copy);
     }
     Ok(())
 }
 
-/// Makes room for so many more actions in one inbox. What the inboxes hold is as before, and none has less room.
+/// Makes room for so many more actions in one inbox. What the inboxes hold and what is promised is as before, and none has less
+/// room.
 pub(crate) fn reserve_at(
     inboxes: &mut Vec<Inbox>,
     number: u16,
@@ -135,14 +101,14 @@ pub(crate) fn reserve_at(
 ) -> Result<(), AllocError>
     requires { number < length inboxes.old.items }
     ensures same { plain_inboxes inboxes.new.items ≡ plain_inboxes inboxes.old.items }
+    ensures promised { promises inboxes.new.items ≡ promises inboxes.old.items }
     ensures many { length inboxes.new.items ≡ length inboxes.old.items }
     ensures kept { (k : ℕ) → get_or (rooms inboxes.old.items) k 0 ≤ get_or (rooms inboxes.new.items) k 0 }
     ensures room { OnOk result (additional ≤ get_or (rooms inboxes.new.items) number 0) }
 {
     let place = usize::from(number);
     let inbox = &mut inboxes[place];
-    inbox.reserve(additional)?;
-    Ok(())
+    inbox.mailbox.reserve(additional)
 }
 
 /// Puts an action into the inbox of its agent, which has one place less then.
@@ -155,7 +121,7 @@ pub(crate) fn put_at(inboxes: &mut Vec<Inbox>, action: Action)
 {
     let place = usize::from(action.agent.number);
     let inbox = &mut inboxes[place];
-    inbox.put(action);
+    inbox.mailbox.put_reserved(action);
 }
 
 /// A copy of an action, with room for it in the inbox of its agent.
@@ -189,8 +155,7 @@ pub(crate) fn take_at(
 {
     let place = usize::from(number);
     let inbox = &mut inboxes[place];
-    let action = inbox.take(alloc)?;
-    Ok(action)
+    inbox.take(alloc)
 }
 
 /// Removes the action that was taken of one inbox, which came to this fault or to none.
@@ -215,7 +180,10 @@ pub(crate) fn make_room_for(inboxes: &mut Vec<Inbox>, actions: &[Action]) -> Res
     promise_none(inboxes, actions);
     promise_all(inboxes, actions);
     for action in actions {
-        keep_promise_at(inboxes, action.agent.number)?;
+        let place = usize::from(action.agent.number);
+        let inbox = &inboxes[place];
+        let promised = inbox.promised;
+        reserve_at(inboxes, action.agent.number, promised)?;
     }
     Ok(())
 }
@@ -240,33 +208,9 @@ fn promise_all(inboxes: &mut Vec<Inbox>, actions: &[Action])
     ensures promised { Promised (promises inboxes.new.items) actions.now actions.now }
 {
     for action in actions {
-        promise_at(inboxes, action.agent.number);
+        let place = usize::from(action.agent.number);
+        inboxes[place].promised += 1;
     }
-}
-
-/// Promises room for one more action in one inbox.
-fn promise_at(inboxes: &mut Vec<Inbox>, number: u16)
-    requires place { number < length inboxes.old.items }
-    requires few { get_or (promises inboxes.old.items) number 0 < usize.MAX }
-    ensures same { plain_inboxes inboxes.new.items ≡ plain_inboxes inboxes.old.items }
-    ensures promised { promises inboxes.new.items ≡ set (promises inboxes.old.items) number (suc (get_or (promises inboxes.old.items) number 0)) }
-{
-    let place = usize::from(number);
-    let inbox = &mut inboxes[place];
-    inbox.promise();
-}
-
-/// Makes the room that was promised in one inbox. What the inboxes hold is as before, and none has less room.
-fn keep_promise_at(inboxes: &mut Vec<Inbox>, number: u16) -> Result<(), AllocError>
-    requires { number < length inboxes.old.items }
-    ensures same { plain_inboxes inboxes.new.items ≡ plain_inboxes inboxes.old.items }
-    ensures promised { promises inboxes.new.items ≡ promises inboxes.old.items }
-    ensures kept { (k : ℕ) → get_or (rooms inboxes.old.items) k 0 ≤ get_or (rooms inboxes.new.items) k 0 }
-    ensures room { OnOk result (get_or (promises inboxes.old.items) number 0 ≤ get_or (rooms inboxes.new.items) number 0) }
-{
-    let place = usize::from(number);
-    let inbox = &mut inboxes[place];
-    inbox.keep_promise()
 }
 
 /// Puts actions into the inboxes of their agents, in order.

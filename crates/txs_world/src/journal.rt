@@ -1,6 +1,6 @@
 //! The book of a store, and where each actor stands in it.
 
-ghost use Rattle.std.specs.Prelude.{◌≡◌, ◌<◌, ◌++◌, ◌∷◌, [], suc, length, slice_index, true, false, IfOk, OnErr, OnOk};
+ghost use Rattle.std.specs.Prelude.{◌≡◌, ◌<◌, ◌++◌, ◌∷◌, [], suc, length, slice_index, true, false, vec_capacity, IfOk, OnErr, OnOk};
 ghost use Rattle.txs_value.specs.Limits.{most_events};
 ghost use Rattle.txs_world.specs.Book.{counts};
 ghost use Rattle.txs_world.specs.Kept.{Marked, StandAsBefore};
@@ -44,7 +44,7 @@ impl Journal {
         ensures same_tries { OnErr result (StandAsBefore self.old.tries.items self.new.tries.items) }
     {
         match self.make_room(actor) {
-            Ok(()) => self.put(actor, kind),
+            Ok(()) => Ok(self.put(actor, kind)),
             Err(refused) => {
                 // By a call, which is one case where to drop it here is one for each kind.
                 drop(kind);
@@ -53,38 +53,38 @@ impl Journal {
         }
     }
 
-    /// Makes room for where the actor stands.
+    /// Makes room for one more event, and for where the actor stands.
     fn make_room(&mut self, actor: u16) -> Result<(), AllocError>
         ensures same { self.new.book.items ≡ self.old.book.items }
         ensures same_views { StandAsBefore self.old.views.items self.new.views.items }
         ensures same_tries { StandAsBefore self.old.tries.items self.new.tries.items }
+        ensures room { OnOk result (length self.new.book.items < vec_capacity self.new.book) }
         ensures views { OnOk result (actor < length self.new.views.items) }
         ensures tries { OnOk result (actor < length self.new.tries.items) }
     {
+        self.book.reserve(1)?;
         make_room(&mut self.views, actor)?;
         make_room(&mut self.tries, actor)?;
         Ok(())
     }
 
-    /// Adds an event of an actor that has its room.
-    fn put(&mut self, actor: u16, kind: EventKind) -> Result<u32, AllocError>
+    /// Adds an event that has its room, and answers how many there are with it.
+    fn put(&mut self, actor: u16, kind: EventKind) -> u32
         requires few { length self.old.book.items < most_events }
+        requires room { length self.old.book.items < vec_capacity self.old.book }
         requires in_views { actor < length self.old.views.items }
         requires in_tries { actor < length self.old.tries.items }
-        ensures added { OnOk result (self.new.book.items ≡ self.old.book.items ++ event_of actor kind ∷ []) }
-        ensures many { IfOk result (λ n. n ≡ suc (length self.old.book.items)) }
-        ensures views { OnOk result (Marked true actor (suc (length self.old.book.items)) self.old.views.items self.new.views.items) }
-        ensures tries { OnOk result (Marked (counts false kind) actor (suc (length self.old.book.items)) self.old.tries.items self.new.tries.items) }
-        ensures same { OnErr result (self.new.book.items ≡ self.old.book.items) }
-        ensures same_views { OnErr result (self.new.views.items ≡ self.old.views.items) }
-        ensures same_tries { OnErr result (self.new.tries.items ≡ self.old.tries.items) }
+        ensures added { self.new.book.items ≡ self.old.book.items ++ event_of actor kind ∷ [] }
+        ensures many { result ≡ suc (length self.old.book.items) }
+        ensures views { Marked true actor (suc (length self.old.book.items)) self.old.views.items self.new.views.items }
+        ensures tries { Marked (counts false kind) actor (suc (length self.old.book.items)) self.old.tries.items self.new.tries.items }
     {
         let is_try = is_no_redo(&kind);
-        self.book.push(Event { actor, kind })?;
+        self.book.push_reserved(Event { actor, kind });
         let events = self.book.len() as u32;
         mark(&mut self.views, actor, events, true);
         mark(&mut self.tries, actor, events, is_try);
-        Ok(events)
+        events
     }
 }
 

@@ -73,10 +73,16 @@ impl Store {
         ensures { result ≡ has_named self.now actor (ask.Commit at sets.now ensured.now view commuted.now sends.now) }
     {
         let (sets, commuted) = (sets.as_slice(), commuted.as_slice());
-        self.are_written(sets)
-            && self.has_refs(ensured.as_slice())
-            && self.are_written(commuted)
-            && are_apart(commuted, sets)
+        if !self.are_written(sets) {
+            return false;
+        }
+        if !self.has_refs(ensured.as_slice()) {
+            return false;
+        }
+        if !self.are_written(commuted) {
+            return false;
+        }
+        are_apart(commuted, sets)
             && self.are_sends(sends.as_slice())
             && self.may_end(actor, at, view)
     }

@@ -1,20 +1,20 @@
 //! Sends outside transactions, and the actions of agents.
 
-ghost use Rattle.std.specs.Prelude.{◌≡◌, ◌<◌, ◌==◌, nat_lt, ◌++◌, ◌∷◌, [], suc, set, length, true, false, is_some, IfOk, OnOk, OnErr};
+ghost use Rattle.std.specs.Prelude.{◌≡◌, ℕ, ◌<◌, ◌==◌, nat_lt, suc, length, true, false, is_some, OnOk};
 ghost use Rattle.txs_asks.specs.declared.ask.Ask.TheVariants as ask;
 ghost use Rattle.txs_asks.specs.declared.ask.Reply.TheVariants as reply;
 ghost use Rattle.txs_asks.specs.declared.event.EventKind.TheVariants as event;
 ghost use Rattle.txs_value.specs.Limits.{most_events};
-ghost use Rattle.txs_world.specs.Book.{has_agent, actor_of, is_failed, opening, newest, mail_after, state_of, waits, LegalKind};
+ghost use Rattle.txs_world.specs.Book.{has_agent, actor_of, is_failed, mail_after, state_of, waits, LegalKind};
 ghost use Rattle.txs_world.specs.Inboxes.{fault_of};
-ghost use Rattle.txs_world.specs.Store.{store_with, event_of, adds, is_taken, sends_to, next_action, serve, store_after, Answers, Replies};
+ghost use Rattle.txs_world.specs.Store.{adds, is_taken, sends_to, next_action, serve, store_after, Answers, Replies};
 
 use crate::inbox::{finish_at, put_at, ready_at, take_at};
-use crate::slot::put_all;
+use crate::slot::{push_copy, put_all};
 use crate::store::Store;
 use std::alloc::AllocError;
 use txs_asks::{EventKind, Reply};
-use txs_value::{Action, CellId, Fault, Value, copy_value};
+use txs_value::{Action, CellId, Fault, Value};
 
 /// The fault that an action came to, if it faulted.
 fn fault_of(new: &Result<Value, Fault>) -> Option<Fault>
@@ -35,10 +35,10 @@ fn fill_state(
     ensures { OnOk result (copies.new.items ≡ state_of agent new.now) }
 {
     copies.clear();
-    if let Ok(value) = new {
-        copies.push((agent, copy_value(value)?))?;
+    match new {
+        Ok(value) => push_copy(copies, agent, value),
+        Err(_) => Ok(()),
     }
-    Ok(())
 }
 
 impl Store {
@@ -62,35 +62,31 @@ impl Store {
             drop(action);
             return Reply::Full;
         }
-        match self.put(actor, action) {
-            Ok(()) => Reply::Done,
-            Err(_) => Reply::Memory,
-        }
+        self.put(actor, action)
     }
 
-    /// Adds a send, and puts its action into the inbox of its agent.
-    fn put(&mut self, actor: u16, action: Action) -> Result<(), AllocError>
+    /// Adds a send, for which the book has room, and puts its action into the inbox of its agent.
+    fn put(&mut self, actor: u16, action: Action) -> Reply
         requires room { length self.old.book < most_events }
         requires thread { nat_lt actor self.old.threads ≡ true }
         requires legal { LegalKind self.old.cells self.old.book actor (event.Send action) }
-        ensures added { OnOk result (self.new ≡ store_with self.old.cells self.old.threads (self.old.book ++ event_of actor (event.Send action) ∷ []) self.old.taken) }
-        ensures same { OnErr result (self.new ≡ self.old) }
+        ensures { Replies self.old (adds actor (event.Send action) reply.Done self.old.book) result self.new }
     {
         let copy = match ready_at(self.alloc, &mut self.inboxes, &action) {
             Ok(copy) => copy,
-            Err(refused) => {
+            Err(_) => {
                 drop(action);
-                return Err(refused);
+                return Reply::Memory;
             }
         };
         match self.journal.add(actor, EventKind::Send { action }) {
             Ok(_) => {
                 put_at(&mut self.inboxes, copy);
-                Ok(())
+                Reply::Done
             }
-            Err(refused) => {
+            Err(_) => {
                 drop(copy);
-                Err(refused)
+                Reply::Memory
             }
         }
     }
@@ -105,15 +101,7 @@ impl Store {
         if !self.has_next(agent) {
             return Reply::Idle;
         }
-        let number = self.next_number(agent);
-        match self.take_first(agent) {
-            Ok((action, state)) => Reply::Action {
-                number,
-                action,
-                state,
-            },
-            Err(_) => Reply::Memory,
-        }
+        self.take_first(agent)
     }
 
     /// Whether the agent has an action to run, and hasn't failed.
@@ -135,25 +123,29 @@ impl Store {
         self.inboxes[usize::from(agent.number)].acts + 1
     }
 
-    /// The agent's first action, which is taken, and the agent's state.
-    fn take_first(&mut self, agent: CellId) -> Result<(Action, Value), AllocError>
+    /// The agent's first action, which is there and is taken.
+    fn take_first(&mut self, agent: CellId) -> Reply
         requires agent { has_agent self.old.cells agent ≡ true }
         requires free { is_taken self.old.taken agent ≡ false }
         requires some { is_some (next_action self.old.cells self.old.book agent) ≡ true }
-        ensures action { IfOk result (λ p. next_action self.old.cells self.old.book agent ≡ Some p.0) }
-        ensures state { IfOk result (λ p. p.1 ≡ newest (opening self.old.cells) self.old.book agent.number) }
-        ensures taken { OnOk result (self.new ≡ store_with self.old.cells self.old.threads self.old.book (set self.old.taken agent.number true)) }
-        ensures same { OnErr result (self.new ≡ self.old) }
+        ensures { (actor : ℕ) → Answers self.old (serve self.old.cells actor (ask.Take agent) self.old.book) (store_after self.old (ask.Take agent) (serve self.old.cells actor (ask.Take agent) self.old.book)) result self.new }
     {
-        let state = self.share_newest(agent)?;
-        let action = match take_at(self.alloc, &mut self.inboxes, agent.number) {
-            Ok(action) => action,
-            Err(refused) => {
-                drop(state);
-                return Err(refused);
-            }
+        let number = self.next_number(agent);
+        let state = match self.share_newest(agent) {
+            Ok(state) => state,
+            Err(_) => return Reply::Memory,
         };
-        Ok((action, state))
+        match take_at(self.alloc, &mut self.inboxes, agent.number) {
+            Ok(action) => Reply::Action {
+                number,
+                action,
+                state,
+            },
+            Err(_) => {
+                drop(state);
+                Reply::Memory
+            }
+        }
     }
 
     /// What an agent's action came to: its new state, or a fault.
@@ -167,10 +159,7 @@ impl Store {
             drop(new);
             return Reply::Full;
         }
-        match self.act(actor, agent, new) {
-            Ok(()) => Reply::Done,
-            Err(_) => Reply::Memory,
-        }
+        self.act(actor, agent, new)
     }
 
     /// The number of the agent's action that is taken. It is there, and the agent hasn't failed.
@@ -187,34 +176,33 @@ impl Store {
         inbox.acts + 1
     }
 
-    /// Adds an agent's action, which is over, with what it came to.
-    fn act(
-        &mut self,
-        actor: u16,
-        agent: CellId,
-        new: Result<Value, Fault>,
-    ) -> Result<(), AllocError>
+    /// Adds an agent's action, which is over, with what it came to. The book has room for it.
+    fn act(&mut self, actor: u16, agent: CellId, new: Result<Value, Fault>) -> Reply
         requires room { length self.old.book < most_events }
         requires own { (actor == actor_of self.old.threads self.old.cells agent) ≡ true }
         requires agent { has_agent self.old.cells agent ≡ true }
         requires taken { is_taken self.old.taken agent ≡ true }
-        ensures added { OnOk result (self.new ≡ store_with self.old.cells self.old.threads (self.old.book ++ event_of actor (event.Act agent (suc (mail_after self.old.cells self.old.book agent.number).acts) new) ∷ []) (set self.old.taken agent.number false)) }
-        ensures same { OnErr result (self.new ≡ self.old) }
+        ensures { Answers self.old (serve self.old.cells actor (ask.Finish agent new) self.old.book) (store_after self.old (ask.Finish agent new) (serve self.old.cells actor (ask.Finish agent new) self.old.book)) result self.new }
     {
         let number = self.number_taken(agent);
         let fault = fault_of(&new);
         match fill_state(&mut self.spare, agent, &new) {
             Ok(()) => (),
-            Err(refused) => {
+            Err(_) => {
                 drop(new);
-                return Err(refused);
+                return Reply::Memory;
             }
         }
-        let events = self
+        match self
             .journal
-            .add(actor, EventKind::Act { agent, number, new })?;
-        put_all(&mut self.slots, &mut self.spare, events);
-        finish_at(&mut self.inboxes, agent.number, fault);
-        Ok(())
+            .add(actor, EventKind::Act { agent, number, new })
+        {
+            Ok(events) => {
+                put_all(&mut self.slots, &mut self.spare, events);
+                finish_at(&mut self.inboxes, agent.number, fault);
+                Reply::Done
+            }
+            Err(_) => Reply::Memory,
+        }
     }
 }

@@ -1,10 +1,10 @@
 //! What the store answers.
 
-ghost use Rattle.std.specs.Prelude.{◌≡◌, ◌≤◌, ◌<◌, nat_lt, ◌++◌, ◌∷◌, [], ◌↔◌, map, length, true, false, IsTrue, IfOk, OnOk, OnErr};
+ghost use Rattle.std.specs.Prelude.{◌≡◌, ◌≤◌, ◌<◌, nat_lt, [], ◌↔◌, map, length, true, false, IsTrue, IfOk, OnOk};
 ghost use Rattle.txs_world.specs.Book.{has_cell, has_ref, has_readable, has_refs, may_name, may_end, opening, newest, written, makes, LegalKind};
 ghost use Rattle.txs_value.specs.Limits.{most_events};
 ghost use Rattle.txs_world.specs.Kept.{ChangesNothing};
-ghost use Rattle.txs_world.specs.Store.{store_with, is_lawful, event_of, adds, looks, serve, store_after, served, TakesMemory, Answers, Replies};
+ghost use Rattle.txs_world.specs.Store.{is_lawful, adds, looks, serve, store_after, served, TakesMemory, Answers, Replies};
 ghost use Rattle.txs_asks.specs.declared.ask.Reply.TheVariants as reply;
 ghost use Rattle.txs_asks.specs.declared.event.EventKind.TheVariants as event;
 
@@ -82,19 +82,6 @@ impl Store {
         at < self.slots[usize::from(cell.number)].written
     }
 
-    /// Adds an event that writes nothing and changes no agent.
-    pub(crate) fn push(&mut self, actor: u16, kind: EventKind) -> Result<(), AllocError>
-        requires room { length self.old.book < most_events }
-        requires made { makes self.old.cells self.old.threads actor kind ≡ true }
-        requires legal { LegalKind self.old.cells self.old.book actor kind }
-        requires quiet { ChangesNothing kind }
-        ensures added { OnOk result (self.new ≡ store_with self.old.cells self.old.threads (self.old.book ++ event_of actor kind ∷ []) self.old.taken) }
-        ensures same { OnErr result (self.new ≡ self.old) }
-    {
-        self.journal.add(actor, kind)?;
-        Ok(())
-    }
-
     /// Adds an event that writes nothing and changes no agent, and gives this reply.
     pub(crate) fn tell(&mut self, actor: u16, kind: EventKind, reply: Reply) -> Reply
         requires made { makes self.old.cells self.old.threads actor kind ≡ true }
@@ -108,8 +95,8 @@ impl Store {
             drop(reply);
             return Reply::Full;
         }
-        match self.push(actor, kind) {
-            Ok(()) => reply,
+        match self.journal.add(actor, kind) {
+            Ok(_) => reply,
             Err(_) => {
                 drop(reply);
                 Reply::Memory
@@ -161,7 +148,8 @@ impl Store {
     {
         values.reserve(cells.len())?;
         for cell in cells {
-            values.push(self.share_newest(*cell)?)?;
+            let value = self.share_newest(*cell)?;
+            values.push_reserved(value);
         }
         Ok(())
     }

@@ -24,10 +24,8 @@ pub(crate) fn open_slots(alloc: Global, cells: &[StoreCell]) -> Result<Vec<Slot>
 {
     let mut slots = Vec::with_capacity(alloc, cells.len())?;
     for cell in cells {
-        slots.push(Slot {
-            value: copy_value(&cell.opening)?,
-            written: 0,
-        })?;
+        let value = copy_value(&cell.opening)?;
+        slots.push_reserved(Slot { value, written: 0 });
     }
     Ok(slots)
 }
@@ -53,33 +51,29 @@ pub(crate) fn put_all(slots: &mut Vec<Slot>, writes: &mut Vec<(CellId, Value)>, 
     }
 }
 
-/// Fills a list with the same writes. The list keeps its room from one event to the next.
-pub(crate) fn fill(
+/// Adds the same writes.
+pub(crate) fn append(
     copies: &mut Vec<(CellId, Value)>,
     writes: &[(CellId, Value)],
 ) -> Result<(), AllocError>
-    ensures { OnOk result (copies.new.items ≡ writes.now) }
-{
-    copies.clear();
-    append(copies, writes)
-}
-
-/// Adds the same writes.
-fn append(copies: &mut Vec<(CellId, Value)>, writes: &[(CellId, Value)]) -> Result<(), AllocError>
     ensures { OnOk result (copies.new.items ≡ copies.old.items ++ writes.now) }
 {
     for write in writes {
-        push_copy(copies, write)?;
+        push_copy(copies, write.0, &write.1)?;
     }
     Ok(())
 }
 
-/// Adds the same write.
-fn push_copy(copies: &mut Vec<(CellId, Value)>, write: &(CellId, Value)) -> Result<(), AllocError>
-    ensures { OnOk result (copies.new.items ≡ copies.old.items ++ write.now ∷ []) }
+/// Adds a write of the same value.
+pub(crate) fn push_copy(
+    copies: &mut Vec<(CellId, Value)>,
+    cell: CellId,
+    value: &Value,
+) -> Result<(), AllocError>
+    ensures { OnOk result (copies.new.items ≡ copies.old.items ++ (cell, value.now) ∷ []) }
 {
-    let own = copy_value(&write.1)?;
-    copies.push((write.0, own))?;
+    copies.reserve(1)?;
+    copies.push_reserved((cell, copy_value(value)?));
     Ok(())
 }
 
@@ -138,11 +132,10 @@ fn merge(
     for write in sets {
         let (earlier, later) = rest.split_at(place_for(rest, write.0.number));
         append(joined, earlier)?;
-        push_copy(joined, write)?;
+        push_copy(joined, write.0, &write.1)?;
         rest = later;
     }
-    append(joined, rest)?;
-    Ok(())
+    append(joined, rest)
 }
 
 /// What a commit writes: what was set, and among it what was commuted.

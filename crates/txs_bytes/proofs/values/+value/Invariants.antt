@@ -1,6 +1,7 @@
 use Rattle.std.proofs.Common.{◌≡◌, ◌≤◌, ◌+◌, ◌*◌, ◌-◌, length}
 use Rattle.txs_value.specs.PlainValue.{row_depth, plain_row}
 use Rattle.txs_value.specs.View.{plains_of}
+use Rattle.txs_bytes.specs.CellForm.{kinds_of}
 use Rattle.txs_bytes.specs.Format.{many_at}
 use Rattle.txs_bytes.specs.ValueForm.{value_format}
 use Rattle.txs_bytes.proofs.Many.{with_front}
@@ -10,7 +11,7 @@ abbrev pub decreases-values_at : goal.decreases-values_at
 decreases-values_at l = 4 * l.room + 2
 
 abbrev pub decreases-vector_at : goal.decreases-vector_at
-decreases-vector_at l = 4 * l.room + 3
+decreases-vector_at l = 4 * l.room - 1
 
 abbrev pub decreases-value_behind : goal.decreases-value_behind
 decreases-value_behind l = 4 * l.room
@@ -21,7 +22,7 @@ decreases-value_at l = 4 * l.room + 1
 abbrev pub invariant-values_at-loop : goal.invariant-values_at-loop
 invariant-values_at-loop l =
     record {
-      told : with_front (plains_of l.values.items) (many_at (value_format l.cells l.kinds l.room).read (l.count - l.counter) l.rest) ≡ many_at (value_format l.cells l.kinds l.room).read l.count l.bytes;
+      told : with_front (plains_of l.values.items) (many_at (value_format l.cells (kinds_of l.defined) l.room).read (l.count - l.counter) l.rest) ≡ many_at (value_format l.cells (kinds_of l.defined) l.room).read l.count l.bytes;
       depth : row_depth (plain_row (plains_of l.values.items)) ≤ l.room;
       as_many : length l.values.items ≡ l.counter;
     }

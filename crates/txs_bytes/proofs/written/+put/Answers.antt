@@ -13,6 +13,6 @@ pub put_items-loop-i-preserved : goal.put_items-loop-i-preserved
 put_items-loop-i-preserved t c =
     row_next c.args.items.now c.loop-i.i (plain_of c.get.result.now) c.args.out.now.items c.loop-i.out.items c.put_value.new.out.items c.get.ensures c.loop-i.invariant c.in_ok-put_value.ensures
 
-pub put_value-returns-in_ok-extend_from_slice-in-Vector : goal.put_value-returns-in_ok-extend_from_slice-in-Vector
-put_value-returns-in_ok-extend_from_slice-in-Vector t c =
-    rw c.in-Vector.is (on_ok c.put_items.result (λ h. vector_put c.args.out.now.items c.push-in-Vector.new.self.items c.extend_from_slice-in-Vector.new.self.items c.put_items.new.out.items c.in-Vector.items c.in_ok-push-in-Vector.ensures.items (search rules) h) c.put_items.ensures)
+pub put_value-returns-in_ok-put_behind-in-Vector : goal.put_value-returns-in_ok-put_behind-in-Vector
+put_value-returns-in_ok-put_behind-in-Vector t c =
+    rw c.in-Vector.is (on_ok c.put_items.result (λ h. vector_put c.args.out.now.items c.put_behind-in-Vector.new.out.items c.put_items.new.out.items c.in-Vector.items (search rules) h) c.put_items.ensures)

@@ -10,7 +10,7 @@ use Rattle.txs_value.specs.Printed.{printed_line}
 use Rattle.txs_value.specs.declared.value.CellId.{CellId}
 use Rattle.txs_value.specs.declared.value.CellKind.TheVariants.{Ref}
 use Rattle.txs_value.specs.declared.value.Value.{Value}
-use Rattle.txs_eval.specs.Evaluated.{ReadyIn, of_one, part, is_on, forms_in, calls_in, Stops, Gives, Told, Yields, GivesAll, Steps, Runs, Ate, means, all_mean, do_means, let_means, locals_mean, loop_means, turns_mean, form_means, act_means, inside_means, outside_means, alter_means, commute_means, swap_means, applied, redone_means, final_means, dosync_means, transacting, at_end, eat_means, end_means, body_means, commit_means, settle_means, ComesTo, fail_means, refuse_means, thread_state, tx_state, tx_run, swap_of, is_broke}
+use Rattle.txs_eval.specs.Evaluated.{ReadyIn, of_one, part, is_on, forms_in, calls_in, Stops, Gives, Told, Yields, GivesAll, Steps, Runs, Ate, means, all_mean, do_means, let_means, locals_mean, loop_means, turns_mean, form_means, act_means, inside_means, outside_means, alter_means, commute_means, swap_means, applied, redone_means, final_means, dosync_means, transacting, at_end, eat_means, end_means, ended, end_stop, closes, body_means, thread_state, tx_state, tx_run, swap_of, is_broke}
 use Rattle.txs_eval.specs.Events.{seen_event}
 use Rattle.txs_tree.specs.Meaning.{Completes, result_of}
 use Rattle.txs_eval.specs.Setting.{callable, zone_in, on_view}
@@ -20,12 +20,12 @@ use Rattle.txs_tree.specs.Transaction.{valued, merged}
 use Rattle.txs_tree.specs.Tree.{none, count}
 use Rattle.txs_tree.specs.View.{tree_of, trees_of, mark_of, function_of, functions_of}
 use Rattle.txs_eval.specs.Views.{PlainView, plain_view, plain_world, world_of}
-use Rattle.txs_eval.proofs.Acting.{acted_inside, acted_outside, sound_at, phase_stop, phase_more, finals_stop, finals_done}
+use Rattle.txs_eval.proofs.Acting.{acted_inside, acted_outside, sound_at, redone_stop, redone_more, phase_sound, finals_stop, finals_done}
 use Rattle.txs_eval.proofs.Called.{in_room, room, room-deeper, room_on, depth_left, is_function, as_many, called_body, pure_here}
 use Rattle.txs_eval.proofs.Counting.{item_smaller, nodes-some, nodes-last}
-use Rattle.txs_eval.proofs.Ending.{body_stop, body_done, body_keeps, commit_run, settle_same, settle_other, settle_stop, ran_so, ran_sound, fail_given, fail_stop, refuse_given, refuse_stop, eats_none, eats_end, eats_more, running, joined, begun}
+use Rattle.txs_eval.proofs.Ending.{ran_given, ran_sound, ended_unrun, ended_stop, ended_done, ends_viewed, ends_unviewed, end_stops, eats_none, eats_end, eats_more, running, joined, begun}
 use Rattle.txs_eval.proofs.Evaluation.{StopsAt, collects-start, do_then, rebound, stops_steps, stops_gives, local_done, all_more, all_stop, do_more, do_stop, do_start, locals_more, locals_stop, let_stop, let_done, loop_stop, loop_done, turn_value, turn_stop, turn_recur, take_kept, called, if_stop, if_goes, args_stop, acted, const_done}
-use Rattle.txs_eval.proofs.Forms.{untaken_inside, untaken_outside, alter_stop, alter_done, commute_stop, commute_done, called_alone, print_done, swap_gives, broken_gives, put_inside, send_inside, put_outside}
+use Rattle.txs_eval.proofs.Forms.{untaken_inside, untaken_outside, alter_stop, alter_done, commute_stop, commute_done, called_alone, core_done, vector_done, call_done, print_done, swap_gives, broken_gives, put_inside, send_inside, put_outside}
 use Rattle.txs_eval.proofs.Recurs.{recurs_many, never_recurs}
 use Rattle.txs_tree.proofs.Soundness.{SoundAll-from, SoundLet-from, SoundDo-parts, count-from}
 use Rattle.txs_eval.proofs.Shaping.{copied, stepped, strict_sound, strict_smaller, strict_finishes, strict_whole, form_sound, form_smaller, form_whole}
@@ -165,18 +165,13 @@ evaluate_let-bind_locals-requires t c =
     let smaller : 16 * nodes_in (trees_of c.args.nodes.now) + 2 < 16 * (nodes_in (trees_of c.args.nodes.now) + nodes (tree_of c.args.body.now)) + 2 = omega (arith, some) in
     (search (rules, in_room c.args.context.now _ _ smaller), c.requires.values)
 
-pub evaluate_let-evaluate_tail-requires : goal.evaluate_let-evaluate_tail-requires
-evaluate_let-evaluate_tail-requires t c =
+pub evaluate_let-evaluate_tail-given-requires : goal.evaluate_let-evaluate_tail-given-requires
+evaluate_let-evaluate_tail-given-requires t c =
     let smaller : 16 * nodes (tree_of c.args.body.now) < 16 * (nodes_in (trees_of c.args.nodes.now) + nodes (tree_of c.args.body.now)) + 2 = omega arith in
     (search (rules, in_room c.args.context.now _ _ smaller), record { tail = c.requires.body.tail; sound = subst (λ d. SoundTree (callable c.args.context.now) (zone_in c.args.context.now) d c.requires.body.tail (tree_of c.args.body.now)) (sym c.in_ok-bind_locals.ensures.count) c.requires.body.sound })
 
-pub evaluate_let-returns-clause-value : goal.evaluate_let-returns-clause-value
-evaluate_let-returns-clause-value t c =
-    let_done c.args.context.now (trees_of c.args.nodes.now) (tree_of c.args.body.now) c.args.locals.now.items c.args.state.now c.bind_locals.new.locals.items c.bind_locals.new.state c.evaluate_tail.new.state
-    (Ok c.in_ok-step.step) c.in_ok-bind_locals.ensures.value c.in_ok-step.ensures.value
-
-pub evaluate_loop-run_turns-requires : goal.evaluate_loop-run_turns-requires
-evaluate_loop-run_turns-requires t c =
+pub evaluate_loop-run_turns-given-requires : goal.evaluate_loop-run_turns-given-requires
+evaluate_loop-run_turns-given-requires t c =
     let now = c.bind_locals.new.locals.items in
     let es = trees_of c.args.nodes.now in
     let body = tree_of c.args.body.now in
@@ -187,18 +182,6 @@ evaluate_loop-run_turns-requires t c =
     let low : b ≤ length now = omega (arith, place, counted) in
     let many : count es ≡ length now - b = omega (arith, place, counted) in
     (search (rules, in_room c.args.context.now _ _ smaller), (low, subst₂ (λ d k. SoundTree (callable c.args.context.now) (zone_in c.args.context.now) d (Some k) body) (sym counted) many c.requires.body))
-
-pub evaluate_loop-returns-clause-value : goal.evaluate_loop-returns-clause-value
-evaluate_loop-returns-clause-value t c =
-    let now = c.bind_locals.new.locals.items in
-    let es = trees_of c.args.nodes.now in
-    let body = tree_of c.args.body.now in
-    let b = c.len-before.result in
-    let place : b ≡ length c.args.locals.now.items = search rules in
-    let counted = c.in_ok-bind_locals.ensures.count in
-    let many : length now - b ≡ count es = omega (arith, place, counted) in
-    let kept : take b now ≡ c.args.locals.now.items = subst (λ k. take k now ≡ c.args.locals.now.items) (sym place) c.in_ok-bind_locals.ensures.kept in
-    loop_done c.args.context.now es body c.args.locals.now.items c.args.state.now now c.bind_locals.new.state c.run_turns.new.state (Ok (AValue c.in_ok-value.value)) c.in_ok-bind_locals.ensures.value b (length now - b) place many kept c.in_ok-value.ensures.value
 
 pub run_turns-evaluate_tail-requires : goal.run_turns-evaluate_tail-requires
 run_turns-evaluate_tail-requires t c =
@@ -362,30 +345,6 @@ evaluate_loop-returns-in_err-bind_locals-clause-value t c =
     let out = c.bind_locals.new.state in
     stops_steps (is_on c.args.context.now.world) c.from_residual.result y (part c.args.context.now.world out) (loop_means c.args.context.now es body c.args.locals.now.items c.args.state.now) (search rules)
     (loop_stop c.args.context.now es body c.args.locals.now.items c.args.state.now y out c.in_err-bind_locals.ensures.value)
-
-pub evaluate_let-returns-in_err-step-clause-value : goal.evaluate_let-returns-in_err-step-clause-value
-evaluate_let-returns-in_err-step-clause-value t c =
-    let y = c.in_err-step.field-0.0 in
-    let es = trees_of c.args.nodes.now in
-    let body = tree_of c.args.body.now in
-    let out = c.evaluate_tail.new.state in
-    let whole = let_done c.args.context.now es body c.args.locals.now.items c.args.state.now c.bind_locals.new.locals.items c.bind_locals.new.state out (Err y) c.in_ok-bind_locals.ensures.value c.in_err-step.ensures.value in
-    stops_steps (is_on c.args.context.now.world) c.from_residual-in_err-step.result y (part c.args.context.now.world out) (let_means c.args.context.now es body c.args.locals.now.items c.args.state.now) (search rules) whole
-
-pub evaluate_loop-returns-in_err-value-clause-value : goal.evaluate_loop-returns-in_err-value-clause-value
-evaluate_loop-returns-in_err-value-clause-value t c =
-    let now = c.bind_locals.new.locals.items in
-    let es = trees_of c.args.nodes.now in
-    let body = tree_of c.args.body.now in
-    let b = c.len-before.result in
-    let place : b ≡ length c.args.locals.now.items = search rules in
-    let counted = c.in_ok-bind_locals.ensures.count in
-    let many : length now - b ≡ count es = omega (arith, place, counted) in
-    let kept : take b now ≡ c.args.locals.now.items = subst (λ k. take k now ≡ c.args.locals.now.items) (sym place) c.in_ok-bind_locals.ensures.kept in
-    let y = c.in_err-value.field-0.0 in
-    let out = c.run_turns.new.state in
-    let whole = loop_done c.args.context.now es body c.args.locals.now.items c.args.state.now now c.bind_locals.new.state out (Err y) c.in_ok-bind_locals.ensures.value b (length now - b) place many kept c.in_err-value.ensures.value in
-    stops_steps (is_on c.args.context.now.world) c.from_residual-in_err-value.result y (part c.args.context.now.world out) (loop_means c.args.context.now es body c.args.locals.now.items c.args.state.now) (search rules) whole
 
 pub run_turns-returns-in-Value-clause-kept : goal.run_turns-returns-in-Value-clause-kept
 run_turns-returns-in-Value-clause-kept t c =
@@ -557,115 +516,8 @@ evaluate_if-returns-clause-value t c =
     let other : false ≡ is_false c.in_ok-value.value = search rules in
     if_goes x (tree_of c.args.test.now) (tree_of c.args.yes.now) (tree_of c.args.no.now) c.args.locals.now.items c.args.state.now c.in_ok-value.value false c.evaluate.new.locals.items c.evaluate.new.state c.evaluate_tail-2.new.state c.evaluate_tail-2.result c.in_ok-value.ensures.value other c.in_ok-value.ensures.kept c.evaluate_tail-2.ensures.value
 
-pub fail-returns-in-Ok-clause-value : goal.fail-returns-in-Ok-clause-value
-fail-returns-in-Ok-clause-value t c =
-    let x = c.args.context.now in
-    let m = mark_of c.args.dosync.span c.args.dosync.wanted in
-    let body = tree_of c.args.dosync.body.now in
-    let env = c.args.locals.now.items in
-    let e = c.args.event.now in
-    let before = thread_state c.args.thread.now in
-    (refl, fail_given x m body env e before c.is_sound.ensures c.in_ok-run.run' c.in_ok-run.ensures.value c.in_ok-run.ensures.sound c.in-Ok.field-0.items c.in-Ok.ensures)
-
-pub fail-returns-clause-value : goal.fail-returns-clause-value
-fail-returns-clause-value t c =
-    let x = c.args.context.now in
-    let m = mark_of c.args.dosync.span c.args.dosync.wanted in
-    let body = tree_of c.args.dosync.body.now in
-    let env = c.args.locals.now.items in
-    let e = c.args.event.now in
-    let before = thread_state c.args.thread.now in
-    fail_stop x m body env e before c.is_sound.ensures c.in_ok-run.run' c.in_ok-run.ensures.value c.in_ok-run.ensures.sound c.in-Err.stop c.in-Err.ensures
-
-pub final_writes-loop-cell-init : goal.final_writes-loop-cell-init
-final_writes-loop-cell-init t c =
-    let x = c.args.context.now in
-    let w = c.args.done.now in
-    let r = plain_view c.args.world in
-    let ds = c.as_slice-cell-items.result.now in
-    let are : ds ≡ commuted w = search rules in
-    let first : c.in_ok-writes.writes.items ≡ valued ds (world_of r) = search rules in
-    ap (λ ws. redone_means x c.args.span (by_ref ds w.commutes) ws) (sym first)
-
-pub final_writes-returns-in_err-redo : goal.final_writes-returns-in_err-redo
-final_writes-returns-in_err-redo t c =
-    let x = c.args.context.now in
-    let w = c.args.done.now in
-    let r = plain_view c.args.world in
-    let ds = c.as_slice-cell-items.result.now in
-    let are : ds ≡ commuted w = search rules in
-    let i = c.loop-cell.cell-index in
-    let other : CellId = record { kind = Ref; number = 0 } in
-    let d : CellId = get_or ds i other in
-    let ws = c.loop-cell.writes.items in
-    let y = c.in_err-redo.field-0.0 in
-    let told = subst (λ cs. Told {A = Writes} (Err y) (redone_means x c.args.span (commutes_of d.number cs) ws)) c.commutes.ensures c.in_err-redo.ensures in
-    let rest = phase_stop x c.args.span w.commutes ds i other d c.loop-cell-test.true refl ws y told in
-    stops_gives (λ (us : Vec (CellId × Value) Global). us.items) true c.from_residual-in_err-redo.result y tt (final_means x w r c.args.span) (search rules)
-    (finals_stop x c.args.span w r ds are y (subst (λ q. Told {A = Writes} (Err y) q) (sym c.loop-cell.invariant) rest))
-
-pub final_writes-loop-cell-preserved : goal.final_writes-loop-cell-preserved
-final_writes-loop-cell-preserved t c =
-    let x = c.args.context.now in
-    let w = c.args.done.now in
-    let r = plain_view c.args.world in
-    let ds = c.as_slice-cell-items.result.now in
-    let are : ds ≡ commuted w = search rules in
-    let i = c.loop-cell.cell-index in
-    let ws = c.loop-cell.writes.items in
-    let other : CellId = record { kind = Ref; number = 0 } in
-    let d : CellId = get_or ds i other in
-    let done = subst (λ cs. redone_means x c.args.span (commutes_of d.number cs) ws ≡ Completes c.redo.new.writes.items tt) c.commutes.ensures c.in_ok-redo.ensures in
-    c.loop-cell.invariant ∙ phase_more x c.args.span w.commutes ds i other d c.loop-cell-test.true refl ws c.redo.new.writes.items done
-
-pub final_writes-returns : goal.final_writes-returns
-final_writes-returns t c =
-    let x = c.args.context.now in
-    let w = c.args.done.now in
-    let r = plain_view c.args.world in
-    let ds = c.as_slice-cell-items.result.now in
-    let are : ds ≡ commuted w = search rules in
-    let ws = c.loop-cell.writes.items in
-    let end = drop_all c.loop-cell.cell-index ds c.loop-cell-test.false in
-    let phase = c.loop-cell.invariant ∙ ap (λ l. redone_means x c.args.span (by_ref l w.commutes) ws) end in
-    let made : c.merge.new.writes.items ≡ merged c.in_ok-last.last.items ws = search rules in
-    finals_done x c.args.span w r ds are ws c.in_ok-last.last.items c.merge.new.writes.items phase c.in_ok-last.ensures made
-
-pub finish-returns-in_ok-print_line-in-Println : goal.finish-returns-in_ok-print_line-in-Println
-finish-returns-in_ok-print_line-in-Println t c =
-    let before = c.args.state.now in
-    let after = record before { thread = record before.thread { printed = c.print_line.new.printed } } in
-    print_done c.args.context.now c.args.strict c.args.span c.args.values.items before after c.in-Println.is c.requires (ap (λ l. record (thread_state before.thread) { printed = l }) c.in_ok-print_line-in-Println.ensures)
-
-pub redo-redo_one-requires : goal.redo-redo_one-requires
-redo-redo_one-requires t c =
-    let x = c.args.context.now in
-    let smaller : room x + 2 < room x + 3 = omega arith in
-    (search (rules, smaller), sound_at (callable x) c.args.commutes.now c.loop-commute.commute-index c.commute-item.result c.requires c.loop-commute-test.true c.commute-item.is)
-
-pub refuse-returns-in-Err-final_writes-clause-value : goal.refuse-returns-in-Err-final_writes-clause-value
-refuse-returns-in-Err-final_writes-clause-value t c =
-    let x = c.args.context.now in
-    let m = mark_of c.args.dosync.span c.args.dosync.wanted in
-    let body = tree_of c.args.dosync.body.now in
-    let env = c.args.locals.now.items in
-    let e = c.args.event.now in
-    let before = thread_state c.args.thread.now in
-    subst (λ z. Stops false z before (refuse_means x m body env (seen_event e) before)) (sym c.without_fault-in-Err-final_writes.ensures)
-    (refuse_stop x m body env e before c.is_sound.ensures c.in-Ok.run' c.in-Ok.ensures.value c.in-Ok.ensures.sound c.in-Err-final_writes.stop c.in-Err-final_writes.ensures)
-
-pub refuse-returns-clause-value : goal.refuse-returns-clause-value
-refuse-returns-clause-value t c =
-    let x = c.args.context.now in
-    let m = mark_of c.args.dosync.span c.args.dosync.wanted in
-    let body = tree_of c.args.dosync.body.now in
-    let env = c.args.locals.now.items in
-    let e = c.args.event.now in
-    let before = thread_state c.args.thread.now in
-    refuse_given x m body env e before c.is_sound.ensures c.in-Ok.run' c.in-Ok.ensures.value c.in-Ok.ensures.sound c.in_default.field-0.items c.in_default.ensures c.args.thread.now.txs.items c.push.new.self.items refl c.in_ok-push.ensures.items
-
-pub run_body-evaluate-requires : goal.run_body-evaluate-requires
-run_body-evaluate-requires t c =
+pub run_body-evaluate-given-requires : goal.run_body-evaluate-given-requires
+run_body-evaluate-given-requires t c =
     let x = c.args.context.now in
     let m = mark_of c.args.dosync.span c.args.dosync.wanted in
     let body = tree_of c.args.dosync.body.now in
@@ -674,68 +526,6 @@ run_body-evaluate-requires t c =
     let w = plain_view c.args.world in
     let smaller : room inner + (16 * nodes body + 1) < room x + (16 * nodes body + 2) = omega (arith, room_on x inner w c.on-inner.ensures) in
     (search (rules, smaller), subst (λ y. SoundTree (callable y) (zone_in y) (length env) None body) (sym c.on-inner.ensures) c.requires)
-
-pub run_body-returns-in_err-result-clause-value : goal.run_body-returns-in_err-result-clause-value
-run_body-returns-in_err-result-clause-value t c =
-    let x = c.args.context.now in
-    let m = mark_of c.args.dosync.span c.args.dosync.wanted in
-    let body = tree_of c.args.dosync.body.now in
-    let env = c.args.locals.now.items in
-    let inner = c.on-inner.result in
-    let w = plain_view c.args.world in
-    let y = c.in_err-result.field-0.0 in
-    let stops = body_stop x inner w c.on-inner.ensures body env c.new-state.result c.new-state.ensures.tx y c.evaluate.new.state c.in_err-result.ensures.value in
-    let err : c.from_residual.result ≡ Err y = search rules in
-    subst (λ r. Runs r m body env (body_means x body env w)) (sym err) stops
-
-pub evaluate_dosync-returns-in_err-value-clause-value : goal.evaluate_dosync-returns-in_err-value-clause-value
-evaluate_dosync-returns-in_err-value-clause-value t c =
-    let x = c.args.context.now in
-    let m = mark_of c.args.dosync.span c.args.dosync.wanted in
-    let body = tree_of c.args.dosync.body.now in
-    let env = c.args.locals.now.items in
-    let before = c.args.state.now in
-    let on : is_some c.world.result ≡ true = search rules in
-    let inside = running c.world.result x.world c.world.ensures ∙ on in
-    let y = c.in_err-value.field-0.0 in
-    let out = c.evaluate.new.state in
-    stops_steps (is_on x.world) c.from_residual.result y (part x.world out) (dosync_means x m body env before) (search rules) (joined x m body env before out inside (Err y) c.in_err-value.ensures.value)
-
-pub evaluate_dosync-returns-then-is_some-clause-value : goal.evaluate_dosync-returns-then-is_some-clause-value
-evaluate_dosync-returns-then-is_some-clause-value t c =
-    let x = c.args.context.now in
-    let m = mark_of c.args.dosync.span c.args.dosync.wanted in
-    let body = tree_of c.args.dosync.body.now in
-    let env = c.args.locals.now.items in
-    let before = c.args.state.now in
-    let on : is_some c.world.result ≡ true = search rules in
-    let inside = running c.world.result x.world c.world.ensures ∙ on in
-    joined x m body env before c.evaluate.new.state inside (Ok c.in_ok-value.value) c.in_ok-value.ensures.value
-
-pub evaluate_dosync-returns-in_err-value-2-clause-value : goal.evaluate_dosync-returns-in_err-value-2-clause-value
-evaluate_dosync-returns-in_err-value-2-clause-value t c =
-    let x = c.args.context.now in
-    let m = mark_of c.args.dosync.span c.args.dosync.wanted in
-    let body = tree_of c.args.dosync.body.now in
-    let env = c.args.locals.now.items in
-    let before = c.args.state.now in
-    let off : is_some c.world.result ≡ false = search rules in
-    let outside = running c.world.result x.world c.world.ensures ∙ off in
-    let after = record before { thread = c.eat_dosync.new.thread } in
-    let y = c.in_err-value-2.field-0.0 in
-    stops_steps (is_on x.world) c.from_residual-in_err-value-2.result y (part x.world after) (dosync_means x m body env before) (search rules) (begun x m body env before after outside (Err y) c.in_err-value-2.ensures.value)
-
-pub evaluate_dosync-returns-clause-value : goal.evaluate_dosync-returns-clause-value
-evaluate_dosync-returns-clause-value t c =
-    let x = c.args.context.now in
-    let m = mark_of c.args.dosync.span c.args.dosync.wanted in
-    let body = tree_of c.args.dosync.body.now in
-    let env = c.args.locals.now.items in
-    let before = c.args.state.now in
-    let off : is_some c.world.result ≡ false = search rules in
-    let outside = running c.world.result x.world c.world.ensures ∙ off in
-    let after = record before { thread = c.eat_dosync.new.thread } in
-    begun x m body env before after outside (Ok c.in_ok-value-2.value) c.in_ok-value-2.ensures.value
 
 pub evaluate_tail-evaluate_do-requires : goal.evaluate_tail-evaluate_do-requires
 evaluate_tail-evaluate_do-requires t c =
@@ -864,59 +654,6 @@ evaluate_form-returns-clause-value t c =
     let whole = acted x c.args.act m cell args env out v c.evaluate.new.state c.in_ok-cell.ensures.value c.evaluate.new.locals.items c.in_ok-cell.ensures.kept c.in_ok-args.args.items c.evaluate_all.new.state c.in_ok-args.ensures.value in
     stepped x c.do_act.result c.as_step.result c.do_act.new.state (form_means x c.args.act m cell args env out) c.as_step.ensures (subst (λ q. Yields x c.do_act.result c.do_act.new.state q) (sym whole) c.do_act.ensures)
 
-pub commit-returns-in-Ok-clause-value : goal.commit-returns-in-Ok-clause-value
-commit-returns-in-Ok-clause-value t c =
-    let m = mark_of c.args.dosync.span c.args.dosync.wanted in
-    let whole = commit_run c.args.context.now m (tree_of c.args.dosync.body.now) c.args.locals.now.items c.args.event.now (thread_state c.args.thread.now) c.in-Ok.run' c.in-Ok.ensures.value c.args.writes.now c.args.sends.now in
-    subst (λ q. Gives false c.settle.result (thread_state c.settle.new.thread) q) (sym whole) c.settle.ensures
-
-pub settle-returns-in-Ok-true : goal.settle-returns-in-Ok-true
-settle-returns-in-Ok-true t c =
-    let x = c.args.context.now in
-    let ws = c.args.writes.now in
-    let sent = c.args.sends.now in
-    let finals = final_means x c.args.run.work.done (plain_view c.args.event.now.here) c.args.span in
-    let same = subst (λ r. ComesTo r finals c.args.run.work.done ws sent) (c.in-Ok-true.is ∙ ap (λ (b : Bool). Ok b) c.in-Ok-true.field-0-test) c.is_commit.ensures in
-    settle_same x c.is_sound.ensures c.args.span c.args.run c.requires c.args.event.now (thread_state c.args.thread.now) ws sent same c.note.result (thread_state c.note.new.self) c.note.ensures
-
-pub settle-returns-in-Ok-false : goal.settle-returns-in-Ok-false
-settle-returns-in-Ok-false t c =
-    (refl, settle_other c.args.context.now c.is_sound.ensures c.args.span c.args.run c.requires c.args.event.now (thread_state c.args.thread.now) c.args.writes.now c.args.sends.now (search rules))
-
-pub settle-returns-in-Err : goal.settle-returns-in-Err
-settle-returns-in-Err t c =
-    let x = c.args.context.now in
-    let before = thread_state c.args.thread.now in
-    subst (λ z. Stops false z before (settle_means x c.args.span (tx_run c.args.run) (seen_event c.args.event.now) c.args.writes.now c.args.sends.now before)) (sym c.without_fault.ensures)
-    (settle_stop x c.is_sound.ensures c.args.span c.args.run c.requires c.args.event.now before c.args.writes.now c.args.sends.now c.in-Err.stop c.in-Err.ensures)
-
-pub is_commit-returns : goal.is_commit-returns
-is_commit-returns t c = (c.in_ok-last.last.items, c.in_ok-last.ensures, search rules)
-
-pub run_body-returns-clause-value : goal.run_body-returns-clause-value
-run_body-returns-clause-value t c =
-    let x = c.args.context.now in
-    let m = mark_of c.args.dosync.span c.args.dosync.wanted in
-    let body = tree_of c.args.dosync.body.now in
-    let env = c.args.locals.now.items in
-    let inner = c.on-inner.result in
-    let w = plain_view c.args.world in
-    let v = c.in_ok-result.result in
-    let kept : c.as_slice.result.now ≡ env = search rules in
-    ran_so c.ran.result _ m body env (body_means x body env w) c.ran.ensures (
-      body_done x inner w c.on-inner.ensures body env c.new-state.result c.new-state.ensures.tx v c.evaluate.new.state c.in_ok-result.ensures.value,
-      ap (λ l. record { body = body; locals = l; wanted = m.wanted; result = v; state = tx_state c.evaluate.new.state.tx }) kept,
-    )
-
-pub run_body-returns-clause-sound : goal.run_body-returns-clause-sound
-run_body-returns-clause-sound t c =
-    let x = c.args.context.now in
-    let body = tree_of c.args.dosync.body.now in
-    let env = c.args.locals.now.items in
-    let inner = c.on-inner.result in
-    let w = plain_view c.args.world in
-    ran_sound c.ran.result _ (callable x) c.ran.ensures (body_keeps x inner w c.on-inner.ensures body env c.new-state.result c.new-state.ensures.tx c.is_sound.ensures (length env) c.in_ok-result.result c.evaluate.new.state c.requires c.in_ok-result.ensures.value)
-
 pub swap-returns-in-Some : goal.swap-returns-in-Some
 swap-returns-in-Some t c =
     let x = c.args.context.now in
@@ -972,3 +709,185 @@ act_outside-returns-in-Put t c =
     let given = subst (λ b. Gives false c.put.result after (of_one (λ w. eats b (λ e s. resets w e.kind s) before.todo before) c.args.args.items)) c.home-in-Put.ensures c.put.ensures in
     λ wanted. subst (λ a. Gives false c.put.result after (outside_means x a (mark_of c.args.span wanted) c.args.value.now c.args.args.items before)) (sym c.in-Put.is)
     (put_outside x (mark_of c.args.span wanted) c.args.value.now before cell c.put.result after form c.args.args.items ready told given)
+
+pub evaluate_let-returns-clause-value : goal.evaluate_let-returns-clause-value
+evaluate_let-returns-clause-value t c =
+    let_done c.args.context.now (trees_of c.args.nodes.now) (tree_of c.args.body.now) c.args.locals.now.items c.args.state.now c.bind_locals.new.locals.items c.bind_locals.new.state c.evaluate_tail-given.new.state
+    c.evaluate_tail-given.result c.in_ok-bind_locals.ensures.value c.evaluate_tail-given.ensures.value
+
+pub evaluate_loop-returns-clause-value : goal.evaluate_loop-returns-clause-value
+evaluate_loop-returns-clause-value t c =
+    let x = c.args.context.now in
+    let now = c.bind_locals.new.locals.items in
+    let es = trees_of c.args.nodes.now in
+    let body = tree_of c.args.body.now in
+    let b = c.len-before.result in
+    let place : b ≡ length c.args.locals.now.items = search rules in
+    let counted = c.in_ok-bind_locals.ensures.count in
+    let many : length now - b ≡ count es = omega (arith, place, counted) in
+    let kept : take b now ≡ c.args.locals.now.items = subst (λ k. take k now ≡ c.args.locals.now.items) (sym place) c.in_ok-bind_locals.ensures.kept in
+    let out = c.run_turns-given.new.state in
+    let given = stepped x c.run_turns-given.result c.as_step.result out (turns_mean x x.turns (length now - b) body (take b now) (drop b now) c.bind_locals.new.state) c.as_step.ensures c.run_turns-given.ensures.value in
+    loop_done x es body c.args.locals.now.items c.args.state.now now c.bind_locals.new.state out c.as_step.result c.in_ok-bind_locals.ensures.value b (length now - b) place many kept given
+
+pub evaluate_dosync-returns-then-is_some-clause-value : goal.evaluate_dosync-returns-then-is_some-clause-value
+evaluate_dosync-returns-then-is_some-clause-value t c =
+    let x = c.args.context.now in
+    let m = mark_of c.args.dosync.span c.args.dosync.wanted in
+    let body = tree_of c.args.dosync.body.now in
+    let env = c.args.locals.now.items in
+    let before = c.args.state.now in
+    let on : is_some c.world.result ≡ true = search rules in
+    let inside = running c.world.result x.world c.world.ensures ∙ on in
+    stepped x c.evaluate.result c.as_step.result c.evaluate.new.state (dosync_means x m body env before) c.as_step.ensures (joined x m body env before c.evaluate.new.state inside c.evaluate.result c.evaluate.ensures.value)
+
+pub evaluate_dosync-returns-clause-value : goal.evaluate_dosync-returns-clause-value
+evaluate_dosync-returns-clause-value t c =
+    let x = c.args.context.now in
+    let m = mark_of c.args.dosync.span c.args.dosync.wanted in
+    let body = tree_of c.args.dosync.body.now in
+    let env = c.args.locals.now.items in
+    let before = c.args.state.now in
+    let off : is_some c.world.result ≡ false = search rules in
+    let outside = running c.world.result x.world c.world.ensures ∙ off in
+    let after = record before { thread = c.eat_dosync.new.thread } in
+    stepped x c.eat_dosync.result c.as_step-2.result after (dosync_means x m body env before) c.as_step-2.ensures (begun x m body env before after outside c.eat_dosync.result c.eat_dosync.ensures.value)
+
+pub finish-returns-in-Core : goal.finish-returns-in-Core
+finish-returns-in-Core t c = core_done c.args.context.now c.args.strict c.args.span c.args.values.items c.args.state.now c.operate.result c.as_step.result c.as_step.ensures c.in-Core.op c.in-Core.is c.operate.ensures
+
+pub finish-returns-in-Call : goal.finish-returns-in-Call
+finish-returns-in-Call t c = call_done c.args.context.now c.args.strict c.args.span c.args.values.items c.args.state.now c.call.new.state c.call.result c.as_step-in-Call.result c.as_step-in-Call.ensures c.in-Call.function c.in-Call.is c.call.ensures
+
+pub finish-returns-in-Vector : goal.finish-returns-in-Vector
+finish-returns-in-Vector t c = vector_done c.args.context.now c.args.strict c.args.span c.args.values.items c.args.state.now c.collect.result c.as_step-in-Vector.result c.as_step-in-Vector.ensures c.in-Vector.is c.collect.ensures
+
+pub finish-returns-in-Println : goal.finish-returns-in-Println
+finish-returns-in-Println t c =
+    let before = c.args.state.now in
+    let after = record before { thread = record before.thread { printed = c.print_line.new.printed } } in
+    print_done c.args.context.now c.args.strict c.args.span c.args.values.items before c.print_line.result c.as_step-in-Println.result c.as_step-in-Println.ensures c.print_line.new.printed.items c.in-Println.is c.requires after refl c.print_line.ensures
+
+pub run_body-returns-clause-value : goal.run_body-returns-clause-value
+run_body-returns-clause-value t c =
+    let x = c.args.context.now in
+    let m = mark_of c.args.dosync.span c.args.dosync.wanted in
+    let body = tree_of c.args.dosync.body.now in
+    let env = c.args.locals.now.items in
+    let inner = c.on-inner.result in
+    let w = plain_view c.args.world in
+    let copied : c.in_ok-copies.copies.items ≡ env = search rules in
+    ran_given x inner w c.on-inner.ensures body env c.new-state.result c.new-state.ensures.tx m _ c.evaluate-given.new.state (λ v. refl) (λ v. refl)
+    (λ v. ap (λ l. record { body = body; locals = l; wanted = m.wanted; result = v; state = tx_state c.evaluate-given.new.state.tx }) copied) c.evaluate-given.result c.ran.result c.ran.ensures c.evaluate-given.ensures.value
+
+pub run_body-returns-clause-sound : goal.run_body-returns-clause-sound
+run_body-returns-clause-sound t c =
+    let x = c.args.context.now in
+    let m = mark_of c.args.dosync.span c.args.dosync.wanted in
+    let body = tree_of c.args.dosync.body.now in
+    let env = c.args.locals.now.items in
+    let inner = c.on-inner.result in
+    let w = plain_view c.args.world in
+    let copied : c.in_ok-copies.copies.items ≡ env = search rules in
+    ran_sound x inner w c.on-inner.ensures body env c.new-state.result c.new-state.ensures.tx m _ c.evaluate-given.new.state (λ v. refl) (λ v. refl)
+    (λ v. ap (λ l. record { body = body; locals = l; wanted = m.wanted; result = v; state = tx_state c.evaluate-given.new.state.tx }) copied) c.is_sound.ensures (length env) c.requires c.evaluate-given.result c.ran.result c.ran.ensures c.evaluate-given.ensures.value
+
+pub final_writes-redo-requires : goal.final_writes-redo-requires
+final_writes-redo-requires t c =
+    let x = c.args.context.now in
+    let work : c.as_slice.result.now ≡ c.in_ok-work.work.items = search rules in
+    (search rules, phase_sound x c.args.span c.args.done.now (plain_view c.args.world) c.as_slice.result.now c.in_ok-work.writes.items (work ∙ c.in_ok-work.ensures.0) c.in_ok-work.ensures.1 c.requires)
+
+pub final_writes-returns-in_err-redo : goal.final_writes-returns-in_err-redo
+final_writes-returns-in_err-redo t c =
+    let x = c.args.context.now in
+    let w = c.args.done.now in
+    let r = plain_view c.args.world in
+    let work : c.as_slice.result.now ≡ c.in_ok-work.work.items = search rules in
+    let y = c.in_err-redo.field-0.0 in
+    stops_gives (λ (us : Vec (CellId × Value) Global). us.items) true c.from_residual-in_err-redo.result y tt (final_means x w r c.args.span) (search rules)
+    (finals_stop x c.args.span w r c.as_slice.result.now c.in_ok-work.writes.items (work ∙ c.in_ok-work.ensures.0) c.in_ok-work.ensures.1 y c.in_err-redo.ensures)
+
+pub final_writes-returns : goal.final_writes-returns
+final_writes-returns t c =
+    let x = c.args.context.now in
+    let w = c.args.done.now in
+    let r = plain_view c.args.world in
+    let work : c.as_slice.result.now ≡ c.in_ok-work.work.items = search rules in
+    finals_done x c.args.span w r c.as_slice.result.now c.in_ok-work.writes.items (work ∙ c.in_ok-work.ensures.0) c.in_ok-work.ensures.1 (λ (us : Vec (CellId × Value) Global). us.items) c.redo.new.writes.items c.with_sets.result c.in_ok-redo.ensures c.with_sets.ensures
+
+pub redo-redo_one-requires : goal.redo-redo_one-requires
+redo-redo_one-requires t c =
+    let x = c.args.context.now in
+    let smaller : room x + 2 < room x + 3 = omega arith in
+    (search (rules, smaller), sound_at (callable x) c.args.commutes.now c.loop-commute.commute-index c.commute-item.result c.requires c.loop-commute-test.true c.commute-item.is)
+
+pub redo-returns-in_err-redo_one : goal.redo-returns-in_err-redo_one
+redo-returns-in_err-redo_one t c =
+    let x = c.args.context.now in
+    let cs = c.args.commutes.now in
+    let y = c.in_err-redo_one.field-0.0 in
+    let rest = redone_stop x c.args.span cs c.loop-commute.commute-index c.commute-item.result c.loop-commute-test.true c.commute-item.is c.loop-commute.writes.items y c.in_err-redo_one.ensures in
+    stops_gives _ true c.from_residual.result y tt (redone_means x c.args.span cs c.args.writes.now.items) (search rules) (subst (λ q. Told {A = Writes} (Err y) q) (sym c.loop-commute.invariant) rest)
+
+pub redo-loop-commute-preserved : goal.redo-loop-commute-preserved
+redo-loop-commute-preserved t c =
+    c.loop-commute.invariant ∙ redone_more c.args.context.now c.args.span c.args.commutes.now c.loop-commute.commute-index c.commute-item.result c.loop-commute-test.true c.commute-item.is c.loop-commute.writes.items c.redo_one.new.writes.items c.in_ok-redo_one.ensures
+
+pub end_dosync-returns-in-None-clause-value : goal.end_dosync-returns-in-None-clause-value
+end_dosync-returns-in-None-clause-value t c =
+    let x = c.args.context.now in
+    let m = mark_of c.args.dosync.span c.args.dosync.wanted in
+    let body = tree_of c.args.dosync.body.now in
+    let env = c.args.locals.now.items in
+    let e = c.args.event.now in
+    let r = plain_view e.start in
+    let before = thread_state c.args.thread.now in
+    let other = sym c.end_view.ensures ∙ ap plain_world c.in-None.is in
+    (refl, ends_unviewed x m body env before r (plain_view e.view) (plain_view e.here) r e.kind.now other)
+
+pub end_dosync-returns-in-Err-clause-value : goal.end_dosync-returns-in-Err-clause-value
+end_dosync-returns-in-Err-clause-value t c =
+    let x = c.args.context.now in
+    let m = mark_of c.args.dosync.span c.args.dosync.wanted in
+    let body = tree_of c.args.dosync.body.now in
+    let env = c.args.locals.now.items in
+    let e = c.args.event.now in
+    let r = plain_view e.start in
+    let before = thread_state c.args.thread.now in
+    let w = plain_view c.in-Some.world in
+    let viewed = sym c.end_view.ensures ∙ ap plain_world c.in-Some.is in
+    let whole = ends_viewed x m body env before r (plain_view e.view) (plain_view e.here) w e.kind.now viewed in
+    let stops = end_stops e.kind.now m.span c.in-Err.stop before (ended x m body env r w before) (ended_unrun x m body env r w before c.in-Err.stop c.in-Err.ensures.value) in
+    subst (λ z. Stops false z before (end_means x m body env (seen_event e) before)) (sym c.end_stop.ensures) (subst (λ q. Stops false (end_stop e.kind.now c.in-Err.stop) before q) (sym whole) stops)
+
+pub end_dosync-returns-in-Err-final_writes-clause-value : goal.end_dosync-returns-in-Err-final_writes-clause-value
+end_dosync-returns-in-Err-final_writes-clause-value t c =
+    let x = c.args.context.now in
+    let m = mark_of c.args.dosync.span c.args.dosync.wanted in
+    let body = tree_of c.args.dosync.body.now in
+    let env = c.args.locals.now.items in
+    let e = c.args.event.now in
+    let r = plain_view e.start in
+    let before = thread_state c.args.thread.now in
+    let w = plain_view c.in-Some.world in
+    let viewed = sym c.end_view.ensures ∙ ap plain_world c.in-Some.is in
+    let whole = ends_viewed x m body env before r (plain_view e.view) (plain_view e.here) w e.kind.now viewed in
+    let y = c.in-Err-final_writes.stop in
+    let stops = end_stops e.kind.now m.span y before (ended x m body env r w before) (ended_stop x m body env r w before c.is_sound.ensures c.in-Ok.run' c.in-Ok.ensures.value c.in-Ok.ensures.sound y c.in-Err-final_writes.ensures) in
+    subst (λ z. Stops false z before (end_means x m body env (seen_event e) before)) (sym c.end_stop-in-Err-final_writes.ensures) (subst (λ q. Stops false (end_stop e.kind.now y) before q) (sym whole) stops)
+
+pub end_dosync-returns-in-Ok-final_writes-clause-value : goal.end_dosync-returns-in-Ok-final_writes-clause-value
+end_dosync-returns-in-Ok-final_writes-clause-value t c =
+    let x = c.args.context.now in
+    let m = mark_of c.args.dosync.span c.args.dosync.wanted in
+    let body = tree_of c.args.dosync.body.now in
+    let env = c.args.locals.now.items in
+    let e = c.args.event.now in
+    let r = plain_view e.start in
+    let before = thread_state c.args.thread.now in
+    let w = plain_view c.in-Some.world in
+    let viewed = sym c.end_view.ensures ∙ ap plain_world c.in-Some.is in
+    let whole = ends_viewed x m body env before r (plain_view e.view) (plain_view e.here) w e.kind.now viewed in
+    let done = ended_done x m body env r w before c.is_sound.ensures c.in-Ok.run' c.in-Ok.ensures.value c.in-Ok.ensures.sound c.in-Ok-final_writes.last.items c.in-Ok-final_writes.ensures in
+    subst (λ q. Gives false c.close.result (thread_state c.close.new.thread) q) (sym (whole ∙ ap (λ k. closes e.kind.now m.span k) done)) c.close.ensures

@@ -1,12 +1,9 @@
 use Rattle.std.proofs.Common.{suc, ◌≡◌, ◌+◌, ◌-◌, ◌*◌, length, take, drop}
-use Rattle.txs_frame.specs.Frame.{by_ref, commutes_of}
 use Rattle.txs_eval.specs.Evaluated.{part, is_on, forms_in, calls_in, all_mean, do_means, locals_mean, turns_mean, redone_means, eat_means, thread_state}
 use Rattle.txs_eval.specs.Setting.{callable, zone_in}
 use Rattle.txs_tree.specs.Sound.{SoundAll, SoundLet, nodes, nodes_in}
 use Rattle.txs_tree.specs.Tree.{count}
 use Rattle.txs_tree.specs.View.{tree_of, trees_of, mark_of}
-use Rattle.txs_tree.specs.Transaction.{valued}
-use Rattle.txs_eval.specs.Views.{plain_view, world_of}
 use Rattle.txs_eval.proofs.Called.{room}
 use Rattle.txs_eval.proofs.Evaluation.{collects, do_then}
 use Rattle.txs_value.specs.Limits.{reruns}
@@ -71,21 +68,6 @@ decreases-eat_dosync l = room l.context.now + (16 * nodes (tree_of l.dosync.body
 
 abbrev pub decreases-end_dosync : goal.decreases-end_dosync
 decreases-end_dosync l = room l.context.now + (16 * nodes (tree_of l.dosync.body.now) + 8)
-
-abbrev pub decreases-commit : goal.decreases-commit
-decreases-commit l = room l.context.now + (16 * nodes (tree_of l.dosync.body.now) + 7)
-
-abbrev pub decreases-settle : goal.decreases-settle
-decreases-settle l = room l.context.now + 6
-
-abbrev pub decreases-is_commit : goal.decreases-is_commit
-decreases-is_commit l = room l.context.now + 5
-
-abbrev pub decreases-fail : goal.decreases-fail
-decreases-fail l = room l.context.now + (16 * nodes (tree_of l.dosync.body.now) + 7)
-
-abbrev pub decreases-refuse : goal.decreases-refuse
-decreases-refuse l = room l.context.now + (16 * nodes (tree_of l.dosync.body.now) + 7)
 
 abbrev pub decreases-run_body : goal.decreases-run_body
 decreases-run_body l = room l.context.now + (16 * nodes (tree_of l.dosync.body.now) + 2)
@@ -154,14 +136,6 @@ invariant-eat_dosync-loop-try l =
     × (eat_means l.context (suc reruns) (mark_of l.dosync.span l.dosync.wanted) (tree_of l.dosync.body.now) l.fn.locals.items (thread_state l.fn.thread)
     ≡ eat_means l.context (10000 - l._try) (mark_of l.dosync.span l.dosync.wanted) (tree_of l.dosync.body.now) l.fn.locals.items (thread_state l.thread))
 
--- the refs whose commutes are left
-abbrev pub invariant-final_writes-loop-cell : goal.invariant-final_writes-loop-cell
-invariant-final_writes-loop-cell l =
-    redone_means l.context l.span (by_ref l.cell-items l.done.commutes) (valued l.cell-items (world_of (plain_view l.fn.world)))
-    ≡ redone_means l.context l.span (by_ref (drop l.cell-index l.cell-items) l.done.commutes) l.writes.items
-
 -- the commutes that are left
 abbrev pub invariant-redo-loop-commute : goal.invariant-redo-loop-commute
-invariant-redo-loop-commute l =
-    redone_means l.context l.span (commutes_of l.cell.number l.commutes) l.fn.writes.items
-    ≡ redone_means l.context l.span (commutes_of l.cell.number (drop l.commute-index l.commutes)) l.writes.items
+invariant-redo-loop-commute l = redone_means l.context l.span l.commutes l.fn.writes.items ≡ redone_means l.context l.span (drop l.commute-index l.commutes) l.writes.items

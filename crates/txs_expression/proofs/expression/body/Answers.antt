@@ -6,4 +6,4 @@ use Rattle.txs_expression.proofs.expression.body.Goals as goal
 pub returns-in-Some-clause-node : goal.returns-in-Some-clause-node
 returns-in-Some-clause-node c =
     let n = c.in_ok-expression.ensures.node in
-    n.1 ∙ ap (λ (t : Tree). Ok t) (sym (c.in-Some.ensures n.0 (shown c.new-nodes.result c.expression.new.nodes (n.0 ∷ []) c.new-nodes.ensures.none n.2)))
+    n.1 ∙ ap (λ (t : Tree). Ok t) (sym (c.in-Some.ensures.node n.0 (shown c.new-nodes.result c.expression.new.nodes (n.0 ∷ []) c.new-nodes.ensures.none n.2)))

@@ -1,6 +1,5 @@
 use Rattle.std.proofs.Common.{◌≡◌, ◌++◌, ◌∙◌, ℕ, List, Option, refl, ap, subst, append_assoc}
 use Rattle.txs_asks.specs.declared.event.Outcome.{Outcome}
-use Rattle.txs_value.proofs.PrintedLemmas.{Extends-after}
 use Rattle.txs_tell.specs.AgentLines.{AgentTold, EndTold, failed_by}
 use Rattle.txs_tell.specs.Lent.{script_of}
 use Rattle.txs_tell.specs.Lines.{agent_front}
@@ -20,8 +19,3 @@ returns-clause-errors c =
     ((lines : List ℕ) × AgentTold script name c.args.failure c.args.outcome lines × (now ≡ old ++ lines))
     (λ two. (one.0 ++ two.0, record { failed = one.0; stopped = two.0; first = first; behind = two.1; is = refl }, two.2 ∙ ap (λ (l : List ℕ). l ++ two.0) one.2 ∙ append_assoc old one.0 two.0))
     c.add_end-2.ensures.errors
-
-pub returns-clause-kept : goal.returns-clause-kept
-returns-clause-kept c =
-    let one = c.in_ok-add_end.ensures.errors in
-    Extends-after c.args.told.now.errors.items one.0 c.add_end.new.told.errors.items c.add_end-2.new.told.errors.items one.2 c.add_end-2.ensures.kept

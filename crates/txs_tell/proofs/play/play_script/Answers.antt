@@ -1,20 +1,17 @@
-use Rattle.std.proofs.Common.{ℕ, List, subst₂}
-use Rattle.txs_tell.specs.Lent.{text_in, told_of, wanted_of}
+use Rattle.std.proofs.Common.{ℕ, List}
+use Rattle.txs_tell.specs.Lent.{answer_of, text_in, wanted_of}
 use Rattle.txs_tell.specs.Lines.{Script}
-use Rattle.txs_tell.specs.Told.{Told, StreamTells, Tells, of_stream, Written, front}
+use Rattle.txs_tell.specs.Told.{Told, Tells, Written, front}
+use Rattle.txs_tell.proofs.Answered.{stream_answered}
 use Rattle.txs_tell.proofs.Fronts.{some_maps}
 use Rattle.txs_tell.proofs.play.play_script.Goals as goal
 
-pub returns-in-Ok : goal.returns-in-Ok
-returns-in-Ok g c =
+pub returns : goal.returns
+returns g c =
     let known = g.R.Read.remaining c.args.reader.now in
     let script : List ℕ → Script = λ input. record { text = front input; file = text_in c.args.file } in
-    let output_old = g.W.Write.contents c.args.writer.now in
-    let output_new = g.W.Write.contents c.write_told.new.writer in
-    let errors_old = g.F.Write.contents c.args.faults.now in
-    let errors_new = g.F.Write.contents c.write_told.new.faults in
-    let told = c.in-Ok.told in
-    let written = subst₂ (λ o e. Written output_old output_new errors_old errors_new (record { output = o; errors = e; status = told.status }) c.write_told.result) c.as_slice.ensures.value c.as_slice-in-Ok.ensures.value c.write_told.ensures in
-    some_maps known (λ input. StreamTells (script input) (wanted_of c.args.wanted) (told_of told))
-    (λ input. (x : Told) × Tells (script input) (wanted_of c.args.wanted) x × Written output_old output_new errors_old errors_new x c.write_told.result)
-    (λ input is. (told_of told, of_stream is, written)) c.in-Ok.ensures
+    let wanted = wanted_of c.args.wanted in
+    let told = c.use_stream-told.result in
+    let writes : Told → Type 0 = λ t. Written (g.W.Write.contents c.args.writer.now) (g.W.Write.contents c.write_answer.new.writer) (g.F.Write.contents c.args.faults.now) (g.F.Write.contents c.write_answer.new.faults) t c.write_answer.result in
+    some_maps known (λ input. Tells (script input) wanted (answer_of told)) (λ input. (t : Told) × Tells (script input) wanted t × writes t) (λ input is. (answer_of told, is, c.write_answer.ensures))
+    (stream_answered told known script wanted c.use_stream-told.ensures)

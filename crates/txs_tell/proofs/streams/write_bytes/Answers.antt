@@ -11,3 +11,6 @@ returns-clause-begun g c =
     let new = g.W.Write.contents c.flush.new.self in
     let all : Appends old written c.args.bytes.now = search rules in
     on_err c.map_err.result (begun_kept old written new c.args.bytes.now all c.flush.ensures.bytes)
+
+pub returns-clause-whole : goal.returns-clause-whole
+returns-clause-whole g c = search rules

@@ -1,5 +1,6 @@
-use Rattle.std.proofs.Common.{◌≡◌, ◌≤◌, ◌<◌, ◌+◌, ◌++◌, ℕ, List, [], length, drop, get_or, rules, refl, sym, subst}
+use Rattle.std.proofs.Common.{◌≡◌, ◌≤◌, ◌<◌, ◌+◌, ◌++◌, ℕ, List, [], length, drop, get_or, rules, refl, sym, ap, ◌∙◌, subst}
 use Rattle.std.proofs.lemmas.List.{append-nil, drop_all}
+use Rattle.txs_machine.specs.declared.schedule.ThreadReport.{ThreadReport}
 use Rattle.txs_tell.specs.Lent.{script_of}
 use Rattle.txs_tell.specs.Lines.{AreLessons, all_printed, status_from}
 use Rattle.txs_tell.proofs.Threads.{lessons_more, printed_more, status_more}
@@ -31,3 +32,18 @@ returns-clause-errors c =
     let past : length rs ≤ k = search rules in
     subst (λ es. AreLessons script 0 rs es) (append-nil c.loop-k.told.errors.items)
     (c.loop-k.invariant.errors [] (subst (λ l. AreLessons script k l []) (sym (drop_all k rs past)) refl))
+
+pub returns-clause-output : goal.returns-clause-output
+returns-clause-output c =
+    let rs = c.args.report.now.threads.items in
+    let k = c.loop-k.k in
+    let out = c.loop-k.told.output.items in
+    let past : length rs ≤ k = search rules in
+    sym (append-nil out) ∙ ap (λ (l : List ThreadReport). out ++ all_printed l) (sym (drop_all k rs past)) ∙ c.loop-k.invariant.output
+
+pub returns-clause-status : goal.returns-clause-status
+returns-clause-status c =
+    let rs = c.args.report.now.threads.items in
+    let k = c.loop-k.k in
+    let past : length rs ≤ k = search rules in
+    ap (λ (l : List ThreadReport). status_from c.loop-k.told.status l) (sym (drop_all k rs past)) ∙ c.loop-k.invariant.status

@@ -1,5 +1,22 @@
+use Rattle.std.proofs.Common.{◌≡◌, ◌++◌, ◌∙◌, ℕ, List, Option, Some, sym, ap, refl, subst₂}
+use Rattle.txs_tell.specs.Lent.{script_of}
+use Rattle.txs_tell.specs.Lines.{IsLesson, lesson_of, refusal_line, refused_line, refused_place}
 use Rattle.txs_tell.specs.Told.{of_refused}
+use Rattle.txs_value.specs.declared.fault.Span.{Span}
+use Rattle.txs_tell.proofs.Lessons.{is_refusal_line, line_told}
 use Rattle.txs_tell.proofs.told.refused.Goals as goal
 
 pub returns : goal.returns
-returns c = λ wanted. of_refused wanted c.args.error.now c.in_ok-told.ensures.told c.requires c.in_ok-told.ensures.output c.in_ok-told.ensures.errors c.in_ok-told.ensures.status
+returns c =
+    let script = script_of c.args.script in
+    let e = c.args.error.now in
+    let of = c.in-Some.ensures in
+    let r = c.in-Some.refusal in
+    let line = refusal_line r.number r.name.now r.at in
+    let lesson : List ℕ = lesson_of script.file script.text (Some r.at) (Some r.advice.now) in
+    let errors = c.write_refusal.new.errors.items in
+    let is : errors ≡ line ++ lesson = c.in_ok-write_refusal.ensures ∙ ap (λ (l : List ℕ). (l ++ line) ++ lesson) c.new-errors.ensures.items in
+    let told : IsLesson script (refused_line e) (refused_place e) errors =
+    subst₂ (λ (l : List ℕ) (at : Option Span). IsLesson script l at errors) (sym of.line) (sym of.place) (line_told script line (Some r.at) errors r.advice.now (is_refusal_line r.number r.name.now r.at) is)
+    in
+    λ wanted. of_refused wanted e of.told c.requires c.new.ensures.items told refl

@@ -1,33 +1,42 @@
-use Rattle.std.proofs.Common.{List, rules, subst, sym}
+use Rattle.std.proofs.Common.{List, rules, subst, sym, ap, length, ◌∙◌}
+use Rattle.txs_value.specs.declared.value.CellId.{CellId}
 use Rattle.txs_played.specs.Gather.{AllHaveDone, AllHaveAttended}
 use Rattle.txs_shared.specs.SharedState.{PlainShared}
-use Rattle.txs_machine.specs.RunOver.{IsStateOf}
 use Rattle.txs_machine.specs.declared.schedule.ThreadReport.{ThreadReport}
-use Rattle.txs_threads.specs.Run.{AllEnded, AllDrained}
-use Rattle.txs_threads.proofs.Agents.{are_drained}
+use Rattle.txs_threads.specs.Run.{AllEnded, AllDrained, IsLeft}
+use Rattle.txs_threads.proofs.Agents.{are_agents, are_drained, state_of}
 use Rattle.txs_threads.proofs.Ended.{all_ended}
 use Rattle.txs_threads.proofs.left.gather_left.Goals as goal
 
+pub is_whole-requires-clause-agents : goal.is_whole-requires-clause-agents
+is_whole-requires-clause-agents c =
+    let g = c.in_ok-gathered in
+    let of = state_of c.args.code.now g.gathered.shared _ _ _ _ g.ensures.shared g.ensures.agrees in
+    are_agents c.args.code.now g.gathered.shared c.args.agents.now of c.requires.agents
+
+pub is_whole-requires-clause-one_each : goal.is_whole-requires-clause-one_each
+is_whole-requires-clause-one_each c = c.in_ok-gathered.ensures.agents_each ∙ ap (λ (gs : List CellId). length gs) (sym c.requires.agents)
+
 -- what each actor has done is said over the state that was compared, which is the one that is answered
-pub returns-clause-done : goal.returns-clause-done
-returns-clause-done c =
+pub returns-then-is_whole-clause-left : goal.returns-then-is_whole-clause-left
+returns-then-is_whole-clause-left c =
+    let code = c.args.code.now in
     let g = c.in_ok-gathered in
-    subst (λ (s : PlainShared). AllHaveDone c.args.code.now c.args.max_steps s g.gathered.report.threads.items) (sym g.ensures.shared) g.ensures.done
-
-pub returns-clause-attended : goal.returns-clause-attended
-returns-clause-attended c =
-    let g = c.in_ok-gathered in
-    subst (λ (s : PlainShared). AllHaveAttended c.args.code.now c.args.max_steps s g.gathered.report.agents.items) (sym g.ensures.shared) g.ensures.attended
-
-pub returns-clause-ended : goal.returns-clause-ended
-returns-clause-ended c =
-    let rans : List ThreadReport = c.in_ok-gathered.gathered.report.threads.items in
-    let ended : AllEnded rans = search rules in
-    all_ended rans ended
-
-pub returns-clause-drained : goal.returns-clause-drained
-returns-clause-drained c =
-    let g = c.in_ok-gathered.gathered in
-    let of : IsStateOf c.args.code.now g.shared = search rules in
-    let drained : AllDrained g.shared c.args.agents.now g.report.agents.items = search rules in
-    are_drained c.args.code.now g.shared c.args.agents.now g.report.agents.items of c.requires.agents drained
+    let s = g.gathered.shared in
+    let threads : List ThreadReport = g.gathered.report.threads.items in
+    let agents : List ThreadReport = g.gathered.report.agents.items in
+    let of = state_of code s _ _ _ _ g.ensures.shared g.ensures.agrees in
+    let ended : AllEnded threads = search rules in
+    let drained : AllDrained s c.args.agents.now agents = search rules in
+    let left : IsLeft code c.args.max_steps s threads agents = record {
+      of = of;
+      one_each = g.ensures.one_each;
+      agents_each = g.ensures.agents_each;
+      ended = all_ended threads ended;
+      drained = are_drained code s c.args.agents.now agents of c.requires.agents drained;
+      done = subst (λ (s : PlainShared). AllHaveDone code c.args.max_steps s threads) (sym g.ensures.shared) g.ensures.done;
+      attended = subst (λ (s : PlainShared). AllHaveAttended code c.args.max_steps s agents) (sym g.ensures.shared) g.ensures.attended;
+      explained = g.ensures.explained;
+      all_explained = g.ensures.all_explained;
+    } in
+    left

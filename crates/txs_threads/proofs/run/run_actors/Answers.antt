@@ -4,5 +4,5 @@ use mir.Syntax.{erased}
 use Rattle.txs_threads.proofs.Crossing.{played_send}
 use Rattle.txs_threads.proofs.run.run_actors.Goals as goal
 
-pub run_workers-requires-send-P : goal.run_workers-requires-send-P
-run_workers-requires-send-P g c κs lives = param_send 1 _ (arg_send _ Exit.no _ (played_send (record { mir = erased; lft = _ })))
+pub run_desk-ran-requires-send-P : goal.run_desk-ran-requires-send-P
+run_desk-ran-requires-send-P g c κs lives = param_send 1 _ (arg_send _ Exit.no _ (played_send (record { mir = erased; lft = _ })))

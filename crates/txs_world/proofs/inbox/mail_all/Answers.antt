@@ -1,9 +1,12 @@
-use Rattle.std.proofs.Common.{◌≡◌, ap, sym, ◌∙◌, subst, length, true, nat_lt}
+use Rattle.std.proofs.Common.{◌≡◌, ap, refl, rules, sym, ◌∙◌, subst, length, true, nat_lt}
 use Rattle.std.proofs.lemmas.Bool.{ltb-true}
 use Rattle.txs_world.specs.Inboxes.{plain_inboxes, mailed_all, all_sent_below, rooms, HaveRoom}
 use Rattle.txs_world.proofs.Merging.{both}
-use Rattle.txs_world.proofs.Mailing.{room_first, room_used}
+use Rattle.txs_world.proofs.Mailing.{none_mailed, room_first, room_used}
 use Rattle.txs_world.proofs.inbox.mail_all.Goals as goal
+
+pub loop-action-init : goal.loop-action-init
+loop-action-init c = record { places = c.requires.places; room = c.requires.room; whole = refl }
 
 pub put_at-requires : goal.put_at-requires
 put_at-requires c =
@@ -30,3 +33,10 @@ loop-action-preserved c =
       room = room_used (rooms bs) (rooms now) a rest c.put_at.ensures.room room;
       whole = ap (λ b. mailed_all b rest) c.put_at.ensures.put ∙ ap (mailed_all (plain_inboxes bs)) (sym is) ∙ inv.whole;
     }
+
+pub returns : goal.returns
+returns c =
+    let bs = plain_inboxes c.loop-action.inboxes.items in
+    let left = c.loop-action.actions.items in
+    let none : length left ≡ 0 = search rules in
+    sym (none_mailed bs left none) ∙ c.loop-action.invariant.whole

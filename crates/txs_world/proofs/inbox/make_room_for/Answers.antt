@@ -1,6 +1,6 @@
-use Rattle.std.proofs.Common.{arith, ◌≡◌, ◌+◌, ◌∙◌, subst, sym, drop, true}
+use Rattle.std.proofs.Common.{arith, ◌≡◌, ◌+◌, ◌≤◌, ◌∙◌, get_or, subst, sym, drop, true}
 use Rattle.txs_world.specs.Inboxes.{all_sent_below, rooms, promises, Promised}
-use Rattle.txs_world.proofs.Mailing.{below_at, below_next, plain_same_many, room_next, room_last_all}
+use Rattle.txs_world.proofs.Mailing.{below_at, below_next, old_promise, plain_same_many, room_next, room_last_all}
 use Rattle.txs_world.proofs.inbox.make_room_for.Goals as goal
 
 pub promise_all-requires : goal.promise_all-requires
@@ -10,22 +10,24 @@ promise_all-requires c =
       none = c.promise_none.ensures.promised;
     }
 
-pub keep_promise_at-requires : goal.keep_promise_at-requires
-keep_promise_at-requires c = below_at _ c.args.actions.now c.loop-action.action-index c.action-item.result c.loop-action-test.true c.action-item.is c.loop-action.invariant.places
+pub reserve_at-requires : goal.reserve_at-requires
+reserve_at-requires c = below_at _ c.args.actions.now c.loop-action.action-index c.action-item.result c.loop-action-test.true c.action-item.is c.loop-action.invariant.places
 
 pub loop-action-preserved : goal.loop-action-preserved
 loop-action-preserved c =
     let inv = c.loop-action.invariant in
     let i = c.loop-action.action-index in
     let bs = c.loop-action.inboxes.items in
-    let now = c.keep_promise_at.new.inboxes.items in
+    let now = c.reserve_at.new.inboxes.items in
     let a = c.action-item.result in
     let lt = c.loop-action-test.true in
+    let in_bs = below_at _ c.args.actions.now i a lt c.action-item.is inv.places in
+    let was = old_promise bs c.from-place.result a.agent.number c.index-inbox.result.now c.index-inbox.ensures c.from-place.ensures in_bs in
     record {
-      places = subst (λ n. all_sent_below n (drop (i + 1) c.args.actions.now) ≡ true) (sym (plain_same_many now bs c.keep_promise_at.ensures.same)) (below_next _ c.args.actions.now i inv.places);
-      same = c.keep_promise_at.ensures.same ∙ inv.same;
-      promised = subst (λ l. Promised l c.args.actions.now c.args.actions.now) (sym c.keep_promise_at.ensures.promised) inv.promised;
-      room = room_next (rooms bs) (rooms now) (promises bs) c.args.actions.now i a lt c.action-item.is c.keep_promise_at.ensures.kept inv.promised inv.room c.in_ok-keep_promise_at.ensures.room;
+      places = subst (λ n. all_sent_below n (drop (i + 1) c.args.actions.now) ≡ true) (sym (plain_same_many now bs c.reserve_at.ensures.same)) (below_next _ c.args.actions.now i inv.places);
+      same = c.reserve_at.ensures.same ∙ inv.same;
+      promised = subst (λ l. Promised l c.args.actions.now c.args.actions.now) (sym c.reserve_at.ensures.promised) inv.promised;
+      room = room_next (rooms bs) (rooms now) (promises bs) c.args.actions.now i a lt c.action-item.is c.reserve_at.ensures.kept inv.promised inv.room (subst (λ n. n ≤ get_or (rooms now) a.agent.number 0) was c.in_ok-reserve_at.ensures.room);
     }
 
 pub returns-clause-room : goal.returns-clause-room

@@ -1,19 +1,22 @@
-use Rattle.std.proofs.Common.{◌≡◌, ◌≤◌, ◌-◌, length, take, rules}
+use Rattle.std.proofs.Common.{◌≡◌, ℕ, List, ◌≤◌, ◌-◌, ◌⊎◌, inl, inr, length, take, ap, ◌∙◌, rules}
 use Rattle.txs_value.specs.Limits.{IsVector}
-use Rattle.txs_value.specs.PlainValue.{row_depth, plain_row}
+use Rattle.txs_value.specs.PlainValue.{PlainValue, row_depth, plain_row}
 use Rattle.txs_value.proofs.ItemsLemmas.{IsVector-fewer, no_deeper-fewer}
 use Rattle.txs_value.proofs.value.Items.pop.Goals as goal
 
+-- a body that is written to, with the number beside it: the vector's own, or a copy
+same_both : (a b : List PlainValue × ℕ) → (b ≡ a) ⊎ ((b.0 ≡ a.0) × (b.1 ≡ a.1)) → (b.0 ≡ a.0) × (b.1 ≡ a.1)
+same_both a b (inl e) = (ap (λ p. p.0) e, ap (λ p. p.1) e)
+same_both a b (inr e) = e
+
 pub invariant_of-result : goal.invariant_of-result
 invariant_of-result c =
+    let kept = same_both c.self.inside.shared.value c.in_ok-kept.kept.now c.in_ok-kept.ensures.value in
+    let same : c.in_ok-kept.kept.now.0 ≡ c.args.self = kept.0 ∙ c.self.view_is in
     let before : IsVector c.args.self = search rules in
-    let bound : row_depth (plain_row c.args.self) ≤ c.in-Some.kept.now.1 = search rules in
-    let is : c.pop.new.self ≡ take (length c.args.self - 1) c.args.self = search rules in
-    (IsVector-fewer c.args.self c.pop.new.self (length c.args.self - 1) is before, no_deeper-fewer c.args.self c.pop.new.self (length c.args.self - 1) c.in-Some.kept.now.1 is bound)
-
-pub invariant_of-result-2 : goal.invariant_of-result-2
-invariant_of-result-2 c =
-    let before : IsVector c.args.self = search rules in
-    let bound : row_depth (plain_row c.args.self) ≤ c.in_ok-shared.shared.value.1 = search rules in
-    let is : c.in_ok-shared.shared.value.0 ≡ take (length c.args.self - 1) c.args.self = search rules in
-    (IsVector-fewer c.args.self c.in_ok-shared.shared.value.0 (length c.args.self - 1) is before, no_deeper-fewer c.args.self c.in_ok-shared.shared.value.0 (length c.args.self - 1) c.in_ok-shared.shared.value.1 is bound)
+    let whole : row_depth (plain_row c.args.self) ≤ c.self.inside.shared.value.1 = search rules in
+    let bound : row_depth (plain_row c.args.self) ≤ c.in_ok-kept.kept.now.1 = rw kept.1 whole in
+    let is : c.pop.new.self ≡ take (length c.args.self - 1) c.args.self = rw same at c.in_ok-pop.ensures in
+    let ended : (c.make_mut.follows.lender (c.pop.new.self, c.in_ok-kept.kept.now.1)).value ≡ (c.pop.new.self, c.in_ok-kept.kept.now.1) = search (rules, c.make_mut.follows.holds (c.pop.new.self, c.in_ok-kept.kept.now.1)) in
+    rw ended
+    (IsVector-fewer c.args.self c.pop.new.self (length c.args.self - 1) is before, no_deeper-fewer c.args.self c.pop.new.self (length c.args.self - 1) c.in_ok-kept.kept.now.1 is bound)

@@ -17,19 +17,19 @@ pub invariant_of-self-2 : goal.invariant_of-self-2
 invariant_of-self-2 c =
     let bs = c.self.inside.branches.items in
     let cs = c.self.inside.leaves.items in
-    let b = c.in_ok-branch.branch in
-    let is : c.push-3.new.self.items ≡ bs ++ b ∷ [] = search rules in
+    let b = joined c.in_ok-shared.shared.value.items in
+    let is : c.push-2.new.self.items ≡ bs ++ b ∷ [] = search rules in
     let is_b : b ≡ joined cs = search rules in
     let many : 32 ≤ length cs = search rules in
     let is_l : c.replace-full.new.dest.items ≡ c.args.leaf ∷ [] = search rules in
-    (branches_full bs cs c.args.self.now c.self.invariant.0 c.self.invariant.1 c.self.view_is c.push-3.new.self.items b is is_b many c.requires.room, row_alone c.replace-full.new.dest.items c.args.leaf is_l c.requires.full)
+    (branches_full bs cs c.args.self.now c.self.invariant.0 c.self.invariant.1 c.self.view_is c.push-2.new.self.items b is is_b many c.requires.room, row_alone c.replace-full.new.dest.items c.args.leaf is_l c.requires.full)
 
 pub returns : goal.returns
 returns c =
     let bs = c.self.inside.branches.items in
     let cs = c.self.inside.leaves.items in
-    let b = c.in_ok-branch.branch in
-    let is : c.push-3.new.self.items ≡ bs ++ b ∷ [] = search rules in
+    let b = joined c.in_ok-shared.shared.value.items in
+    let is : c.push-2.new.self.items ≡ bs ++ b ∷ [] = search rules in
     let is_b : b ≡ joined cs = search rules in
     let is_l : c.replace-full.new.dest.items ≡ c.args.leaf ∷ [] = search rules in
-    branches-push bs cs c.args.self.now c.self.invariant.0 c.self.invariant.1 c.self.view_is c.push-3.new.self.items c.replace-full.new.dest.items b c.args.leaf is is_b is_l
+    branches-push bs cs c.args.self.now c.self.invariant.0 c.self.invariant.1 c.self.view_is c.push-2.new.self.items c.replace-full.new.dest.items b c.args.leaf is is_b is_l

@@ -5,6 +5,6 @@ use Rattle.txs_world.proofs.journal.Journal.put.Goals as goal
 pub overflow_cast-events : goal.overflow_cast-events
 overflow_cast-events c =
     let lt = c.requires.few in
-    let many = c.in_ok-push.ensures.len in
+    let many = c.push_reserved.ensures.len in
     let is = c.len-events.ensures in
     fits_place c.len-events.result (omega (arith, lt, many, is))

@@ -1,11 +1,13 @@
-use Rattle.std.proofs.Common.{◌≡◌, ◌<◌, ◌∙◌, ◌∷◌, [], ap, sym, subst, length, true}
+use Rattle.std.proofs.Common.{◌≡◌, ◌<◌, ◌∙◌, ◌∷◌, [], ap, refl, sym, subst, length, true}
+use Rattle.txs_asks.specs.declared.ask.Reply.TheVariants as reply
 use Rattle.txs_asks.specs.declared.event.EventKind.TheVariants.{Send}
 use Rattle.txs_value.specs.Limits.{most_events}
 use Rattle.txs_world.specs.Book.{makes, LegalKind}
-use Rattle.txs_world.specs.Inboxes.{plain_inboxes, mailed_all}
-use Rattle.txs_world.specs.Store.{PlainStore, event_of}
+use Rattle.txs_world.specs.Inboxes.{plain_inboxes, mailed_all, taken_of}
+use Rattle.txs_world.specs.Store.{PlainStore, event_of, store_with}
+use Rattle.txs_world.proofs.Answering.{told, told_not}
 use Rattle.txs_world.proofs.Kept.{sent, same_stands}
-use Rattle.txs_world.proofs.Storing.{stored, entered_leaves}
+use Rattle.txs_world.proofs.Storing.{stored, unstored, entered_leaves}
 use Rattle.txs_world.proofs.store.Store.put.Goals as goal
 
 pub invariant_of-self-in-Err-add : goal.invariant_of-self-in-Err-add
@@ -27,8 +29,35 @@ invariant_of-self-in-Ok-add c =
     c.args.actor c.args.action c.self.invariant room made legal c.in-Ok-add.ensures.views c.in-Ok-add.ensures.tries c.in-Ok-add.ensures.added
     (c.put_at.ensures.put ∙ ap (λ b. mailed_all b (c.in-Ok.copy ∷ [])) c.ready_at.ensures.same ∙ ap (λ a. mailed_all bs (a ∷ [])) c.in-Ok.ensures.copy)
 
-pub returns-in-Ok-add-clause-added : goal.returns-in-Ok-add-clause-added
-returns-in-Ok-add-clause-added c =
+pub invariant_of-self : goal.invariant_of-self
+invariant_of-self c =
     let x = c.self.inside in
-    stored c.args.self.now x.cells x.threads x.journal.book.items c.add.new.self.book.items (plain_inboxes x.inboxes.items) (plain_inboxes c.put_at.new.inboxes.items) (event_of c.args.actor (Send c.args.action))
-    c.self.view_is c.in-Ok-add.ensures.added (entered_leaves _ _ _ (c.in-Ok.copy ∷ []) c.ready_at.ensures.same c.put_at.ensures.put)
+    let views = x.journal.views.items in
+    let tries = x.journal.tries.items in
+    let book = x.journal.book.items in
+    same_stands x.cells x.threads x.slots.items (plain_inboxes x.inboxes.items) (plain_inboxes c.ready_at.new.inboxes.items) views tries views tries book book c.ready_at.ensures.same (λ a. refl) (λ a. refl) refl c.self.invariant
+
+pub returns-in-Err : goal.returns-in-Err
+returns-in-Err c =
+    let x = c.self.inside in
+    let s = c.args.self.now in
+    let book = x.journal.book.items in
+    let now = plain_inboxes c.ready_at.new.inboxes.items in
+    told_not s (store_with x.cells x.threads book (taken_of now)) c.args.actor (Send c.args.action) reply.Done tt c.requires.room (unstored s x.cells x.threads book book (plain_inboxes x.inboxes.items) now c.self.view_is refl c.ready_at.ensures.same)
+
+pub returns-in-Err-add : goal.returns-in-Err-add
+returns-in-Err-add c =
+    let x = c.self.inside in
+    let s = c.args.self.now in
+    let now = plain_inboxes c.ready_at.new.inboxes.items in
+    told_not s (store_with x.cells x.threads c.add.new.self.book.items (taken_of now)) c.args.actor (Send c.args.action) reply.Done tt c.requires.room
+    (unstored s x.cells x.threads x.journal.book.items c.add.new.self.book.items (plain_inboxes x.inboxes.items) now c.self.view_is c.in-Err-add.ensures.same c.ready_at.ensures.same)
+
+pub returns-in-Ok-add : goal.returns-in-Ok-add
+returns-in-Ok-add c =
+    let x = c.self.inside in
+    let s = c.args.self.now in
+    let now = plain_inboxes c.put_at.new.inboxes.items in
+    told s (store_with x.cells x.threads c.add.new.self.book.items (taken_of now)) c.args.actor (Send c.args.action) reply.Done tt c.requires.room
+    (stored s x.cells x.threads x.journal.book.items c.add.new.self.book.items (plain_inboxes x.inboxes.items) now (event_of c.args.actor (Send c.args.action)) c.self.view_is c.in-Ok-add.ensures.added
+    (entered_leaves _ _ _ (c.in-Ok.copy ∷ []) c.ready_at.ensures.same c.put_at.ensures.put))

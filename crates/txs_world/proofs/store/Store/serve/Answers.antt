@@ -1,8 +1,25 @@
-use Rattle.std.proofs.Common.{sym, subst, map, length}
+use Rattle.std.proofs.Common.{◌≡◌, ℕ, Bool, ap, false, length, map, not, refl, subst, sym, true}
+use Rattle.txs_asks.specs.declared.ask.Ask.{Ask}
+use Rattle.txs_asks.specs.declared.ask.Ask.TheVariants as ask
+use Rattle.txs_asks.specs.declared.ask.Reply.{Reply}
 use Rattle.txs_asks.specs.declared.ask.Reply.TheVariants as reply
-use Rattle.txs_world.specs.Book.{opening, newest}
-use Rattle.txs_world.specs.Store.{serve, served, store_after, Answers, Replies}
+use Rattle.txs_world.specs.Book.{has_agent, has_ref, may_name, opening, newest}
+use Rattle.txs_world.specs.Store.{PlainStore, has_named, is_lawful, is_taken, may_ask, serve, served, store_after, Answers, Replies}
+use Rattle.txs_world.proofs.Merging.{both}
+use Rattle.txs_world.proofs.Serves.{lawful}
 use Rattle.txs_world.proofs.store.Store.serve.Goals as goal
+
+-- what an ask is that may be asked
+asked : (s : PlainStore) (a : ℕ) (q r : Ask) → is_lawful s a q ≡ true → q ≡ r → (may_ask s.cells s.threads a r ≡ true) × (has_named s a r ≡ true)
+asked s a q r h e = lawful s a r (subst (λ x. is_lawful s a x ≡ true) e h)
+
+-- it is answered as what it is
+by_kind : (s t : PlainStore) (a : ℕ) (q r : Ask) (p : Reply) → q ≡ r → Answers s (serve s.cells a r s.book) (store_after s r (serve s.cells a r s.book)) p t → Answers s (serve s.cells a q s.book) (store_after s q (serve s.cells a q s.book)) p t
+by_kind s t a q r p e h = subst (λ x. Answers s (serve s.cells a x s.book) (store_after s x (serve s.cells a x s.book)) p t) (sym e) h
+
+not_so : (b : Bool) → not b ≡ true → b ≡ false
+not_so true e = sym e
+not_so false e = refl
 
 pub returns-in-View : goal.returns-in-View
 returns-in-View c =
@@ -10,3 +27,66 @@ returns-in-View c =
     let a = c.args.actor in
     subst (λ q. Answers s (serve s.cells a q s.book) (store_after s q (serve s.cells a q s.book)) c.view.result s) (sym c.in-View.is)
     (subst (λ l. Replies s (served (reply.Views (length s.book) (map (λ d. newest (opening s.cells) s.book d.number) l)) s.book) c.view.result s) c.as_slice.ensures c.view.ensures)
+
+pub look-requires-clause-thread : goal.look-requires-clause-thread
+look-requires-clause-thread c = (asked c.args.self.now c.args.actor c.args.ask (ask.Look c.in-Look.cell c.in-Look.at) c.requires c.in-Look.is).0
+
+pub look-requires-clause-cell : goal.look-requires-clause-cell
+look-requires-clause-cell c = let s = c.args.self.now in (both (has_ref s.cells c.in-Look.cell) (may_name false s.book c.args.actor c.in-Look.at) (asked c.args.self.now c.args.actor c.args.ask (ask.Look c.in-Look.cell c.in-Look.at) c.requires c.in-Look.is).1).0
+
+pub look-requires-clause-place : goal.look-requires-clause-place
+look-requires-clause-place c = let s = c.args.self.now in (both (has_ref s.cells c.in-Look.cell) (may_name false s.book c.args.actor c.in-Look.at) (asked c.args.self.now c.args.actor c.args.ask (ask.Look c.in-Look.cell c.in-Look.at) c.requires c.in-Look.is).1).1
+
+pub fail-requires-clause-thread : goal.fail-requires-clause-thread
+fail-requires-clause-thread c = (asked c.args.self.now c.args.actor c.args.ask (ask.Fail c.in-Fail.at c.in-Fail.view) c.requires c.in-Fail.is).0
+
+pub fail-requires-clause-ends : goal.fail-requires-clause-ends
+fail-requires-clause-ends c = (asked c.args.self.now c.args.actor c.args.ask (ask.Fail c.in-Fail.at c.in-Fail.view) c.requires c.in-Fail.is).1
+
+pub peek-requires-clause-thread : goal.peek-requires-clause-thread
+peek-requires-clause-thread c = (asked c.args.self.now c.args.actor c.args.ask (ask.Peek c.in-Peek.cell) c.requires c.in-Peek.is).0
+
+pub peek-requires-clause-cell : goal.peek-requires-clause-cell
+peek-requires-clause-cell c = (asked c.args.self.now c.args.actor c.args.ask (ask.Peek c.in-Peek.cell) c.requires c.in-Peek.is).1
+
+pub send-requires-clause-thread : goal.send-requires-clause-thread
+send-requires-clause-thread c = (asked c.args.self.now c.args.actor c.args.ask (ask.Send c.in-Send.action) c.requires c.in-Send.is).0
+
+pub send-requires-clause-agent : goal.send-requires-clause-agent
+send-requires-clause-agent c = (asked c.args.self.now c.args.actor c.args.ask (ask.Send c.in-Send.action) c.requires c.in-Send.is).1
+
+pub take-requires-clause-agent : goal.take-requires-clause-agent
+take-requires-clause-agent c = let s = c.args.self.now in (both (has_agent s.cells c.in-Take.agent) (not (is_taken s.taken c.in-Take.agent)) (asked c.args.self.now c.args.actor c.args.ask (ask.Take c.in-Take.agent) c.requires c.in-Take.is).1).0
+
+pub take-requires-clause-free : goal.take-requires-clause-free
+take-requires-clause-free c = let s = c.args.self.now in not_so (is_taken s.taken c.in-Take.agent) (both (has_agent s.cells c.in-Take.agent) (not (is_taken s.taken c.in-Take.agent)) (asked c.args.self.now c.args.actor c.args.ask (ask.Take c.in-Take.agent) c.requires c.in-Take.is).1).1
+
+pub finish-requires-clause-own : goal.finish-requires-clause-own
+finish-requires-clause-own c = (asked c.args.self.now c.args.actor c.args.ask (ask.Finish c.in-Finish.agent c.in-Finish.new) c.requires c.in-Finish.is).0
+
+pub finish-requires-clause-agent : goal.finish-requires-clause-agent
+finish-requires-clause-agent c = let s = c.args.self.now in (both (has_agent s.cells c.in-Finish.agent) (is_taken s.taken c.in-Finish.agent) (asked c.args.self.now c.args.actor c.args.ask (ask.Finish c.in-Finish.agent c.in-Finish.new) c.requires c.in-Finish.is).1).0
+
+pub finish-requires-clause-taken : goal.finish-requires-clause-taken
+finish-requires-clause-taken c = let s = c.args.self.now in (both (has_agent s.cells c.in-Finish.agent) (is_taken s.taken c.in-Finish.agent) (asked c.args.self.now c.args.actor c.args.ask (ask.Finish c.in-Finish.agent c.in-Finish.new) c.requires c.in-Finish.is).1).1
+
+pub returns-in-Look : goal.returns-in-Look
+returns-in-Look c = by_kind c.args.self.now c.look.new.self c.args.actor c.args.ask (ask.Look c.in-Look.cell c.in-Look.at) c.look.result c.in-Look.is c.look.ensures
+
+pub returns-in-Fail : goal.returns-in-Fail
+returns-in-Fail c = by_kind c.args.self.now c.fail.new.self c.args.actor c.args.ask (ask.Fail c.in-Fail.at c.in-Fail.view) c.fail.result c.in-Fail.is c.fail.ensures
+
+pub returns-in-Peek : goal.returns-in-Peek
+returns-in-Peek c = by_kind c.args.self.now c.peek.new.self c.args.actor c.args.ask (ask.Peek c.in-Peek.cell) c.peek.result c.in-Peek.is c.peek.ensures
+
+pub returns-in-Send : goal.returns-in-Send
+returns-in-Send c = by_kind c.args.self.now c.send.new.self c.args.actor c.args.ask (ask.Send c.in-Send.action) c.send.result c.in-Send.is c.send.ensures
+
+pub returns-in-Take : goal.returns-in-Take
+returns-in-Take c = by_kind c.args.self.now c.take.new.self c.args.actor c.args.ask (ask.Take c.in-Take.agent) c.take.result c.in-Take.is c.take.ensures
+
+pub returns-in-Finish : goal.returns-in-Finish
+returns-in-Finish c = by_kind c.args.self.now c.finish.new.self c.args.actor c.args.ask (ask.Finish c.in-Finish.agent c.in-Finish.new) c.finish.result c.in-Finish.is c.finish.ensures
+
+pub returns-in-Begin : goal.returns-in-Begin
+returns-in-Begin c = by_kind c.args.self.now c.args.self.now c.args.actor c.args.ask ask.Begin (reply.At c.read_point.result) c.in-Begin.is (ap reply.At c.read_point.ensures, refl)

@@ -1,4 +1,4 @@
-use Rattle.std.proofs.Common.{◌≡◌, take, drop, map, true}
+use Rattle.std.proofs.Common.{◌≡◌, ◌≤◌, length, take, drop, map, true, vec_capacity}
 use Rattle.txs_world.specs.Book.{opening, newest, has_refs}
 use Rattle.txs_world.proofs.store.Store.share_all.Given as goal
 
@@ -6,5 +6,7 @@ abbrev pub invariant-loop-cell : goal.invariant-loop-cell
 invariant-loop-cell l =
     record {
       refs : has_refs l.self.cells (drop l.cell-index l.cells) ≡ true;
+      many : length l.values.items ≡ l.cell-index;
+      room : length l.cells ≤ vec_capacity l.values;
       values : l.values.items ≡ map (λ c. newest (opening l.self.cells) l.self.book c.number) (take l.cell-index l.cells);
     }

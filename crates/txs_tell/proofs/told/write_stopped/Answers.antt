@@ -1,0 +1,18 @@
+use Rattle.std.proofs.Common.{◌≡◌, ◌++◌, ℕ, List, None, Some}
+use Rattle.txs_tell.specs.Lent.{front_of, script_of}
+use Rattle.txs_tell.specs.Lines.{IsLesson, lesson_of, stopped_line}
+use Rattle.txs_tell.proofs.Fronts.{on_ok}
+use Rattle.txs_tell.proofs.Lessons.{stopped_behind}
+use Rattle.txs_tell.proofs.told.write_stopped.Goals as goal
+
+pub returns : goal.returns
+returns c =
+    let script = script_of c.args.script in
+    let front = front_of c.args.front in
+    let why = c.args.why.now in
+    let old = c.args.errors.now.items in
+    let ended = c.end_stopped.new.line.items in
+    let new = c.explain.new.errors.items in
+    let advice = c.args.advice.now in
+    on_ok c.explain.result (new ≡ ended ++ lesson_of script.file script.text None (Some advice)) ((line : List ℕ) × IsLesson script (stopped_line front why) None line × (new ≡ old ++ line))
+    (stopped_behind script why front old c.write_front.new.line.items ended new advice c.in_ok-write_front.ensures c.in_ok-end_stopped.ensures) c.explain.ensures

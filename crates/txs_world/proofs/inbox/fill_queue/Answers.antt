@@ -1,0 +1,13 @@
+use Rattle.std.proofs.Common.{◌≤◌, ◌+◌, ◌∙◌, ap, length, subst, sym}
+use Rattle.txs_world.proofs.Lists.{take_next}
+use Rattle.txs_world.proofs.inbox.fill_queue.Goals as goal
+
+pub loop-action-preserved : goal.loop-action-preserved
+loop-action-preserved c =
+    let h = c.loop-action in
+    let put = c.push_back_reserved in
+    record {
+      many = put.ensures.len ∙ ap (λ n. n + 1) h.invariant.many;
+      room = subst (λ n. length c.args.actions.now ≤ n) (sym put.ensures.capacity) h.invariant.room;
+      built = take_next c.args.actions.now h.action-index c.action-item.result h.queue.items put.new.self.items c.in_ok-copy.copy c.loop-action-test.true c.action-item.is h.invariant.built put.ensures.items c.in_ok-copy.ensures;
+    }

@@ -1,0 +1,19 @@
+use Rattle.std.proofs.Common.{◌∙◌, ap, length}
+use Rattle.txs_world.specs.Kept.{slot_of}
+use Rattle.txs_world.specs.declared.cell.StoreCell.{StoreCell}
+use Rattle.txs_world.proofs.Lists.{map_next, one_more}
+use Rattle.txs_world.proofs.slot.open_slots.Goals as goal
+
+pub loop-cell-init : goal.loop-cell-init
+loop-cell-init c = let h = c.in_ok-slots.ensures in record { many = ap length h.items; room = h.exact; built = h.items }
+
+pub loop-cell-preserved : goal.loop-cell-preserved
+loop-cell-preserved c =
+    let h = c.loop-cell in
+    let v = c.in_ok-value in
+    let put = c.push_reserved in
+    record {
+      many = one_more h.slots.items put.new.self.items (slot_of v.value 0) h.cell-index h.invariant.many put.ensures.items;
+      room = put.ensures.capacity ∙ h.invariant.room;
+      built = map_next (λ (s : StoreCell). slot_of s.opening 0) c.args.cells.now h.cell-index c.cell-item.result h.slots.items put.new.self.items (slot_of v.value 0) c.loop-cell-test.true c.cell-item.is h.invariant.built put.ensures.items (ap (λ o. slot_of o 0) v.ensures);
+    }
