@@ -73,12 +73,27 @@ impl Body {
 }
 
 /// Code: the cells by their numbers, the constants, and a body for each function and for each thread.
-#[derive(Drop)]
 pub struct Code {
     cells: Vec<CellDefinition>,
     constants: Vec<Value>,
     functions: Vec<Body>,
     threads: Vec<Body>,
+}
+
+// Dropped by a call that is proved here, so that no crate above proves it again.
+impl Drop for Code {
+    fn drop(self) {
+        let Code {
+            cells,
+            constants,
+            functions: bodies,
+            threads: last,
+        } = self;
+        drop(cells);
+        drop(constants);
+        drop(bodies);
+        drop(last);
+    }
 }
 
 impl Model for Code {

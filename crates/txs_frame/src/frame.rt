@@ -41,13 +41,29 @@ impl From<AllocError> for SetError {
 }
 
 /// What a transaction has done so far.
-#[derive(Drop)]
 pub struct TxFrame {
     alloc: Global,
     own: Vec<Own>,
     ensured: Vec<CellId>,
     commutes: Vec<Commute>,
     sends: Vec<Action>,
+}
+
+// Dropped by a call that is proved here, so that no crate above proves it again.
+impl Drop for TxFrame {
+    fn drop(self) {
+        let TxFrame {
+            alloc: _,
+            own,
+            ensured,
+            commutes,
+            sends,
+        } = self;
+        drop(own);
+        drop(ensured);
+        drop(commutes);
+        drop(sends);
+    }
 }
 
 impl Model for TxFrame {

@@ -14,12 +14,25 @@ use txs_value::{Callee, CellId, Listed, Value, copy_value};
 
 /// What is left of a commute phase: the refs that were commuted and not set with their values so far, and the commutes that are
 /// still to be applied, ref by ref by ascending number.
-#[derive(Drop)]
 pub struct Phase {
     alloc: Global,
     values: Vec<(CellId, Value)>,
     work: Vec<Commute>,
     next: usize,
+}
+
+// Dropped by a call that is proved here, so that no crate above proves it again.
+impl Drop for Phase {
+    fn drop(self) {
+        let Phase {
+            alloc: _,
+            values,
+            work,
+            next: _,
+        } = self;
+        drop(values);
+        drop(work);
+    }
 }
 
 impl Model for Phase {

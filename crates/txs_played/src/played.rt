@@ -28,7 +28,6 @@ use txs_shared::SharedState;
 use txs_value::limits::MOST_EVENTS;
 
 /// An actor, of a thread or of an agent, with a reference to its code, and with what it kept: each ask with the reply that it went on with.
-#[derive(Drop)]
 pub struct Played<'a> {
     alloc: Global,
     code: &'a Verified,
@@ -44,6 +43,27 @@ pub struct Played<'a> {
     stopped: Option<Ask>,
     /// Whether there was no memory to keep an ask or a reply.
     lost: bool,
+}
+
+// Dropped by a call that is proved here, so that no crate above proves it again.
+impl Drop for Played<'_> {
+    fn drop(self) {
+        let Played {
+            alloc: _alloc,
+            code: _,
+            callees: _,
+            actor,
+            limit: _,
+            asked: in_hand,
+            kept,
+            stopped,
+            lost: _,
+        } = self;
+        drop(actor);
+        drop(in_hand);
+        drop(kept);
+        drop(stopped);
+    }
 }
 
 impl<'a> Model for Played<'a> {
@@ -339,11 +359,15 @@ impl<'a> Played<'a> {
         ensures { result ≡ self.entry.kept }
     {
         let Played {
+            alloc: _,
+            code: _,
+            callees: _,
             actor,
+            limit: _,
             asked,
             kept,
             stopped,
-            ..
+            lost: _,
         } = self;
         drop(actor);
         drop(asked);

@@ -19,9 +19,16 @@ pub struct Kept {
 }
 
 /// What an actor kept of its asks, in order. Contracts see it as a list.
-#[derive(Drop)]
 pub struct KeptEntries {
     entries: VecDeque<Kept>,
+}
+
+// Dropped by a call that is proved here, so that no crate above proves it again.
+impl Drop for KeptEntries {
+    fn drop(self) {
+        let KeptEntries { entries } = self;
+        drop(entries);
+    }
 }
 
 impl Model for KeptEntries {

@@ -18,7 +18,6 @@ use txs_value::{CellDefinition, CellId, CellKind, Fault, Value, same};
 use txs_world::{AtomBook, Store};
 
 /// What all actors share: the refs and agents with their book, and the atoms, each with a book of its own.
-#[derive(Drop)]
 pub struct SharedState {
     pub(crate) cells: Vec<CellDefinition>,
     pub(crate) store: Store,
@@ -26,6 +25,22 @@ pub struct SharedState {
     pub(crate) atoms: Vec<AtomBook>,
     /// Of each cell how many atoms there are before it, which of an atom is its place among the atoms; and how many there are in all.
     pub(crate) places: Vec<usize>,
+}
+
+// Dropped by a call that is proved here, so that no crate above proves again how books and cells are dropped.
+impl Drop for SharedState {
+    fn drop(self) {
+        let SharedState {
+            cells,
+            store,
+            atoms,
+            places,
+        } = self;
+        drop(cells);
+        drop(store);
+        drop(atoms);
+        drop(places);
+    }
 }
 
 impl Model for SharedState {

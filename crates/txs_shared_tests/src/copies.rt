@@ -142,15 +142,15 @@ fn reply_again(alloc: Global, reply: Reply) -> Reply {
     copy.unwrap_or(Reply::Idle)
 }
 
-// What the copy of an event tells, or another.
-fn kind_again(alloc: Global, kind: EventKind) -> EventKind {
+// The copy of an event of the third actor, or another.
+fn event_again(alloc: Global, kind: EventKind) -> Event {
     let event = Event { actor: 2, kind };
     let copy = copy_event(alloc, &event);
     drop(event);
-    match copy {
-        Ok(Event { actor: 2, kind }) => kind,
-        _ => EventKind::Fail { at: 0, view: 0 },
-    }
+    copy.unwrap_or(Event {
+        actor: 0,
+        kind: EventKind::Fail { at: 0, view: 0 },
+    })
 }
 
 #[test]
@@ -198,9 +198,10 @@ fn copies_events(rt: HostRuntime) {
         number: 1,
         new: Err(FAULT),
     };
-    let retry = kind_again(rt.alloc(), retry);
-    let act = kind_again(rt.alloc(), act);
-    assert!(rt; is_retry(&retry) && is_faulty_act(&act));
+    let retry = event_again(rt.alloc(), retry);
+    let act = event_again(rt.alloc(), act);
+    assert!(rt; retry.actor == 2 && is_retry(&retry.kind));
+    assert!(rt; act.actor == 2 && is_faulty_act(&act.kind));
     drop(retry);
     drop(act);
 }

@@ -11,11 +11,24 @@ use txs_value::CellDefinition;
 /// A program of which names are resolved, and that the checks haven't seen: the cells that it defines, in the
 /// order of their numbers, its functions and its threads, each in script order. Contracts see it as
 /// `program_of` its parts, which is scoped.
-#[derive(Drop)]
 pub struct Raw {
     cells: Vec<CellDefinition>,
     functions: Vec<Function>,
     threads: Vec<Thread>,
+}
+
+// Dropped by a call that is proved here, so that no crate above proves it again.
+impl Drop for Raw {
+    fn drop(self) {
+        let Raw {
+            cells,
+            functions,
+            threads: last,
+        } = self;
+        drop(cells);
+        drop(functions);
+        drop(last);
+    }
 }
 
 impl Model for Raw {

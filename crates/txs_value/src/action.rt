@@ -11,12 +11,24 @@ use std::alloc::{AllocError, Global};
 
 /// An action that waits for its agent: what is called on the agent's state and these further arguments, and where the `send`
 /// stands in the script.
-#[derive(Drop)]
 pub struct Action {
     pub agent: CellId,
     pub callee: Callee,
     pub args: Listed<Value>,
     pub span: Span,
+}
+
+// Dropped by a call that is proved here, so that no crate above proves it again.
+impl Drop for Action {
+    fn drop(self) {
+        let Action {
+            agent: _,
+            callee: _,
+            args,
+            span: _,
+        } = self;
+        drop(args);
+    }
 }
 
 /// The same action in memory of its own; what its values hold is shared. An error where there is no memory for the list.

@@ -1,0 +1,5 @@
+use Rattle.std.proofs.Common.{rules}
+use Rattle.txs_frame.proofs.frame.TxFrame.ensured.Goals as goal
+
+pub returns : goal.returns
+returns c = search rules
