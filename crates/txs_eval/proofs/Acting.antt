@@ -1,38 +1,29 @@
 -- What the evaluator's parts give is what the meaning says: forms on cells, and the ends of transactions.
-use Rattle.std.proofs.Common.{◌≡◌, ℕ, zero, suc, ◌+◌, ◌<◌, ◌==◌, ◌&&◌, Bool, true, false, if◌then◌else◌, List, [], ◌∷◌, ◌++◌, length, get_or, drop, Option, Some, None, Result, Ok, Err, MatchResult, refl, sym, ap, ◌∙◌, subst, arith}
-use Rattle.std.proofs.lemmas.Bool.{false≢true}
+use Rattle.std.proofs.Common.{◌≡◌, ℕ, zero, suc, ◌+◌, ◌<◌, ◌==◌, Bool, true, false, if◌then◌else◌, List, [], ◌∷◌, ◌++◌, length, get_or, drop, Some, None, Result, Ok, Err, MatchResult, refl, sym, ap, ◌∙◌, subst, arith}
 use Rattle.std.proofs.lemmas.List.{drop_more}
-use Rattle.txs_asks.specs.Ask.{Writes, buffered, with_write, same_value, same_writes, same_actions}
-use Rattle.txs_asks.specs.SeenEvent.{SeenEvent}
-use Rattle.txs_asks.specs.declared.event.EventKind.{EventKind}
+use Rattle.txs_asks.specs.Ask.{Writes, buffered, with_write}
 use Rattle.txs_frame.specs.Frame.{Work, commuted, set_writes, commutes_of, by_ref, phase_work}
 use Rattle.txs_frame.specs.declared.frame.Commute.{Commute}
-use Rattle.txs_eval.specs.Evaluated.{Part, part, is_on, forms_on, calls_on, around_it, Stops, Gives, GivesOf, Told, ToldOf, Yields, Ate, EatsNone, BodyStops, Runs, SoundCommutes, acts, act_means, inside_means, outside_means, quiet, applied, redone_means, final_means, thread_state, tx_state, tx_run, stop_without_fault}
-use Rattle.txs_eval.specs.Events.{seen_event}
+use Rattle.txs_eval.specs.Evaluated.{part, is_on, Yields, SoundCommutes, acts, act_means, inside_means, outside_means, quiet, redone_means, final_means, thread_state}
+use Rattle.txs_eval_work.specs.Worked.{Stops, Gives, Told, ToldOf, tx_state}
 use Rattle.txs_tree.specs.Known.{Known}
-use Rattle.txs_tree.specs.Meaning.{Completion, Completes, Recurs, Faults, Retries, Waits, OutOfTurns, Invalid, bind, Applies, Effects, apply, call_at}
+use Rattle.txs_tree.specs.Meaning.{Completion, Completes, bind, Applies, Effects, apply, call_at}
 use Rattle.txs_eval.specs.Setting.{Setting, callable}
 use Rattle.txs_tree.specs.Sound.{SoundCallee, SoundFunctions}
-use Rattle.txs_tree.specs.Thread.{TxRun, ThreadState, Transacting, eats, over, faultless, faulted, meant, with_tx, run_of, ends_tx, is_retry, eats_tx}
-use Rattle.txs_tree.specs.Transaction.{TxState, value_or, valued, merged, redone, commute_writes, final_writes, tx_meaning}
-use Rattle.txs_tree.specs.Tree.{Mark, Tree}
+use Rattle.txs_tree.specs.Transaction.{value_or, valued, merged, redone, commute_writes, final_writes}
+use Rattle.txs_tree.specs.Tree.{Mark}
 use Rattle.txs_tree.specs.View.{functions_of}
-use Rattle.txs_eval.specs.Views.{PlainView, world_of}
+use Rattle.txs_eval_work.specs.Views.{PlainView, world_of}
 use Rattle.txs_eval.specs.declared.shape.Act.{Act}
-use Rattle.txs_eval.specs.declared.seen.Seen.{Seen}
 use Rattle.txs_eval.specs.declared.state.State.{State}
-use Rattle.txs_eval.specs.declared.state.Transacted.{Transacted}
-use Rattle.txs_eval.specs.declared.stop.ThreadStop.{ThreadStop}
-use Rattle.txs_eval.specs.declared.stop.ThreadStop.TheVariants.{Fault, Event, Wrong, Turns, Memory}
-use Rattle.txs_value.specs.Cells.{World}
-use Rattle.txs_value.specs.declared.action.Action.{Action}
+use Rattle.txs_eval_work.specs.declared.stop.ThreadStop.{ThreadStop}
+use Rattle.txs_eval_work.specs.declared.stop.ThreadStop.TheVariants.{Memory}
 use Rattle.txs_value.specs.declared.fault.Fault as fault
 use Rattle.txs_value.specs.declared.fault.Span.{Span}
-use Rattle.txs_value.specs.declared.op.Callee.{Callee}
 use Rattle.txs_value.specs.declared.value.CellId.{CellId}
 use Rattle.txs_value.specs.declared.value.Value.{Value}
 use Rattle.txs_value.specs.declared.value.Value.TheVariants.{Nil}
-use Rattle.txs_eval.proofs.Applying.{callee_agrees, carried}
+use Rattle.txs_eval.proofs.Applying.{callee_agrees}
 use Rattle.txs_eval.proofs.Evaluation.{bind-bind, stops_bind}
 use Rattle.txs_tree.proofs.PureLaw.{Agrees, bind_agrees}
 
@@ -107,18 +98,22 @@ module _ (x : Setting) (span : Span) (cs : List Commute) (i : ℕ) (c : Commute)
   pub redone_more : (us : Writes) → redone_means x span (c ∷ []) ws ≡ Completes us tt → redone_means x span (drop i cs) ws ≡ redone_means x span (drop (i + 1) cs) us
   redone_more us h = redone_next ∙ ap (λ d. bind d (λ vs t. redone (quiet x span) (drop (i + 1) cs) vs t)) h
 
+-- the commutes of the phase are among all
+pub phase_sound : (ks : List Known) (w : Work) (cs : List Commute) → cs ≡ phase_work w → SoundCommutes ks w.commutes → SoundCommutes ks cs
+phase_sound ks w cs are h = subst (λ l. SoundCommutes ks l) (sym are) (sound_by ks (commuted w) w.commutes h)
+
 -- the whole phase, and then the writes
-module _ (x : Setting) (span : Span) (w : Work) (r : PlainView) (cs : List Commute) (first : Writes) (are : cs ≡ phase_work w) (begin : first ≡ valued (commuted w) (world_of r)) where
-  pub phase_sound : SoundCommutes (callable x) w.commutes → SoundCommutes (callable x) cs
-  phase_sound h = subst (λ l. SoundCommutes (callable x) l) (sym are) (sound_by (callable x) (commuted w) w.commutes h)
+module _ (x : Setting) (span : Span) (w : Work) (r : PlainView) (first : Writes) (begin : first ≡ valued (commuted w) (world_of r)) where
+  abbrev phase : Completion (Unit {0}) Writes
+  phase = redone_means x span (phase_work w) first
 
-  finals_are : final_means x w r span ≡ bind (redone_means x span cs first) (λ ws t. Completes (merged (set_writes w) ws) t)
-  finals_are = ap (λ l. bind (redone_means x span l (valued (commuted w) (world_of r))) (λ ws t. Completes (merged (set_writes w) ws) t)) (sym are) ∙ ap (λ us. bind (redone_means x span cs us) (λ ws t. Completes (merged (set_writes w) ws) t)) (sym begin)
+  finals_are : final_means x w r span ≡ bind phase (λ ws t. Completes (merged (set_writes w) ws) t)
+  finals_are = ap (λ us. bind (redone_means x span (phase_work w) us) (λ ws t. Completes (merged (set_writes w) ws) t)) (sym begin)
 
-  pub finals_stop : (y : ThreadStop) → Told {A = Writes} (Err y) (redone_means x span cs first) → Told {A = Writes} (Err y) (final_means x w r span)
-  finals_stop y h = subst (λ c. Told {A = Writes} (Err y) c) (sym finals_are) (stops_bind true y tt (redone_means x span cs first) (λ ws t. Completes (merged (set_writes w) ws) t) h)
+  pub finals_stop : (y : ThreadStop) → Told {A = Writes} (Err y) phase → Told {A = Writes} (Err y) (final_means x w r span)
+  finals_stop y h = subst (λ c. Told {A = Writes} (Err y) c) (sym finals_are) (stops_bind true y tt phase (λ ws t. Completes (merged (set_writes w) ws) t) h)
 
   -- the writes, where there was memory for them
-  pub finals_done : {V : Type 0} (f : V → Writes) (ws : Writes) (res : Result V ThreadStop) → redone_means x span cs first ≡ Completes ws tt → MatchResult res (λ last. f last ≡ merged (set_writes w) ws) (λ y. y ≡ Memory) → ToldOf f res (final_means x w r span)
+  pub finals_done : {V : Type 0} (f : V → Writes) (ws : Writes) (res : Result V ThreadStop) → phase ≡ Completes ws tt → MatchResult res (λ last. f last ≡ merged (set_writes w) ws) (λ y. y ≡ Memory) → ToldOf f res (final_means x w r span)
   finals_done f ws (Ok last) h made = finals_are ∙ ap (λ c. bind c (λ us t. Completes (merged (set_writes w) us) t)) h ∙ ap (λ l. Completes l tt) (sym made)
   finals_done f ws (Err y) h made = subst (λ z. Stops true z tt (final_means x w r span)) (sym made) tt

@@ -1,18 +1,19 @@
 -- A pure callee gives the same wherever it is applied, and leaves the state as it was.
-use Rattle.std.proofs.Common.{◌≡◌, ℕ, Bool, true, false, List, [], length, Result, Ok, Err, refl, sym, ap, ◌∙◌, subst}
+use Rattle.std.proofs.Common.{ℕ, Bool, true, List, [], length, Result, Ok, Err, sym, subst}
 use Rattle.std.proofs.lemmas.Bool.{false≢true}
 use Rattle.txs_operations.specs.Core.{core}
 use Rattle.txs_value.specs.declared.fault.Span.{Span}
 use Rattle.txs_value.specs.declared.op.Callee.{Callee}
 use Rattle.txs_value.specs.declared.op.Callee.TheVariants.{Core as CoreOp, Function}
 use Rattle.txs_value.specs.declared.value.Value.{Value}
-use Rattle.txs_eval.specs.Evaluated.{Gives, GivesOf, Stops, Told, applied}
-use Rattle.txs_tree.specs.Meaning.{Completion, Completes, Recurs, Faults, Retries, Waits, OutOfTurns, Invalid, Effects, apply, call_at}
+use Rattle.txs_eval.specs.Evaluated.{applied}
+use Rattle.txs_eval_work.specs.Worked.{Gives, Told}
+use Rattle.txs_tree.specs.Meaning.{Completion, Effects, apply, call_at}
 use Rattle.txs_eval.specs.Setting.{Setting, callable}
 use Rattle.txs_tree.specs.Sound.{SoundCallee, SoundFunctions}
 use Rattle.txs_tree.specs.View.{functions_of}
-use Rattle.txs_eval.specs.declared.stop.ThreadStop.{ThreadStop}
-use Rattle.txs_eval.specs.declared.stop.ThreadStop.TheVariants.{Fault, Event, Wrong, Turns, Memory}
+use Rattle.txs_eval_work.specs.declared.stop.ThreadStop.{ThreadStop}
+use Rattle.txs_eval_work.specs.declared.stop.ThreadStop.TheVariants.{Fault, Event, Wrong, Turns, Memory}
 use Rattle.txs_eval.proofs.Called.{pure_among}
 use Rattle.txs_tree.proofs.PureLaw.{Agrees, call_agrees, result_agrees, pure_value, pure_fault, pure_turns}
 

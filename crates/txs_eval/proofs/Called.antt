@@ -1,5 +1,5 @@
 -- What is sound of a function's body where the function is called, and how far calls go.
-use Rattle.std.proofs.Common.{◌≡◌, ℕ, zero, suc, ◌+◌, ◌-◌, ◌*◌, ◌<◌, ◌≤◌, true, List, [], ◌∷◌, Option, Some, None, length, take, refl, sym, ap, ◌∙◌, subst, arith}
+use Rattle.std.proofs.Common.{◌≡◌, ℕ, zero, suc, ◌+◌, ◌-◌, ◌*◌, ◌<◌, ◌≤◌, true, List, [], ◌∷◌, Option, Some, None, length, take, sym, ap, ◌∙◌, subst, arith}
 use Rattle.txs_value.specs.Places.{nth}
 use Rattle.txs_value.specs.declared.cell.CellDefinition.{CellDefinition}
 use Rattle.txs_tree.specs.Known.{Known, is_inside, is_outside, is_pure, known_of, known}
@@ -9,7 +9,7 @@ use Rattle.txs_tree.specs.View.{functions_of}
 use Rattle.txs_tree.specs.declared.node.Function as function
 use Rattle.txs_tree.proofs.Callable.{FunctionAt, missing, same_some, nth-length, nth-take, nth-before, length-known, length-functions_of, function_at, tree-widened, tree-outside, tree-inside, pure_outside, pure_inside}
 use Rattle.txs_eval.specs.Setting.{Setting, deeper, on_view, callable, zone_on, zone_in}
-use Rattle.txs_eval.specs.Views.{PlainView}
+use Rattle.txs_eval_work.specs.Views.{PlainView}
 
 -- what is sound where all functions are defined is sound where as many may be called as there are
 pub sound_everywhere : (cells : List CellDefinition) (fs : List function.Function) (n : ℕ) (o : Option PlainView) (e : Tree) (zone : Zone) (d : ℕ) (tail : Option ℕ) → SoundTree (known (functions_of fs)) zone d tail e

@@ -1,30 +1,30 @@
 -- How a transaction of a thread ends: what the parts give is what its dosync means.
-use Rattle.std.proofs.Common.{◌≡◌, ℕ, zero, suc, ◌+◌, ◌-◌, ◌<◌, ◌==◌, ◌&&◌, Bool, true, false, if◌then◌else◌, List, [], ◌∷◌, ◌++◌, length, drop, map, Option, Some, None, Result, Ok, Err, MatchResult, IfOk, is_some, refl, sym, ap, ◌∙◌, subst, arith}
+use Rattle.std.proofs.Common.{◌≡◌, ℕ, zero, suc, ◌==◌, ◌&&◌, Bool, true, false, if◌then◌else◌, List, [], ◌∷◌, Option, Some, None, Result, Ok, Err, MatchResult, IfOk, is_some, refl, sym, ap, ◌∙◌, subst}
 use Rattle.std.proofs.lemmas.Bool.{false≢true}
 use Rattle.txs_asks.specs.Ask.{Writes, same_writes, same_actions}
 use Rattle.txs_asks.specs.SeenEvent.{SeenEvent}
 use Rattle.txs_asks.specs.declared.event.EventKind.{EventKind}
 use Rattle.txs_asks.specs.declared.event.EventKind.TheVariants.{Read, Commit, Retry, Fail, Refused, Send as Sent, SendRefused, Act as Acted, Swap as Swapped, Broke}
-use Rattle.txs_eval.specs.Evaluated.{Stops, Gives, GivesOf, Told, ToldOf, Yields, Ate, EatsNone, BodyStops, Runs, SoundCommutes, forms_on, calls_on, around_it, means, final_means, transacting, at_end, eat_means, carried_on, ended, end_view, closes, commit_closes, refuse_closes, commits, end_stop, is_refusal, run_as, body_means, dosync_means, part, is_on, thread_state, tx_state, tx_run}
+use Rattle.txs_eval.specs.Evaluated.{Yields, Ate, EatsNone, BodyStops, Runs, SoundCommutes, forms_on, calls_on, around_it, means, final_means, transacting, at_end, eat_means, carried_on, ended, end_view, Closes, closes, closing, commit_closes, refuse_closes, end_stop, ends_as, run_as, body_means, dosync_means, part, is_on, thread_state, tx_run}
+use Rattle.txs_eval_work.specs.Worked.{Stops, Gives, Told, ToldOf, tx_state}
 use Rattle.txs_eval.specs.Events.{seen_event}
-use Rattle.txs_tree.specs.Meaning.{Completion, Completes, Recurs, Faults, Retries, Waits, OutOfTurns, Invalid, bind, closed, Applies, apply, eval, call_at}
-use Rattle.txs_tree.specs.Known.{Known}
+use Rattle.txs_tree.specs.Meaning.{Completion, Completes, Recurs, Faults, Retries, Waits, OutOfTurns, Invalid, bind, closed, Applies, apply, eval}
 use Rattle.txs_eval.specs.Setting.{Setting, callable, on_view}
 use Rattle.txs_tree.specs.Sound.{SoundFunctions, SoundTree, in_dosync}
 use Rattle.txs_tree.specs.Thread.{TxRun, ThreadState, Transacting, over, faultless, faulted, meant, with_tx, run_of, ends_tx, is_retry, eats_tx}
 use Rattle.txs_tree.specs.Transaction.{TxState, tx_start, final_writes}
 use Rattle.txs_tree.specs.Tree.{Mark, Tree}
 use Rattle.txs_tree.specs.View.{functions_of}
-use Rattle.txs_eval.specs.Views.{PlainView, plain_view, plain_world, world_of}
+use Rattle.txs_eval_work.specs.Views.{PlainView, plain_view, plain_world, world_of}
+use Rattle.txs_eval.specs.declared.closing.Closing.TheVariants.{Committed, Stopped}
 use Rattle.txs_eval.specs.declared.seen.Seen.{Seen}
 use Rattle.txs_eval.specs.declared.state.State.{State}
 use Rattle.txs_eval.specs.declared.state.Transacted.{Transacted}
-use Rattle.txs_eval.specs.declared.stop.ThreadStop.{ThreadStop}
-use Rattle.txs_eval.specs.declared.stop.ThreadStop.TheVariants.{Fault, Event, Wrong, Turns, Memory}
-use Rattle.txs_eval.specs.declared.view.RefView.{RefView}
+use Rattle.txs_eval_work.specs.declared.stop.ThreadStop.{ThreadStop}
+use Rattle.txs_eval_work.specs.declared.stop.ThreadStop.TheVariants.{Fault, Event, Wrong, Turns, Memory}
+use Rattle.txs_eval_work.specs.declared.view.RefView.{RefView}
 use Rattle.txs_value.specs.Limits.{reruns}
 use Rattle.txs_value.specs.Places.{fault_at}
-use Rattle.txs_value.specs.declared.action.Action.{Action}
 use Rattle.txs_value.specs.declared.fault.Fault as fault
 use Rattle.txs_value.specs.declared.fault.FaultKind.TheVariants.{AgentFailed}
 use Rattle.txs_value.specs.declared.fault.Span.{Span}
@@ -106,11 +106,6 @@ IsNothing (Some w) = ⊥
 abbrev view_or : PlainView → Option PlainView → PlainView
 view_or v None = v
 view_or v (Some w) = w
-
--- a run that is noted behind those before it
-pub runs_append : (rs : List Transacted) (r : Transacted) → map tx_run (rs ++ r ∷ []) ≡ map tx_run rs ++ tx_run r ∷ []
-runs_append [] r = refl
-runs_append (q ∷ rs) r = ap (λ l. tx_run q ∷ l) (runs_append rs r)
 
 -- the body on a world, and then the commutes on another one
 module _ (x : Setting) (m : Mark) (body : Tree) (env : List Value) (r w : PlainView) (t : ThreadState) where
@@ -242,32 +237,43 @@ end_stops (Acted d n v) span y t c h = (refl, refl)
 end_stops (Swapped v) span y t c h = (refl, refl)
 end_stops (Broke at) span y t c h = (refl, refl)
 
-module _ (span : Span) (r : TxRun) (ws : Writes) (t : ThreadState) where
-  pub closes_refused : (k : EventKind) → is_refusal k ≡ true → closes k span (Completes (r, ws) t) ≡ Faults (fault_at AgentFailed span) (with_tx r t)
-  closes_refused (Refused at view agent) h = refl
-  closes_refused (Commit at view writes sent) h = absurd (false≢true h)
-  closes_refused (Fail at view) h = absurd (false≢true h)
-  closes_refused (Read d) h = absurd (false≢true h)
-  closes_refused (Retry since d b) h = absurd (false≢true h)
-  closes_refused (Sent a) h = absurd (false≢true h)
-  closes_refused (SendRefused d) h = absurd (false≢true h)
-  closes_refused (Acted d n v) h = absurd (false≢true h)
-  closes_refused (Swapped v) h = absurd (false≢true h)
-  closes_refused (Broke at) h = absurd (false≢true h)
+-- what a run is to the event is what the event makes of it
+module _ (span : Span) (r : TxRun) (ws : Writes) (t : ThreadState) (res : Result Value ThreadStop) (u : ThreadState) where
+  no_end : Closes (Stopped Wrong) span r res t u → Gives {A = Value} false res u Invalid
+  no_end h = subst (λ q. Gives {A = Value} false q u Invalid) (sym h.0) (refl, refl)
 
-  pub closes_other : (k : EventKind) → is_refusal k ≡ false → closes k span (Completes (r, ws) t) ≡ meant (commits k ws r.state.done.sends) r.result (with_tx r t)
-  closes_other (Refused at view agent) h = absurd (false≢true (sym h))
-  closes_other (Commit at view writes sent) h = refl
-  closes_other (Fail at view) h = refl
-  closes_other (Read d) h = refl
-  closes_other (Retry since d b) h = refl
-  closes_other (Sent a) h = refl
-  closes_other (SendRefused d) h = refl
-  closes_other (Acted d n v) h = refl
-  closes_other (Swapped v) h = refl
-  closes_other (Broke at) h = refl
+  as_meant : (b : Bool) → Closes (if b then Committed else Stopped Wrong) span r res t u → Gives false res u (meant b r.result (with_tx r t))
+  as_meant true h = h
+  as_meant false h = no_end h
+
+  ended_as : (k : EventKind) → Closes (ends_as k ws r.state.done.sends) span r res t u → Gives false res u (closes k span (Completes (r, ws) t))
+  ended_as (Refused at view agent) h = h
+  ended_as (Commit at view writes sent) h = as_meant (same_writes ws writes && same_actions r.state.done.sends sent) h
+  ended_as (Fail at view) h = no_end h
+  ended_as (Read d) h = no_end h
+  ended_as (Retry since d b) h = no_end h
+  ended_as (Sent a) h = no_end h
+  ended_as (SendRefused d) h = no_end h
+  ended_as (Acted d n v) h = no_end h
+  ended_as (Swapped v) h = no_end h
+  ended_as (Broke at) h = no_end h
+
+-- what is given of a run that came to these final writes
+module _ (x : Setting) (m : Mark) (body : Tree) (env : List Value) (r w : PlainView) (t : ThreadState) (sound : SoundFunctions [] (functions_of x.functions)) (q : Transacted) (run : Runs (Ok q) m body env (body_means x body env r))
+    (calm : SoundCommutes (callable x) q.work.done.commutes) where
+  pub ended_closed : {V : Type 0} (f : V → Writes) (last : Result V ThreadStop) (k : EventKind) (res : Result Value ThreadStop) (u : ThreadState) → ToldOf f last (final_means x q.work.done w m.span)
+      → Closes (closing f k last q.work.done.sends) m.span (tx_run q) res t u → Gives false res u (closes k m.span (ended x m body env r w t))
+  ended_closed f (Ok v) k res u told h =
+      subst (λ c. Gives false res u (closes k m.span c)) (sym (ended_done x m body env r w t sound q run calm (f v) told)) (ended_as m.span (tx_run q) (f v) t res u k h)
+  ended_closed f (Err y) k res u told h =
+      let stops = end_stops k m.span y t (ended x m body env r w t) (ended_stop x m body env r w t sound q run calm y told) in
+      subst (λ p. Gives false p u (closes k m.span (ended x m body env r w t))) (sym h.0) (subst (λ s. Stops false (end_stop k y) s (closes k m.span (ended x m body env r w t))) (sym h.1) stops)
 
 -- ---- the events that it eats
+
+-- what is given where there was no such event
+pub unmatched : {E : Type 0} (P : E → Type 0) (Q : ThreadStop → Type 0) (r : Result E ThreadStop) (y : ThreadStop) → r ≡ Err y → Q y → MatchResult r P Q
+unmatched P Q r y is h = subst (λ z. MatchResult z P Q) (sym is) h
 
 module _ (d : Transacting) (f : Applies ThreadState) where
   -- what stands in the state of events to come counts for nothing here

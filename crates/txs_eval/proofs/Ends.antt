@@ -1,30 +1,31 @@
 -- What a thread means, by what its body means.
-use Rattle.std.proofs.Common.{◌≡◌, ℕ, zero, suc, ◌<◌, Bool, true, false, List, [], ◌∷◌, length, get_or, Option, Some, None, Result, Ok, Err, IfOk, IfSome, refl, sym, ap, ◌∙◌, subst, subst₂, arith}
+use Rattle.std.proofs.Common.{◌≡◌, ℕ, zero, suc, ◌<◌, true, false, List, [], ◌∷◌, length, get_or, Option, Some, None, Result, Ok, Err, IfOk, IfSome, sym, ap, ◌∙◌, subst, subst₂, arith}
 use Rattle.std.proofs.lemmas.Bool.{false≢true}
 use Rattle.txs_value.specs.Places.{nth}
 use Rattle.txs_value.specs.declared.cell.CellDefinition.{CellDefinition}
 use Rattle.txs_value.specs.declared.value.Value.{Value}
 use Rattle.txs_asks.specs.SeenEvent.{SeenEvent}
 use Rattle.txs_asks.specs.declared.event.Outcome.{Outcome}
-use Rattle.txs_eval.specs.Evaluated.{Account, Concluded, Gives, GivesOf, Stops, Yields, Tells, TellsTx, Waitless, thread_source, source_in, means, around_it, forms_on, thread_state, tx_state, idle}
+use Rattle.txs_eval.specs.Evaluated.{Account, Accounts, Concluded, Yields, Tells, TellsTx, Waitless, thread_source, source_in, means, around_it, forms_on, thread_state, idle}
+use Rattle.txs_eval_work.specs.Worked.{Gives, Stops, tx_state}
 use Rattle.txs_tree.specs.Known.{known}
-use Rattle.txs_tree.specs.Meaning.{Completion, Completes, Faults, Waits, OutOfTurns, Invalid, closed, eval, call_at}
+use Rattle.txs_tree.specs.Meaning.{Completion, Completes, Faults, OutOfTurns, closed, eval, call_at}
 use Rattle.txs_eval.specs.Setting.{Setting, callable, zone_in}
 use Rattle.txs_tree.specs.Sound.{Sound, SoundTree, in_thread, in_dosync}
 use Rattle.txs_tree.specs.Thread.{ThreadState, on_events, thread_meaning}
 use Rattle.txs_tree.specs.Transaction.{TxState, tx_start, tx_meaning}
 use Rattle.txs_tree.specs.Tree.{Tree}
 use Rattle.txs_tree.specs.View.{Parts, tree_of, thread_of, threads_of, functions_of, program_of}
-use Rattle.txs_eval.specs.Views.{PlainView, world_of}
+use Rattle.txs_eval_work.specs.Views.{PlainView, world_of}
 use Rattle.txs_eval.specs.declared.meaning.Needs.{Needs}
 use Rattle.txs_eval.specs.declared.meaning.ThreadMeaning.{ThreadMeaning}
 use Rattle.txs_tree.specs.declared.node.Function.{Function}
 use Rattle.txs_tree.specs.declared.node.Thread.{Thread}
 use Rattle.txs_eval.specs.declared.pure_call.EvalStop.TheVariants.{Turns as FewTurns}
 use Rattle.txs_eval.specs.declared.state.State.{State}
-use Rattle.txs_eval.specs.declared.state.TxWork.{TxWork}
-use Rattle.txs_eval.specs.declared.stop.ThreadStop.{ThreadStop}
-use Rattle.txs_eval.specs.declared.stop.ThreadStop.TheVariants.{Fault, Event, Wrong, Turns, Memory}
+use Rattle.txs_eval_work.specs.declared.work.TxWork.{TxWork}
+use Rattle.txs_eval_work.specs.declared.stop.ThreadStop.{ThreadStop}
+use Rattle.txs_eval_work.specs.declared.stop.ThreadStop.TheVariants.{Fault, Event, Wrong, Turns, Memory}
 use Rattle.txs_eval.specs.declared.transaction.TxMeaning.{TxMeaning}
 use Rattle.txs_value.specs.declared.fault.Fault as fault
 use Rattle.txs_eval.proofs.Called.{sound_everywhere}
@@ -85,10 +86,15 @@ module _ (us : List Thread) (parts : Parts) (k : ℕ) (r : Thread) (same : us �
       let deep : Tells m j (closed (body_on es (length (functions_of parts.functions)))) = subst (λ d. Tells m j (closed (body_on es d))) (sym (length-functions_of parts.functions)) told in
       subst (λ o. IfSome (source_in (program_of parts) o) (λ p. Tells m j (thread_meaning p n es))) (sym (thread-at parts.threads k (get_or us k r) lt at_place)) deep
 
-  pub told_account : {E : Type 0} (a : Result ThreadMeaning E) (j : ℕ) (es : List SeenEvent) (env : List Value) (st st1 : State) (end : Result Value ThreadStop) (needs : Needs) (outcome : Option Outcome) → env ≡ [] → thread_state st.thread ≡ idle es
-      → Yields setting end st1 (means setting body env st) → Concluded end needs outcome → IfOk a (λ m. Account m j (thread_state st1.thread) needs outcome) → IfOk a (λ m. IfSome (thread_source (program_of parts) k) (λ p. Tells m j (thread_meaning p n es)))
-  told_account (Ok m) j es env st st1 end needs outcome no_locals fresh h e a = told_thread m j es env st st1 end needs outcome no_locals fresh h e a
-  told_account (Err x) j es env st st1 end needs outcome no_locals fresh h e a = a
+  pub told_account : {E : Type 0} (a : Result ThreadMeaning E) (j : ℕ) (es : List SeenEvent) (env : List Value) (st st1 : State) (end : Result Value ThreadStop) → env ≡ [] → thread_state st.thread ≡ idle es
+      → Yields setting end st1 (means setting body env st) → IfOk a (λ m. Accounts m j (thread_state st1.thread) end) → IfOk a (λ m. IfSome (thread_source (program_of parts) k) (λ p. Tells m j (thread_meaning p n es)))
+  told_account (Ok m) j es env st st1 end no_locals fresh h a = told_thread m j es env st st1 end a.0 a.1 no_locals fresh h a.2 a.3
+  told_account (Err x) j es env st st1 end no_locals fresh h a = a
+
+-- an account of what was concluded
+pub accounted : {E : Type 0} (a : Result ThreadMeaning E) (k : ℕ) (s : ThreadState) (end : Result Value ThreadStop) (needs : Needs) (outcome : Option Outcome) → Concluded end needs outcome → IfOk a (λ m. Account m k s needs outcome) → IfOk a (λ m. Accounts m k s end)
+accounted (Ok m) k s end needs outcome e h = (needs, outcome, e, h)
+accounted (Err x) k s end needs outcome e h = h
 
 -- ---- the body of a transaction
 

@@ -1,15 +1,16 @@
 -- An evaluation one node at a time: what the whole means is what the rest means.
-use Rattle.std.proofs.Common.{◌≡◌, ℕ, zero, suc, ◌+◌, ◌-◌, ◌<◌, ◌≤◌, Bool, true, false, if◌then◌else◌, List, [], ◌∷◌, ◌++◌, length, get_or, take, drop, Some, Result, Ok, Err, refl, sym, ap, ◌∙◌, subst, subst₂, append_assoc, length-append, arith}
+use Rattle.std.proofs.Common.{◌≡◌, ℕ, zero, suc, ◌+◌, ◌-◌, ◌<◌, ◌≤◌, Bool, true, false, if◌then◌else◌, List, [], ◌∷◌, ◌++◌, length, get_or, take, drop, Some, Result, Err, refl, sym, ap, ◌∙◌, subst, subst₂, append_assoc, length-append, arith}
 use Rattle.std.proofs.Math.Seq.{drop-append_seam, take-append_seam}
 use Rattle.std.proofs.lemmas.Bool.{eq-eqb}
-use Rattle.std.proofs.lemmas.List.{drop_more, append-nil, length-take, take-append-le, take-append-drop}
+use Rattle.std.proofs.lemmas.List.{append-nil, length-take, take-append-le, take-append-drop}
 use Rattle.txs_operations.specs.Core.{is_false}
 use Rattle.txs_value.specs.Places.{nth}
 use Rattle.txs_operations.specs.Truth.{choose}
 use Rattle.txs_value.specs.declared.form.PutForm.{PutForm}
 use Rattle.txs_value.specs.declared.value.Value.{Value}
 use Rattle.txs_value.specs.declared.value.Value.TheVariants.{Nil, Truth, Int, Key, Text, Vector, Cell}
-use Rattle.txs_eval.specs.Evaluated.{Part, part, is_on, forms_on, forms_in, calls_in, around_it, Stops, Gives, GivesOf, GivesAll, Yields, Steps, StepsOn, means, all_mean, if_means, do_means, let_means, locals_mean, loop_means, turns_mean, call_means, finishes, finish_means, strict_means, acts, act_means, form_means}
+use Rattle.txs_eval.specs.Evaluated.{Part, part, is_on, forms_on, forms_in, calls_in, around_it, GivesAll, Yields, Steps, StepsOn, means, all_mean, if_means, do_means, let_means, locals_mean, loop_means, turns_mean, call_means, finishes, finish_means, strict_means, acts, act_means, form_means}
+use Rattle.txs_eval_work.specs.Worked.{Stops, GivesOf}
 use Rattle.txs_tree.specs.Meaning.{Completion, Completes, Recurs, Faults, Retries, Waits, OutOfTurns, Invalid, bind, again, give, turns, Effects, eval, eval_all, eval_let, eval_do, call_at}
 use Rattle.txs_eval.specs.Setting.{Setting, deeper}
 use Rattle.txs_tree.specs.Tree.{Mark, Tree, Const, Local, Put, Trees, none, more, count, PlainFunction}
@@ -20,8 +21,8 @@ use Rattle.txs_eval.specs.declared.evaluate.Step.{Step}
 use Rattle.txs_eval.specs.declared.shape.Strict.{Strict}
 use Rattle.txs_tree.specs.declared.node.Node.{Node}
 use Rattle.txs_eval.specs.declared.state.State.{State}
-use Rattle.txs_eval.specs.declared.stop.ThreadStop.{ThreadStop}
-use Rattle.txs_eval.specs.declared.stop.ThreadStop.TheVariants.{Fault, Event, Wrong, Turns, Memory}
+use Rattle.txs_eval_work.specs.declared.stop.ThreadStop.{ThreadStop}
+use Rattle.txs_eval_work.specs.declared.stop.ThreadStop.TheVariants.{Fault, Event, Wrong, Turns, Memory}
 use Rattle.txs_value.specs.declared.fault.Span.{Span}
 use Rattle.txs_tree.proofs.Soundness.{trees_from}
 

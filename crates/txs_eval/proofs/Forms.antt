@@ -1,23 +1,24 @@
 -- Forms on cells, one after the other: what the parts give is what the form means.
-use Rattle.std.proofs.Common.{◌≡◌, ℕ, suc, ◌||◌, Bool, true, false, if◌then◌else◌, List, [], ◌∷◌, ◌++◌, length, Option, Some, None, Result, Ok, Err, MatchResult, refl, sym, ap, ◌∙◌, subst, arith}
+use Rattle.std.proofs.Common.{◌≡◌, ℕ, suc, Bool, true, false, if◌then◌else◌, List, [], ◌∷◌, ◌++◌, length, Option, Some, None, Result, Ok, Err, MatchResult, refl, sym, ap, ◌∙◌, subst, arith}
 use Rattle.std.proofs.lemmas.Bool.{false≢true}
-use Rattle.txs_asks.specs.Ask.{same_value}
+use Rattle.txs_asks.specs.Ask.{same_cell, same_value, same_action}
 use Rattle.txs_asks.specs.SeenEvent.{SeenEvent, home}
 use Rattle.txs_asks.specs.declared.event.EventKind.{EventKind}
 use Rattle.txs_asks.specs.declared.event.EventKind.TheVariants.{Read, Commit, Retry, Fail, Refused, Send as Sent, SendRefused, Act as Acted, Swap as Swapped, Broke}
-use Rattle.txs_frame.specs.Frame.{set_ref, commute_ref, hold_send}
-use Rattle.txs_eval.specs.Evaluated.{Stops, Gives, GivesOf, Told, Ate, EatsNone, ReadyIn, with_use, forms_on, calls_on, around_it, acts, inside_means, outside_means, alter_means, commute_means, swap_means, applied, of_one, stop_without_fault, swapped_to, no_value, with_work, swap_of, is_broke, part, is_on, Yields, Finishes, Steps, step_of, call_means, finish_means, tx_state, thread_state}
+use Rattle.txs_frame.specs.Frame.{set_ref, hold_send}
+use Rattle.txs_eval.specs.Evaluated.{Ate, EatsNone, ReadyIn, forms_on, calls_on, around_it, inside_means, outside_means, update_means, swap_means, applied, SwapAte, SwapsNone, swap_ends, swap_gives, swap_of, is_broke, is_read_of, is_swap_to, sending, sent_as, part, is_on, Yields, Finishes, Steps, step_of, call_means, finish_means, thread_state}
+use Rattle.txs_eval_work.specs.Worked.{Stops, Gives, Told, RefCell, UpdatesRef, update_begins, update_ends, of_one, stop_without_fault, with_work, tx_state}
 use Rattle.txs_eval.specs.Events.{seen_event}
 use Rattle.txs_eval.specs.Shapes.{form_of_act}
 use Rattle.txs_operations.specs.Core.{core, vector_of}
-use Rattle.txs_tree.specs.Meaning.{Completion, Completes, Recurs, Faults, Retries, Waits, OutOfTurns, Invalid, bind, result_of, allowed, Applies, Effects, apply, call_at}
+use Rattle.txs_tree.specs.Meaning.{Completion, Completes, Recurs, Faults, Retries, Waits, OutOfTurns, Invalid, bind, result_of, allowed, Applies, apply}
 use Rattle.txs_eval.specs.Setting.{Setting, callable, on_view, zone_on}
 use Rattle.txs_tree.specs.Sound.{SoundCallee, PureCall, SoundFunctions, MayStand, in_thread, in_dosync}
-use Rattle.txs_tree.specs.Thread.{ThreadState, Surroundings, eats, resets, swaps, meant, faultless, faulted, thread_look, thread_put, thread_update, outside_form}
-use Rattle.txs_tree.specs.Transaction.{TxState, on_cell, current, taken, done_as, tx_look, tx_put, tx_update}
+use Rattle.txs_tree.specs.Thread.{ThreadState, Surroundings, eats, reads, resets, sends, swaps, meant, faultless, faulted, thread_look, thread_put, thread_update, outside_form}
+use Rattle.txs_tree.specs.Transaction.{TxState, on_cell, done_as, tx_look, tx_put, tx_update}
 use Rattle.txs_tree.specs.Tree.{Mark}
 use Rattle.txs_tree.specs.View.{functions_of}
-use Rattle.txs_eval.specs.Views.{PlainView, plain_view, world_of}
+use Rattle.txs_eval_work.specs.Views.{PlainView, plain_view, world_of}
 use Rattle.txs_eval.specs.declared.shape.Act.{Act}
 use Rattle.txs_eval.specs.declared.shape.Act.TheVariants.{Look as a_look, Put as a_put, Update as an_update, Send as a_send}
 use Rattle.txs_eval.specs.declared.shape.Strict.{Strict}
@@ -25,25 +26,37 @@ use Rattle.txs_eval.specs.declared.shape.Strict.TheVariants.{Core as a_core, Cal
 use Rattle.txs_eval.specs.declared.evaluate.Step.{Step}
 use Rattle.txs_eval.specs.declared.seen.Seen.{Seen}
 use Rattle.txs_eval.specs.declared.state.State.{State}
-use Rattle.txs_eval.specs.declared.stop.ThreadStop.{ThreadStop}
-use Rattle.txs_eval.specs.declared.stop.ThreadStop.TheVariants.{Fault, Event, Wrong, Turns, Memory}
+use Rattle.txs_eval.specs.declared.thread.Sending.{Sending}
+use Rattle.txs_eval.specs.declared.thread.Sending.TheVariants.{Sent as WasSent, Refused as WasRefused, Other as NotSent}
+use Rattle.txs_value.specs.Places.{fault_at}
+use Rattle.txs_value.specs.declared.action.Action.{Action}
+use Rattle.txs_eval_work.specs.declared.stop.ThreadStop.{ThreadStop}
+use Rattle.txs_eval_work.specs.declared.stop.ThreadStop.TheVariants.{Fault, Event, Wrong, Turns, Memory}
 use Rattle.txs_value.specs.Cells.{World}
 use Rattle.txs_value.specs.Forms.{rule, cell_of, cell_if, same_kind, may_stand}
 use Rattle.txs_value.specs.Printed.{printed_line}
 use Rattle.txs_value.specs.declared.fault.FaultKind.{FaultKind}
-use Rattle.txs_value.specs.declared.fault.FaultKind.TheVariants.{NotAnAgent}
+use Rattle.txs_value.specs.declared.fault.FaultKind.TheVariants.{NotARef, NotAnAgent, AgentFailed}
 use Rattle.txs_value.specs.declared.fault.Span.{Span}
 use Rattle.txs_value.specs.declared.form.CellForm.{CellForm}
 use Rattle.txs_value.specs.declared.form.CellForm.TheVariants as form_of
 use Rattle.txs_value.specs.declared.form.PutForm.{PutForm}
 use Rattle.txs_value.specs.declared.form.PutForm.TheVariants.{RefSet, Reset}
+use Rattle.txs_value.specs.declared.form.FormAsk.{FormAsk}
+use Rattle.txs_value.specs.declared.form.FormAsk.TheVariants.{Nothing, ItsValue}
+use Rattle.txs_value.specs.declared.form.LookForm.{LookForm}
+use Rattle.txs_value.specs.declared.form.LookForm.TheVariants.{Deref, Ensure}
+use Rattle.txs_tree.specs.Known.{Known}
+use Rattle.txs_value.specs.declared.form.UpdateForm.{UpdateForm}
+use Rattle.txs_value.specs.declared.form.UpdateForm.TheVariants.{Alter, Commute, Swap}
 use Rattle.txs_value.specs.declared.form.Standing.{Standing}
 use Rattle.txs_value.specs.declared.form.Standing.TheVariants.{Anywhere, Inside, Outside}
 use Rattle.txs_value.specs.declared.op.Callee.{Callee}
 use Rattle.txs_value.specs.declared.op.Op.{Op}
 use Rattle.txs_value.specs.declared.op.Callee.TheVariants.{Function}
 use Rattle.txs_value.specs.declared.value.CellId.{CellId}
-use Rattle.txs_value.specs.declared.value.CellKind.TheVariants.{Agent}
+use Rattle.txs_value.specs.declared.value.CellKind.{CellKind}
+use Rattle.txs_value.specs.declared.value.CellKind.TheVariants.{Ref, Atom, Agent}
 use Rattle.txs_value.specs.declared.value.Value.{Value}
 use Rattle.txs_value.specs.declared.value.Value.TheVariants.{Nil, Truth, Int, Key, Text, Vector, Cell}
 use Rattle.txs_eval.proofs.Applying.{callee_agrees, told_applies, told_from}
@@ -143,6 +156,10 @@ module _ (x : Setting) (r : PlainView) (m : Mark) (v : Value) (t : TxState) (cel
   put_inside RefSet (w ∷ ws) ready told h = subst (λ c. Gives true res t1 c) (sym (took true t (form_of.Put RefSet) true m.span v (λ c s. tx_put RefSet m.span c w s) cell told)) h
   put_inside Reset (w ∷ ws) ready told h = absurd ready.0
 
+  -- a ref is read
+  pub look_inside : (form : LookForm) (vs : List Value) → Told (Ok cell) (result_of (cell_of (rule (form_of.Look form)) true v) m.span tt) → Gives true res t1 (tx_look (world_of r) form cell t) → Gives true res t1 (inside_means x r (a_look form) m v vs t)
+  look_inside form vs told h = subst (λ c. Gives true res t1 c) (sym (took true t (form_of.Look form) true m.span v (λ c s. tx_look (world_of r) form c s) cell told)) h
+
   -- a send is held, and gives the agent
   pub send_inside : (callee : Callee) (vs : List Value) → Told (Ok cell) (result_of (cell_of (rule form_of.Send) true v) m.span tt)
       → Gives true res t1 (Completes (Cell cell) (with_work (hold_send (record { agent = cell; callee = callee; args = vs; span = m.span }) t.done) t)) → Gives true res t1 (inside_means x r (a_send callee) m v vs t)
@@ -181,40 +198,91 @@ module _ (x : Setting) (m : Mark) (v : Value) (t : ThreadState) (cell : CellId) 
   put_outside Reset (w ∷ ws) ready told h = subst (λ c. Gives false res t1 c) (sym (took_outside x m v t (form_of.Put Reset) (λ c s. thread_put (around_it x) Reset c w s) cell ready.0 told)) h
   put_outside RefSet (w ∷ ws) ready told h = absurd ready.0
 
--- ---- `alter` and `commute`
+  -- a cell is read
+  pub look_outside : (form : LookForm) (vs : List Value) → ReadyIn (callable x) in_thread (a_look form) (length vs) → Told (Ok cell) (result_of (cell_of (rule (form_of.Look form)) false v) m.span tt)
+      → Gives false res t1 (eats (home x.cells cell) (λ e s. reads cell e.kind e.C s) t.todo t) → Gives false res t1 (outside_means x (a_look form) m v vs t)
+  look_outside Deref vs ready told h = subst (λ c. Gives false res t1 c) (sym (took_outside x m v t (form_of.Look Deref) (λ c s. thread_look (around_it x) Deref c s) cell ready told)) h
+  look_outside Ensure vs ready told h = absurd ready
 
-module _ (x : Setting) (sound : SoundFunctions [] (functions_of x.functions)) (r : PlainView) (callee : Callee) (cell : CellId) (vs : List Value) (m : Mark) where
+  -- a send eats its event
+  pub send_outside : (callee : Callee) (vs : List Value) → Told (Ok cell) (result_of (cell_of (rule form_of.Send) false v) m.span tt)
+      → Gives false res t1 (eats 0 (λ e s. sends (record { agent = cell; callee = callee; args = vs; span = m.span }) m.span e.kind s) t.todo t) → Gives false res t1 (outside_means x (a_send callee) m v vs t)
+  send_outside callee vs told h =
+      subst (λ c. Gives false res t1 c) (sym (took false t form_of.Send false m.span v (λ c s. eats 0 (λ e s2. sends (record { agent = c; callee = callee; args = vs; span = m.span }) m.span e.kind s2) s.todo s) cell told)) h
+
+  -- an atom is swapped
+  pub update_outside : (form : UpdateForm) (callee : Callee) (vs : List Value) → ReadyIn (callable x) in_thread (an_update form callee) (length vs) → Told (Ok cell) (result_of (cell_of (rule (form_of.Update form)) false v) m.span tt)
+      → Gives false res t1 (swap_means x callee cell vs m.span t) → Gives false res t1 (outside_means x (an_update form callee) m v vs t)
+  update_outside Swap callee vs ready told h =
+      subst (λ c. Gives false res t1 c) (sym (took_outside x m v t (form_of.Update Swap) (λ c s. thread_update (around_it x) Swap c callee vs (apply (calls_on None x false) m.span) s) cell ready.0 told)) h
+  update_outside Alter callee vs ready told h = absurd ready.0
+  update_outside Commute callee vs ready told h = absurd ready.0
+
+-- ---- forms that update refs
+
+pub updates_ref : (form : UpdateForm) → MayStand in_dosync (rule (form_of.Update form)).stands → UpdatesRef form
+updates_ref Alter h = tt
+updates_ref Commute h = tt
+updates_ref Swap h = absurd h
+
+module _ (asks : FormAsk) (span : Span) (fault : FaultKind) (d : CellId) where
+  ref_took : (k : CellKind) (c : CellId) → c.kind ≡ k → Told (Ok d) (result_of (cell_if (same_kind k Ref) fault c) span tt) → RefCell d
+  ref_took Ref c is h = sym (ap (λ a. a.kind) (send_took true fault span c d h)) ∙ is
+  ref_took Atom c is h = absurd (subst Whole (sym h) tt)
+  ref_took Agent c is h = absurd (subst Whole (sym h) tt)
+
+  ref_of : (v : Value) → Told (Ok d) (result_of (cell_of (record { takes = Some Ref; stands = Inside; fault = fault; asks = asks }) true v) span tt) → RefCell d
+  ref_of (Cell c) h = ref_took c.kind c refl h
+  ref_of Nil h = absurd (subst Whole (sym h) tt)
+  ref_of (Truth b) h = absurd (subst Whole (sym h) tt)
+  ref_of (Int z) h = absurd (subst Whole (sym h) tt)
+  ref_of (Key bs) h = absurd (subst Whole (sym h) tt)
+  ref_of (Text bs) h = absurd (subst Whole (sym h) tt)
+  ref_of (Vector ds) h = absurd (subst Whole (sym h) tt)
+
+-- such a form takes a ref
+pub update_takes : (form : UpdateForm) (v : Value) (span : Span) (d : CellId) → UpdatesRef form → Told (Ok d) (result_of (cell_of (rule (form_of.Update form)) true v) span tt) → RefCell d
+update_takes Alter v span d ok h = ref_of ItsValue span NotARef d v h
+update_takes Commute v span d ok h = ref_of ItsValue span NotARef d v h
+update_takes Swap v span d ok h = absurd ok
+
+pub put_takes : (ks : List Known) (form : PutForm) (n : ℕ) (v : Value) (span : Span) (d : CellId) → ReadyIn ks in_dosync (a_put form) n → Told (Ok d) (result_of (cell_of (rule (form_of.Put form)) true v) span tt) → RefCell d
+put_takes ks RefSet n v span d ready h = ref_of Nothing span NotARef d v h
+put_takes ks Reset n v span d ready h = absurd ready.0
+
+module _ (x : Setting) (sound : SoundFunctions [] (functions_of x.functions)) (r : PlainView) (form : UpdateForm) (callee : Callee) (cell : CellId) (vs : List Value) (m : Mark) where
   abbrev made : Applies TxState
   made = apply (calls_on (Some r) x true) m.span
+
+  abbrev ends : Value → TxState → Completion TxState Value
+  ends w t = update_ends form m cell callee vs w t
 
   made_of : (us : List Value) (t : TxState) (res : Result Value ThreadStop) → SoundCallee (callable x) callee (length us) → Told res (applied x callee us m.span) → Gives true res t (made callee us t)
   made_of us t res fits told = told_applies true t x sound (forms_on (Some r) (around_it x)) true m.span callee us res fits told
 
-  module _ (t t1 : TxState) (v : Value) (fits : SoundCallee (callable x) callee (suc (length vs))) where
-    alter_after : taken (world_of r) cell t ≡ Completes v t1 → alter_means x r callee cell vs m.span t ≡ bind (made callee (v ∷ vs) t1) (λ w t2. done_as (set_ref cell w t2.done) m.span w t2)
-    alter_after h = ap (λ c. bind c (λ u t2. bind (made callee (u ∷ vs) t2) (λ w t3. done_as (set_ref cell w t3.done) m.span w t3))) h
+  parts : (k : UpdateForm) (t : TxState) → tx_update (world_of r) k m cell callee vs made t ≡ bind (update_begins (world_of r) k cell t) (λ v t1. bind (made callee (v ∷ vs) t1) (λ w t2. update_ends k m cell callee vs w t2))
+  parts Alter t = refl
+  parts Commute t = refl
+  parts Swap t = refl
 
-    pub alter_stop : taken (world_of r) cell t ≡ Completes v t1 → (y : ThreadStop) → Told {A = Value} (Err y) (applied x callee (v ∷ vs) m.span) → Stops true y t1 (alter_means x r callee cell vs m.span t)
-    alter_stop h y told = subst (λ c. Stops true y t1 c) (sym (alter_after h)) (stops_bind true y t1 (made callee (v ∷ vs) t1) (λ w t2. done_as (set_ref cell w t2.done) m.span w t2) (made_of (v ∷ vs) t1 (Err y) fits told))
+  pub update_unbegun : (y : ThreadStop) (t t1 : TxState) → Stops true y t1 (update_begins (world_of r) form cell t) → Stops true y t1 (update_means x r form callee cell vs m t)
+  update_unbegun y t t1 h = subst (λ c. Stops true y t1 c) (sym (parts form t)) (stops_bind true y t1 (update_begins (world_of r) form cell t) (λ v s. bind (made callee (v ∷ vs) s) ends) h)
 
-    pub alter_done : taken (world_of r) cell t ≡ Completes v t1 → (w : Value) (res : Result Value ThreadStop) (t2 : TxState) → Told (Ok w) (applied x callee (v ∷ vs) m.span)
-        → Gives true res t2 (done_as (set_ref cell w t1.done) m.span w t1) → Gives true res t2 (alter_means x r callee cell vs m.span t)
-    alter_done h w res t2 told g = subst (λ c. Gives true res t2 c) (sym (alter_after h ∙ ap (λ c. bind c (λ u t3. done_as (set_ref cell u t3.done) m.span u t3)) (made_of (v ∷ vs) t1 (Ok w) fits told))) g
+  module _ (t t1 : TxState) (v : Value) (fits : SoundCallee (callable x) callee (suc (length vs))) (begun : update_begins (world_of r) form cell t ≡ Completes v t1) where
+    update_after : update_means x r form callee cell vs m t ≡ bind (made callee (v ∷ vs) t1) ends
+    update_after = parts form t ∙ ap (λ c. bind c (λ u s. bind (made callee (u ∷ vs) s) ends)) begun
 
-  module _ (t : TxState) (v : Value) (fits : SoundCallee (callable x) callee (suc (length vs))) (is : v ≡ current (world_of r) t.done cell) where
-    keep : Value → TxState → Completion TxState Value
-    keep w t1 = Completes w (record t1 { done = commute_ref cell callee vs w t1.done; used = t1.used || m.wanted })
+    pub update_stop : (y : ThreadStop) → Told {A = Value} (Err y) (applied x callee (v ∷ vs) m.span) → Stops true y t1 (update_means x r form callee cell vs m t)
+    update_stop y told = subst (λ c. Stops true y t1 c) (sym update_after) (stops_bind true y t1 (made callee (v ∷ vs) t1) ends (made_of (v ∷ vs) t1 (Err y) fits told))
 
-    here : (res : Result Value ThreadStop) → Told res (applied x callee (v ∷ vs) m.span) → Gives true res t (made callee (current (world_of r) t.done cell ∷ vs) t)
-    here res told = subst (λ u. Gives true res t (made callee (u ∷ vs) t)) is (made_of (v ∷ vs) t res fits told)
+    pub update_done : (w : Value) (res : Result Value ThreadStop) (t2 : TxState) → Told (Ok w) (applied x callee (v ∷ vs) m.span) → Gives true res t2 (ends w t1) → Gives true res t2 (update_means x r form callee cell vs m t)
+    update_done w res t2 told g = subst (λ c. Gives true res t2 c) (sym (update_after ∙ ap (λ c. bind c ends) (made_of (v ∷ vs) t1 (Ok w) fits told))) g
 
-    pub commute_stop : (y : ThreadStop) → Told {A = Value} (Err y) (applied x callee (v ∷ vs) m.span) → Stops true y t (commute_means x r callee cell vs m t)
-    commute_stop y told = stops_bind true y t (made callee (current (world_of r) t.done cell ∷ vs) t) (λ w t1. Completes w (record t1 { done = commute_ref cell callee vs w t1.done; used = t1.used || m.wanted })) (here (Err y) told)
-
-    pub commute_done : (w : Value) (res : Result Value ThreadStop) (t2 : TxState) → Told (Ok w) (applied x callee (v ∷ vs) m.span)
-        → Gives true res t2 (Completes w (with_use (t.used || m.wanted) (commute_ref cell callee vs w t.done) t)) → Gives true res t2 (commute_means x r callee cell vs m t)
-    commute_done w res t2 told g =
-        subst (λ c. Gives true res t2 c) (sym (ap (λ c. bind c (λ u t1. Completes u (record t1 { done = commute_ref cell callee vs u t1.done; used = t1.used || m.wanted }))) (here (Ok w) told))) g
+-- what a form that updates does on the ref that it takes
+module _ (x : Setting) (r : PlainView) (m : Mark) (v : Value) (t : TxState) (cell : CellId) where
+  pub update_inside : (form : UpdateForm) (callee : Callee) (vs : List Value) → Told (Ok cell) (result_of (cell_of (rule (form_of.Update form)) true v) m.span tt)
+      → update_means x r form callee cell vs m t ≡ inside_means x r (an_update form callee) m v vs t
+  update_inside form callee vs told = sym (took true t (form_of.Update form) true m.span v (λ c s. tx_update (world_of r) form m c callee vs (apply (calls_on (Some r) x true) m.span) s) cell told)
 
 -- ---- where a fault may not come, or nothing else
 
@@ -284,62 +352,106 @@ ate_none book go (Fault f) t u h = absurd h
 ate_none book go Turns t u h = absurd h
 ate_none book go Memory t u h = absurd h
 
-module _ (x : Setting) (sound : SoundFunctions [] (functions_of x.functions)) (callee : Callee) (cell : CellId) (vs : List Value) (span : Span) (e : Seen) (t u : ThreadState) (eaten : Ate (home x.cells cell) e t u)
-    (fits : SoundCallee (callable x) callee (suc (length vs))) where
+-- what an event of a read, a reset or a send is
+reads_as : (c : CellId) (k : EventKind) (C : World) (t : ThreadState) → reads c k C t ≡ meant (is_read_of c k) (C c.number) t
+reads_as c (Read d) C t = refl
+reads_as c (Commit at view writes sent) C t = refl
+reads_as c (Retry since d n) C t = refl
+reads_as c (Fail at view) C t = refl
+reads_as c (Refused at view d) C t = refl
+reads_as c (Sent a) C t = refl
+reads_as c (SendRefused d) C t = refl
+reads_as c (Acted d n w) C t = refl
+reads_as c (Swapped w) C t = refl
+reads_as c (Broke at) C t = refl
+
+resets_as : (v : Value) (k : EventKind) (t : ThreadState) → resets v k t ≡ meant (is_swap_to v k) v t
+resets_as v (Read d) t = refl
+resets_as v (Commit at view writes sent) t = refl
+resets_as v (Retry since d n) t = refl
+resets_as v (Fail at view) t = refl
+resets_as v (Refused at view d) t = refl
+resets_as v (Sent a) t = refl
+resets_as v (SendRefused d) t = refl
+resets_as v (Acted d n w) t = refl
+resets_as v (Swapped w) t = refl
+resets_as v (Broke at) t = refl
+
+module _ (a : Action) (span : Span) (t : ThreadState) where
+  sent_meant : (b : Bool) → meant b (Cell a.agent) t ≡ sent_as a span t (if b then WasSent else NotSent)
+  sent_meant true = refl
+  sent_meant false = refl
+
+  sent_refused : (b : Bool) → (if b then Faults (fault_at AgentFailed span) t else Invalid) ≡ sent_as a span t (if b then WasRefused else NotSent)
+  sent_refused true = refl
+  sent_refused false = refl
+
+  sends_as : (k : EventKind) → sends a span k t ≡ sent_as a span t (sending a k)
+  sends_as (Read d) = refl
+  sends_as (Commit at view writes sent) = refl
+  sends_as (Retry since d n) = refl
+  sends_as (Fail at view) = refl
+  sends_as (Refused at view d) = refl
+  sends_as (Sent b) = sent_meant (same_action a b)
+  sends_as (SendRefused d) = sent_refused (same_cell a.agent d)
+  sends_as (Acted d n w) = refl
+  sends_as (Swapped w) = refl
+  sends_as (Broke at) = refl
+
+-- the same of an event that was eaten
+module _ (book : ℕ) (e : Seen) (t u : ThreadState) (eaten : Ate book e t u) where
+  pub ate_read : (c : CellId) (b : Bool) → b ≡ is_read_of c e.kind.now → eats book (λ a s. reads c a.kind a.C s) t.todo t ≡ meant b (world_of (plain_view e.here) c.number) u
+  ate_read c b is =
+      let w = world_of (plain_view e.here) in
+      ate book (λ a s. reads c a.kind a.C s) e t u eaten ∙ reads_as c e.kind.now w u ∙ ap (λ k. meant k (w c.number) u) (sym is)
+
+  pub ate_reset : (v : Value) (b : Bool) → b ≡ is_swap_to v e.kind.now → eats book (λ a s. resets v a.kind s) t.todo t ≡ meant b v u
+  ate_reset v b is = ate book (λ a s. resets v a.kind s) e t u eaten ∙ resets_as v e.kind.now u ∙ ap (λ k. meant k v u) (sym is)
+
+  pub ate_send : (a : Action) (span : Span) (q : Sending) → q ≡ sending a e.kind.now → eats book (λ b s. sends a span b.kind s) t.todo t ≡ sent_as a span u q
+  ate_send a span q is = ate book (λ b s. sends a span b.kind s) e t u eaten ∙ sends_as a span u e.kind.now ∙ ap (λ k. sent_as a span u k) (sym is)
+
+-- the event of a swap
+module _ (book : ℕ) (e : Seen) (t u : ThreadState) (eaten : Ate book e t u) (c : CellId) (g : Value → ThreadState → Completion ThreadState Value) where
+  abbrev swapping : Completion ThreadState Value
+  swapping = eats book (λ a s. swaps c g a.kind a.R a.C s) t.todo t
+
+  at_event : swapping ≡ swaps c g e.kind.now (world_of (plain_view e.start)) (world_of (plain_view e.here)) u
+  at_event = ate book (λ a s. swaps c g a.kind a.R a.C s) e t u eaten
+
+  pub ate_swap : (new : Value) → swap_of e.kind.now ≡ Some new → swapping ≡ swap_ends (Some new) (g (world_of (plain_view e.here) c.number) u)
+  ate_swap new to = at_event ∙ swaps_to c g (world_of (plain_view e.start)) (world_of (plain_view e.here)) u e.kind.now new to
+
+  pub ate_broken : is_broke e.kind.now ≡ true → swapping ≡ swap_ends None (g (world_of (plain_view e.start) c.number) u)
+  ate_broken broken = at_event ∙ swaps_broken c g (world_of (plain_view e.start)) (world_of (plain_view e.here)) u e.kind.now broken
+
+  pub ate_other : swap_of e.kind.now ≡ None → is_broke e.kind.now ≡ false → swapping ≡ Invalid
+  ate_other no_swap whole = at_event ∙ swaps_else c g (world_of (plain_view e.start)) (world_of (plain_view e.here)) u e.kind.now no_swap whole
+
+-- what it makes of what the callee gave
+swap_named : (w : Value) (u : ThreadState) (b : Bool) → Gives false (if b then Ok w else Err Wrong) u (meant b w u)
+swap_named w u true = refl
+swap_named w u false = (refl, refl)
+
+swap_given : (o : Option Value) (r : Result Value ThreadStop) (u : ThreadState) (c : Completion ThreadState Value) → Gives false r u c → Gives false (swap_gives r o) u (swap_ends o c)
+swap_given (Some new) (Ok w) u c h = subst (λ d. Gives false (swap_gives (Ok w) (Some new)) u (faultless d (λ z s. meant (same_value z new) z s))) (sym h) (swap_named w u (same_value w new))
+swap_given (Some new) (Err y) u c h = faultless_stop y u c (λ z s. meant (same_value z new) z s) h
+swap_given None (Ok w) u c h = (refl, ap (λ d. faulted d (λ f s. Faults f s)) h)
+swap_given None (Err y) u c h = faulted_stop y u c h
+
+module _ (x : Setting) (sound : SoundFunctions [] (functions_of x.functions)) (callee : Callee) (cell : CellId) (vs : List Value) (span : Span) (t u : ThreadState) where
   abbrev on_value : Value → ThreadState → Completion ThreadState Value
   on_value v s = apply (calls_on None x false) span callee (v ∷ vs) s
 
-  at_event : swap_means x callee cell vs span t ≡ swaps cell on_value e.kind.now (world_of (plain_view e.start)) (world_of (plain_view e.here)) u
-  at_event = ate (home x.cells cell) (λ a s. swaps cell on_value a.kind a.R a.C s) e t u eaten
+  pub swap_stop : (book : ℕ) (y : ThreadStop) → book ≡ home x.cells cell → SwapsNone book y t u → Stops false y u (swap_means x callee cell vs span t)
+  swap_stop book y is h = subst (λ b. SwapsNone b y t u) is h cell on_value
 
-  value_given : (v : Value) (res : Result Value ThreadStop) → Told res (applied x callee (v ∷ vs) span) → Gives false res u (on_value v u)
-  value_given v res told = told_applies false u x sound (forms_on None (around_it x)) false span callee (v ∷ vs) res fits told
-
-  module _ (new : Value) (to : swap_of e.kind.now ≡ Some new) (v : Value) (is : v ≡ world_of (plain_view e.here) cell.number) where
-    swapping : swap_means x callee cell vs span t ≡ faultless (on_value v u) (λ w s. meant (same_value w new) w s)
-    swapping = at_event ∙ swaps_to cell on_value (world_of (plain_view e.start)) (world_of (plain_view e.here)) u e.kind.now new to ∙ ap (λ w. faultless (on_value w u) (λ z s. meant (same_value z new) z s)) (sym is)
-
-    given : (w : Value) (b : Bool) → Told (Ok w) (applied x callee (v ∷ vs) span) → b ≡ same_value w new → swap_means x callee cell vs span t ≡ meant b w u
-    given w b told same = swapping ∙ ap (λ c. faultless c (λ z s. meant (same_value z new) z s)) (value_given v (Ok w) told) ∙ ap (λ k. meant k w u) (sym same)
-
-    pub swap_same : (w : Value) → Told (Ok w) (applied x callee (v ∷ vs) span) → true ≡ same_value w new → swap_means x callee cell vs span t ≡ Completes w u
-    swap_same w told same = given w true told same
-
-    pub swap_other : (w : Value) → Told (Ok w) (applied x callee (v ∷ vs) span) → false ≡ same_value w new → swap_means x callee cell vs span t ≡ Invalid
-    swap_other w told same = given w false told same
-
-    pub swap_stop : (y : ThreadStop) → Told {A = Value} (Err y) (applied x callee (v ∷ vs) span) → Stops false (stop_without_fault y) u (swap_means x callee cell vs span t)
-    swap_stop y told =
-        subst (λ c. Stops false (stop_without_fault y) u c) (sym swapping) (faultless_stop y u (on_value v u) (λ w s. meant (same_value w new) w s) (value_given v (Err y) told))
-
-    named : (w : Value) (b : Bool) → b ≡ same_value w new → Told (Ok w) (applied x callee (v ∷ vs) span) → Gives false (if b then Ok w else Err Wrong) u (swap_means x callee cell vs span t)
-    named w true same told = swap_same w told same
-    named w false same told = (refl, swap_other w told same)
-
-    gives_named : (r : Result Value ThreadStop) → Told r (applied x callee (v ∷ vs) span) → Gives false (swapped_to r new) u (swap_means x callee cell vs span t)
-    gives_named (Ok w) told = named w (same_value w new) refl told
-    gives_named (Err y) told = swap_stop y told
-
-  -- what a swap gives that the event names
-  pub swap_gives : (new : Value) → swap_of e.kind.now ≡ Some new → (r : Result Value ThreadStop) → Told r (applied x callee (world_of (plain_view e.here) cell.number ∷ vs) span) → Gives false (swapped_to r new) u (swap_means x callee cell vs span t)
-  swap_gives new to r told = gives_named new to (world_of (plain_view e.here) cell.number) refl r told
-
-  pub swap_else : swap_of e.kind.now ≡ None → is_broke e.kind.now ≡ false → swap_means x callee cell vs span t ≡ Invalid
-  swap_else no_swap whole = at_event ∙ swaps_else cell on_value (world_of (plain_view e.start)) (world_of (plain_view e.here)) u e.kind.now no_swap whole
-
-  module _ (broken : is_broke e.kind.now ≡ true) (v : Value) (is : v ≡ world_of (plain_view e.start) cell.number) where
-    breaking : swap_means x callee cell vs span t ≡ faulted (on_value v u) (λ f s. Faults f s)
-    breaking = at_event ∙ swaps_broken cell on_value (world_of (plain_view e.start)) (world_of (plain_view e.here)) u e.kind.now broken ∙ ap (λ w. faulted (on_value w u) (λ f s. Faults f s)) (sym is)
-
-    pub broken_given : (w : Value) → Told (Ok w) (applied x callee (v ∷ vs) span) → swap_means x callee cell vs span t ≡ Invalid
-    broken_given w told = breaking ∙ ap (λ c. faulted c (λ f s. Faults f s)) (value_given v (Ok w) told)
-
-    pub broken_stop : (y : ThreadStop) → Told {A = Value} (Err y) (applied x callee (v ∷ vs) span) → Stops false y u (swap_means x callee cell vs span t)
-    broken_stop y told = subst (λ c. Stops false y u c) (sym breaking) (faulted_stop y u (on_value v u) (value_given v (Err y) told))
-
-    pub broken_gives : (r : Result Value ThreadStop) → Told r (applied x callee (v ∷ vs) span) → Gives false (no_value r) u (swap_means x callee cell vs span t)
-    broken_gives (Ok w) told = (refl, broken_given w told)
-    broken_gives (Err y) told = broken_stop y told
+  pub swap_done : (book : ℕ) (w : PlainView) (o : Option Value) (v : Value) (r res : Result Value ThreadStop) → book ≡ home x.cells cell → SwapAte book w o t u → v ≡ world_of w cell.number
+      → SoundCallee (callable x) callee (suc (length vs)) → Told r (applied x callee (v ∷ vs) span) → res ≡ swap_gives r o → Gives false res u (swap_means x callee cell vs span t)
+  swap_done book w o v r res is eaten value fits told ends =
+      let here = subst (λ b. SwapAte b w o t u) is eaten cell on_value in
+      let given = swap_given o r u (on_value v u) (told_applies false u x sound (forms_on None (around_it x)) false span callee (v ∷ vs) r fits told) in
+      subst (λ q. Gives false q u (swap_means x callee cell vs span t)) (sym ends) (subst (λ c. Gives false (swap_gives r o) u c) (sym (here ∙ ap (λ a. swap_ends o (on_value a u)) (sym value))) given)
 
 -- ---- a pure function in a transaction of its own, on no world
 

@@ -1,37 +1,28 @@
--- What a pure function means, by what a call of it means.
-use Rattle.std.proofs.Common.{◌≡◌, ℕ, true, false, List, [], length, Some, Result, sym, ap, ◌∙◌, subst, subst₂}
+-- What a pure function means, by what is told where it is applied.
+use Rattle.std.proofs.Common.{◌≡◌, ℕ, false, List, length, None, Result, sym, subst, subst₂}
 use Rattle.txs_value.specs.declared.cell.CellDefinition.{CellDefinition}
 use Rattle.txs_value.specs.declared.op.Callee.TheVariants.{Function}
 use Rattle.txs_value.specs.declared.value.Value.{Value}
-use Rattle.txs_eval.specs.Evaluated.{Told, Yields, forms_on, around_it, call_means, tx_state}
-use Rattle.txs_tree.specs.Known.{is_pure, known}
-use Rattle.txs_tree.specs.Meaning.{call_at}
-use Rattle.txs_tree.specs.Pure.{pure_meaning}
-use Rattle.txs_eval.specs.Setting.{Setting, callable, zone_in}
-use Rattle.txs_tree.specs.Sound.{SoundFunctions, SoundCall, PureCall}
+use Rattle.txs_eval.specs.Evaluated.{applied}
+use Rattle.txs_eval_work.specs.Worked.{Told}
+use Rattle.txs_tree.specs.Known.{known}
+use Rattle.txs_tree.specs.Meaning.{apply}
+use Rattle.txs_tree.specs.Pure.{nowhere, pure_calls, pure_meaning}
+use Rattle.txs_eval.specs.Setting.{Setting, callable}
+use Rattle.txs_tree.specs.Sound.{SoundCallee, PureCall}
 use Rattle.txs_tree.specs.View.{functions_of}
-use Rattle.txs_eval.specs.Views.{PlainView}
 use Rattle.txs_tree.specs.declared.node.Function as function
-use Rattle.txs_eval.specs.declared.state.State.{State}
-use Rattle.txs_eval.specs.declared.stop.ThreadStop.{ThreadStop}
-use Rattle.txs_eval.proofs.Applying.{told_from}
-use Rattle.txs_eval.proofs.Called.{pure_here, pure_everywhere}
+use Rattle.txs_eval_work.specs.declared.stop.ThreadStop.{ThreadStop}
+use Rattle.txs_eval.proofs.Called.{pure_everywhere}
 use Rattle.txs_tree.proofs.Callable.{length-functions_of}
 use Rattle.txs_eval.proofs.Ends.{whole}
-use Rattle.txs_tree.proofs.PureLaw.{Agrees, call_agrees}
 
-module _ (cells : List CellDefinition) (fs : List function.Function) (n f : ℕ) (vs ws : List Value) (o : PlainView) (setting : Setting) (same : setting ≡ whole cells fs n (Some o)) (copy : ws ≡ vs) (pure : PureCall (known (functions_of fs)) f (length vs)) where
-  pub callable_here : SoundCall (callable setting) (zone_in setting) f (length ws)
-  callable_here =
-      subst₂ (λ y us. SoundCall (callable y) (zone_in y) f (length us)) (sym same) (sym copy) (pure_here (whole cells fs n (Some o)) f (length vs) (pure_everywhere cells fs n f (length vs) (Some o) pure))
+module _ (cells : List CellDefinition) (fs : List function.Function) (n f : ℕ) (vs ws : List Value) (setting : Setting) (same : setting ≡ whole cells fs n None) (copy : ws ≡ vs) where
+  pub callable_here : PureCall (known (functions_of fs)) f (length vs) → SoundCallee (callable setting) (Function f) (length ws)
+  callable_here pure = subst₂ (λ y us. SoundCallee (callable y) (Function f) (length us)) (sym same) (sym copy) (pure_everywhere cells fs n f (length vs) None pure)
 
-  -- what the call gives is what is told of the pure meaning
-  pub told_pure : (sound : SoundFunctions [] (functions_of fs)) (r : Result Value ThreadStop) (st out : State) → Yields setting r out (call_means setting f ws st) → Told r (pure_meaning n (functions_of fs) (Function f) vs)
-  told_pure sound r st out h =
-      let fns = functions_of fs in
-      let s = tx_state st.tx in
-      let x = whole cells fs n (Some o) in
-      let fx = forms_on (Some o) (around_it x) in
-      let law = call_agrees s fx n true fns sound (length fns) f vs (ap is_pure pure.found ∙ pure.pure) in
-      let here : Agrees s (pure_meaning n fns (Function f) vs) (call_means x f vs st) = subst (λ d. Agrees s (pure_meaning n fns (Function f) vs) (call_at fx n fns d true f vs s)) (length-functions_of fs) law in
-      told_from s (tx_state out.tx) r (pure_meaning n fns (Function f) vs) (call_means x f vs st) here (subst₂ (λ y us. Yields y r out (call_means y f us st)) same copy h)
+  -- what is told of it there is told of the pure meaning
+  pub told_pure : (r : Result Value ThreadStop) → Told r (applied setting (Function f) ws nowhere) → Told r (pure_meaning n (functions_of fs) (Function f) vs)
+  told_pure r h =
+      let here : Told r (applied (whole cells fs n None) (Function f) vs nowhere) = subst₂ (λ y us. Told r (applied y (Function f) us nowhere)) same copy h in
+      subst (λ d. Told r (apply (pure_calls n (functions_of fs) d false) nowhere (Function f) vs tt)) (sym (length-functions_of fs)) here

@@ -1,8 +1,8 @@
 -- A recur of a sound node has as many values as the loop in whose tail position the node stands, and the commutes that a sound
 -- node keeps have pure callees of as many values.
-use Rattle.std.proofs.Common.{ℕ, zero, suc, ◌==◌, ◌&&◌, ◌||◌, ◌-◌, ◌≤◌, Bool, true, false, List, [], ◌∷◌, ◌++◌, Option, Some, None, Result, Ok, Err, sym, ap, ◌∙◌, subst, subst₂, refl, length, nat_eq, if◌then◌else◌, ◌≡◌, ◌+◌, arith}
+use Rattle.std.proofs.Common.{ℕ, zero, suc, ◌==◌, ◌&&◌, ◌-◌, ◌≤◌, Bool, true, false, List, [], ◌∷◌, ◌++◌, Option, Some, None, Result, Ok, Err, sym, ap, ◌∙◌, subst, refl, length, nat_eq, if◌then◌else◌, ◌≡◌, ◌+◌, arith}
 use Rattle.std.proofs.lemmas.Bool.{false≢true}
-use Rattle.txs_asks.specs.Ask.{Writes, same_writes, same_cell, same_value, same_action, same_actions}
+use Rattle.txs_asks.specs.Ask.{same_writes, same_cell, same_value, same_action, same_actions}
 use Rattle.txs_asks.specs.SeenEvent.{SeenEvent, home}
 use Rattle.txs_asks.specs.declared.event.EventKind.{EventKind}
 use Rattle.txs_asks.specs.declared.event.EventKind.TheVariants.{Read, Commit, Retry, Fail, Refused, Send as Sent, SendRefused, Act, Swap as Swapped, Broke}
@@ -32,16 +32,16 @@ use Rattle.txs_value.specs.declared.op.Callee.TheVariants.{Core as CoreOp, Funct
 use Rattle.txs_value.specs.declared.value.CellId.{CellId}
 use Rattle.txs_value.specs.declared.value.Value.{Value}
 use Rattle.txs_value.specs.declared.value.Value.TheVariants.{Nil, Truth, Int, Key, Text, Vector, Cell}
-use Rattle.txs_eval.specs.Evaluated.{Part, part, is_on, forms_on, calls_on, around_it, means, body_means, SoundCommutes}
+use Rattle.txs_eval.specs.Evaluated.{Part, part, is_on, forms_on, calls_on, around_it, means, SoundCommutes}
 use Rattle.txs_tree.specs.Known.{Known, known}
-use Rattle.txs_tree.specs.Meaning.{Completion, Completes, Recurs, Faults, Retries, Waits, OutOfTurns, Invalid, bind, again, closed, allowed, give, result_of, Applies, apply, turns, Effects, eval, eval_all, eval_let, eval_do, call_at}
-use Rattle.txs_eval.specs.Setting.{Setting, deeper, callable, zone_on, on_view}
-use Rattle.txs_tree.specs.Sound.{SoundCall, SoundCallee, SoundTree, SoundAll, SoundLet, SoundDo, SoundFunctions, in_thread, in_dosync}
+use Rattle.txs_tree.specs.Meaning.{Completion, Completes, Recurs, Faults, Retries, Waits, OutOfTurns, Invalid, bind, again, closed, allowed, give, result_of, Applies, apply, turns, Effects, eval, eval_all, eval_let, eval_do}
+use Rattle.txs_eval.specs.Setting.{Setting, callable, zone_on, on_view}
+use Rattle.txs_tree.specs.Sound.{SoundCall, SoundCallee, SoundTree, SoundAll, SoundLet, SoundDo, SoundFunctions, in_dosync}
 use Rattle.txs_tree.specs.Thread.{ThreadState, Surroundings, Transacting, on_events, with_tx, eats, meant, reads, resets, swaps, faulted, faultless, sends, over, run_of, ends_tx, is_retry, eats_tx, thread_look, thread_put, thread_update, outside_form}
-use Rattle.txs_tree.specs.Transaction.{TxState, in_transaction, on_cell, own, current, noted, taken, tx_look, tx_put, tx_update, done_as, tx_start, tx_meaning, final_writes}
+use Rattle.txs_tree.specs.Transaction.{TxState, on_cell, own, current, noted, tx_look, tx_put, tx_update, done_as, final_writes}
 use Rattle.txs_tree.specs.Tree.{Mark, Tree, Const, Local, If, Do, Let, Loop, Recur, Core, Call, VectorOf, Println, Dosync, Look, Put, Update, Send, Trees, none, more, count, PlainFunction}
 use Rattle.txs_tree.specs.View.{functions_of}
-use Rattle.txs_eval.specs.Views.{PlainView, world_of}
+use Rattle.txs_eval_work.specs.Views.{PlainView, world_of}
 use Rattle.txs_tree.specs.declared.node.Function as function
 use Rattle.txs_eval.specs.declared.state.State.{State}
 use Rattle.txs_eval.proofs.Called.{called_body, pure_here, as_many}

@@ -1,12 +1,11 @@
 -- A node by how it is evaluated: what is sound of its parts, how many they are, and what it means.
-use Rattle.std.proofs.Common.{◌≡◌, ℕ, suc, ◌+◌, ◌*◌, ◌<◌, true, List, length, Option, Some, None, Result, Ok, Err, MatchResult, refl, sym, ap, ◌∙◌, subst, arith}
-use Rattle.txs_value.specs.declared.fault.Span.{Span}
+use Rattle.std.proofs.Common.{◌≡◌, ℕ, ◌+◌, ◌*◌, ◌<◌, List, Option, None, Result, Ok, Err, MatchResult, refl, sym, ap, ◌∙◌, subst, arith}
 use Rattle.txs_value.specs.declared.value.Value.{Value}
 use Rattle.txs_tree.specs.Known.{Known}
 use Rattle.txs_tree.specs.Meaning.{Completion, Completes}
 use Rattle.txs_tree.specs.Sound.{Zone, SoundTree, SoundAll, nodes, nodes_in}
-use Rattle.txs_tree.specs.Tree.{Mark, Tree, Trees, Look, Put, Update, Send, none, more, count}
-use Rattle.txs_eval.specs.Evaluated.{Part, part, is_on, Stops, StepsOn, Yields, Steps, Finishes, Ready, ReadyIn, means, strict_means, form_means, step_of}
+use Rattle.txs_tree.specs.Tree.{Mark, Tree, Trees, count}
+use Rattle.txs_eval.specs.Evaluated.{Part, part, is_on, StepsOn, Yields, Steps, Finishes, ReadyIn, means, strict_means, form_means, step_of}
 use Rattle.txs_eval.specs.Setting.{Setting, callable, zone_in}
 use Rattle.txs_eval.specs.Shapes.{strict_tree, IsForm}
 use Rattle.txs_eval.specs.declared.evaluate.Step.{Step}
@@ -16,8 +15,8 @@ use Rattle.txs_eval.specs.declared.shape.Act.TheVariants.{Look as a_look, Put as
 use Rattle.txs_eval.specs.declared.shape.Strict.{Strict}
 use Rattle.txs_eval.specs.declared.shape.Strict.TheVariants.{Recur as a_recur, Core as a_core, Call as a_call, Vector as a_vector, Println as a_println}
 use Rattle.txs_eval.specs.declared.state.State.{State}
-use Rattle.txs_eval.specs.declared.stop.ThreadStop.{ThreadStop}
-use Rattle.txs_eval.specs.declared.stop.ThreadStop.TheVariants.{Memory}
+use Rattle.txs_eval_work.specs.declared.stop.ThreadStop.{ThreadStop}
+use Rattle.txs_eval_work.specs.declared.stop.ThreadStop.TheVariants.{Memory}
 use Rattle.txs_eval.proofs.Evaluation.{put_whole}
 
 -- ---- what is given

@@ -1,6 +1,6 @@
 -- What the plain evaluators answer.
-use Rattle.std.specs.Prelude.{◌≡◌, ◌&&◌, ◌==◌, ◌||◌, ◌-◌, ◌<◌, ℕ, zero, suc, Bool, true, false, List, [], ◌∷◌, ◌++◌, map, drop, length, Option, Some, None, Result, Ok, Err, if◌then◌else◌, ⊤}
-use Rattle.txs_asks.specs.Ask.{Writes, same_value, same_writes, same_actions}
+use Rattle.std.specs.Prelude.{◌≡◌, ◌&&◌, ◌==◌, ◌-◌, ℕ, suc, Bool, true, false, List, [], ◌∷◌, ◌++◌, map, drop, length, Option, Some, None, Result, Ok, Err, if◌then◌else◌, ⊤}
+use Rattle.txs_asks.specs.Ask.{Writes, same_cell, same_value, same_writes, same_action, same_actions}
 use Rattle.txs_asks.specs.SeenEvent.{SeenEvent, home}
 use Rattle.txs_asks.specs.declared.event.EventKind.{EventKind}
 use Rattle.txs_asks.specs.declared.event.EventKind.TheVariants.{Read, Commit as Committed, Fail as Failing, Refused as Refusing, Send as Sent, SendRefused, Swap as Swapped, Broke}
@@ -16,11 +16,16 @@ use Rattle.txs_tree.specs.Meaning.{Completion, Completes, Recurs, Faults, Retrie
 use Rattle.txs_tree.specs.Pure.{pure_calls}
 use Rattle.txs_eval.specs.Setting.{Setting, callable, zone_in}
 use Rattle.txs_tree.specs.Sound.{Zone, MayStand, SoundCall, SoundCallee}
-use Rattle.txs_tree.specs.Thread.{TxRun, ThreadState, Surroundings, Transacting, on_events, eats, swaps, over, faultless, faulted, meant, with_tx, run_of, ends_tx, eats_tx}
+use Rattle.txs_tree.specs.Thread.{TxRun, ThreadState, Surroundings, Transacting, on_events, eats, swaps, faultless, faulted, meant, with_tx, run_of, ends_tx, eats_tx}
 use Rattle.txs_tree.specs.Transaction.{TxState, in_transaction, tx_update, tx_meaning, redone, final_writes}
 use Rattle.txs_tree.specs.Tree.{Mark, Tree, Trees, count, PlainProgram, PlainThread, ThreadSource}
-use Rattle.txs_tree.specs.View.{tree_of, functions_of, mark_of}
-use Rattle.txs_eval.specs.Views.{PlainView, world_of}
+use Rattle.txs_tree.specs.View.{tree_of, functions_of}
+use Rattle.txs_eval_work.specs.Worked.{Gives, GivesOf, Stops, stop_without_fault, tx_state}
+use Rattle.txs_eval_work.specs.Views.{PlainView, plain_view, world_of}
+use Rattle.txs_eval.specs.declared.closing.Closing.{Closing}
+use Rattle.txs_eval.specs.declared.closing.Closing.TheVariants.{Refused as ARefused, Committed as ACommitted, Stopped as AStopped}
+use Rattle.txs_eval.specs.declared.thread.Sending.{Sending}
+use Rattle.txs_eval.specs.declared.thread.Sending.TheVariants.{Sent as WasSent, Refused as WasRefused, Other as NotSent}
 use Rattle.txs_eval.specs.declared.shape.Act.{Act}
 use Rattle.txs_eval.specs.declared.shape.Act.TheVariants.{Look as a_look, Put as a_put, Update as an_update, Send as a_send}
 use Rattle.txs_eval.specs.declared.evaluate.Step.{Step}
@@ -35,25 +40,23 @@ use Rattle.txs_eval.specs.declared.pure_call.EvalStop.TheVariants.{Fault as AFau
 use Rattle.txs_eval.specs.declared.state.Progress.{Progress}
 use Rattle.txs_eval.specs.declared.state.State.{State}
 use Rattle.txs_eval.specs.declared.state.Transacted.{Transacted}
-use Rattle.txs_eval.specs.declared.state.TxWork.{TxWork}
-use Rattle.txs_eval.specs.declared.stop.ThreadStop.{ThreadStop}
-use Rattle.txs_eval.specs.declared.stop.ThreadStop.TheVariants.{Fault, Event as NoEvent, Wrong as OtherEvent, Turns as NoTurns, Memory}
+use Rattle.txs_eval_work.specs.declared.stop.ThreadStop.{ThreadStop}
+use Rattle.txs_eval_work.specs.declared.stop.ThreadStop.TheVariants.{Fault, Event as NoEvent, Wrong as OtherEvent, Turns as NoTurns, Memory}
 use Rattle.txs_eval.specs.declared.transaction.TxMeaning.{TxMeaning}
 use Rattle.txs_eval.specs.declared.seen.Seen.{Seen}
 use Rattle.txs_value.specs.Forms.{rule}
 use Rattle.txs_value.specs.Limits.{reruns}
 use Rattle.txs_value.specs.Places.{nth, fault_at}
 use Rattle.txs_value.specs.declared.action.Action.{Action}
-use Rattle.txs_value.specs.declared.fault.Fault as fault
 use Rattle.txs_value.specs.declared.fault.FaultKind.TheVariants.{AgentFailed}
 use Rattle.txs_value.specs.declared.fault.Span.{Span}
 use Rattle.txs_value.specs.declared.form.CellForm.TheVariants as form_of
-use Rattle.txs_value.specs.declared.form.UpdateForm.TheVariants.{Alter, Commute as CommuteForm}
+use Rattle.txs_value.specs.declared.form.UpdateForm.{UpdateForm}
 use Rattle.txs_value.specs.declared.form.Standing.TheVariants.{Outside}
 use Rattle.txs_value.specs.declared.op.Callee.{Callee}
 use Rattle.txs_value.specs.declared.value.CellId.{CellId}
-use Rattle.txs_value.specs.declared.value.CellKind.TheVariants.{Ref}
 use Rattle.txs_value.specs.declared.value.Value.{Value}
+use Rattle.txs_value.specs.declared.value.Value.TheVariants.{Cell}
 
 -- ---- threads
 
@@ -87,6 +90,10 @@ Concluded (Err OtherEvent) needs end = (needs ≡ Wrong) × (end ≡ None)
 Concluded (Err NoTurns) needs end = (needs ≡ Turns) × (end ≡ None)
 Concluded (Err Memory) needs end = ⊥
 
+-- the same of a thread whose body ends so
+abbrev pub Accounts : ThreadMeaning → ℕ → ThreadState → Result Value ThreadStop → Type 0
+Accounts m events s end = (lack : Needs) × (outcome : Option Outcome) × Concluded end lack outcome × Account m events s lack outcome
+
 -- An evaluation on so many events tells how the meaning ends, with the bytes that are printed, the events that are eaten and the
 -- transactions until then. A meaning at which the thread doesn't end says what it needs. No thread ends in a recur or runs
 -- again as a whole.
@@ -105,10 +112,6 @@ idle es = record { todo = es; printed = []; txs = [] }
 
 -- ---- what an evaluation has done
 
--- what a transaction has done
-abbrev pub tx_state : TxWork → TxState
-tx_state x = record { done = x.done; reads = x.reads.items; used = x.used }
-
 -- a transaction that came to its end
 abbrev pub tx_run : Transacted → TxRun
 tx_run r = record { body = tree_of r.body.now; locals = r.locals; wanted = r.wanted; result = r.result; state = tx_state r.work }
@@ -120,14 +123,6 @@ told_run r = record { result = Ok r.result; done = r.work.done; reads = r.work.r
 -- how far a thread is
 abbrev pub thread_state : Progress → ThreadState
 thread_state p = record { todo = drop p.eaten (seen_events p.events.now); printed = p.printed.items; txs = map tx_run p.txs.items }
-
--- with other work
-abbrev pub with_work : Work → TxState → TxState
-with_work w t = record t { done = w }
-
--- with other work, and a result of a commute used or not
-abbrev pub with_use : Bool → Work → TxState → TxState
-with_use used w t = record t { done = w; used = used }
 
 -- what counts while this transaction runs, or none
 abbrev pub Part : Option PlainView → Type 0
@@ -167,32 +162,6 @@ calls_in x = calls_on x.world x
 
 -- ---- answers
 
--- A stop is that of the meaning, with the state that it leaves, or there was no memory. In a transaction nothing is waited for,
--- and nothing can be wrong.
-abbrev pub Stops : {S A : Type 0} → Bool → ThreadStop → S → Completion S A → Type 0
-Stops inside (Fault f) s c = c ≡ Faults f s
-Stops inside NoEvent s c = (inside ≡ false) × (c ≡ Waits s)
-Stops inside OtherEvent s c = (inside ≡ false) × (c ≡ Invalid)
-Stops inside NoTurns s c = c ≡ OutOfTurns s
-Stops inside Memory s c = ⊤
-
--- the items that were asked for, with the state that is left, are those of the meaning, or it stops so
-abbrev pub GivesOf : {S V A : Type 0} → (V → A) → Bool → Result V ThreadStop → S → Completion S A → Type 0
-GivesOf f inside (Ok v) s c = c ≡ Completes (f v) s
-GivesOf f inside (Err y) s c = Stops inside y s c
-
--- the value and the state that is left are those of the meaning, or it stops so
-abbrev pub Gives : {S A : Type 0} → Bool → Result A ThreadStop → S → Completion S A → Type 0
-Gives inside r s c = GivesOf (λ v. v) inside r s c
-
--- the same where there is no state
-abbrev pub Told : {A : Type 0} → Result A ThreadStop → Completion (Unit {0}) A → Type 0
-Told r c = Gives true r tt c
-
--- the same of parts of what was given
-abbrev pub ToldOf : {V A : Type 0} → (V → A) → Result V ThreadStop → Completion (Unit {0}) A → Type 0
-ToldOf f r c = GivesOf f true r tt c
-
 -- the same here
 abbrev pub Yields : (x : Setting) → {A : Type 0} → Result A ThreadStop → State → Completion (Part x.world) A → Type 0
 Yields x r s c = Gives (is_on x.world) r (part x.world s) c
@@ -216,23 +185,20 @@ abbrev pub step_of : Result Value ThreadStop → Result Step ThreadStop
 step_of (Ok v) = Ok (AValue v)
 step_of (Err y) = Err y
 
--- where no fault may come, one is wrong
-abbrev pub stop_without_fault : ThreadStop → ThreadStop
-stop_without_fault (Fault f) = OtherEvent
-stop_without_fault NoEvent = NoEvent
-stop_without_fault OtherEvent = OtherEvent
-stop_without_fault NoTurns = NoTurns
-stop_without_fault Memory = Memory
+-- whether the value is the one that a swap names, none where it is broken
+abbrev pub names : Option Value → Value → Bool
+names (Some new) v = same_value v new
+names None v = false
 
--- a value that an event names is the one that was made, and no fault may come
-abbrev pub swapped_to : Result Value ThreadStop → Value → Result Value ThreadStop
-swapped_to (Ok v) new = if same_value v new then Ok v else Err OtherEvent
-swapped_to (Err y) new = Err (stop_without_fault y)
+-- why a swap gives no value: a broken one alone may fault
+abbrev pub swap_stop : Option Value → ThreadStop → ThreadStop
+swap_stop (Some new) y = stop_without_fault y
+swap_stop None y = y
 
--- where no value may come, one is wrong
-abbrev pub no_value : Result Value ThreadStop → Result Value ThreadStop
-no_value (Ok v) = Err OtherEvent
-no_value (Err y) = Err y
+-- what a swap gives where its callee gave this
+abbrev pub swap_gives : Result Value ThreadStop → Option Value → Result Value ThreadStop
+swap_gives (Ok v) o = if names o v then Ok v else Err OtherEvent
+swap_gives (Err y) o = Err (swap_stop o y)
 
 -- an event of the book was eaten
 abbrev pub Ate : ℕ → Seen → ThreadState → ThreadState → Type 0
@@ -246,14 +212,28 @@ EatsNone book (Fault f) t u = ⊥
 EatsNone book NoTurns t u = ⊥
 EatsNone book Memory t u = ⊥
 
--- where the item with this number stands among ascending ones, or where it would stand
-abbrev pub Finds : {X : Type 0} → (X → ℕ) → List X → ℕ → Result ℕ ℕ → Type 0
-Finds n [] k (Ok i) = ⊥
-Finds n [] k (Err i) = i ≡ 0
-Finds n (x ∷ xs) k (Ok zero) = n x ≡ k
-Finds n (x ∷ xs) k (Ok (suc i)) = (n x < k) × Finds n xs k (Ok i)
-Finds n (x ∷ xs) k (Err zero) = k < n x
-Finds n (x ∷ xs) k (Err (suc i)) = (n x < k) × Finds n xs k (Err i)
+-- the retries of a transaction were eaten, and the event of its end
+abbrev pub EndAte : Seen → ThreadState → ThreadState → Type 0
+EndAte e t u =
+    (d : Transacting) (f : Applies ThreadState) → eats_tx (suc reruns) d f t.todo t ≡ ends_tx d f e.kind.now (world_of (plain_view e.start)) (world_of (plain_view e.view)) (world_of (plain_view e.here)) u
+
+-- there is no such event, or there are too many retries
+abbrev pub EndsNone : Span → ThreadStop → ThreadState → ThreadState → Type 0
+EndsNone span y t u = (d : Transacting) (f : Applies ThreadState) → d.mark.span ≡ span → Stops false y u (eats_tx (suc reruns) d f t.todo t)
+
+-- what a swap makes of what its callee gave, where the event names a value, or is a broken swap
+abbrev pub swap_ends : Option Value → Completion ThreadState Value → Completion ThreadState Value
+swap_ends (Some new) c = faultless c (λ v s. meant (same_value v new) v s)
+swap_ends None c = faulted c (λ g s. Faults g s)
+
+-- the event of a swap was eaten: the world that has the atom's value, and the value that it names
+abbrev pub SwapAte : ℕ → PlainView → Option Value → ThreadState → ThreadState → Type 0
+SwapAte book w o t u =
+    (c : CellId) (g : Value → ThreadState → Completion ThreadState Value) → eats book (λ e s. swaps c g e.kind e.R e.C s) t.todo t ≡ swap_ends o (g (world_of w c.number) u)
+
+-- there is no such event
+abbrev pub SwapsNone : ℕ → ThreadStop → ThreadState → ThreadState → Type 0
+SwapsNone book y t u = (c : CellId) (g : Value → ThreadState → Completion ThreadState Value) → Stops false y u (eats book (λ e s. swaps c g e.kind e.R e.C s) t.todo t)
 
 -- ---- parts of a meaning
 
@@ -351,11 +331,6 @@ abbrev pub form_means : (x : Setting) → Act → Mark → Tree → Trees → Li
 form_means x act m cell args env s =
     bind (means x cell env s) (λ c t. bind (eval_all (forms_in x) (calls_in x) x.turns (is_on x.world) args env t) (λ vs t1. acts x.world x act m c vs t1))
 
--- what is done with the first of the values; there is one
-abbrev pub of_one : {S : Type 0} → (Value → Completion S Value) → List Value → Completion S Value
-of_one go [] = Invalid
-of_one go (v ∷ vs) = go v
-
 -- what it does in a transaction on this world
 abbrev pub inside_means : Setting → PlainView → Act → Mark → Value → List Value → TxState → Completion TxState Value
 inside_means x r act m c vs t = acts (Some r) x act m c vs t
@@ -364,17 +339,9 @@ inside_means x r act m c vs t = acts (Some r) x act m c vs t
 abbrev pub outside_means : Setting → Act → Mark → Value → List Value → ThreadState → Completion ThreadState Value
 outside_means x act m c vs t = acts None x act m c vs t
 
--- a ref
-abbrev pub RefCell : CellId → Type 0
-RefCell c = c.kind ≡ Ref
-
--- `alter` in a transaction
-abbrev pub alter_means : Setting → PlainView → Callee → CellId → List Value → Span → TxState → Completion TxState Value
-alter_means x r callee c vs span t = tx_update (world_of r) Alter (mark_of span true) c callee vs (apply (calls_on (Some r) x true) span) t
-
--- `commute` in a transaction
-abbrev pub commute_means : Setting → PlainView → Callee → CellId → List Value → Mark → TxState → Completion TxState Value
-commute_means x r callee c vs m t = tx_update (world_of r) CommuteForm m c callee vs (apply (calls_on (Some r) x true) m.span) t
+-- a form that updates a ref, in a transaction
+abbrev pub update_means : Setting → PlainView → UpdateForm → Callee → CellId → List Value → Mark → TxState → Completion TxState Value
+update_means x r form callee c vs m t = tx_update (world_of r) form m c callee vs (apply (calls_on (Some r) x true) m.span) t
 
 -- `swap!` outside
 abbrev pub swap_means : Setting → Callee → CellId → List Value → Span → ThreadState → Completion ThreadState Value
@@ -383,10 +350,15 @@ swap_means x callee c vs span t =
 
 -- ---- what events are
 
--- the cell that was read, if the event is a read
-abbrev pub read_of : EventKind → Option CellId
-read_of (Read c) = Some c
-read_of _ = None
+-- whether the event is a read of the cell
+abbrev pub is_read_of : CellId → EventKind → Bool
+is_read_of c (Read d) = same_cell c d
+is_read_of c _ = false
+
+-- whether the event is a swap to the value
+abbrev pub is_swap_to : Value → EventKind → Bool
+is_swap_to v (Swapped new) = same_value v new
+is_swap_to v _ = false
 
 -- the value that an atom got, if the event is a swap
 abbrev pub swap_of : EventKind → Option Value
@@ -398,15 +370,17 @@ abbrev pub is_broke : EventKind → Bool
 is_broke (Broke at) = true
 is_broke _ = false
 
--- the action that was sent, if the event is a send
-abbrev pub send_of : EventKind → Option Action
-send_of (Sent a) = Some a
-send_of _ = None
+-- what a send of the action is to the event
+abbrev pub sending : Action → EventKind → Sending
+sending a (Sent b) = if same_action a b then WasSent else NotSent
+sending a (SendRefused g) = if same_cell a.agent g then WasRefused else NotSent
+sending a _ = NotSent
 
--- the agent that refused, if the event is a refused send
-abbrev pub refused_by : EventKind → Option CellId
-refused_by (SendRefused g) = Some g
-refused_by _ = None
+-- what it gives then
+abbrev pub sent_as : Action → Span → ThreadState → Sending → Completion ThreadState Value
+sent_as a span t WasSent = Completes (Cell a.agent) t
+sent_as a span t WasRefused = Faults (fault_at AgentFailed span) t
+sent_as a span t NotSent = Invalid
 
 -- ---- pure callees
 
@@ -449,10 +423,6 @@ dosync_means x m body env s =
 -- one outside, at most k events
 abbrev pub eat_means : Setting → ℕ → Mark → Tree → List Value → ThreadState → Completion ThreadState Value
 eat_means x k m body env t = eats_tx k (transacting x m body env) (at_end x m.span) t.todo t
-
--- one at the event of its end
-abbrev pub end_means : Setting → Mark → Tree → List Value → SeenEvent → ThreadState → Completion ThreadState Value
-end_means x m body env e t = ends_tx (transacting x m body env) (at_end x m.span) e.kind e.R e.Q e.C t
 
 -- its body on a world
 abbrev pub body_means : Setting → Tree → List Value → PlainView → Completion TxState Value
@@ -503,15 +473,22 @@ end_stop (Failing at view) y = y
 end_stop (Refusing at view agent) y = stop_without_fault y
 end_stop _ y = OtherEvent
 
--- whether the event is a refusal
-abbrev pub is_refusal : EventKind → Bool
-is_refusal (Refusing at view agent) = true
-is_refusal _ = false
+-- what a run with these final writes and sends is to the event
+abbrev pub ends_as : EventKind → Writes → List Action → Closing
+ends_as (Refusing at view agent) last held = ARefused
+ends_as (Committed at view writes sent) last held = if same_writes last writes && same_actions held sent then ACommitted else AStopped OtherEvent
+ends_as _ last held = AStopped OtherEvent
 
--- whether the event is a commit with these final writes and sends
-abbrev pub commits : EventKind → Writes → List Action → Bool
-commits (Committed at view writes sent) last held = same_writes last writes && same_actions held sent
-commits _ last held = false
+-- the same of a run that came to these final writes
+abbrev pub closing : {V : Type 0} → (V → Writes) → EventKind → Result V ThreadStop → List Action → Closing
+closing f k (Ok last) held = ends_as k (f last) held
+closing f k (Err y) held = AStopped (end_stop k y)
+
+-- what is given then, and the state that is left
+abbrev pub Closes : Closing → Span → TxRun → Result Value ThreadStop → ThreadState → ThreadState → Type 0
+Closes ARefused span r res t u = Gives false res u (Faults (fault_at AgentFailed span) (with_tx r t))
+Closes ACommitted span r res t u = Gives false res u (Completes r.result (with_tx r t))
+Closes (AStopped y) span r res t u = (res ≡ Err y) × (u ≡ t)
 
 -- a run, where the body gave a value
 abbrev pub run_as : (Value → Transacted) → Result Value ThreadStop → Result Transacted ThreadStop

@@ -1,7 +1,7 @@
 -- Events as the evaluators are told of them.
 use Rattle.std.specs.Prelude.{List, map}
 use Rattle.txs_asks.specs.SeenEvent.{SeenEvent}
-use Rattle.txs_eval.specs.Views.{plain_view, world_of}
+use Rattle.txs_eval_work.specs.Views.{plain_view, world_of}
 use Rattle.txs_eval.specs.declared.seen.Seen.{Seen}
 
 -- the plain event of one that is told

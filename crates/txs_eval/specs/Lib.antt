@@ -2,4 +2,3 @@ pub mod Evaluated
 pub mod Events
 pub mod Setting
 pub mod Shapes
-pub mod Views

@@ -4,7 +4,7 @@ use Rattle.txs_tree.specs.Known.{Known, known}
 use Rattle.txs_tree.specs.Sound.{Zone, in_thread, in_dosync}
 use Rattle.txs_value.specs.declared.cell.CellDefinition.{CellDefinition}
 use Rattle.txs_tree.specs.View.{functions_of}
-use Rattle.txs_eval.specs.Views.{PlainView}
+use Rattle.txs_eval_work.specs.Views.{PlainView}
 use Rattle.txs_tree.specs.declared.node.Function.{Function}
 
 -- the cells and functions that are defined, how deep calls may go, how many turns each loop may make, and the world of the

@@ -1,17 +1,14 @@
 //! What the event at the end of a transaction makes of what its body and its commutes gave.
 
-ghost use Rattle.std.specs.Prelude.{◌≡◌, false};
-ghost use Rattle.txs_eval.specs.Evaluated.{Gives, closes, commits, end_stop, end_view, is_refusal, thread_state, tx_run};
-ghost use Rattle.txs_eval.specs.Views.{plain_view, plain_world};
-ghost use Rattle.txs_tree.specs.Meaning.{Completes};
+ghost use Rattle.std.specs.Prelude.{◌≡◌};
+ghost use Rattle.txs_eval.specs.Evaluated.{Closes, closing, end_stop, end_view, ends_as, thread_state, tx_run};
+ghost use Rattle.txs_eval_work.specs.Views.{plain_view, plain_world};
 
-use crate::same::same_commit;
 use crate::seen::Seen;
 use crate::state::{Progress, Transacted};
-use crate::stop::ThreadStop;
-use crate::view::RefView;
 use txs_asks::EventKind;
-use txs_value::{Action, CellId, Fault, FaultKind, Span, Value};
+use txs_eval_work::{RefView, ThreadStop, same_commit};
+use txs_value::{Action, CellId, Span, Value};
 
 /// The world on which the commutes of a transaction ran, if the event is one of its end: a commit has them on the world at its
 /// place, a failure and a refusal on the one that was viewed.
@@ -37,25 +34,43 @@ pub(crate) fn end_stop(kind: &EventKind, stop: ThreadStop) -> ThreadStop
     }
 }
 
-/// Whether an event is a refusal. That an agent had failed is told by the journal, and not asked here.
-fn is_refusal(kind: &EventKind) -> bool
-    ensures { result ≡ is_refusal kind.now }
+/// What a run is to the event of its transaction's end.
+#[derive(Clone, Copy)]
+pub(crate) enum Closing {
+    /// It is refused.
+    Refused,
+    /// It is what the commit says.
+    Committed,
+    /// It isn't what the event says, or came to no final writes.
+    Stopped(ThreadStop),
+}
+
+/// What a run with these final writes and sends is to the event. That an agent had failed is told by the journal, and not asked
+/// here.
+fn ends_as(kind: &EventKind, last: &[(CellId, Value)], held: &[Action]) -> Closing
+    ensures { result ≡ ends_as kind.now last.now held.now }
 {
     match kind {
-        EventKind::Refused { .. } => true,
-        _ => false,
+        EventKind::Refused { .. } => Closing::Refused,
+        EventKind::Commit { writes, sends, .. }
+            if same_commit(last, held, writes.as_slice(), sends.as_slice()) => {
+            Closing::Committed
+        }
+        _ => Closing::Stopped(ThreadStop::Wrong),
     }
 }
 
-/// Whether an event is a commit with these final writes and sends.
-fn commits(kind: &EventKind, last: &[(CellId, Value)], held: &[Action]) -> bool
-    ensures { result ≡ commits kind.now last.now held.now }
+/// The same of a run that came to these final writes.
+fn closes_as(
+    kind: &EventKind,
+    last: Result<Vec<(CellId, Value)>, ThreadStop>,
+    held: &[Action],
+) -> Closing
+    ensures { result ≡ closing (λ ws. ws.items) kind.now last held.now }
 {
-    match kind {
-        EventKind::Commit { writes, sends, .. } => {
-            same_commit(last, held, writes.as_slice(), sends.as_slice())
-        }
-        _ => false,
+    match last {
+        Ok(last) => ends_as(kind, last.as_slice(), held),
+        Err(stop) => Closing::Stopped(end_stop(kind, stop)),
     }
 }
 
@@ -64,21 +79,15 @@ fn commits(kind: &EventKind, last: &[(CellId, Value)], held: &[Action]) -> bool
 pub(crate) fn close<'a>(
     kind: &EventKind,
     run: Transacted<'a>,
-    last: Vec<(CellId, Value)>,
+    last: Result<Vec<(CellId, Value)>, ThreadStop>,
     span: Span,
     thread: &mut Progress<'a>,
 ) -> Result<Value, ThreadStop>
-    ensures { Gives false result (thread_state thread.new) (closes kind.now span (Completes (tx_run run.entry, last.items) (thread_state thread.old))) }
+    ensures { Closes (closing (λ ws. ws.items) kind.now last run.entry.work.done.sends) span (tx_run run.entry) result (thread_state thread.old) (thread_state thread.new) }
 {
-    if is_refusal(kind) {
-        thread.txs.push(run)?;
-        return Err(ThreadStop::Fault(Fault {
-            kind: FaultKind::AgentFailed,
-            span,
-        }));
+    match closes_as(kind, last, run.work.done.sends()) {
+        Closing::Refused => thread.refuse(run, span),
+        Closing::Committed => thread.note(run),
+        Closing::Stopped(stop) => Err(stop),
     }
-    if commits(kind, last.as_slice(), run.work.done.sends()) {
-        return thread.note(run);
-    }
-    Err(ThreadStop::Wrong)
 }

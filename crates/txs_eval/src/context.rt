@@ -6,10 +6,10 @@ ghost use Rattle.txs_value.specs.Places.{nth};
 ghost use Rattle.txs_eval.specs.Setting.{Setting, deeper, on_view};
 ghost use Rattle.txs_tree.specs.Sound.{SoundFunctions};
 ghost use Rattle.txs_tree.specs.View.{function_of, functions_of};
-ghost use Rattle.txs_eval.specs.Views.{plain_view, plain_world};
+ghost use Rattle.txs_eval_work.specs.Views.{plain_view, plain_world};
 
-use crate::view::RefView;
 use std::marker::Model;
+use txs_eval_work::RefView;
 use txs_tree::Function;
 use txs_value::{CellDefinition, CellId, CellKind};
 
@@ -30,7 +30,7 @@ impl<'a> Model for Context<'a> {
     ghost use Rattle.txs_eval.specs.Setting.{Setting};
     ghost use Rattle.txs_tree.specs.Sound.{SoundFunctions};
     ghost use Rattle.txs_tree.specs.View.{functions_of};
-    ghost use Rattle.txs_eval.specs.Views.{plain_world};
+    ghost use Rattle.txs_eval_work.specs.Views.{plain_world};
     ghost use Rattle.txs_tree.specs.contracts.node.Node as node;
     ghost use Rattle.txs_value.specs.contracts.value.Value as value;
 

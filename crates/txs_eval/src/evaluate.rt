@@ -3,43 +3,34 @@
 ghost use Rattle.std.specs.Prelude.{true, false, ◌≡◌, ◌≤◌, ◌-◌, ◌+◌, ◌++◌, ◌∷◌, [], suc, Bool, length, take, drop, None, Some, IsTrue, IfOk, OnOk, MatchResult};
 ghost use Rattle.txs_frame.specs.Frame.{commuted, phase_work, set_writes};
 ghost use Rattle.txs_operations.specs.Core.{core, takes, vector_of, is_false as is_false_value};
-ghost use Rattle.txs_eval.specs.Evaluated.{Told, ToldOf, Gives, Steps, Yields, GivesAll, Ready, ReadyIn, Finishes, RefCell, Runs, SoundCommutes, means, all_mean, do_means, if_means, let_means, locals_mean, loop_means, turns_mean, call_means, finish_means, strict_means, form_means, act_means, inside_means, outside_means, alter_means, commute_means, swap_means, applied, dosync_means, eat_means, end_means, body_means, final_means, redone_means, step_of, swapped_to, no_value, run_as, thread_state, tx_state, tx_run};
+ghost use Rattle.txs_eval.specs.Evaluated.{Steps, Yields, GivesAll, Ready, ReadyIn, Finishes, Runs, SoundCommutes, means, all_mean, do_means, if_means, let_means, locals_mean, loop_means, turns_mean, call_means, finish_means, strict_means, form_means, act_means, inside_means, outside_means, update_means, swap_means, applied, dosync_means, eat_means, body_means, final_means, redone_means, step_of, run_as, thread_state, tx_run};
+ghost use Rattle.txs_eval_work.specs.Worked.{Told, ToldOf, Gives, RefCell, UpdatesRef, tx_state};
 ghost use Rattle.txs_eval.specs.declared.evaluate.Step.TheVariants.{Value as AValue};
-ghost use Rattle.txs_eval.specs.declared.stop.ThreadStop.TheVariants.{Memory};
+ghost use Rattle.txs_eval_work.specs.declared.stop.ThreadStop.TheVariants.{Memory};
 ghost use Rattle.txs_tree.specs.Meaning.{result_of};
 ghost use Rattle.txs_eval.specs.Setting.{callable, zone_in};
 ghost use Rattle.txs_tree.specs.Sound.{InSomeTail, SoundCall, SoundCallee, SoundTree, SoundAll, SoundDo, SoundLet, in_thread, in_dosync};
 ghost use Rattle.txs_tree.specs.Transaction.{valued as first_values, merged};
 ghost use Rattle.txs_tree.specs.Tree.{count};
 ghost use Rattle.txs_tree.specs.View.{tree_of, trees_of, mark_of};
-ghost use Rattle.txs_eval.specs.Events.{seen_event};
-ghost use Rattle.txs_eval.specs.Views.{plain_view, world_of};
+ghost use Rattle.txs_eval_work.specs.Views.{plain_view, world_of};
 ghost use Rattle.txs_value.specs.Limits.{reruns};
 ghost use Rattle.txs_value.specs.Printed.{printed_line};
 ghost use Rattle.txs_value.specs.declared.value.Value.TheVariants.{Nil};
 
 use crate::closing::{close, end_stop, end_view};
 use crate::context::Context;
-use crate::same::same_value;
-use crate::seen::Seen;
 use crate::shape::{Act, Shape, Strict, shape_of};
-use crate::state::{Progress, State, Transacted, TxWork};
-use crate::stop::ThreadStop;
-use crate::thread::{is_broke, is_retry, swap_of};
-use crate::view::RefView;
-use crate::work::take_cell;
-use crate::writes::{merge, put_write, value_in, valued};
+use crate::state::{Progress, State, Transacted};
+use crate::thread::end_swap;
 use std::alloc::{AllocError, Global};
+use txs_eval_work::{RefView, ThreadStop, TxWork, merge, put_write, take_cell, value_in, valued};
 use txs_frame::{Commute, TxFrame};
 use txs_operations::{apply, is_false, make_vector};
 use txs_tree::Node;
 use txs_value::{
-    Callee, CellForm, CellId, Fault, FaultKind, Listed, LookForm, Op, PutForm, Span, Stop,
-    UpdateForm, Value, copy_value, write_line,
+    Callee, CellId, Fault, Listed, Op, Span, Stop, UpdateForm, Value, copy_value, write_line,
 };
-
-/// How often a transaction is tried.
-const TRIES: u16 = 10_000;
 
 /// What a node in tail position gives.
 #[derive(Drop)]
@@ -101,27 +92,6 @@ fn collect(alloc: Global, items: Vec<Value>, span: Span) -> Result<Value, Thread
         Ok(value) => Ok(value),
         Err(Stop::Fault(kind)) => Err(ThreadStop::Fault(Fault { kind, span })),
         Err(Stop::Memory) => Err(ThreadStop::Memory),
-    }
-}
-
-/// What a swap gives that the event names, where the callee gave this: no fault may come, and no other value.
-fn swapped_to(given: Result<Value, ThreadStop>, new: &Value) -> Result<Value, ThreadStop>
-    ensures { result ≡ swapped_to given new.now }
-{
-    match given {
-        Ok(value) if same_value(&value, new) => Ok(value),
-        Ok(_) => Err(ThreadStop::Wrong),
-        Err(stop) => Err(stop.without_fault()),
-    }
-}
-
-/// The same where no value may come.
-fn no_value(given: Result<Value, ThreadStop>) -> Result<Value, ThreadStop>
-    ensures { result ≡ no_value given }
-{
-    match given {
-        Ok(_) => Err(ThreadStop::Wrong),
-        Err(stop) => Err(stop),
     }
 }
 
@@ -191,28 +161,24 @@ fn ran<'a>(
     }
 }
 
-/// What is done before the commutes: those of them in turn, and the values that their refs have in the world.
-fn commuting(
+/// The values that the commuted refs have in the world.
+fn first_writes(
     alloc: Global,
     done: &TxFrame,
     world: &RefView<'_>,
-) -> Result<(Vec<Commute>, Vec<(CellId, Value)>), AllocError>
-    ensures { IfOk result (λ p. (p.0.items ≡ phase_work done.now) × (p.1.items ≡ first_values (commuted done.now) (world_of (plain_view world.now)))) }
+) -> Result<Vec<(CellId, Value)>, AllocError>
+    ensures { IfOk result (λ ws. ws.items ≡ first_values (commuted done.now) (world_of (plain_view world.now))) }
 {
     let commuted = done.commuted()?;
-    let writes = valued(alloc, commuted.as_slice(), world)?;
-    Ok((done.phase_work()?, writes))
+    valued(alloc, commuted.as_slice(), world)
 }
 
 /// The values that were set, and these behind them.
-fn with_sets(
-    done: &TxFrame,
-    writes: Vec<(CellId, Value)>,
-) -> Result<Vec<(CellId, Value)>, ThreadStop>
-    ensures { MatchResult result (λ last. last.items ≡ merged (set_writes done.now) writes.items) (λ y. y ≡ Memory) }
+fn with_sets(done: &TxFrame, writes: &[(CellId, Value)]) -> Result<Vec<(CellId, Value)>, ThreadStop>
+    ensures { MatchResult result (λ last. last.items ≡ merged (set_writes done.now) writes.now) (λ y. y ≡ Memory) }
 {
     let mut last = done.writes()?;
-    merge(&mut last, writes.as_slice())?;
+    merge(&mut last, writes)?;
     Ok(last)
 }
 
@@ -457,43 +423,20 @@ fn act_inside<'a>(
     match act {
         Act::Look(form) => tx.look(&world, form, cell),
         Act::Put(_) => tx.put(cell, args, span),
-        Act::Update(UpdateForm::Commute, callee) => {
-            commute(alloc, context, world, callee, cell, args, span, wanted, tx)
-        }
-        Act::Update(_, callee) => alter(alloc, context, world, callee, cell, args, span, tx),
+        Act::Update(form, callee) => update_inside(
+            alloc, context, world, form, callee, cell, args, span, wanted, tx,
+        ),
         Act::Send(callee) => tx.send(cell, callee, args, span),
     }
 }
 
-/// `alter`: the callee on the ref's value, to which the ref is set.
+/// A form that updates a ref: the callee on its value, and then what the form does with the new one.
 #[cycle(evaluate)]
-fn alter<'a>(
+fn update_inside<'a>(
     alloc: Global,
     context: &Context<'a>,
     world: RefView<'a>,
-    callee: Callee,
-    cell: CellId,
-    args: Vec<Value>,
-    span: Span,
-    tx: &mut TxWork,
-) -> Result<Value, ThreadStop>
-    requires cell { RefCell cell }
-    requires callee { SoundCallee (callable context.now) callee (suc (length args.items)) }
-    ensures { Gives true result (tx_state tx.new)
-        (alter_means context.now (plain_view world.entry) callee cell args.items span (tx_state tx.old)) }
-{
-    context.is_sound();
-    let value = tx.take(&world, cell)?;
-    let new = apply_on(alloc, context, callee, value, args, span)?;
-    tx.set(cell, new, span)
-}
-
-/// `commute`: the callee on the ref's value, and the commute is kept.
-#[cycle(evaluate)]
-fn commute<'a>(
-    alloc: Global,
-    context: &Context<'a>,
-    world: RefView<'a>,
+    form: UpdateForm,
     callee: Callee,
     cell: CellId,
     args: Vec<Value>,
@@ -501,16 +444,16 @@ fn commute<'a>(
     wanted: bool,
     tx: &mut TxWork,
 ) -> Result<Value, ThreadStop>
+    requires form { UpdatesRef form }
     requires cell { RefCell cell }
     requires callee { SoundCallee (callable context.now) callee (suc (length args.items)) }
     ensures { Gives true result (tx_state tx.new)
-        (commute_means context.now (plain_view world.entry) callee cell args.items (mark_of span wanted) (tx_state tx.old)) }
+        (update_means context.now (plain_view world.entry) form callee cell args.items (mark_of span wanted) (tx_state tx.old)) }
 {
     context.is_sound();
-    let value = tx.current(&world, cell)?;
-    let values = with_first(alloc, value, args.as_slice())?;
-    let new = apply_callee(alloc, context, callee, values, span)?;
-    tx.keep_commute(cell, callee, args, new, wanted)
+    let value = tx.begin_update(&world, form, cell)?;
+    let new = apply_on(alloc, context, callee, value, args.as_slice(), span)?;
+    tx.end_update(form, cell, callee, args, new, span, wanted)
 }
 
 /// What a form on a cell does outside every transaction.
@@ -532,7 +475,9 @@ fn act_outside<'a>(
     match act {
         Act::Look(_) => thread.read(context.home(cell), cell),
         Act::Put(_) => thread.put(context.home(cell), args),
-        Act::Update(_, callee) => swap(alloc, context, callee, cell, args, span, thread),
+        Act::Update(_, callee) => {
+            swap(alloc, context, callee, cell, args.as_slice(), span, thread)
+        }
         Act::Send(callee) => thread.send_to(cell, callee, args, span),
     }
 }
@@ -544,42 +489,18 @@ fn swap<'a>(
     context: &Context<'a>,
     callee: Callee,
     cell: CellId,
-    args: Vec<Value>,
+    args: &[Value],
     span: Span,
     thread: &mut Progress<'a>,
 ) -> Result<Value, ThreadStop>
-    requires { SoundCallee (callable context.now) callee (suc (length args.items)) }
+    requires { SoundCallee (callable context.now) callee (suc (length args.now)) }
     ensures { Gives false result (thread_state thread.new)
-        (swap_means context.now callee cell args.items span (thread_state thread.old)) }
+        (swap_means context.now callee cell args.now span (thread_state thread.old)) }
 {
     context.is_sound();
-    let event = thread.eat(context.home(cell))?;
-    if let Some(new) = swap_of(event.kind) {
-        let given = apply_at(alloc, context, callee, &event.here, cell, args, span);
-        return swapped_to(given, new);
-    }
-    if !is_broke(event.kind) {
-        return Err(ThreadStop::Wrong);
-    }
-    no_value(apply_at(alloc, context, callee, &event.start, cell, args, span))
-}
-
-/// A pure callee on a cell's value in a world and these arguments; an operation's fault has the span.
-#[cycle(evaluate)]
-fn apply_at<'a>(
-    alloc: Global,
-    context: &Context<'a>,
-    callee: Callee,
-    world: &RefView<'a>,
-    cell: CellId,
-    args: Vec<Value>,
-    span: Span,
-) -> Result<Value, ThreadStop>
-    requires { SoundCallee (callable context.now) callee (suc (length args.items)) }
-    ensures { Told result (applied context.now callee (world_of (plain_view world.now) cell.number ∷ args.items) span) }
-{
+    let (world, new) = thread.swap(context.home(cell))?;
     let value = world.read(cell.number)?;
-    apply_on(alloc, context, callee, value, args, span)
+    end_swap(apply_on(alloc, context, callee, value, args, span), new)
 }
 
 /// A pure callee on a first value and these arguments; an operation's fault has the span.
@@ -589,19 +510,19 @@ fn apply_on<'a>(
     context: &Context<'a>,
     callee: Callee,
     first: Value,
-    mut args: Vec<Value>,
+    args: &[Value],
     span: Span,
 ) -> Result<Value, ThreadStop>
-    requires { SoundCallee (callable context.now) callee (suc (length args.items)) }
-    ensures { Told result (applied context.now callee (first ∷ args.items) span) }
+    requires { SoundCallee (callable context.now) callee (suc (length args.now)) }
+    ensures { Told result (applied context.now callee (first ∷ args.now) span) }
 {
-    args.insert(0, first)?;
-    apply_callee(alloc, context, callee, args, span)
+    let values = with_first(alloc, first, args)?;
+    apply_callee(alloc, context, callee, values, span)
 }
 
 /// A pure callee on these values; an operation's fault has the span.
 #[cycle(evaluate)]
-fn apply_callee<'a>(
+pub(crate) fn apply_callee<'a>(
     alloc: Global,
     context: &Context<'a>,
     callee: Callee,
@@ -620,7 +541,9 @@ fn apply_callee<'a>(
                 place: 0,
             });
             let mut state = State::new(alloc, &[]);
-            call(alloc, &inner, number, values, &mut state)
+            let given = call(alloc, &inner, number, values, &mut state);
+            drop(state);
+            given
         }
     }
 }
@@ -645,7 +568,7 @@ fn evaluate_dosync<'a>(
     as_step(eat_dosync(alloc, context, dosync, locals, &mut state.thread))
 }
 
-/// A transaction eats retries, and then the event of its end.
+/// A transaction eats retries, and then the event of its end, on whose worlds its body and its commutes run.
 #[cycle(evaluate)]
 fn eat_dosync<'a>(
     alloc: Global,
@@ -659,34 +582,8 @@ fn eat_dosync<'a>(
         (eat_means context.now (suc reruns) (mark_of dosync.entry.span dosync.entry.wanted) (tree_of dosync.entry.body.now) locals.old.items (thread_state thread.old)) }
     ensures kept { OnOk result (locals.new.items ≡ locals.old.items) }
 {
-    for _try in 0..TRIES {
-        let event = thread.eat(0)?;
-        if !is_retry(event.kind) {
-            return end_dosync(alloc, context, dosync, event, locals, thread);
-        }
-    }
-    Err(ThreadStop::Fault(Fault {
-        kind: FaultKind::RetryLimit,
-        span: dosync.span,
-    }))
-}
-
-/// A transaction at the event of its end.
-#[cycle(evaluate)]
-fn end_dosync<'a>(
-    alloc: Global,
-    context: &Context<'a>,
-    dosync: Dosync<'a>,
-    event: &'a Seen<'a>,
-    locals: &mut Vec<Value>,
-    thread: &mut Progress<'a>,
-) -> Result<Value, ThreadStop>
-    requires { SoundTree (callable context.now) in_dosync (length locals.old.items) None (tree_of dosync.body.now) }
-    ensures value { Gives false result (thread_state thread.new)
-        (end_means context.now (mark_of dosync.entry.span dosync.entry.wanted) (tree_of dosync.entry.body.now) locals.old.items (seen_event event.now) (thread_state thread.old)) }
-    ensures kept { OnOk result (locals.new.items ≡ locals.old.items) }
-{
     context.is_sound();
+    let event = thread.end_of_tx(dosync.span)?;
     let world = match end_view(event) {
         Some(world) => world,
         None => return Err(ThreadStop::Wrong),
@@ -695,10 +592,8 @@ fn end_dosync<'a>(
         Ok(run) => run,
         Err(stop) => return Err(end_stop(event.kind, stop)),
     };
-    match final_writes(alloc, context, &run.work.done, world, dosync.span) {
-        Ok(last) => close(event.kind, run, last, dosync.span, thread),
-        Err(stop) => Err(end_stop(event.kind, stop)),
-    }
+    let last = final_writes(alloc, context, &run.work.done, world, dosync.span);
+    close(event.kind, run, last, dosync.span, thread)
 }
 
 /// The body of a dosync on a world, as if it ran alone.
@@ -720,7 +615,7 @@ fn run_body<'a>(
     let copies = copy_locals(alloc, locals.as_slice())?;
     let mut state = State::new(alloc, &[]);
     let given = evaluate(alloc, &inner, dosync.body, locals, &mut state);
-    ran(dosync, copies, given, state.tx)
+    ran(dosync, copies, given, state.into_tx())
 }
 
 /// The final writes: each ref that was set has its value, each other commuted ref what its commutes make of the world.
@@ -735,23 +630,25 @@ fn final_writes<'a>(
     requires { SoundCommutes (callable context.now) done.now.commutes }
     ensures { ToldOf (λ ws. ws.items) result (final_means context.now done.now (plain_view world.entry) span) }
 {
-    let (work, mut writes) = commuting(alloc, done, &world)?;
-    redo(alloc, context, work.as_slice(), &mut writes, span)?;
-    with_sets(done, writes)
+    let mut writes = first_writes(alloc, done, &world)?;
+    redo(alloc, context, done, &mut writes, span)?;
+    with_sets(done, writes.as_slice())
 }
 
-/// Commutes in turn, each of which makes its ref's value anew.
+/// The commutes of the refs that weren't set in turn, each of which makes its ref's value anew.
 #[cycle(evaluate)]
 fn redo<'a>(
     alloc: Global,
     context: &Context<'a>,
-    commutes: &[Commute],
+    done: &TxFrame,
     writes: &mut Vec<(CellId, Value)>,
     span: Span,
 ) -> Result<(), ThreadStop>
-    requires { SoundCommutes (callable context.now) commutes.now }
-    ensures { ToldOf (λ _. writes.new.items) result (redone_means context.now span commutes.now writes.old.items) }
+    requires { SoundCommutes (callable context.now) done.now.commutes }
+    ensures { ToldOf (λ _. writes.new.items) result (redone_means context.now span (phase_work done.now) writes.old.items) }
 {
+    let work = done.phase_work()?;
+    let commutes = work.as_slice();
     for commute in commutes {
         redo_one(alloc, context, commute, writes, span)?;
     }
@@ -771,8 +668,8 @@ fn redo_one<'a>(
     ensures { ToldOf (λ _. writes.new.items) result (redone_means context.now span (commute.now ∷ []) writes.old.items) }
 {
     let value = value_in(writes.as_slice(), commute.cell.number)?;
-    let values = with_first(alloc, value, commute.args.as_slice())?;
-    let new = apply_callee(alloc, context, commute.callee, values, span)?;
+    let args = commute.args.as_slice();
+    let new = apply_on(alloc, context, commute.callee, value, args, span)?;
     put_write(writes, commute.cell, new)?;
     Ok(())
 }
@@ -873,7 +770,7 @@ fn run_turns<'a>(
 
 /// What the function of this number gives on these values, which are its first locals.
 #[cycle(evaluate)]
-pub(crate) fn call<'a>(
+fn call<'a>(
     alloc: Global,
     context: &Context<'a>,
     number: u16,

@@ -1,7 +1,7 @@
 //! What a thread means.
 
 ghost use Rattle.std.specs.Prelude.{◌≡◌, ◌<◌, length, map, IfOk, IfSome};
-ghost use Rattle.txs_eval.specs.Evaluated.{Account, Concluded, Tells, thread_source, thread_state, told_run};
+ghost use Rattle.txs_eval.specs.Evaluated.{Account, Accounts, Concluded, Tells, thread_source, thread_state, told_run};
 ghost use Rattle.txs_tree.specs.Thread.{thread_meaning};
 ghost use Rattle.txs_tree.specs.View.{program_of};
 ghost use Rattle.txs_eval.specs.Events.{seen_events};
@@ -10,10 +10,10 @@ use crate::context::Context;
 use crate::evaluate::evaluate;
 use crate::seen::Seen;
 use crate::state::{Progress, State, Transacted};
-use crate::stop::ThreadStop;
 use crate::transaction::{TxMeaning, meaning_of};
 use std::alloc::{AllocError, Global};
 use txs_asks::Outcome;
+use txs_eval_work::ThreadStop;
 use txs_tree::Program;
 use txs_value::{Listed, Value};
 
@@ -96,6 +96,19 @@ fn conclude(end: Result<Value, ThreadStop>) -> Result<(Needs, Option<Outcome>), 
     }
 }
 
+/// The meaning of a thread on so many events whose body ends so.
+fn tell_thread(
+    alloc: Global,
+    events: usize,
+    thread: Progress<'_>,
+    end: Result<Value, ThreadStop>,
+) -> Result<ThreadMeaning, AllocError>
+    ensures { IfOk result (λ m. Accounts m events (thread_state thread.entry) end) }
+{
+    let (needs, outcome) = conclude(end)?;
+    account(alloc, events, thread, needs, outcome)
+}
+
 /// The meaning of the program's thread at this place, counted from 0, on these events with their worlds, where each loop makes
 /// at most `turns` turns. An error where there is no memory for it.
 pub fn eval_thread<'a>(
@@ -115,6 +128,5 @@ pub fn eval_thread<'a>(
     let mut state = State::new(alloc, events);
     let body = &program.threads()[thread].body;
     let end = evaluate(alloc, &context, body, &mut locals, &mut state);
-    let (needs, outcome) = conclude(end)?;
-    account(alloc, events.len(), state.thread, needs, outcome)
+    tell_thread(alloc, events.len(), state.into_thread(), end)
 }

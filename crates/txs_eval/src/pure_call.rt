@@ -1,7 +1,8 @@
 //! What a pure callee means.
 
 ghost use Rattle.std.specs.Prelude.{◌≡◌, ◌≤◌, ℕ, List, IfOk, length, true};
-ghost use Rattle.txs_eval.specs.Evaluated.{PureGives, Told, Waitless};
+ghost use Rattle.txs_eval.specs.Evaluated.{PureGives, Waitless};
+ghost use Rattle.txs_eval_work.specs.Worked.{Told};
 ghost use Rattle.txs_tree.specs.Known.{known};
 ghost use Rattle.txs_tree.specs.Meaning.{Completion, result_of};
 ghost use Rattle.txs_tree.specs.Pure.{PureCallee, Lasts, pure_meaning, nowhere};
@@ -15,11 +16,9 @@ ghost use Rattle.txs_value.specs.declared.op.Callee.TheVariants.{Function};
 ghost use Rattle.txs_eval.specs.declared.pure_call.EvalStop.TheVariants.{Memory};
 
 use crate::context::Context;
-use crate::evaluate::{call, copy_locals};
-use crate::state::State;
-use crate::stop::ThreadStop;
-use crate::view::RefView;
+use crate::evaluate::{apply_callee, copy_locals};
 use std::alloc::{AllocError, AllocFailed, Global};
+use txs_eval_work::ThreadStop;
 use txs_operations::apply;
 use txs_tree::Program;
 use txs_value::{Callee, Fault, Op, Span, Stop, Value};
@@ -106,14 +105,9 @@ fn call_function(
     ensures { PureGives result (pure_meaning turns (functions_of program.now.functions) (Function number) values.now) }
 {
     program.is_sound();
-    let nowhere = RefView {
-        cells: &[],
-        place: 0,
-    };
-    let context = Context::new(program.cells(), program.functions(), turns, Some(nowhere));
-    let locals = copy_locals(alloc, values)?;
-    let mut state = State::new(alloc, &[]);
-    let given = call(alloc, &context, number, locals, &mut state);
+    let context = Context::new(program.cells(), program.functions(), turns, None);
+    let copies = copy_locals(alloc, values)?;
+    let given = apply_callee(alloc, &context, Callee::Function(number), copies, NOWHERE);
     answer(given)
 }
 

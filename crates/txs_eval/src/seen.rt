@@ -1,7 +1,7 @@
 //! Events as the evaluators are told of them.
 
-use crate::view::RefView;
 use txs_asks::EventKind;
+use txs_eval_work::RefView;
 
 /// An event with the number of its book, 0 for the store's and n for that of the n-th atom, and the values of cells at its
 /// places: where its transaction began, at its transaction's last view, and at the event itself. For an atom's book the

@@ -1,27 +1,22 @@
 //! What an evaluation has done so far.
 
-ghost use Rattle.std.specs.Prelude.{◌≡◌, MatchResult};
-ghost use Rattle.txs_eval.specs.Evaluated.{Ate, EatsNone, thread_state, tx_state, tx_run, idle};
-ghost use Rattle.txs_eval.specs.declared.stop.ThreadStop.TheVariants.{Memory};
+ghost use Rattle.std.specs.Prelude.{false, ◌≡◌, MatchResult};
+ghost use Rattle.txs_eval.specs.Evaluated.{Ate, EatsNone, thread_state, tx_run, idle};
+ghost use Rattle.txs_eval_work.specs.Worked.{Gives, tx_state};
+ghost use Rattle.txs_eval_work.specs.declared.stop.ThreadStop.TheVariants.{Memory};
+ghost use Rattle.txs_tree.specs.Meaning.{Faults};
 ghost use Rattle.txs_tree.specs.Thread.{with_tx};
+ghost use Rattle.txs_value.specs.Places.{fault_at};
+ghost use Rattle.txs_value.specs.declared.fault.FaultKind.TheVariants.{AgentFailed};
 ghost use Rattle.txs_tree.specs.Transaction.{tx_start};
 ghost use Rattle.txs_eval.specs.Events.{seen_events};
 
 use crate::seen::Seen;
-use crate::stop::ThreadStop;
 use std::alloc::Global;
+use txs_eval_work::{ThreadStop, TxWork};
 use txs_frame::TxFrame;
 use txs_tree::Node;
-use txs_value::{CellId, Listed, Value, copy_value};
-
-/// What a transaction has done: its values, sets, ensures, commutes and sends, the refs that it read of the world, by
-/// ascending number, and whether the result of a commute was used.
-#[derive(Drop)]
-pub(crate) struct TxWork {
-    pub(crate) done: TxFrame,
-    pub(crate) reads: Vec<CellId>,
-    pub(crate) used: bool,
-}
+use txs_value::{CellId, Fault, FaultKind, Listed, Span, Value, copy_value};
 
 /// A transaction that came to its end: its body with its locals, whether its result is wanted, its result, and what it did.
 #[derive(Drop)]
@@ -70,6 +65,20 @@ impl<'a> State<'a> {
             },
         }
     }
+
+    /// What its transaction did.
+    pub(crate) fn into_tx(self) -> TxWork
+        ensures { result ≡ self.entry.tx }
+    {
+        self.tx
+    }
+
+    /// How far its thread is.
+    pub(crate) fn into_thread(self) -> Progress<'a>
+        ensures { result ≡ self.entry.thread }
+    {
+        self.thread
+    }
 }
 
 impl<'a> Progress<'a> {
@@ -95,5 +104,15 @@ impl<'a> Progress<'a> {
         let place = self.txs.len();
         self.txs.push(run)?;
         Ok(copy_value(&self.txs[place].result)?)
+    }
+    /// The same where it was refused.
+    pub(crate) fn refuse(&mut self, run: Transacted<'a>, span: Span) -> Result<Value, ThreadStop>
+        ensures { Gives false result (thread_state self.new) (Faults (fault_at AgentFailed span) (with_tx (tx_run run.entry) (thread_state self.old))) }
+    {
+        drop(self.note(run)?);
+        Err(ThreadStop::Fault(Fault {
+            kind: FaultKind::AgentFailed,
+            span,
+        }))
     }
 }

@@ -1,27 +1,22 @@
 //! What the forms on cells do outside every transaction, on the thread's events, but for applying callees.
 
-ghost use Rattle.std.specs.Prelude.{false, ◌≡◌, length, option_copied};
-ghost use Rattle.txs_eval.specs.Evaluated.{Gives, of_one, thread_state, read_of, swap_of, send_of, refused_by, is_broke};
+ghost use Rattle.std.specs.Prelude.{false, ◌≡◌, length, option_copied, MatchResult};
+ghost use Rattle.txs_eval.specs.Evaluated.{EndAte, EndsNone, SwapAte, SwapsNone, thread_state, is_read_of, is_swap_to, names, sending, swap_of, swap_stop, is_broke, swap_gives};
+ghost use Rattle.txs_eval_work.specs.Worked.{Gives, GivesOf, of_one};
+ghost use Rattle.txs_eval_work.specs.Views.{plain_view};
 ghost use Rattle.txs_tree.specs.Thread.{eats, reads, resets, sends, is_retry};
 
-use crate::same::{same_action, same_cell, same_value};
+use crate::seen::Seen;
 use crate::state::Progress;
-use crate::stop::ThreadStop;
 use txs_asks::EventKind;
+use txs_eval_work::{RefView, ThreadStop, same_action, same_cell, same_value};
 use txs_value::{Action, Callee, CellId, Fault, FaultKind, Listed, Span, Value};
 
-/// The cell that an event read, if it is a read.
-fn read_of(kind: &EventKind) -> Option<CellId>
-    ensures { result ≡ read_of kind.now }
-{
-    match kind {
-        EventKind::Read { cell } => Some(*cell),
-        _ => None,
-    }
-}
+/// How often a transaction is tried.
+const TRIES: u16 = 10_000;
 
 /// The value that an event gave an atom, if it is a swap.
-pub(crate) fn swap_of(kind: &EventKind) -> Option<&Value>
+fn swap_of(kind: &EventKind) -> Option<&Value>
     ensures { option_copied result ≡ swap_of kind.now }
 {
     match kind {
@@ -31,7 +26,7 @@ pub(crate) fn swap_of(kind: &EventKind) -> Option<&Value>
 }
 
 /// Whether an event is a broken swap.
-pub(crate) fn is_broke(kind: &EventKind) -> bool
+fn is_broke(kind: &EventKind) -> bool
     ensures { result ≡ is_broke kind.now }
 {
     match kind {
@@ -41,7 +36,7 @@ pub(crate) fn is_broke(kind: &EventKind) -> bool
 }
 
 /// Whether an event says that a transaction had to run again.
-pub(crate) fn is_retry(kind: &EventKind) -> bool
+fn is_retry(kind: &EventKind) -> bool
     ensures { result ≡ is_retry kind.now }
 {
     match kind {
@@ -50,59 +45,151 @@ pub(crate) fn is_retry(kind: &EventKind) -> bool
     }
 }
 
-/// The action that an event sent, if it is a send.
-fn send_of(kind: &EventKind) -> Option<&Action>
-    ensures { option_copied result ≡ send_of kind.now }
+/// Whether an event is a read of the cell.
+fn is_read_of(kind: &EventKind, cell: CellId) -> bool
+    ensures { result ≡ is_read_of cell kind.now }
 {
     match kind {
-        EventKind::Send { action } => Some(action),
-        _ => None,
+        EventKind::Read { cell: other } => same_cell(cell, *other),
+        _ => false,
     }
 }
 
-/// The agent that refused a send, if the event is a refusal.
-fn refused_by(kind: &EventKind) -> Option<CellId>
-    ensures { result ≡ refused_by kind.now }
+/// Whether an event is a swap to the value.
+fn is_swap_to(kind: &EventKind, value: &Value) -> bool
+    ensures { result ≡ is_swap_to value.now kind.now }
 {
     match kind {
-        EventKind::SendRefused { agent } => Some(*agent),
-        _ => None,
+        EventKind::Swap { new } => same_value(value, new),
+        _ => false,
+    }
+}
+
+/// What a send is to an event.
+#[derive(Clone, Copy)]
+pub(crate) enum Sending {
+    /// The event says that it was sent.
+    Sent,
+    /// The event says that its agent refused it.
+    Refused,
+    /// The event says something else.
+    Other,
+}
+
+/// What a send of the action is to an event.
+fn sent_as(kind: &EventKind, action: &Action) -> Sending
+    ensures { result ≡ sending action.now kind.now }
+{
+    match kind {
+        EventKind::Send { action: sent } if same_action(action, sent) => Sending::Sent,
+        EventKind::SendRefused { agent } if same_cell(action.agent, *agent) => Sending::Refused,
+        _ => Sending::Other,
+    }
+}
+
+/// Whether the value is the one that a swap names, none where it is broken.
+fn names(new: Option<&Value>, value: &Value) -> bool
+    ensures { result ≡ names (option_copied new.entry) value.now }
+{
+    match new {
+        Some(new) => same_value(value, new),
+        None => false,
+    }
+}
+
+/// Why a swap gives no value: a broken one alone may fault.
+fn swap_stop(new: Option<&Value>, stop: ThreadStop) -> ThreadStop
+    ensures { result ≡ swap_stop (option_copied new.entry) stop }
+{
+    match new {
+        Some(_) => stop.without_fault(),
+        None => stop,
+    }
+}
+
+/// What a swap gives at its event, where the callee gave this: the value that the event names, none at a broken swap.
+pub(crate) fn end_swap(
+    given: Result<Value, ThreadStop>,
+    new: Option<&Value>,
+) -> Result<Value, ThreadStop>
+    ensures { result ≡ swap_gives given (option_copied new.entry) }
+{
+    match given {
+        Ok(value) if names(new, &value) => Ok(value),
+        Ok(_) => Err(ThreadStop::Wrong),
+        Err(stop) => Err(swap_stop(new, stop)),
     }
 }
 
 impl<'a> Progress<'a> {
+    /// A transaction eats retries, and then the event of its end, which is given; it faults where it is tried too often.
+    pub(crate) fn end_of_tx(&mut self, span: Span) -> Result<&'a Seen<'a>, ThreadStop>
+        ensures { MatchResult result (λ e. EndAte e.now (thread_state self.old) (thread_state self.new)) (λ y. EndsNone span y (thread_state self.old) (thread_state self.new)) }
+    {
+        for _try in 0..TRIES {
+            let event = self.eat(0)?;
+            if !is_retry(event.kind) {
+                return Ok(event);
+            }
+        }
+        Err(ThreadStop::Fault(Fault {
+            kind: FaultKind::RetryLimit,
+            span,
+        }))
+    }
+
+    /// `swap!` eats a swap, or a broken one: the world that has its atom's value, and the value that a swap names.
+    pub(crate) fn swap(
+        &mut self,
+        book: usize,
+    ) -> Result<(RefView<'a>, Option<&'a Value>), ThreadStop>
+        ensures { MatchResult result (λ s. SwapAte book (plain_view s.0) (option_copied s.1) (thread_state self.old) (thread_state self.new)) (λ y. SwapsNone book y (thread_state self.old) (thread_state self.new)) }
+    {
+        let event = self.eat(book)?;
+        if let Some(new) = swap_of(event.kind) {
+            return Ok((event.here, Some(new)));
+        }
+        if !is_broke(event.kind) {
+            return Err(ThreadStop::Wrong);
+        }
+        Ok((event.start, None))
+    }
+
     /// A read eats a read of the cell, and gives the value at that event's place.
     pub(crate) fn read(&mut self, book: usize, cell: CellId) -> Result<Value, ThreadStop>
         ensures { Gives false result (thread_state self.new)
             (eats book (λ e t. reads cell e.kind e.C t) (thread_state self.old).todo (thread_state self.old)) }
     {
         let event = self.eat(book)?;
-        match read_of(event.kind) {
-            Some(other) if same_cell(cell, other) => Ok(event.here.read(cell.number)?),
-            _ => Err(ThreadStop::Wrong),
+        if !is_read_of(event.kind, cell) {
+            return Err(ThreadStop::Wrong);
         }
+        Ok(event.here.read(cell.number)?)
     }
 
-    /// `reset!` eats a swap of its value, and gives it.
-    pub(crate) fn reset(&mut self, book: usize, value: Value) -> Result<Value, ThreadStop>
-        ensures { Gives false result (thread_state self.new)
-            (eats book (λ e t. resets value e.kind t) (thread_state self.old).todo (thread_state self.old)) }
+    /// `reset!` eats a swap to its value.
+    fn reset(&mut self, book: usize, value: &Value) -> Result<(), ThreadStop>
+        ensures { GivesOf (λ _. value.now) false result (thread_state self.new)
+            (eats book (λ e t. resets value.now e.kind t) (thread_state self.old).todo (thread_state self.old)) }
     {
         let event = self.eat(book)?;
-        match swap_of(event.kind) {
-            Some(new) if same_value(&value, new) => Ok(value),
-            _ => Err(ThreadStop::Wrong),
+        if !is_swap_to(event.kind, value) {
+            return Err(ThreadStop::Wrong);
         }
+        Ok(())
     }
 
-    /// The same of the one value among the arguments.
+    /// The same of the one value among the arguments, which is given.
     pub(crate) fn put(&mut self, book: usize, mut args: Vec<Value>) -> Result<Value, ThreadStop>
         requires { length args.items ≡ 1 }
         ensures { Gives false result (thread_state self.new)
             (of_one (λ v. eats book (λ e t. resets v e.kind t) (thread_state self.old).todo (thread_state self.old)) args.items) }
     {
         match args.pop() {
-            Some(value) => self.reset(book, value),
+            Some(value) => {
+                self.reset(book, &value)?;
+                Ok(value)
+            }
             None => unreachable!(),
         }
     }
@@ -133,18 +220,13 @@ impl<'a> Progress<'a> {
             (eats 0 (λ e t. sends action.now action.now.span e.kind t) (thread_state self.old).todo (thread_state self.old)) }
     {
         let event = self.eat(0)?;
-        if let Some(sent) = send_of(event.kind) {
-            if same_action(action, sent) {
-                return Ok(Value::Cell(action.agent));
-            }
-            return Err(ThreadStop::Wrong);
-        }
-        match refused_by(event.kind) {
-            Some(agent) if same_cell(action.agent, agent) => Err(ThreadStop::Fault(Fault {
+        match sent_as(event.kind, action) {
+            Sending::Sent => Ok(Value::Cell(action.agent)),
+            Sending::Refused => Err(ThreadStop::Fault(Fault {
                 kind: FaultKind::AgentFailed,
                 span: action.span,
             })),
-            _ => Err(ThreadStop::Wrong),
+            Sending::Other => Err(ThreadStop::Wrong),
         }
     }
 }

@@ -1,22 +1,22 @@
 //! What a transaction means on one world of refs.
 
 ghost use Rattle.std.specs.Prelude.{◌≡◌, length, IfOk, None, true};
-ghost use Rattle.txs_eval.specs.Evaluated.{Gives, TellsTx, Waitless, tx_state};
+ghost use Rattle.txs_eval.specs.Evaluated.{TellsTx, Waitless};
+ghost use Rattle.txs_eval_work.specs.Worked.{Gives, tx_state};
 ghost use Rattle.txs_tree.specs.Known.{known};
 ghost use Rattle.txs_tree.specs.Sound.{SoundTree, in_dosync};
 ghost use Rattle.txs_tree.specs.Meaning.{Completion};
 ghost use Rattle.txs_tree.specs.Transaction.{TxState, tx_meaning};
 ghost use Rattle.txs_tree.specs.View.{functions_of, tree_of};
-ghost use Rattle.txs_eval.specs.Views.{plain_view, world_of};
+ghost use Rattle.txs_eval_work.specs.Views.{plain_view, world_of};
 ghost use Rattle.txs_value.specs.declared.value.Value.{Value as AnyValue};
 
 use crate::context::Context;
 use crate::evaluate::{copy_locals, evaluate};
 use crate::pure_call::EvalStop;
-use crate::state::{State, TxWork};
-use crate::stop::ThreadStop;
-use crate::view::RefView;
+use crate::state::State;
 use std::alloc::Global;
+use txs_eval_work::{RefView, ThreadStop, TxWork};
 use txs_frame::TxFrame;
 use txs_tree::{Node, Program};
 use txs_value::{CellId, Fault, Listed, Value};
@@ -62,7 +62,7 @@ pub fn eval_tx<'a>(
     let mut locals = copy_locals(alloc, values)?;
     let mut state = State::new(alloc, &[]);
     let gave = evaluate(alloc, &context, node, &mut locals, &mut state);
-    tell_tx(gave, state.tx)
+    tell_tx(gave, state.into_tx())
 }
 
 /// What is told of a body that met no event, and gave this and did this work.

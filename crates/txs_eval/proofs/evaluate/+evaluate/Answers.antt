@@ -1,36 +1,34 @@
-use Rattle.std.proofs.Common.{rules, suc, ◌≡◌, ◌+◌, ◌-◌, ◌*◌, ◌<◌, ◌≤◌, ◌&&◌, true, false, Bool, [], ◌∷◌, ◌++◌, length, take, drop, Ok, Err, None, Some, OnOk, IsTrue, is_some, get_or, Vec, Global, zero-add, sym, ap, ◌∙◌, subst, subst₂, refl, arith}
+use Rattle.std.proofs.Common.{rules, suc, ◌≡◌, ◌+◌, ◌-◌, ◌*◌, ◌<◌, ◌≤◌, true, false, [], ◌∷◌, ◌++◌, length, take, drop, Ok, Err, None, Some, OnOk, MatchResult, is_some, option_copied, Vec, Global, zero-add, sym, ap, ◌∙◌, subst, subst₂, refl, arith}
 use Rattle.std.proofs.lemmas.List.{drop_all, length_push, length-drop}
-use Rattle.txs_asks.specs.Ask.{Writes, same_writes, same_actions, same_value}
-use Rattle.txs_frame.specs.Frame.{commuted, commutes_of, by_ref}
-use Rattle.txs_operations.specs.Core.{takes, is_false}
+use Rattle.txs_asks.specs.Ask.{Writes}
+use Rattle.txs_frame.specs.Frame.{phase_work, set_writes}
+use Rattle.txs_operations.specs.Core.{is_false}
 use Rattle.txs_value.specs.Forms.{rule, cell_of}
 use Rattle.txs_value.specs.Limits.{reruns}
 use Rattle.txs_value.specs.Places.{nth}
-use Rattle.txs_value.specs.Printed.{printed_line}
 use Rattle.txs_value.specs.declared.value.CellId.{CellId}
-use Rattle.txs_value.specs.declared.value.CellKind.TheVariants.{Ref}
 use Rattle.txs_value.specs.declared.value.Value.{Value}
-use Rattle.txs_eval.specs.Evaluated.{ReadyIn, of_one, part, is_on, forms_in, calls_in, Stops, Gives, Told, Yields, GivesAll, Steps, Runs, Ate, means, all_mean, do_means, let_means, locals_mean, loop_means, turns_mean, form_means, act_means, inside_means, outside_means, alter_means, commute_means, swap_means, applied, redone_means, final_means, dosync_means, transacting, at_end, eat_means, end_means, ended, end_stop, closes, body_means, thread_state, tx_state, tx_run, swap_of, is_broke}
-use Rattle.txs_eval.specs.Events.{seen_event}
-use Rattle.txs_tree.specs.Meaning.{Completes, result_of}
+use Rattle.txs_eval.specs.Evaluated.{ReadyIn, part, is_on, forms_in, calls_in, Yields, GivesAll, Steps, means, all_mean, do_means, let_means, locals_mean, loop_means, turns_mean, form_means, inside_means, outside_means, update_means, swap_means, applied, redone_means, final_means, dosync_means, transacting, at_end, eat_means, ended, end_stop, thread_state}
+use Rattle.txs_eval_work.specs.Worked.{of_one, Stops, Gives, Told, tx_state}
+use Rattle.txs_tree.specs.Meaning.{result_of}
 use Rattle.txs_eval.specs.Setting.{callable, zone_in, on_view}
-use Rattle.txs_tree.specs.Sound.{SoundCall, SoundCallee, SoundTree, SoundAll, SoundDo, SoundLet, nodes, nodes_in, in_thread, in_dosync}
-use Rattle.txs_tree.specs.Thread.{is_retry, eats, resets}
-use Rattle.txs_tree.specs.Transaction.{valued, merged}
-use Rattle.txs_tree.specs.Tree.{none, count}
+use Rattle.txs_tree.specs.Sound.{SoundCall, SoundCallee, SoundTree, SoundDo, SoundLet, nodes, nodes_in, in_thread, in_dosync}
+use Rattle.txs_tree.specs.Thread.{eats, reads, resets}
+use Rattle.txs_tree.specs.Transaction.{merged}
+use Rattle.txs_tree.specs.Tree.{count}
 use Rattle.txs_tree.specs.View.{tree_of, trees_of, mark_of, function_of, functions_of}
-use Rattle.txs_eval.specs.Views.{PlainView, plain_view, plain_world, world_of}
+use Rattle.txs_eval_work.specs.Views.{PlainView, plain_view, plain_world}
 use Rattle.txs_eval.proofs.Acting.{acted_inside, acted_outside, sound_at, redone_stop, redone_more, phase_sound, finals_stop, finals_done}
 use Rattle.txs_eval.proofs.Called.{in_room, room, room-deeper, room_on, depth_left, is_function, as_many, called_body, pure_here}
 use Rattle.txs_eval.proofs.Counting.{item_smaller, nodes-some, nodes-last}
-use Rattle.txs_eval.proofs.Ending.{ran_given, ran_sound, ended_unrun, ended_stop, ended_done, ends_viewed, ends_unviewed, end_stops, eats_none, eats_end, eats_more, running, joined, begun}
-use Rattle.txs_eval.proofs.Evaluation.{StopsAt, collects-start, do_then, rebound, stops_steps, stops_gives, local_done, all_more, all_stop, do_more, do_stop, do_start, locals_more, locals_stop, let_stop, let_done, loop_stop, loop_done, turn_value, turn_stop, turn_recur, take_kept, called, if_stop, if_goes, args_stop, acted, const_done}
-use Rattle.txs_eval.proofs.Forms.{untaken_inside, untaken_outside, alter_stop, alter_done, commute_stop, commute_done, called_alone, core_done, vector_done, call_done, print_done, swap_gives, broken_gives, put_inside, send_inside, put_outside}
+use Rattle.txs_eval.proofs.Ending.{ran_given, ran_sound, ended_unrun, ended_closed, ends_viewed, ends_unviewed, end_stops, running, joined, begun}
+use Rattle.txs_eval.proofs.Evaluation.{StopsAt, collects-start, do_then, rebound, stops_steps, stops_gives, local_done, all_more, all_stop, do_more, do_stop, do_start, locals_more, locals_stop, let_stop, let_done, loop_stop, loop_done, turn_value, turn_stop, turn_recur, take_kept, called, if_goes, args_stop, acted, const_done}
+use Rattle.txs_eval.proofs.Forms.{untaken_inside, untaken_outside, updates_ref, update_takes, update_unbegun, update_stop, update_done, update_inside, called_alone, core_done, vector_done, call_done, print_done, swap_stop, swap_done, put_inside, send_inside, put_outside, update_outside, put_takes, look_inside, look_outside, send_outside}
 use Rattle.txs_eval.proofs.Recurs.{recurs_many, never_recurs}
 use Rattle.txs_tree.proofs.Soundness.{SoundAll-from, SoundLet-from, SoundDo-parts, count-from}
 use Rattle.txs_eval.proofs.Shaping.{copied, stepped, strict_sound, strict_smaller, strict_finishes, strict_whole, form_sound, form_smaller, form_whole}
 use Rattle.txs_eval.specs.Shapes.{IsShape, form_of_act}
-use Rattle.txs_eval.specs.declared.evaluate.Step.TheVariants.{Value as AValue}
+use Rattle.txs_eval_work.specs.declared.stop.ThreadStop.TheVariants.{Memory}
 use Rattle.txs_eval.proofs.evaluate.+evaluate.Goals as goal
 
 pub evaluate-unreachable-requires : goal.evaluate-unreachable-requires
@@ -369,28 +367,8 @@ act_outside-returns-in_err-cell t c =
     λ wanted. stops_gives (λ v. v) false c.from_residual.result y before (outside_means x c.args.act (mark_of c.args.span wanted) c.args.value.now c.args.args.items before) (search rules)
     (untaken_outside x (mark_of c.args.span wanted) c.args.value.now before c.args.act c.args.args.items y c.requires told)
 
-pub alter-returns-in_err-new : goal.alter-returns-in_err-new
-alter-returns-in_err-new t c =
-    let x = c.args.context.now in
-    let r = plain_view c.args.world in
-    let m = mark_of c.args.span true in
-    let y = c.in_err-new.field-0.0 in
-    let before = tx_state c.args.tx.now in
-    let after = tx_state c.take.new.self in
-    stops_gives (λ v. v) true c.from_residual-in_err-new.result y after (alter_means x r c.args.callee c.args.cell c.args.args.items c.args.span before) (search rules)
-    (alter_stop x c.is_sound.ensures r c.args.callee c.args.cell c.args.args.items m before after c.in_ok-value.value c.requires.callee c.in_ok-value.ensures y c.in_err-new.ensures)
-
-pub alter-returns : goal.alter-returns
-alter-returns t c =
-    let x = c.args.context.now in
-    let r = plain_view c.args.world in
-    let m = mark_of c.args.span true in
-    let before = tx_state c.args.tx.now in
-    let after = tx_state c.take.new.self in
-    alter_done x c.is_sound.ensures r c.args.callee c.args.cell c.args.args.items m before after c.in_ok-value.value c.requires.callee c.in_ok-value.ensures c.in_ok-new.new c.set.result (tx_state c.set.new.self) c.in_ok-new.ensures c.set.ensures
-
-pub apply_callee-call-requires : goal.apply_callee-call-requires
-apply_callee-call-requires t c =
+pub apply_callee-call-given-requires : goal.apply_callee-call-given-requires
+apply_callee-call-given-requires t c =
     let x = c.args.context.now in
     let fits = subst (λ f. SoundCallee (callable x) f (length c.args.values.items)) c.in-Function.is c.requires in
     let w : PlainView = record { cells = []; place = 0 } in
@@ -402,27 +380,7 @@ pub apply_callee-returns-in-Function : goal.apply_callee-returns-in-Function
 apply_callee-returns-in-Function t c =
     let x = c.args.context.now in
     let fits = subst (λ f. SoundCallee (callable x) f (length c.args.values.items)) c.in-Function.is c.requires in
-    called_alone x c.on-inner.result _ c.on-inner.ensures c.is_sound.ensures c.args.span c.args.callee c.in-Function.number c.args.values.items c.in-Function.is fits c.call.result c.new-state.result c.call.new.state c.call.ensures
-
-pub commute-returns-in_err-new : goal.commute-returns-in_err-new
-commute-returns-in_err-new t c =
-    let x = c.args.context.now in
-    let r = plain_view c.args.world in
-    let m = mark_of c.args.span c.args.wanted in
-    let y = c.in_err-new.field-0.0 in
-    let before = tx_state c.args.tx.now in
-    let told = subst (λ us. Told {A = Value} (Err y) (applied x c.args.callee us c.args.span)) (c.in_ok-values.ensures ∙ ap (λ l. c.in_ok-value.value ∷ l) c.as_slice.ensures.value) c.in_err-new.ensures in
-    stops_gives (λ v. v) true c.from_residual-in_err-new.result y before (commute_means x r c.args.callee c.args.cell c.args.args.items m before) (search rules)
-    (commute_stop x c.is_sound.ensures r c.args.callee c.args.cell c.args.args.items m before c.in_ok-value.value c.requires.callee c.in_ok-value.ensures y told)
-
-pub commute-returns : goal.commute-returns
-commute-returns t c =
-    let x = c.args.context.now in
-    let r = plain_view c.args.world in
-    let m = mark_of c.args.span c.args.wanted in
-    let before = tx_state c.args.tx.now in
-    let told = subst (λ us. Told (Ok c.in_ok-new.new) (applied x c.args.callee us c.args.span)) (c.in_ok-values.ensures ∙ ap (λ l. c.in_ok-value.value ∷ l) c.as_slice.ensures.value) c.in_ok-new.ensures in
-    commute_done x c.is_sound.ensures r c.args.callee c.args.cell c.args.args.items m before c.in_ok-value.value c.requires.callee c.in_ok-value.ensures c.in_ok-new.new c.keep_commute.result (tx_state c.keep_commute.new.self) told c.keep_commute.ensures
+    called_alone x c.on-inner.result _ c.on-inner.ensures c.is_sound.ensures c.args.span c.args.callee c.in-Function.number c.args.values.items c.in-Function.is fits c.call-given.result c.new-state.result c.call-given.new.state c.call-given.ensures
 
 pub do_act-returns-in-Some : goal.do_act-returns-in-Some
 do_act-returns-in-Some t c =
@@ -435,65 +393,6 @@ do_act-returns-in-None t c =
     let x = c.args.context.now in
     let is = sym c.world.ensures ∙ ap plain_world c.in-None.is in
     acted_outside x c.args.act (mark_of c.args.span c.args.wanted) c.args.value.now c.args.args.items c.act_outside.result c.args.state.now (record c.args.state.now { thread = c.act_outside.new.thread }) is (c.act_outside.ensures c.args.wanted)
-
-tries_are : suc reruns ≡ 10000
-unfolding reruns
-tries_are = refl
-
-pub eat_dosync-loop-try-init : goal.eat_dosync-loop-try-init
-eat_dosync-loop-try-init t c =
-    let x = c.args.context.now in
-    let m = mark_of c.args.dosync.span c.args.dosync.wanted in
-    let body = tree_of c.args.dosync.body.now in
-    let env = c.args.locals.now.items in
-    (refl, ap (λ k. eat_means x k m body env (thread_state c.args.thread.now)) tries_are)
-
-pub eat_dosync-returns-in_err-event-clause-value : goal.eat_dosync-returns-in_err-event-clause-value
-eat_dosync-returns-in_err-event-clause-value t c =
-    let x = c.args.context.now in
-    let m = mark_of c.args.dosync.span c.args.dosync.wanted in
-    let body = tree_of c.args.dosync.body.now in
-    let env = c.args.locals.now.items in
-    let now = thread_state c.loop-try.thread in
-    let after = thread_state c.eat.new.self in
-    let k = 10000 - (c.loop-try._try + 1) in
-    let left : 10000 - c.loop-try._try ≡ suc k = omega (arith, c.loop-try-test.true) in
-    let here = c.loop-try.invariant.1 ∙ ap (λ j. eat_means x j m body env now) left in
-    let y = c.in_err-event.field-0.0 in
-    stops_gives (λ v. v) false c.from_residual.result y after (eat_means x (suc reruns) m body env (thread_state c.args.thread.now)) (search rules)
-    (subst (λ w. Stops false y after w) (sym here) (eats_none (transacting x m body env) (at_end x m.span) k y now after c.in_err-event.ensures))
-
-pub eat_dosync-returns-then-not-is_retry-clause-value : goal.eat_dosync-returns-then-not-is_retry-clause-value
-eat_dosync-returns-then-not-is_retry-clause-value t c =
-    let x = c.args.context.now in
-    let m = mark_of c.args.dosync.span c.args.dosync.wanted in
-    let body = tree_of c.args.dosync.body.now in
-    let env = c.args.locals.now.items in
-    let now = thread_state c.loop-try.thread in
-    let after = thread_state c.eat.new.self in
-    let k = 10000 - (c.loop-try._try + 1) in
-    let left : 10000 - c.loop-try._try ≡ suc k = omega (arith, c.loop-try-test.true) in
-    let here = c.loop-try.invariant.1 ∙ ap (λ j. eat_means x j m body env now) left in
-    let e = c.in_ok-event.event.now in
-    let ends : is_retry e.kind.now ≡ false = search rules in
-    let whole = here ∙ eats_end (transacting x m body env) (at_end x m.span) k e now after c.in_ok-event.ensures ends in
-    subst (λ w. Gives false c.end_dosync.result (thread_state c.end_dosync.new.thread) w) (sym whole)
-    (subst (λ l. Gives false c.end_dosync.result (thread_state c.end_dosync.new.thread) (end_means x m body l (seen_event e) after)) c.loop-try.invariant.0 c.end_dosync.ensures.value)
-
-pub eat_dosync-loop-try-preserved : goal.eat_dosync-loop-try-preserved
-eat_dosync-loop-try-preserved t c =
-    let x = c.args.context.now in
-    let m = mark_of c.args.dosync.span c.args.dosync.wanted in
-    let body = tree_of c.args.dosync.body.now in
-    let env = c.args.locals.now.items in
-    let now = thread_state c.loop-try.thread in
-    let after = thread_state c.eat.new.self in
-    let k = 10000 - (c.loop-try._try + 1) in
-    let left : 10000 - c.loop-try._try ≡ suc k = omega (arith, c.loop-try-test.true) in
-    let here = c.loop-try.invariant.1 ∙ ap (λ j. eat_means x j m body env now) left in
-    let e = c.in_ok-event.event.now in
-    let more : is_retry e.kind.now ≡ true = search rules in
-    (c.loop-try.invariant.0, here ∙ eats_more (transacting x m body env) (at_end x m.span) k e now after c.in_ok-event.ensures more)
 
 pub evaluate_form-returns-in_err-args-clause-value : goal.evaluate_form-returns-in_err-args-clause-value
 evaluate_form-returns-in_err-args-clause-value t c =
@@ -654,29 +553,6 @@ evaluate_form-returns-clause-value t c =
     let whole = acted x c.args.act m cell args env out v c.evaluate.new.state c.in_ok-cell.ensures.value c.evaluate.new.locals.items c.in_ok-cell.ensures.kept c.in_ok-args.args.items c.evaluate_all.new.state c.in_ok-args.ensures.value in
     stepped x c.do_act.result c.as_step.result c.do_act.new.state (form_means x c.args.act m cell args env out) c.as_step.ensures (subst (λ q. Yields x c.do_act.result c.do_act.new.state q) (sym whole) c.do_act.ensures)
 
-pub swap-returns-in-Some : goal.swap-returns-in-Some
-swap-returns-in-Some t c =
-    let x = c.args.context.now in
-    let e = c.in_ok-event.event.now in
-    let before = thread_state c.args.thread.now in
-    let after = thread_state c.eat.new.self in
-    let ate = subst (λ b. Ate b e before after) c.home.ensures c.in_ok-event.ensures in
-    let new = c.in-Some.new.now in
-    let to : swap_of e.kind.now ≡ Some new = search rules in
-    subst (λ r. Gives false r after (swap_means x c.args.callee c.args.cell c.args.args.items c.args.span before)) (sym c.swapped_to.ensures)
-    (swap_gives x c.is_sound.ensures c.args.callee c.args.cell c.args.args.items c.args.span e before after ate c.requires new to c.apply_at-given.result c.apply_at-given.ensures)
-
-pub swap-returns : goal.swap-returns
-swap-returns t c =
-    let x = c.args.context.now in
-    let e = c.in_ok-event.event.now in
-    let before = thread_state c.args.thread.now in
-    let after = thread_state c.eat.new.self in
-    let ate = subst (λ b. Ate b e before after) c.home.ensures c.in_ok-event.ensures in
-    let broken : is_broke e.kind.now ≡ true = search rules in
-    subst (λ r. Gives false r after (swap_means x c.args.callee c.args.cell c.args.args.items c.args.span before)) (sym c.no_value.ensures)
-    (broken_gives x c.is_sound.ensures c.args.callee c.args.cell c.args.args.items c.args.span e before after ate c.requires broken _ refl c.apply_at.result c.apply_at.ensures)
-
 pub act_inside-returns-in-Put : goal.act_inside-returns-in-Put
 act_inside-returns-in-Put t c =
     let x = c.args.context.now in
@@ -777,8 +653,8 @@ run_body-returns-clause-value t c =
     let inner = c.on-inner.result in
     let w = plain_view c.args.world in
     let copied : c.in_ok-copies.copies.items ≡ env = search rules in
-    ran_given x inner w c.on-inner.ensures body env c.new-state.result c.new-state.ensures.tx m _ c.evaluate-given.new.state (λ v. refl) (λ v. refl)
-    (λ v. ap (λ l. record { body = body; locals = l; wanted = m.wanted; result = v; state = tx_state c.evaluate-given.new.state.tx }) copied) c.evaluate-given.result c.ran.result c.ran.ensures c.evaluate-given.ensures.value
+    ran_given x inner w c.on-inner.ensures body env c.new-state.result c.new-state.ensures.tx m _ c.evaluate-given.new.state (λ v. refl) (λ v. c.into_tx.ensures)
+    (λ v. ap (λ l. record { body = body; locals = l; wanted = m.wanted; result = v; state = tx_state c.into_tx.result }) copied) c.evaluate-given.result c.ran.result c.ran.ensures c.evaluate-given.ensures.value
 
 pub run_body-returns-clause-sound : goal.run_body-returns-clause-sound
 run_body-returns-clause-sound t c =
@@ -789,105 +665,239 @@ run_body-returns-clause-sound t c =
     let inner = c.on-inner.result in
     let w = plain_view c.args.world in
     let copied : c.in_ok-copies.copies.items ≡ env = search rules in
-    ran_sound x inner w c.on-inner.ensures body env c.new-state.result c.new-state.ensures.tx m _ c.evaluate-given.new.state (λ v. refl) (λ v. refl)
-    (λ v. ap (λ l. record { body = body; locals = l; wanted = m.wanted; result = v; state = tx_state c.evaluate-given.new.state.tx }) copied) c.is_sound.ensures (length env) c.requires c.evaluate-given.result c.ran.result c.ran.ensures c.evaluate-given.ensures.value
+    ran_sound x inner w c.on-inner.ensures body env c.new-state.result c.new-state.ensures.tx m _ c.evaluate-given.new.state (λ v. refl) (λ v. c.into_tx.ensures)
+    (λ v. ap (λ l. record { body = body; locals = l; wanted = m.wanted; result = v; state = tx_state c.into_tx.result }) copied) c.is_sound.ensures (length env) c.requires c.evaluate-given.result c.ran.result c.ran.ensures c.evaluate-given.ensures.value
+
+pub eat_dosync-returns-in-None-clause-value : goal.eat_dosync-returns-in-None-clause-value
+eat_dosync-returns-in-None-clause-value t c =
+    let x = c.args.context.now in
+    let m = mark_of c.args.dosync.span c.args.dosync.wanted in
+    let body = tree_of c.args.dosync.body.now in
+    let env = c.args.locals.now.items in
+    let e = c.in_ok-event.event.now in
+    let r = plain_view e.start in
+    let before = thread_state c.end_of_tx.new.self in
+    let other = sym c.end_view.ensures ∙ ap plain_world c.in-None.is in
+    (refl, c.in_ok-event.ensures (transacting x m body env) (at_end x m.span) ∙ ends_unviewed x m body env before r (plain_view e.view) (plain_view e.here) r e.kind.now other)
+
+pub eat_dosync-returns-in-Err-clause-value : goal.eat_dosync-returns-in-Err-clause-value
+eat_dosync-returns-in-Err-clause-value t c =
+    let x = c.args.context.now in
+    let m = mark_of c.args.dosync.span c.args.dosync.wanted in
+    let body = tree_of c.args.dosync.body.now in
+    let env = c.args.locals.now.items in
+    let e = c.in_ok-event.event.now in
+    let r = plain_view e.start in
+    let before = thread_state c.end_of_tx.new.self in
+    let w = plain_view c.in-Some.world in
+    let viewed = sym c.end_view.ensures ∙ ap plain_world c.in-Some.is in
+    let whole = c.in_ok-event.ensures (transacting x m body env) (at_end x m.span) ∙ ends_viewed x m body env before r (plain_view e.view) (plain_view e.here) w e.kind.now viewed in
+    let stops = end_stops e.kind.now m.span c.in-Err.stop before (ended x m body env r w before) (ended_unrun x m body env r w before c.in-Err.stop c.in-Err.ensures.value) in
+    subst (λ z. Stops false z before (eat_means x (suc reruns) m body env (thread_state c.args.thread.now))) (sym c.end_stop.ensures) (subst (λ q. Stops false (end_stop e.kind.now c.in-Err.stop) before q) (sym whole) stops)
+
+pub eat_dosync-returns-in_err-event-clause-value : goal.eat_dosync-returns-in_err-event-clause-value
+eat_dosync-returns-in_err-event-clause-value t c =
+    let x = c.args.context.now in
+    let m = mark_of c.args.dosync.span c.args.dosync.wanted in
+    let body = tree_of c.args.dosync.body.now in
+    let env = c.args.locals.now.items in
+    let y = c.in_err-event.field-0.0 in
+    stops_gives (λ v. v) false c.from_residual.result y (thread_state c.end_of_tx.new.self) (eat_means x (suc reruns) m body env (thread_state c.args.thread.now)) (search rules) (c.in_err-event.ensures (transacting x m body env) (at_end x m.span) refl)
+
+pub update_inside-returns-in_err-value : goal.update_inside-returns-in_err-value
+update_inside-returns-in_err-value t c =
+    let x = c.args.context.now in
+    let r = plain_view c.args.world in
+    let m = mark_of c.args.span c.args.wanted in
+    let y = c.in_err-value.field-0.0 in
+    let before = tx_state c.args.tx.now in
+    let after = tx_state c.begin_update.new.self in
+    stops_gives (λ v. v) true c.from_residual.result y after (update_means x r c.args.form c.args.callee c.args.cell c.args.args.items m before) (search rules)
+    (update_unbegun x c.is_sound.ensures r c.args.form c.args.callee c.args.cell c.args.args.items m y before after c.in_err-value.ensures)
+
+pub update_inside-returns-in_err-new : goal.update_inside-returns-in_err-new
+update_inside-returns-in_err-new t c =
+    let x = c.args.context.now in
+    let r = plain_view c.args.world in
+    let m = mark_of c.args.span c.args.wanted in
+    let y = c.in_err-new.field-0.0 in
+    let v = c.in_ok-value.value in
+    let before = tx_state c.args.tx.now in
+    let after = tx_state c.begin_update.new.self in
+    let told = subst (λ us. Told {A = Value} (Err y) (applied x c.args.callee (v ∷ us) c.args.span)) c.as_slice.ensures.value c.in_err-new.ensures in
+    stops_gives (λ v. v) true c.from_residual-in_err-new.result y after (update_means x r c.args.form c.args.callee c.args.cell c.args.args.items m before) (search rules)
+    (update_stop x c.is_sound.ensures r c.args.form c.args.callee c.args.cell c.args.args.items m before after v c.requires.callee c.in_ok-value.ensures y told)
+
+pub update_inside-returns : goal.update_inside-returns
+update_inside-returns t c =
+    let x = c.args.context.now in
+    let r = plain_view c.args.world in
+    let m = mark_of c.args.span c.args.wanted in
+    let v = c.in_ok-value.value in
+    let before = tx_state c.args.tx.now in
+    let after = tx_state c.begin_update.new.self in
+    let told = subst (λ us. Told (Ok c.in_ok-new.new) (applied x c.args.callee (v ∷ us) c.args.span)) c.as_slice.ensures.value c.in_ok-new.ensures in
+    update_done x c.is_sound.ensures r c.args.form c.args.callee c.args.cell c.args.args.items m before after v c.requires.callee c.in_ok-value.ensures c.in_ok-new.new c.end_update.result (tx_state c.end_update.new.self) told c.end_update.ensures
+
+pub act_inside-update_inside-requires : goal.act_inside-update_inside-requires
+act_inside-update_inside-requires t c =
+    let x = c.args.context.now in
+    let form = c.in-Update.form in
+    let ready = subst (λ a. ReadyIn (callable x) in_dosync a (length c.args.args.items)) c.in-Update.is c.requires in
+    let told = subst (λ f. Told (Ok c.in_ok-cell.cell) (result_of (cell_of (rule f) true c.args.value.now) c.args.span tt)) (c.form.ensures ∙ ap form_of_act c.in-Update.is) c.in_ok-cell.ensures in
+    let smaller : room x + 3 < room x + 5 = omega arith in
+    let updates = updates_ref form ready.0 in
+    (search (rules, smaller), (updates, (update_takes form c.args.value.now c.args.span c.in_ok-cell.cell updates told, ready.1)))
+
+pub act_inside-returns-in-Update : goal.act_inside-returns-in-Update
+act_inside-returns-in-Update t c =
+    let x = c.args.context.now in
+    let r = plain_view c.args.world in
+    let m = mark_of c.args.span c.args.wanted in
+    let before = tx_state c.args.tx.now in
+    let after = tx_state c.update_inside.new.tx in
+    let told = subst (λ f. Told (Ok c.in_ok-cell.cell) (result_of (cell_of (rule f) true c.args.value.now) c.args.span tt)) (c.form.ensures ∙ ap form_of_act c.in-Update.is) c.in_ok-cell.ensures in
+    let whole = update_inside x r m c.args.value.now before c.in_ok-cell.cell c.in-Update.form c.in-Update.callee c.args.args.items told in
+    subst (λ a. Gives true c.update_inside.result after (inside_means x r a m c.args.value.now c.args.args.items before)) (sym c.in-Update.is)
+    (subst (λ q. Gives true c.update_inside.result after q) whole c.update_inside.ensures)
+
+pub swap-returns-in_err-world : goal.swap-returns-in_err-world
+swap-returns-in_err-world t c =
+    let x = c.args.context.now in
+    let y = c.in_err-world.field-0.0 in
+    let before = thread_state c.args.thread.now in
+    let after = thread_state c.swap.new.self in
+    stops_gives (λ v. v) false c.from_residual.result y after (swap_means x c.args.callee c.args.cell c.args.args.now c.args.span before) (search rules)
+    (swap_stop x c.is_sound.ensures c.args.callee c.args.cell c.args.args.now c.args.span before after c.home.result y c.home.ensures c.in_err-world.ensures)
+
+pub swap-returns : goal.swap-returns
+swap-returns t c =
+    swap_done c.args.context.now c.is_sound.ensures c.args.callee c.args.cell c.args.args.now c.args.span (thread_state c.args.thread.now) (thread_state c.swap.new.self) c.home.result (plain_view c.in_ok-world.world) (option_copied c.in_ok-world.new) c.in_ok-value.value
+    c.apply_on.result c.end_swap.result c.home.ensures c.in_ok-world.ensures c.in_ok-value.ensures c.requires c.apply_on.ensures c.end_swap.ensures
+
+pub act_outside-swap-requires : goal.act_outside-swap-requires
+act_outside-swap-requires t c =
+    let x = c.args.context.now in
+    let ready = subst (λ a. ReadyIn (callable x) in_thread a (length c.args.args.items)) c.in-Update.is c.requires in
+    let smaller : room x + 4 < room x + 5 = omega arith in
+    (search (rules, smaller), subst (λ l. SoundCallee (callable x) c.in-Update.callee (suc (length l))) (sym c.as_slice.ensures.value) ready.1)
+
+pub act_outside-returns-in-Update : goal.act_outside-returns-in-Update
+act_outside-returns-in-Update t c =
+    let x = c.args.context.now in
+    let form = c.in-Update.field-0 in
+    let callee = c.in-Update.callee in
+    let cell = c.in_ok-cell.cell in
+    let before = thread_state c.args.thread.now in
+    let after = thread_state c.swap.new.thread in
+    let ready = subst (λ a. ReadyIn (callable x) in_thread a (length c.args.args.items)) c.in-Update.is c.requires in
+    let told = subst (λ f. Told (Ok cell) (result_of (cell_of (rule f) false c.args.value.now) c.args.span tt)) (c.form.ensures ∙ ap form_of_act c.in-Update.is) c.in_ok-cell.ensures in
+    let given = subst (λ l. Gives false c.swap.result after (swap_means x callee cell l c.args.span before)) c.as_slice.ensures.value c.swap.ensures in
+    λ wanted. subst (λ a. Gives false c.swap.result after (outside_means x a (mark_of c.args.span wanted) c.args.value.now c.args.args.items before)) (sym c.in-Update.is)
+    (update_outside x (mark_of c.args.span wanted) c.args.value.now before cell c.swap.result after form callee c.args.args.items ready told given)
+
+pub eat_dosync-returns-clause-value : goal.eat_dosync-returns-clause-value
+eat_dosync-returns-clause-value t c =
+    let x = c.args.context.now in
+    let m = mark_of c.args.dosync.span c.args.dosync.wanted in
+    let body = tree_of c.args.dosync.body.now in
+    let env = c.args.locals.now.items in
+    let e = c.in_ok-event.event.now in
+    let r = plain_view e.start in
+    let before = thread_state c.end_of_tx.new.self in
+    let w = plain_view c.in-Some.world in
+    let viewed = sym c.end_view.ensures ∙ ap plain_world c.in-Some.is in
+    let whole = c.in_ok-event.ensures (transacting x m body env) (at_end x m.span) ∙ ends_viewed x m body env before r (plain_view e.view) (plain_view e.here) w e.kind.now viewed in
+    let after = thread_state c.close.new.thread in
+    subst (λ q. Gives false c.close.result after q) (sym whole)
+    (ended_closed x m body env r w before c.is_sound.ensures c.in-Ok.run' c.in-Ok.ensures.value c.in-Ok.ensures.sound (λ (ws : Vec (CellId × Value) Global). ws.items) c.final_writes-last.result e.kind.now c.close.result after c.final_writes-last.ensures c.close.ensures)
 
 pub final_writes-redo-requires : goal.final_writes-redo-requires
 final_writes-redo-requires t c =
     let x = c.args.context.now in
-    let work : c.as_slice.result.now ≡ c.in_ok-work.work.items = search rules in
-    (search rules, phase_sound x c.args.span c.args.done.now (plain_view c.args.world) c.as_slice.result.now c.in_ok-work.writes.items (work ∙ c.in_ok-work.ensures.0) c.in_ok-work.ensures.1 c.requires)
+    let smaller : room x + 4 < room x + 5 = omega arith in
+    (search (rules, smaller), c.requires)
 
 pub final_writes-returns-in_err-redo : goal.final_writes-returns-in_err-redo
 final_writes-returns-in_err-redo t c =
     let x = c.args.context.now in
     let w = c.args.done.now in
     let r = plain_view c.args.world in
-    let work : c.as_slice.result.now ≡ c.in_ok-work.work.items = search rules in
     let y = c.in_err-redo.field-0.0 in
     stops_gives (λ (us : Vec (CellId × Value) Global). us.items) true c.from_residual-in_err-redo.result y tt (final_means x w r c.args.span) (search rules)
-    (finals_stop x c.args.span w r c.as_slice.result.now c.in_ok-work.writes.items (work ∙ c.in_ok-work.ensures.0) c.in_ok-work.ensures.1 y c.in_err-redo.ensures)
+    (finals_stop x c.args.span w r c.in_ok-writes.writes.items c.in_ok-writes.ensures y c.in_err-redo.ensures)
 
 pub final_writes-returns : goal.final_writes-returns
 final_writes-returns t c =
     let x = c.args.context.now in
     let w = c.args.done.now in
     let r = plain_view c.args.world in
-    let work : c.as_slice.result.now ≡ c.in_ok-work.work.items = search rules in
-    finals_done x c.args.span w r c.as_slice.result.now c.in_ok-work.writes.items (work ∙ c.in_ok-work.ensures.0) c.in_ok-work.ensures.1 (λ (us : Vec (CellId × Value) Global). us.items) c.redo.new.writes.items c.with_sets.result c.in_ok-redo.ensures c.with_sets.ensures
+    let made = subst (λ us. MatchResult c.with_sets.result (λ last. last.items ≡ merged (set_writes w) us) (λ y. y ≡ Memory)) c.as_slice.ensures.value c.with_sets.ensures in
+    finals_done x c.args.span w r c.in_ok-writes.writes.items c.in_ok-writes.ensures (λ (us : Vec (CellId × Value) Global). us.items) c.redo.new.writes.items c.with_sets.result c.in_ok-redo.ensures made
 
 pub redo-redo_one-requires : goal.redo-redo_one-requires
 redo-redo_one-requires t c =
     let x = c.args.context.now in
-    let smaller : room x + 2 < room x + 3 = omega arith in
-    (search (rules, smaller), sound_at (callable x) c.args.commutes.now c.loop-commute.commute-index c.commute-item.result c.requires c.loop-commute-test.true c.commute-item.is)
+    let work = c.as_slice-commutes.ensures.value ∙ c.in_ok-work.ensures in
+    let smaller : room x + 3 < room x + 4 = omega arith in
+    (search (rules, smaller), sound_at (callable x) c.as_slice-commutes.result.now c.loop-commute.commute-index c.commute-item.result (phase_sound (callable x) c.args.done.now c.as_slice-commutes.result.now work c.requires) c.loop-commute-test.true c.commute-item.is)
+
+pub redo-loop-commute-init : goal.redo-loop-commute-init
+redo-loop-commute-init t c = ap (λ l. redone_means c.args.context.now c.args.span l c.args.writes.now.items) (sym (c.as_slice-commutes.ensures.value ∙ c.in_ok-work.ensures))
 
 pub redo-returns-in_err-redo_one : goal.redo-returns-in_err-redo_one
 redo-returns-in_err-redo_one t c =
     let x = c.args.context.now in
-    let cs = c.args.commutes.now in
+    let cs = c.as_slice-commutes.result.now in
     let y = c.in_err-redo_one.field-0.0 in
     let rest = redone_stop x c.args.span cs c.loop-commute.commute-index c.commute-item.result c.loop-commute-test.true c.commute-item.is c.loop-commute.writes.items y c.in_err-redo_one.ensures in
-    stops_gives _ true c.from_residual.result y tt (redone_means x c.args.span cs c.args.writes.now.items) (search rules) (subst (λ q. Told {A = Writes} (Err y) q) (sym c.loop-commute.invariant) rest)
+    stops_gives _ true c.from_residual-in_err-redo_one.result y tt (redone_means x c.args.span (phase_work c.args.done.now) c.args.writes.now.items) (search rules) (subst (λ q. Told {A = Writes} (Err y) q) (sym c.loop-commute.invariant) rest)
 
 pub redo-loop-commute-preserved : goal.redo-loop-commute-preserved
 redo-loop-commute-preserved t c =
-    c.loop-commute.invariant ∙ redone_more c.args.context.now c.args.span c.args.commutes.now c.loop-commute.commute-index c.commute-item.result c.loop-commute-test.true c.commute-item.is c.loop-commute.writes.items c.redo_one.new.writes.items c.in_ok-redo_one.ensures
+    c.loop-commute.invariant ∙ redone_more c.args.context.now c.args.span c.as_slice-commutes.result.now c.loop-commute.commute-index c.commute-item.result c.loop-commute-test.true c.commute-item.is c.loop-commute.writes.items c.redo_one.new.writes.items c.in_ok-redo_one.ensures
 
-pub end_dosync-returns-in-None-clause-value : goal.end_dosync-returns-in-None-clause-value
-end_dosync-returns-in-None-clause-value t c =
+pub redo-returns : goal.redo-returns
+redo-returns t c =
     let x = c.args.context.now in
-    let m = mark_of c.args.dosync.span c.args.dosync.wanted in
-    let body = tree_of c.args.dosync.body.now in
-    let env = c.args.locals.now.items in
-    let e = c.args.event.now in
-    let r = plain_view e.start in
-    let before = thread_state c.args.thread.now in
-    let other = sym c.end_view.ensures ∙ ap plain_world c.in-None.is in
-    (refl, ends_unviewed x m body env before r (plain_view e.view) (plain_view e.here) r e.kind.now other)
+    let end = drop_all c.loop-commute.commute-index c.as_slice-commutes.result.now c.loop-commute-test.false in
+    c.loop-commute.invariant ∙ ap (λ l. redone_means x c.args.span l c.loop-commute.writes.items) end
 
-pub end_dosync-returns-in-Err-clause-value : goal.end_dosync-returns-in-Err-clause-value
-end_dosync-returns-in-Err-clause-value t c =
+pub act_inside-put-requires : goal.act_inside-put-requires
+act_inside-put-requires t c =
     let x = c.args.context.now in
-    let m = mark_of c.args.dosync.span c.args.dosync.wanted in
-    let body = tree_of c.args.dosync.body.now in
-    let env = c.args.locals.now.items in
-    let e = c.args.event.now in
-    let r = plain_view e.start in
-    let before = thread_state c.args.thread.now in
-    let w = plain_view c.in-Some.world in
-    let viewed = sym c.end_view.ensures ∙ ap plain_world c.in-Some.is in
-    let whole = ends_viewed x m body env before r (plain_view e.view) (plain_view e.here) w e.kind.now viewed in
-    let stops = end_stops e.kind.now m.span c.in-Err.stop before (ended x m body env r w before) (ended_unrun x m body env r w before c.in-Err.stop c.in-Err.ensures.value) in
-    subst (λ z. Stops false z before (end_means x m body env (seen_event e) before)) (sym c.end_stop.ensures) (subst (λ q. Stops false (end_stop e.kind.now c.in-Err.stop) before q) (sym whole) stops)
+    let ready = subst (λ a. ReadyIn (callable x) in_dosync a (length c.args.args.items)) c.in-Put.is c.requires in
+    let told = subst (λ f. Told (Ok c.in_ok-cell.cell) (result_of (cell_of (rule f) true c.args.value.now) c.args.span tt)) (c.form.ensures ∙ ap form_of_act c.in-Put.is) c.in_ok-cell.ensures in
+    record { cell = put_takes (callable x) c.in-Put.field-0 (length c.args.args.items) c.args.value.now c.args.span c.in_ok-cell.cell ready told; one = ready.1 }
 
-pub end_dosync-returns-in-Err-final_writes-clause-value : goal.end_dosync-returns-in-Err-final_writes-clause-value
-end_dosync-returns-in-Err-final_writes-clause-value t c =
+pub act_inside-returns-in-Look : goal.act_inside-returns-in-Look
+act_inside-returns-in-Look t c =
     let x = c.args.context.now in
-    let m = mark_of c.args.dosync.span c.args.dosync.wanted in
-    let body = tree_of c.args.dosync.body.now in
-    let env = c.args.locals.now.items in
-    let e = c.args.event.now in
-    let r = plain_view e.start in
-    let before = thread_state c.args.thread.now in
-    let w = plain_view c.in-Some.world in
-    let viewed = sym c.end_view.ensures ∙ ap plain_world c.in-Some.is in
-    let whole = ends_viewed x m body env before r (plain_view e.view) (plain_view e.here) w e.kind.now viewed in
-    let y = c.in-Err-final_writes.stop in
-    let stops = end_stops e.kind.now m.span y before (ended x m body env r w before) (ended_stop x m body env r w before c.is_sound.ensures c.in-Ok.run' c.in-Ok.ensures.value c.in-Ok.ensures.sound y c.in-Err-final_writes.ensures) in
-    subst (λ z. Stops false z before (end_means x m body env (seen_event e) before)) (sym c.end_stop-in-Err-final_writes.ensures) (subst (λ q. Stops false (end_stop e.kind.now y) before q) (sym whole) stops)
+    let told = subst (λ f. Told (Ok c.in_ok-cell.cell) (result_of (cell_of (rule f) true c.args.value.now) c.args.span tt)) (c.form.ensures ∙ ap form_of_act c.in-Look.is) c.in_ok-cell.ensures in
+    let m = mark_of c.args.span c.args.wanted in
+    let r = plain_view c.args.world in
+    subst (λ a. Gives true c.look.result (tx_state c.look.new.self) (inside_means x r a m c.args.value.now c.args.args.items (tx_state c.args.tx.now))) (sym c.in-Look.is)
+    (look_inside x r m c.args.value.now (tx_state c.args.tx.now) c.in_ok-cell.cell c.look.result (tx_state c.look.new.self) c.in-Look.form c.args.args.items told c.look.ensures)
 
-pub end_dosync-returns-in-Ok-final_writes-clause-value : goal.end_dosync-returns-in-Ok-final_writes-clause-value
-end_dosync-returns-in-Ok-final_writes-clause-value t c =
+pub act_outside-returns-in-Look : goal.act_outside-returns-in-Look
+act_outside-returns-in-Look t c =
     let x = c.args.context.now in
-    let m = mark_of c.args.dosync.span c.args.dosync.wanted in
-    let body = tree_of c.args.dosync.body.now in
-    let env = c.args.locals.now.items in
-    let e = c.args.event.now in
-    let r = plain_view e.start in
+    let form = c.in-Look.field-0 in
+    let cell = c.in_ok-cell.cell in
     let before = thread_state c.args.thread.now in
-    let w = plain_view c.in-Some.world in
-    let viewed = sym c.end_view.ensures ∙ ap plain_world c.in-Some.is in
-    let whole = ends_viewed x m body env before r (plain_view e.view) (plain_view e.here) w e.kind.now viewed in
-    let done = ended_done x m body env r w before c.is_sound.ensures c.in-Ok.run' c.in-Ok.ensures.value c.in-Ok.ensures.sound c.in-Ok-final_writes.last.items c.in-Ok-final_writes.ensures in
-    subst (λ q. Gives false c.close.result (thread_state c.close.new.thread) q) (sym (whole ∙ ap (λ k. closes e.kind.now m.span k) done)) c.close.ensures
+    let after = thread_state c.read.new.self in
+    let ready = subst (λ a. ReadyIn (callable x) in_thread a (length c.args.args.items)) c.in-Look.is c.requires in
+    let told = subst (λ f. Told (Ok cell) (result_of (cell_of (rule f) false c.args.value.now) c.args.span tt)) (c.form.ensures ∙ ap form_of_act c.in-Look.is) c.in_ok-cell.ensures in
+    let given = subst (λ b. Gives false c.read.result after (eats b (λ e s. reads cell e.kind e.C s) before.todo before)) c.home.ensures c.read.ensures in
+    λ wanted. subst (λ a. Gives false c.read.result after (outside_means x a (mark_of c.args.span wanted) c.args.value.now c.args.args.items before)) (sym c.in-Look.is)
+    (look_outside x (mark_of c.args.span wanted) c.args.value.now before cell c.read.result after form c.args.args.items ready told given)
+
+pub act_outside-returns-in-Send : goal.act_outside-returns-in-Send
+act_outside-returns-in-Send t c =
+    let x = c.args.context.now in
+    let cell = c.in_ok-cell.cell in
+    let before = thread_state c.args.thread.now in
+    let after = thread_state c.send_to.new.self in
+    let told = subst (λ f. Told (Ok cell) (result_of (cell_of (rule f) false c.args.value.now) c.args.span tt)) (c.form.ensures ∙ ap form_of_act c.in-Send.is) c.in_ok-cell.ensures in
+    λ wanted. subst (λ a. Gives false c.send_to.result after (outside_means x a (mark_of c.args.span wanted) c.args.value.now c.args.args.items before)) (sym c.in-Send.is)
+    (send_outside x (mark_of c.args.span wanted) c.args.value.now before cell c.send_to.result after c.in-Send.callee c.args.args.items told c.send_to.ensures)

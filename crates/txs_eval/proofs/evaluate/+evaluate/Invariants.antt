@@ -1,12 +1,12 @@
-use Rattle.std.proofs.Common.{suc, ◌≡◌, ◌+◌, ◌-◌, ◌*◌, length, take, drop}
-use Rattle.txs_eval.specs.Evaluated.{part, is_on, forms_in, calls_in, all_mean, do_means, locals_mean, turns_mean, redone_means, eat_means, thread_state}
+use Rattle.std.proofs.Common.{◌≡◌, ◌+◌, ◌-◌, ◌*◌, length, take, drop}
+use Rattle.txs_eval.specs.Evaluated.{part, is_on, forms_in, calls_in, all_mean, do_means, locals_mean, turns_mean, redone_means}
 use Rattle.txs_eval.specs.Setting.{callable, zone_in}
+use Rattle.txs_frame.specs.Frame.{phase_work}
 use Rattle.txs_tree.specs.Sound.{SoundAll, SoundLet, nodes, nodes_in}
 use Rattle.txs_tree.specs.Tree.{count}
-use Rattle.txs_tree.specs.View.{tree_of, trees_of, mark_of}
+use Rattle.txs_tree.specs.View.{tree_of, trees_of}
 use Rattle.txs_eval.proofs.Called.{room}
 use Rattle.txs_eval.proofs.Evaluation.{collects, do_then}
-use Rattle.txs_value.specs.Limits.{reruns}
 use Rattle.txs_eval.proofs.evaluate.+evaluate.Given as goal
 
 abbrev pub decreases-evaluate : goal.decreases-evaluate
@@ -42,17 +42,8 @@ decreases-act_inside l = room l.context.now + 5
 abbrev pub decreases-act_outside : goal.decreases-act_outside
 decreases-act_outside l = room l.context.now + 5
 
-abbrev pub decreases-alter : goal.decreases-alter
-decreases-alter l = room l.context.now + 3
-
-abbrev pub decreases-commute : goal.decreases-commute
-decreases-commute l = room l.context.now + 3
-
 abbrev pub decreases-swap : goal.decreases-swap
 decreases-swap l = room l.context.now + 4
-
-abbrev pub decreases-apply_at : goal.decreases-apply_at
-decreases-apply_at l = room l.context.now + 3
 
 abbrev pub decreases-apply_on : goal.decreases-apply_on
 decreases-apply_on l = room l.context.now + 2
@@ -66,20 +57,17 @@ decreases-evaluate_dosync l = room l.context.now + (16 * nodes (tree_of l.dosync
 abbrev pub decreases-eat_dosync : goal.decreases-eat_dosync
 decreases-eat_dosync l = room l.context.now + (16 * nodes (tree_of l.dosync.body.now) + 9)
 
-abbrev pub decreases-end_dosync : goal.decreases-end_dosync
-decreases-end_dosync l = room l.context.now + (16 * nodes (tree_of l.dosync.body.now) + 8)
-
 abbrev pub decreases-run_body : goal.decreases-run_body
 decreases-run_body l = room l.context.now + (16 * nodes (tree_of l.dosync.body.now) + 2)
 
 abbrev pub decreases-final_writes : goal.decreases-final_writes
-decreases-final_writes l = room l.context.now + 4
+decreases-final_writes l = room l.context.now + 5
 
 abbrev pub decreases-redo : goal.decreases-redo
-decreases-redo l = room l.context.now + 3
+decreases-redo l = room l.context.now + 4
 
 abbrev pub decreases-redo_one : goal.decreases-redo_one
-decreases-redo_one l = room l.context.now + 2
+decreases-redo_one l = room l.context.now + 3
 
 abbrev pub decreases-bind_locals : goal.decreases-bind_locals
 decreases-bind_locals l = room l.context.now + (16 * nodes_in (trees_of l.nodes.now) + 2)
@@ -95,6 +83,9 @@ decreases-run_turns l = room l.context.now + (16 * nodes (tree_of l.body.now) + 
 
 abbrev pub decreases-call : goal.decreases-call
 decreases-call l = room l.context.now
+
+abbrev pub decreases-update_inside : goal.decreases-update_inside
+decreases-update_inside l = room l.context.now + 3
 
 -- the values so far, and the locals as they were
 abbrev pub invariant-evaluate_all-loop-node : goal.invariant-evaluate_all-loop-node
@@ -129,13 +120,6 @@ invariant-run_turns-loop-turn l =
     × (turns_mean l.context l.context.turns (length l.fn.locals.items - l.before) (tree_of l.body) (take l.before l.fn.locals.items) (drop l.before l.fn.locals.items) l.fn.state
     ≡ turns_mean l.context (l.context.turns - l._turn) (length l.fn.locals.items - l.before) (tree_of l.body) (take l.before l.fn.locals.items) (drop l.before l.locals.items) l.state)
 
--- the tries that are left
-abbrev pub invariant-eat_dosync-loop-try : goal.invariant-eat_dosync-loop-try
-invariant-eat_dosync-loop-try l =
-    (l.locals.items ≡ l.fn.locals.items)
-    × (eat_means l.context (suc reruns) (mark_of l.dosync.span l.dosync.wanted) (tree_of l.dosync.body.now) l.fn.locals.items (thread_state l.fn.thread)
-    ≡ eat_means l.context (10000 - l._try) (mark_of l.dosync.span l.dosync.wanted) (tree_of l.dosync.body.now) l.fn.locals.items (thread_state l.thread))
-
 -- the commutes that are left
 abbrev pub invariant-redo-loop-commute : goal.invariant-redo-loop-commute
-invariant-redo-loop-commute l = redone_means l.context l.span l.commutes l.fn.writes.items ≡ redone_means l.context l.span (drop l.commute-index l.commutes) l.writes.items
+invariant-redo-loop-commute l = redone_means l.context l.span (phase_work l.done) l.fn.writes.items ≡ redone_means l.context l.span (drop l.commute-index l.commutes) l.writes.items

@@ -1,4 +1,5 @@
-use Rattle.std.proofs.Common.{[], ap, length, sym, subst}
+use Rattle.std.proofs.Common.{[], ap, length, sym, subst, IfOk}
+use Rattle.txs_eval.specs.Evaluated.{Accounts, thread_state}
 use Rattle.txs_eval.specs.Events.{seen_events}
 use Rattle.txs_tree.specs.Sound.{SoundFunctions}
 use Rattle.txs_tree.specs.View.{functions_of}
@@ -18,5 +19,6 @@ pub returns : goal.returns
 returns c =
     let p = c.args.program.now in
     let whole = whole_of c.new-context.result c.cells.result.now p.cells c.functions.result.now p.functions c.args.turns _ c.new-context.ensures c.cells.ensures c.functions.ensures in
-    told_account c.threads.result.now p c.args.thread c.index-threads-thread.result c.threads.ensures.value c.requires c.index-threads-thread.is c.args.turns c.new-context.result whole c.account.result (length c.args.events.now) (seen_events c.args.events.now) c.new-locals.result.items c.new-state.result c.evaluate-end.new.state c.evaluate-end.result
-    _ _ c.new-locals.ensures.items c.new-state.ensures.thread c.evaluate-end.ensures.value c.in_ok-needs.ensures c.account.ensures
+    let told = subst (λ t. IfOk c.tell_thread.result (λ m. Accounts m (length c.args.events.now) (thread_state t) c.evaluate-end.result)) c.into_thread.ensures c.tell_thread.ensures in
+    told_account c.threads.result.now p c.args.thread c.index-threads-thread.result c.threads.ensures.value c.requires c.index-threads-thread.is c.args.turns c.new-context.result whole c.tell_thread.result (length c.args.events.now) (seen_events c.args.events.now) c.new-locals.result.items c.new-state.result c.evaluate-end.new.state c.evaluate-end.result
+    c.new-locals.ensures.items c.new-state.ensures.thread c.evaluate-end.ensures.value told

@@ -10,21 +10,18 @@ use Rattle.txs_eval.proofs.pure_call.call_function.Goals as goal
 pub new-context-requires : goal.new-context-requires
 new-context-requires c = subst (λ fs. SoundFunctions [] (functions_of fs)) (sym c.functions.ensures) c.is_sound.ensures.functions
 
-pub call-given-requires : goal.call-given-requires
-call-given-requires c =
+pub apply_callee-given-requires : goal.apply_callee-given-requires
+apply_callee-given-requires c =
     let p = c.args.program.now in
     let whole = whole_of c.new-context.result c.cells.result.now p.cells c.functions.result.now p.functions c.args.turns _ c.new-context.ensures c.cells.ensures c.functions.ensures in
-    callable_here p.cells p.functions c.args.turns c.args.number c.args.values.now c.in_ok-locals.locals.items _ c.new-context.result whole c.in_ok-locals.ensures c.requires
+    callable_here p.cells p.functions c.args.turns c.args.number c.args.values.now c.in_ok-copies.copies.items c.new-context.result whole c.in_ok-copies.ensures c.requires
 
 pub answer-requires : goal.answer-requires
-answer-requires c =
-    let p = c.args.program.now in
-    let whole = whole_of c.new-context.result c.cells.result.now p.cells c.functions.result.now p.functions c.args.turns _ c.new-context.ensures c.cells.ensures c.functions.ensures in
-    waitless c.call-given.result tt _ (told_pure p.cells p.functions c.args.turns c.args.number c.args.values.now c.in_ok-locals.locals.items _ c.new-context.result whole c.in_ok-locals.ensures c.requires c.is_sound.ensures.functions c.call-given.result c.new-state.result c.call-given.new.state c.call-given.ensures)
+answer-requires c = waitless c.apply_callee-given.result tt _ c.apply_callee-given.ensures
 
 pub returns : goal.returns
 returns c =
     let p = c.args.program.now in
     let whole = whole_of c.new-context.result c.cells.result.now p.cells c.functions.result.now p.functions c.args.turns _ c.new-context.ensures c.cells.ensures c.functions.ensures in
     c.answer.ensures (pure_meaning c.args.turns (functions_of p.functions) (Function c.args.number) c.args.values.now)
-    (told_pure p.cells p.functions c.args.turns c.args.number c.args.values.now c.in_ok-locals.locals.items _ c.new-context.result whole c.in_ok-locals.ensures c.requires c.is_sound.ensures.functions c.call-given.result c.new-state.result c.call-given.new.state c.call-given.ensures)
+    (told_pure p.cells p.functions c.args.turns c.args.number c.args.values.now c.in_ok-copies.copies.items c.new-context.result whole c.in_ok-copies.ensures c.apply_callee-given.result c.apply_callee-given.ensures)

@@ -1,9 +1,9 @@
-use Rattle.std.proofs.Common.{[], length, sym, subst}
+use Rattle.std.proofs.Common.{[], length, true, sym, subst}
 use Rattle.txs_tree.specs.Sound.{SoundFunctions}
 use Rattle.txs_tree.specs.View.{functions_of, tree_of}
-use Rattle.txs_eval.specs.Evaluated.{tx_state}
+use Rattle.txs_eval_work.specs.Worked.{Gives, tx_state}
 use Rattle.txs_tree.specs.Transaction.{tx_meaning}
-use Rattle.txs_eval.specs.Views.{plain_view, world_of}
+use Rattle.txs_eval_work.specs.Views.{plain_view, world_of}
 use Rattle.txs_eval.proofs.Ends.{whole_of, waitless, sound_tx, told_body}
 use Rattle.txs_eval.proofs.transaction.eval_tx.Goals as goal
 
@@ -29,5 +29,7 @@ returns c =
     let p = c.args.program.now in
     let w = plain_view c.args.world in
     let whole = whole_of c.new-context.result c.cells.result.now p.cells c.functions.result.now p.functions c.args.turns _ c.new-context.ensures c.cells.ensures c.functions.ensures in
-    c.tell_tx.ensures (tx_meaning c.args.turns (functions_of p.functions) (length p.functions) (tree_of c.args.node.now) c.args.values.now (world_of w))
-    (told_body p.cells p.functions c.args.turns (tree_of c.args.node.now) c.args.values.now c.in_ok-locals.locals.items w c.new-context.result whole c.in_ok-locals.ensures c.evaluate-gave.result c.new-state.result c.evaluate-gave.new.state c.new-state.ensures.tx c.evaluate-gave.ensures.value)
+    let meaning = tx_meaning c.args.turns (functions_of p.functions) (length p.functions) (tree_of c.args.node.now) c.args.values.now (world_of w) in
+    c.tell_tx.ensures meaning
+    (subst (λ x. Gives true c.evaluate-gave.result (tx_state x) meaning) (sym c.into_tx.ensures)
+    (told_body p.cells p.functions c.args.turns (tree_of c.args.node.now) c.args.values.now c.in_ok-locals.locals.items w c.new-context.result whole c.in_ok-locals.ensures c.evaluate-gave.result c.new-state.result c.evaluate-gave.new.state c.new-state.ensures.tx c.evaluate-gave.ensures.value))

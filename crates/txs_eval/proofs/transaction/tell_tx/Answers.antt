@@ -1,6 +1,6 @@
 use Rattle.std.proofs.Common.{true, Err, ◌≡◌, ap, ◌∙◌, subst, refl}
-use Rattle.txs_eval.specs.Evaluated.{Gives, tx_state}
-use Rattle.txs_eval.specs.declared.stop.ThreadStop.TheVariants.{Fault, Turns}
+use Rattle.txs_eval_work.specs.Worked.{Gives, tx_state}
+use Rattle.txs_eval_work.specs.declared.stop.ThreadStop.TheVariants.{Fault, Turns}
 use Rattle.txs_eval.proofs.Ends.{tells_value, tells_fault, tells_turns}
 use Rattle.txs_eval.proofs.transaction.tell_tx.Goals as goal
 

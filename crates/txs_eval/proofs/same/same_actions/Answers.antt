@@ -1,6 +1,0 @@
-use Rattle.std.proofs.Common.{sym}
-use Rattle.txs_eval.proofs.Leaf.{other_actions}
-use Rattle.txs_eval.proofs.same.same_actions.Goals as goal
-
-pub returns-then-a-b : goal.returns-then-a-b
-returns-then-a-b c = sym (other_actions c.args.a.now c.args.b.now c.if-a-b.true)
