@@ -16,3 +16,7 @@ pub mod Played
 pub mod Working
 pub mod Mail
 pub mod Opened
+pub mod Turning
+pub mod PlayedAt
+pub mod Laws
+pub mod Reporting

@@ -64,6 +64,10 @@ answered_limited limit a r e leaves h = limited_as limit a (answered a r) leaves
 pub new_limited : (limit : ℕ) (a : PlainActor) → a.limit ≡ limit → a.outcome ≡ None → a.steps ≡ 0 → IsLimited limit a
 new_limited limit a e o n = record { limited = e; within = omega (arith, n); spent = λ s. absurd (subst Differs (sym o ∙ s) tt) }
 
+-- what keeps to a limit keeps to its own
+pub self_limited : (limit : ℕ) (a : PlainActor) → IsLimited limit a → IsLimited a.limit a
+self_limited limit a h = subst (λ n. IsLimited n a) (sym h.limited) h
+
 -- ---- progress
 
 -- a turn that goes on, or asks, is one step more
@@ -119,6 +123,16 @@ turns_count code (suc n) a b r some goes t = after_turn t.0 t.2 t.3
 abbrev pub rounds_left : Option Outcome → PlainActor → ℕ
 rounds_left None a = suc (a.limit - a.steps)
 rounds_left (Some o) a = 0
+
+-- after a round that ended it, or in which it made a step, there are fewer
+pub rounds_less : (limit : ℕ) (a b : PlainActor) (o p : Option Outcome) → o ≡ None → (p ≡ None → a.steps < b.steps) → IsLimited limit a → IsLimited limit b → rounds_left p b < rounds_left o a
+rounds_less limit a b (Some x) p e more h g = absurd (subst has_none e tt)
+  where
+    has_none : Option Outcome → Type 0
+    has_none None = ⊥
+    has_none (Some y) = Unit {0}
+rounds_less limit a b None (Some x) e more h g = omega arith
+rounds_less limit a b None None e more h g = let m = more refl in omega (arith, m, h.limited, g.limited, g.within)
 
 -- ---- after the end
 

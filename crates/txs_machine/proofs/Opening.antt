@@ -1,5 +1,5 @@
 -- The actors of agents before their first turns.
-use Rattle.std.proofs.Common.{◌≡◌, ◌<◌, ◌≤◌, ◌+◌, ℕ, zero, suc, Bool, true, false, List, [], ◌∷◌, ◌++◌, length, get_or, take, drop, Some, refl, sym, ap, subst, ◌∙◌, arith}
+use Rattle.std.proofs.Common.{◌≡◌, ◌<◌, ◌≤◌, ◌+◌, ℕ, zero, suc, Bool, true, false, List, [], ◌∷◌, ◌++◌, length, get_or, take, drop, Some, Result, Ok, Err, IfOk, refl, sym, ap, subst, ◌∙◌, arith}
 use Rattle.std.proofs.lemmas.Bool.{false≢true}
 use Rattle.txs_value.specs.Forms.{same_kind}
 use Rattle.txs_value.specs.Places.{nth}
@@ -15,11 +15,17 @@ use Rattle.txs_world.specs.Store.{cells_of, none_taken}
 use Rattle.txs_world.specs.declared.cell.StoreCell.{StoreCell}
 use Rattle.txs_machine.specs.Agents.{agents_of}
 use Rattle.txs_machine.specs.Playing.{AreNew}
+use Rattle.txs_machine.specs.Plays.{AreOpenedFor}
 use Rattle.txs_machine.specs.Running.{AreAttending, IsAgentAt, IsAgents, IsAttending, attendants, is_acting}
 use Rattle.txs_machine.specs.declared.player.AgentPlayer.{AgentPlayer}
 use Rattle.txs_machine.proofs.Limits.{new_limited}
 use Rattle.txs_machine.proofs.Playing.{nth_read, taken_read}
 use Rattle.txs_machine.proofs.Together.{agent_at, as_attending}
+
+-- what follows of an answer, where there is one
+pub ok_then : {T E : Type 0} (P Q : T → Type 0) (r : Result T E) → ((x : T) → P x → Q x) → IfOk r P → IfOk r Q
+ok_then P Q (Ok x) f h = f x h
+ok_then P Q (Err e) f h = tt
 
 -- no agent has an action in hand
 none_in_hand : (cells : List StoreCell) (n : ℕ) → get_or (none_taken cells) n false ≡ false
@@ -57,6 +63,14 @@ new_more code limit k [] x h new none = let e : k + 0 ≡ k = omega arith in (su
 new_more code limit k (y ∷ xs) x h new none =
     let e : k + suc (length xs) ≡ suc k + length xs = omega arith in
     (h.0, h.1, new_more code limit (suc k) xs x h.2 (subst (λ n. IsNew code n limit x.player.actor) e new) none)
+
+-- one more of both
+pub one_opened : (code : PlainCode) (limit k : ℕ) (gs : List CellId) (xs : List AgentPlayer) (g : CellId) (x : AgentPlayer) → AreOpenedFor code limit k gs xs → (n : ℕ) → n ≡ length xs → IsAttending code g (k + n) limit (none_taken (cells_of code.cells)) x
+    → IsNew code (k + n) limit x.player.actor → x.player.trace.items ≡ [] → AreOpenedFor code limit k (gs ++ g ∷ []) (xs ++ x ∷ [])
+one_opened code limit k gs xs g x h n len a new none = record {
+  attending = attending_more code limit (none_taken (cells_of code.cells)) k gs xs g x h.attending (subst (λ m. IsAttending code g (k + m) limit (none_taken (cells_of code.cells)) x) len a);
+  opened = new_more code limit k xs x h.opened (subst (λ m. IsNew code (k + m) limit x.player.actor) len new) none;
+}
 
 with_append : (k : CellKind) (n : ℕ) (gs hs : List CellId) → with_agent k n (gs ++ hs) ≡ with_agent k n gs ++ hs
 with_append Ref n gs hs = refl
@@ -128,6 +142,13 @@ next_agent code i d e k = agent_at code (length before) (record { kind = Agent; 
         ∙ ap (λ n. before ++ with_agent d.kind n (agents_from (suc n) (drop (suc i) code.cells))) many
         ∙ ap (λ l. before ++ l) (agent_kind d.kind i behind k)
 
+-- it has the number behind the threads and the agents before it
+pub agent_placed : (code : PlainCode) (limit k i : ℕ) (xs : List AgentPlayer) (d : CellDefinition) → i < length code.cells → d ≡ get_or code.cells i d → same_kind d.kind Agent ≡ true → k ≡ length code.threads → (n : ℕ) → n ≡ length xs
+    → AreOpenedFor code limit k (agents_from 0 (take i code.cells)) xs → IsAgentAt code (record { kind = Agent; number = i }) (k + n)
+agent_placed code limit k i xs d there read kind many n len h =
+    let same = as_attending code limit (none_taken (cells_of code.cells)) k (agents_from 0 (take i code.cells)) xs h.attending in
+    subst (λ (m : ℕ). IsAgentAt code (record { kind = Agent; number = i }) m) (omega (arith, many, same, len)) (next_agent code i d (nth_read code.cells i d there read) kind)
+
 -- there are no more agents than cells
 pub agents_few : (n : ℕ) (ds : List CellDefinition) → length (agents_from n ds) ≤ length ds
 agents_few n [] = omega arith
@@ -137,6 +158,13 @@ agents_few n (d ∷ ds) = let r = agents_few (suc n) ds in let s = go d.kind (ag
     go Ref gs = omega arith
     go Atom gs = omega arith
     go Agent gs = omega arith
+
+-- all of a list
+pub take_whole : {A : Type 0} (xs : List A) (i : ℕ) → length xs ≤ i → take i xs ≡ xs
+take_whole [] zero h = refl
+take_whole [] (suc i) h = refl
+take_whole (x ∷ xs) zero h = absurd (omega (arith, h))
+take_whole (x ∷ xs) (suc i) h = ap (λ l. x ∷ l) (take_whole xs i (omega (arith, h)))
 
 taken_few : {A : Type 0} (xs : List A) (i : ℕ) → length (take i xs) ≤ length xs
 taken_few [] zero = omega arith

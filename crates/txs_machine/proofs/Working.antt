@@ -1,5 +1,5 @@
 -- Which agents have something to do.
-use Rattle.std.proofs.Common.{◌≡◌, ◌<◌, ℕ, zero, suc, true, false, List, [], ◌∷◌, ◌++◌, length, Option, Some, None, refl, sym, ap, subst, ◌∙◌, arith}
+use Rattle.std.proofs.Common.{◌≡◌, ◌<◌, ◌≤◌, ℕ, zero, suc, Bool, true, false, List, [], ◌∷◌, ◌++◌, length, Option, Some, None, refl, sym, ap, subst, ◌∙◌, arith}
 use Rattle.txs_asks.specs.declared.event.Event.{Event}
 use Rattle.txs_value.specs.Places.{nth}
 use Rattle.txs_value.specs.declared.action.Action.{Action}
@@ -29,6 +29,16 @@ next_there cells book g e n =
     first : (xs : List Action) → 0 < length xs → (x : Action) × (first_action false xs ≡ Some x)
     first [] n = absurd (omega (arith, n))
     first (x ∷ xs) n = (x, refl)
+
+-- and where nothing does, none is next
+pub none_next : (cells : List StoreCell) (book : List Event) (g : CellId) → length (mail_after cells book g.number).actions ≤ 0 → next_action cells book g ≡ None
+none_next cells book g few = go (is_failed cells book g) (mail_after cells book g.number).actions few
+  where
+    go : (b : Bool) (xs : List Action) → length xs ≤ 0 → first_action b xs ≡ None
+    go true [] n = refl
+    go false [] n = refl
+    go true (x ∷ xs) n = absurd (omega (arith, n))
+    go false (x ∷ xs) n = absurd (omega (arith, n))
 
 pub attends_has : (code : PlainCode) (s : PlainShared) (limit k i : ℕ) (xs : List AgentPlayer) (x : AgentPlayer) → IsStateOf code s → AreAttending code limit s.taken k (agents_of code) xs → nth xs i ≡ Some x → has_agent (cells_of s.cells) x.agent ≡ true
 attends_has code s limit k i xs x of h e =

@@ -7,3 +7,5 @@ pub mod ErrorName
 pub mod Running
 pub mod Schedule
 pub mod Serving
+pub mod Turning
+pub mod Plays

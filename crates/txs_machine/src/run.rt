@@ -1,24 +1,22 @@
 //! A thread's run over what actors share.
 
-ghost use Rattle.std.specs.Prelude.{◌≡◌, ◌≤◌, ◌<◌, ℕ, length, nat_lt, true, take, if◌then◌else◌, IfOk, Some, None, []};
+ghost use Rattle.std.specs.Prelude.{◌≡◌, ◌≤◌, ◌<◌, length, nat_lt, true, vec_capacity, vec_len, IfOk, Some, None};
 ghost use Rattle.txs_actor.specs.PlainActor.{Lives, unanswered};
 ghost use Rattle.txs_runs.specs.Shared.{untouched, book_for};
-ghost use Rattle.txs_runs.proofs.Growing.{Grown};
 ghost use Rattle.txs_shared.specs.SharedState.{shared_of, numbered_book, is_lawful};
 ghost use Rattle.txs_value.specs.Limits.{most_events};
 ghost use Rattle.txs_machine.specs.Lawfully.{RunLawfully};
-ghost use Rattle.txs_machine.specs.RunOver.{IsStateOf, AreOwn, books_of, IsAfter, IsExplained, IsLimited, HasEnded};
-ghost use Rattle.txs_machine.specs.Running.{GoesAs, IsAnswered};
-ghost use Rattle.txs_machine.specs.Serving.{may_add, IsNext, IsServed};
+ghost use Rattle.txs_machine.specs.Plays.{IsRanBy};
+ghost use Rattle.txs_machine.specs.RunOver.{IsStateOf, AreOwn, books_of, IsExplained, IsLimited, HasEnded};
+ghost use Rattle.txs_machine.specs.Serving.{may_add, with_place, IsNext, IsServed};
+ghost use Rattle.txs_machine.specs.Turning.{MayGoOn, HasGoneOn};
 
-use crate::law::actors_explained;
 use crate::player::{Place, Player};
+use crate::schedule::{ThreadReport, report_of};
 use std::alloc::{AllocError, Global};
-use txs_actor::{Actor, Turn, actors_run};
+use txs_actor::{Actor, Turn};
 use txs_asks::{Ask, Outcome, Reply};
 use txs_code::Verified;
-use txs_follows::replies_fit;
-use txs_runs::law::{served_is_told, told_fits, typed_stands};
 use txs_shared::SharedState;
 
 /// What a thread has printed, how it ended, the places of its events in the order in which it added them, and how many steps it made.
@@ -52,31 +50,20 @@ fn next_place(shared: &SharedState, ask: &Ask) -> Place
     }
 }
 
-/// Whether a book goes on behind this place.
-fn has_grown(shared: &SharedState, place: Place) -> bool
-    ensures { result ≡ nat_lt place.at (length (numbered_book shared.now place.book)) }
+/// Notes a place behind the others, if its book goes on there.
+fn note(trace: &mut Vec<Place>, shared: &SharedState, place: Place)
+    requires { vec_len trace.old < vec_capacity trace.old }
+    ensures { trace.new.items ≡ with_place (nat_lt place.at (length (numbered_book shared.now place.book))) trace.old.items place }
 {
-    (place.at as usize) < shared.numbered_events(place.book as usize).len()
-}
-
-/// Takes back the places behind so many, where nothing was added there.
-fn keep_added(trace: &mut Vec<Place>, kept: usize, added: bool)
-    ensures { trace.new.items ≡ (if added then trace.old.items else take kept trace.old.items) }
-{
-    if !added {
-        trace.truncate(kept);
+    if (place.at as usize) < shared.numbered_events(place.book as usize).len() {
+        trace.push_reserved(place);
     }
 }
 
 /// Answers an actor's lawful ask, and notes the place of the event that it adds. There is room for the place before anything is served;
 /// without memory for it nothing is, and the reply says so.
 #[inline(always)]
-pub(crate) fn serve_noted(
-    trace: &mut Vec<Place>,
-    shared: &mut SharedState,
-    actor: u16,
-    ask: Ask,
-) -> Reply
+fn serve_noted(trace: &mut Vec<Place>, shared: &mut SharedState, actor: u16, ask: Ask) -> Reply
     requires { is_lawful shared.old actor ask ≡ true }
     ensures { IsServed shared.old actor ask result shared.new trace.old.items trace.new.items }
 {
@@ -85,82 +72,51 @@ pub(crate) fn serve_noted(
     }
     let _stands = shared.events();
     let next = next_place(shared, &ask);
-    let kept = trace.len();
-    if trace.push(next).is_err() {
+    if trace.reserve(1).is_err() {
+        drop(ask);
         return Reply::Memory;
     }
     let reply = shared.serve(actor, ask);
-    keep_added(trace, kept, has_grown(shared, next));
+    note(trace, shared, next);
     reply
 }
 
-/// Serves the actor's ask, which is one that it may make, and hands the actor the answer.
+/// So many turns of an actor, or those up to its end, which is the answer, or up to an ask, which is
+/// served. All that it may come to ask it may ask.
 #[inline(always)]
-fn serve_ask(player: &mut Player, code: &Verified, shared: &mut SharedState, ask: Ask, k: u16)
-    requires lives { Lives code.now player.old.actor }
-    requires going { player.old.actor.outcome ≡ None }
-    requires asks { unanswered player.old.actor ≡ Some ask }
-    requires limited { IsLimited player.old.actor.limit player.old.actor }
-    requires of { IsStateOf code.now shared.old }
-    requires over { RunLawfully code.now k (books_of shared.old) player.old.trace.items player.old.actor }
-    ensures lives { Lives code.now player.new.actor }
-    ensures answered { unanswered player.new.actor ≡ None }
-    ensures steps { player.new.actor.steps ≡ player.old.actor.steps }
-    ensures limited { IsLimited player.old.actor.limit player.new.actor }
-    ensures of { IsStateOf code.now shared.new }
-    ensures over { RunLawfully code.now k (books_of shared.new) player.new.trace.items player.new.actor }
-    ensures grown { Grown k (books_of shared.old) (books_of shared.new) }
-    ensures taken { shared.new.taken ≡ shared.old.taken }
-    ensures served { IsAnswered k shared.old player.old.actor player.old.trace.items ask shared.new player.new.actor player.new.trace.items }
-{
-    let _own_cells = code.code();
-    let number = player.actor.number();
-    let reply = serve_noted(&mut player.trace, shared, number, ask);
-    player.actor.answer(code, reply);
-    actors_run();
-    served_is_told();
-}
-
-/// So many turns of the actor, or those up to its end, which is the answer, or up to an ask, which is
-/// served. One after which the actor goes on made a step at least.
-pub(crate) fn round(
+pub(crate) fn go_on(
     player: &mut Player,
     code: &Verified,
     shared: &mut SharedState,
-    k: u16,
     budget: u64,
 ) -> Option<Outcome>
     requires lives { Lives code.now player.old.actor }
-    requires some { 0 < budget }
     requires answered { unanswered player.old.actor ≡ None }
-    requires limited { IsLimited player.old.actor.limit player.old.actor }
-    requires of { IsStateOf code.now shared.old }
-    requires over { RunLawfully code.now k (books_of shared.old) player.old.trace.items player.old.actor }
-    ensures lives { Lives code.now player.new.actor }
-    ensures after { IsAfter player.new.actor result }
-    ensures free { unanswered player.new.actor ≡ None }
-    ensures progress { result ≡ None → player.old.actor.steps < player.new.actor.steps }
-    ensures limited { IsLimited player.old.actor.limit player.new.actor }
-    ensures of { IsStateOf code.now shared.new }
-    ensures over { RunLawfully code.now k (books_of shared.new) player.new.trace.items player.new.actor }
-    ensures grown { Grown k (books_of shared.old) (books_of shared.new) }
-    ensures taken { shared.new.taken ≡ shared.old.taken }
-    ensures goes { player.old.actor.outcome ≡ None → GoesAs code.now k shared.old player.old.actor player.old.trace.items shared.new player.new.actor player.new.trace.items }
+    requires may { MayGoOn code.now shared.old budget player.old.actor }
+    ensures { HasGoneOn code.now budget shared.old player.old.actor player.old.trace.items result shared.new player.new.actor player.new.trace.items }
 {
-    actors_run();
     match player.actor.run(code, budget) {
         Turn::Ended(outcome) => Some(outcome),
         Turn::Went => None,
         Turn::Asks(ask) => {
-            serve_ask(player, code, shared, ask, k);
+            let number = player.actor.number();
+            let reply = serve_noted(&mut player.trace, shared, number, ask);
+            player.actor.answer(code, reply);
             None
         }
     }
 }
 
-/// Turns the actor to its end, with each of its asks served. Each round makes a step at
+/// Turns a thread's actor to its end, with each of its asks served, in rounds of so many turns. Each round makes a step at
 /// least, and the actor may make no more than its limit.
-fn run_to_end(player: &mut Player, code: &Verified, shared: &mut SharedState, k: u16) -> Outcome
+fn run_to_end(
+    player: &mut Player,
+    code: &Verified,
+    shared: &mut SharedState,
+    k: u16,
+    budget: u64,
+) -> Outcome
+    requires some { 0 < budget }
     requires lives { Lives code.now player.old.actor }
     requires answered { unanswered player.old.actor ≡ None }
     requires limited { IsLimited player.old.actor.limit player.old.actor }
@@ -173,9 +129,10 @@ fn run_to_end(player: &mut Player, code: &Verified, shared: &mut SharedState, k:
     ensures over { RunLawfully code.now k (books_of shared.new) player.new.trace.items player.new.actor }
     ensures own { AreOwn k (books_of shared.new) }
 {
+    let _own_cells = code.code();
     let mut ended = None;
     while ended.is_none() {
-        ended = round(player, code, shared, k, u64::MAX);
+        ended = go_on(player, code, shared, budget);
     }
     match ended {
         Some(outcome) => outcome,
@@ -185,19 +142,19 @@ fn run_to_end(player: &mut Player, code: &Verified, shared: &mut SharedState, k:
 
 /// What an actor did that has ended so.
 fn ran_of(alloc: Global, player: &Player, outcome: Outcome) -> Result<Ran, AllocError>
-    ensures ended { IfOk result (λ ran. ran.outcome ≡ outcome) }
-    ensures printed { IfOk result (λ ran. ran.printed.items ≡ player.now.actor.printed) }
-    ensures traced { IfOk result (λ ran. ran.trace.items ≡ player.now.trace.items) }
-    ensures counted { IfOk result (λ ran. ran.steps ≡ player.now.actor.steps) }
+    ensures { IfOk result (λ ran. IsRanBy player.now outcome ran) }
 {
-    let actor = &player.actor;
-    let printed = Vec::from_slice(alloc, actor.printed())?;
-    let trace = Vec::from_slice(alloc, player.trace.as_slice())?;
+    let ThreadReport {
+        outcome: _,
+        printed,
+        trace,
+        steps,
+    } = report_of(alloc, player)?;
     Ok(Ran {
         printed,
         outcome,
         trace,
-        steps: actor.steps(),
+        steps,
     })
 }
 
@@ -219,18 +176,12 @@ pub fn run_thread(
     ensures ended { IfOk result (λ ran. HasEnded code.now k max_steps (books_of shared.new) ran) }
     ensures explained { IfOk result (λ ran. IsExplained code.now k (books_of shared.new) ran) }
 {
-    actors_run();
-    actors_explained();
-    replies_fit();
-    told_fits();
-    typed_stands();
     let _rooms = code.rooms();
     let actor = Actor::thread(alloc, code, k, max_steps)?;
     let mut player = Player {
         actor,
         trace: Vec::new(alloc),
     };
-    let outcome = run_to_end(&mut player, code, shared, k);
-    let ran = ran_of(alloc, &player, outcome)?;
-    Ok(ran)
+    let outcome = run_to_end(&mut player, code, shared, k, u64::MAX);
+    ran_of(alloc, &player, outcome)
 }

@@ -5,21 +5,37 @@ ghost use Rattle.txs_machine.specs.ErrorName.{error_name};
 ghost use Rattle.txs_machine.specs.declared.run_error.RunError.TheVariants.{Memory};
 
 use std::alloc::AllocError;
-use thiserror::Error;
+use std::error::Error;
+use std::fmt::{self, Debug, Display, Formatter, Write};
 
 /// Why there is no report of a run by workers.
-#[derive(Clone, Copy, Debug, PartialEq, Eq, Error)]
+#[derive(Clone, Copy, PartialEq, Eq)]
 pub enum RunError {
     /// What the actors did doesn't agree with the books.
-    #[error("JournalMismatch")]
     JournalMismatch,
     /// There were to be no workers, or over 64, or one couldn't be started.
-    #[error("NoThread")]
     NoThread,
     /// There was no memory.
-    #[error("Memory")]
     Memory,
 }
+
+impl Debug for RunError {
+    fn fmt<W: Write>(&self, f: &mut Formatter<W>) -> fmt::Result {
+        Display::fmt(self, f)
+    }
+}
+
+impl Display for RunError {
+    ghost use Rattle.std.specs.Prelude.{Some};
+
+    ghost output = { λ e. Some (error_name e) };
+
+    fn fmt<W: Write>(&self, f: &mut Formatter<W>) -> fmt::Result {
+        f.write_str(self.name())
+    }
+}
+
+impl Error for RunError {}
 
 impl From<AllocError> for RunError {
     ghost from_gives = { λ _ e. e ≡ Memory };

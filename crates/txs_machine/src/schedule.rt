@@ -4,32 +4,27 @@ ghost use Rattle.std.specs.Prelude.{◌≡◌, ◌<◌, ◌≤◌, ◌+◌, ℕ,
 ghost use Rattle.txs_actor.specs.PlainActor.{MayRun, with_agent};
 ghost use Rattle.txs_machine.specs.declared.schedule.ScheduleError.TheVariants.{Memory};
 ghost use Rattle.txs_machine.specs.RunOver.{IsStateOf, books_of};
-ghost use Rattle.txs_machine.specs.Agents.{agents_of, actors_of, AgentsAreDone, AreExplainedBy, AreDrained};
-ghost use Rattle.txs_machine.specs.Running.{ArePlaying, AreIdle, GoesAs, HasWork, IsAttending, IsLive, LeavesTaken, attendants, left_all};
-ghost use Rattle.txs_machine.specs.Playing.{IsBetween, AreBetween, IsPlayed, ArePlayedAt, AreLater, HaveSteps, AllEnded, IsUnended, IsReported, AreReported, AreNew};
+ghost use Rattle.txs_machine.specs.Agents.{actors_of, AgentsAreDone, AreExplainedBy, AreDrained};
+ghost use Rattle.txs_machine.specs.Running.{ArePlaying, AreIdle, IsAttending, IsLive, attendants, left_all};
+ghost use Rattle.txs_machine.specs.Playing.{IsBetween, AreLater, HaveSteps, AllEnded, IsUnended, IsReported, AreReported};
+ghost use Rattle.txs_machine.specs.Plays.{IsThreadsPlay, IsAgentsPlay, IsPlayAt, AreReady, SaysOf};
 ghost use Rattle.txs_machine.specs.Schedule.{player, all_named, AreDone, ArePlayed, HaveEnded, IsExplainedBy, HasNoReport};
-ghost use Rattle.txs_runs.proofs.Growing.{Grown};
 ghost use Rattle.txs_runs.specs.Shared.{untouched};
-ghost use Rattle.txs_shared.specs.SharedState.{PlainShared, shared_of};
+ghost use Rattle.txs_shared.specs.SharedState.{shared_of};
 ghost use Rattle.txs_value.specs.declared.action.Action.{Action as AnAction};
 ghost use Rattle.txs_world.specs.Store.{cells_of, next_action};
 
-use crate::agents::{attend, first_working, is_due, open_agents};
-use crate::law::actors_explained;
+use crate::agents::{first_working, is_due, open_next};
 use crate::player::{AgentPlayer, Place, Player, Players};
-use crate::run::round;
+use crate::run::go_on;
 use std::alloc::{AllocError, Global};
+use std::fmt::{self, Debug, Display, Formatter, Write};
 use thiserror::Error;
-use txs_actor::{Actor, actors_run};
+use txs_actor::Actor;
 use txs_asks::Outcome;
 use txs_code::Verified;
-use txs_follows::replies_fit;
-use txs_runs::law::{
-    every_report_is_explained, every_trace_holds, told_fits, typed_stands, typed_threads_are_staged,
-};
 use txs_shared::SharedState;
 use txs_value::CellKind;
-use txs_world::law::{done_is_undisturbed, refused_is_undisturbed, serve_keeps, unwritten_stays};
 
 /// One play of a schedule: the actor with this number, counted from 0, goes on. Threads come first, and agents behind them.
 #[derive(Clone, Copy)]
@@ -52,14 +47,22 @@ pub struct ThreadReport {
 
 /// What all threads did, by their numbers, and what the actors of agents did, in the order of their cells. The events and the newest values are those
 /// of the state that they share.
-#[derive(Drop)]
 pub struct Report {
     pub threads: Vec<ThreadReport>,
     pub agents: Vec<ThreadReport>,
 }
 
+// Dropped by a call that is proved here, so that no crate above proves it again.
+impl Drop for Report {
+    fn drop(self) {
+        let Report { threads, agents } = self;
+        drop(threads);
+        drop(agents);
+    }
+}
+
 /// Why there is no report of a run.
-#[derive(Clone, Copy, Debug, PartialEq, Eq, Error)]
+#[derive(Clone, Copy, Error)]
 pub enum ScheduleError {
     /// A play names no actor.
     #[error("NoActor")]
@@ -67,6 +70,12 @@ pub enum ScheduleError {
     /// There was no memory for the actors or for the report.
     #[error("Memory")]
     Memory,
+}
+
+impl Debug for ScheduleError {
+    fn fmt<W: Write>(&self, f: &mut Formatter<W>) -> fmt::Result {
+        Display::fmt(self, f)
+    }
 }
 
 impl From<AllocError> for ScheduleError {
@@ -110,33 +119,7 @@ fn are_named(plays: &[Play], actors: u16) -> bool
     true
 }
 
-/// An actor for each thread, which may make so many steps.
-fn open_actors(
-    alloc: Global,
-    code: &Verified,
-    threads: u16,
-    max_steps: u64,
-) -> Result<Vec<Player>, AllocError>
-    requires { threads ≡ length code.now.threads }
-    ensures many { IfOk result (λ v. length v.items ≡ threads) }
-    ensures between { IfOk result (λ v. AreBetween code.now max_steps (λ n. []) 0 v.items) }
-    ensures opened { IfOk result (λ v. AreNew code.now max_steps 0 v.items) }
-{
-    actors_run();
-    typed_stands();
-    let _rooms = code.rooms();
-    let mut players = Vec::with_capacity(alloc, usize::from(threads))?;
-    for k in 0..threads {
-        let actor = Actor::thread(alloc, code, k, max_steps)?;
-        players.push(Player {
-            actor,
-            trace: Vec::new(alloc),
-        })?;
-    }
-    Ok(players)
-}
-
-/// The actors of all threads and agents, which may make so many steps, where nothing was done yet.
+/// The actors of all threads and behind them of the agents, in the order of the cells, which may make so many steps, where nothing was done yet.
 fn open_players(
     alloc: Global,
     code: &Verified,
@@ -145,17 +128,25 @@ fn open_players(
 ) -> Result<Players, AllocError>
     requires many { threads ≡ length code.now.threads }
     requires few { length code.now.threads + length code.now.cells ≤ 65535 }
-    ensures many { IfOk result (λ all. length all.threads.items ≡ threads) }
-    ensures agents { IfOk result (λ all. length all.agents.items ≡ length (agents_of code.now)) }
-    ensures playing { (s : PlainShared) → IsStateOf code.now s → shared_of s ≡ untouched code.now.cells → IfOk result (λ all. ArePlaying code.now max_steps s all) }
+    ensures { IfOk result (λ all. AreReady code.now max_steps threads all) }
 {
-    actors_run();
-    let players = open_actors(alloc, code, threads, max_steps)?;
-    let agents = open_agents(alloc, code, threads, max_steps)?;
-    Ok(Players {
-        threads: players,
-        agents,
-    })
+    let _rooms = code.rooms();
+    let mut players = Players {
+        threads: Vec::with_capacity(alloc, threads as usize)?,
+        agents: Vec::new(alloc),
+    };
+    for k in 0..threads {
+        let actor = Actor::thread(alloc, code, k, max_steps)?;
+        players.threads.push_reserved(Player {
+            actor,
+            trace: Vec::new(alloc),
+        });
+    }
+    let cells = code.code().cells();
+    for cell in 0..cells.len() {
+        open_next(alloc, code, &mut players.agents, cell, threads, max_steps)?;
+    }
+    Ok(players)
 }
 
 /// A play of an actor: up to so many turns, up to its end or an ask, which is served. One that has ended stays as it is.
@@ -170,17 +161,14 @@ fn play_actor(
     requires some { 0 < budget }
     requires of { IsStateOf code.now shared.old }
     requires between { IsBetween code.now k max_steps (books_of shared.old) player.old }
-    ensures of { IsStateOf code.now shared.new }
-    ensures between { IsBetween code.now k max_steps (books_of shared.new) player.new }
-    ensures grown { Grown k (books_of shared.old) (books_of shared.new) }
-    ensures taken { shared.new.taken ≡ shared.old.taken }
-    ensures goes { GoesAs code.now k shared.old player.old.actor player.old.trace.items shared.new player.new.actor player.new.trace.items }
-    ensures played { IsPlayed player.old.actor player.new.actor }
+    ensures { IsThreadsPlay code.now k max_steps shared.old player.old shared.new player.new }
 {
-    if player.actor.outcome().is_some() {
+    let ended = player.actor.outcome().is_some();
+    if ended {
         return;
     }
-    round(player, code, shared, k, budget);
+    let _own_cells = code.code();
+    go_on(player, code, shared, budget);
 }
 
 /// A play of an agent's actor, in the same way. One for which nothing waits isn't asked, unless it has no step left.
@@ -197,19 +185,12 @@ fn play_agent(
     requires attending { IsAttending code.now agent.old.agent k max_steps shared.old.taken agent.old }
     requires long { length shared.old.taken ≡ length code.now.cells }
     requires may { (x : AnAction) → next_action (cells_of code.now.cells) (books_of shared.old 0) agent.old.agent ≡ Some x → MayRun code.now x }
-    ensures of { IsStateOf code.now shared.new }
-    ensures attending { IsAttending code.now agent.old.agent k max_steps shared.new.taken agent.new }
-    ensures long { length shared.new.taken ≡ length code.now.cells }
-    ensures others { LeavesTaken agent.old.agent shared.old.taken shared.new.taken }
-    ensures grown { Grown k (books_of shared.old) (books_of shared.new) }
-    ensures goes { GoesAs code.now k shared.old agent.old.player.actor agent.old.player.trace.items shared.new agent.new.player.actor agent.new.player.trace.items }
-    ensures later { agent.new.player.actor.outcome ≡ None → (agent.old.player.actor.outcome ≡ None) × (agent.old.player.actor.steps ≤ agent.new.player.actor.steps) }
-    ensures progress { agent.new.player.actor.outcome ≡ None → HasWork code.now shared.old agent.old.agent → agent.old.player.actor.steps < agent.new.player.actor.steps }
+    ensures { IsAgentsPlay code.now k max_steps shared.old agent.old shared.new agent.new }
 {
     if !is_due(agent, shared, max_steps) {
         return;
     }
-    attend(&mut agent.player, code, shared, agent.agent, k, budget);
+    go_on(&mut agent.player, code, shared, budget);
 }
 
 /// A play of one of the actors, by its number: up to so many turns, up to its end or an ask, which is served.
@@ -225,21 +206,12 @@ fn play_at(
     requires some { 0 < budget }
     requires of { IsStateOf code.now shared.old }
     requires playing { ArePlaying code.now max_steps shared.old players.old }
-    ensures of { IsStateOf code.now shared.new }
-    ensures playing { ArePlaying code.now max_steps shared.new players.new }
-    ensures many { length players.new.threads.items ≡ length players.old.threads.items }
-    ensures agents { length players.new.agents.items ≡ length players.old.agents.items }
-    ensures played { k < length players.old.threads.items → ArePlayedAt k players.old.threads.items players.new.threads.items }
-    ensures later { AreLater players.old.threads.items players.new.threads.items }
-    ensures left { left_all players.new ≤ left_all players.old }
-    ensures live { IsLive code.now shared.old players.old k → left_all players.new < left_all players.old }
+    ensures { IsPlayAt code.now max_steps k shared.old players.old shared.new players.new }
 {
-    every_trace_holds();
-    serve_keeps();
     let _own_cells = code.code();
     let _rooms = code.rooms();
     let threads = players.threads.len();
-    let at = usize::from(k);
+    let at = k as usize;
     if at < threads {
         play_actor(&mut players.threads[at], code, shared, k, budget, max_steps);
     } else {
@@ -340,14 +312,15 @@ fn first_live(players: &Players, code: &Verified, shared: &SharedState) -> Optio
     }
 }
 
-/// Rounds of one ask of each actor that hasn't ended, in ascending order, until all threads have ended and no agent that hasn't has something to do. Each
-/// makes a step at least of the first of them, and none may make more than its limit.
+/// Where they are wanted, rounds of one ask of each actor that hasn't ended, in ascending order, until all threads have ended and no agent that hasn't has
+/// something to do. Each makes a step at least of the first of them, and none may make more than its limit.
 fn play_rounds(
     players: &mut Players,
     code: &Verified,
     shared: &mut SharedState,
     actors: u16,
     max_steps: u64,
+    wanted: bool,
 )
     requires many { actors ≡ length players.old.threads.items + length players.old.agents.items }
     requires of { IsStateOf code.now shared.old }
@@ -355,9 +328,12 @@ fn play_rounds(
     ensures of { IsStateOf code.now shared.new }
     ensures playing { ArePlaying code.now max_steps shared.new players.new }
     ensures later { AreLater players.old.threads.items players.new.threads.items }
-    ensures ended { AllEnded players.new.threads.items }
-    ensures idle { AreIdle code.now shared.new players.new.agents.items }
+    ensures ended { wanted ≡ true → AllEnded players.new.threads.items }
+    ensures idle { wanted ≡ true → AreIdle code.now shared.new players.new.agents.items }
 {
+    if !wanted {
+        return;
+    }
     while let Some(k) = first_live(players, code, shared) {
         play_at(players, code, shared, k, u64::MAX, max_steps);
         play_rest(players, code, shared, k + 1, actors, max_steps);
@@ -365,7 +341,7 @@ fn play_rounds(
 }
 
 /// What an actor did, as a report tells it.
-fn report_of(alloc: Global, player: &Player) -> Result<ThreadReport, AllocError>
+pub(crate) fn report_of(alloc: Global, player: &Player) -> Result<ThreadReport, AllocError>
     ensures { IfOk result (λ ran. IsReported player.now ran) }
 {
     let actor = &player.actor;
@@ -379,52 +355,26 @@ fn report_of(alloc: Global, player: &Player) -> Result<ThreadReport, AllocError>
     })
 }
 
-/// What the actors of threads did.
-fn report_all(alloc: Global, players: &[Player]) -> Result<Vec<ThreadReport>, AllocError>
-    ensures { IfOk result (λ v. AreReported players.now v.items) }
+/// What the actors of threads and of agents did.
+fn report_all(
+    alloc: Global,
+    players: &[Player],
+    attending: &[AgentPlayer],
+) -> Result<Report, AllocError>
+    ensures threads { IfOk result (λ report. AreReported players.now report.threads.items) }
+    ensures agents { IfOk result (λ report. AreReported (attendants attending.now) report.agents.items) }
 {
     let mut threads = Vec::with_capacity(alloc, players.len())?;
     for player in players {
-        threads.push(report_of(alloc, player)?)?;
+        let told = report_of(alloc, player)?;
+        threads.push_reserved(told);
     }
-    Ok(threads)
-}
-
-/// What the actors of agents did.
-fn report_agents(alloc: Global, players: &[AgentPlayer]) -> Result<Vec<ThreadReport>, AllocError>
-    ensures { IfOk result (λ v. AreReported (attendants players.now) v.items) }
-{
-    let mut agents = Vec::with_capacity(alloc, players.len())?;
-    for agent in players {
-        agents.push(report_of(alloc, &agent.player)?)?;
+    let mut agents = Vec::with_capacity(alloc, attending.len())?;
+    for agent in attending {
+        let ran = report_of(alloc, &agent.player)?;
+        agents.push_reserved(ran);
     }
-    Ok(agents)
-}
-
-/// Plays the schedule, and then rounds until all threads have ended and nothing waits for an agent, where they are wanted.
-fn play_schedule(
-    players: &mut Players,
-    code: &Verified,
-    shared: &mut SharedState,
-    plays: &[Play],
-    actors: u16,
-    max_steps: u64,
-    rounds: bool,
-)
-    requires many { actors ≡ length players.old.threads.items + length players.old.agents.items }
-    requires named { all_named (length players.old.threads.items + length players.old.agents.items) plays.now ≡ true }
-    requires of { IsStateOf code.now shared.old }
-    requires playing { ArePlaying code.now max_steps shared.old players.old }
-    ensures of { IsStateOf code.now shared.new }
-    ensures playing { ArePlaying code.now max_steps shared.new players.new }
-    ensures steps { HaveSteps plays.now 0 players.new.threads.items }
-    ensures ended { rounds ≡ true → AllEnded players.new.threads.items }
-    ensures idle { rounds ≡ true → AreIdle code.now shared.new players.new.agents.items }
-{
-    play_all(players, code, shared, plays, max_steps);
-    if rounds {
-        play_rounds(players, code, shared, actors, max_steps);
-    }
+    Ok(Report { threads, agents })
 }
 
 /// One for an agent, and none for another cell.
@@ -449,6 +399,32 @@ fn count_actors(code: &Verified, threads: u16) -> u16
         actors += agents_in(cell.kind);
     }
     actors
+}
+
+/// Runs all actors, of which there are so many, over a state in which nothing was done yet, by plays that name some of them.
+fn run_all(
+    alloc: Global,
+    code: &Verified,
+    plays: &[Play],
+    actors: u16,
+    max_steps: u64,
+    rounds: bool,
+    shared: &mut SharedState,
+) -> Result<Report, AllocError>
+    requires of { IsStateOf code.now shared.old }
+    requires unused { shared_of shared.old ≡ untouched code.now.cells }
+    requires few { length code.now.threads + length code.now.cells ≤ 65535 }
+    requires many { actors ≡ actors_of code.now }
+    requires named { all_named actors plays.now ≡ true }
+    ensures of { IsStateOf code.now shared.new }
+    ensures says { IfOk result (λ report. SaysOf code.now max_steps plays.now rounds shared.new report) }
+{
+    let _rooms = code.rooms();
+    let mut players = open_players(alloc, code, shared.threads(), max_steps)?;
+    play_all(&mut players, code, shared, plays, max_steps);
+    play_rounds(&mut players, code, shared, actors, max_steps, rounds);
+    let _stands = shared.events();
+    report_all(alloc, players.threads.as_slice(), players.agents.as_slice())
 }
 
 /// Runs all threads and agents of the code over a state in which nothing was done yet: the plays of a schedule in their order, and with `rounds` behind them one ask of
@@ -480,28 +456,10 @@ pub fn run_schedule(
     ensures drained { IfOk result (λ report. rounds ≡ true → AreDrained code.now (shared_of shared.new) report.agents.items) }
     ensures all_explained { IfOk result (λ report. AreExplainedBy code.now (shared_of shared.new) report.threads.items report.agents.items) }
 {
-    actors_explained();
-    replies_fit();
-    told_fits();
-    done_is_undisturbed();
-    refused_is_undisturbed();
-    unwritten_stays();
-    every_trace_holds();
-    every_report_is_explained();
-    typed_threads_are_staged();
-    let _rooms = code.rooms();
-    let threads = shared.threads();
-    let actors = count_actors(code, threads);
+    let actors = count_actors(code, shared.threads());
     if !are_named(plays, actors) {
         return Err(ScheduleError::NoActor);
     }
-    let mut players = open_players(alloc, code, threads, max_steps)?;
-    play_schedule(&mut players, code, shared, plays, actors, max_steps, rounds);
-    let _stands = shared.events();
-    let reports = report_all(alloc, players.threads.as_slice())?;
-    let agents = report_agents(alloc, players.agents.as_slice())?;
-    Ok(Report {
-        threads: reports,
-        agents,
-    })
+    let report = run_all(alloc, code, plays, actors, max_steps, rounds, shared)?;
+    Ok(report)
 }

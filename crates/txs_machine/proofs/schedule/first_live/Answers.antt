@@ -1,5 +1,5 @@
 use Rattle.std.proofs.Common.{◌≡◌, ◌+◌, length, rules, subst, inl, inr, arith}
-use Rattle.txs_machine.specs.Playing.{IsUnended}
+use Rattle.txs_machine.specs.Playing.{AllEnded, IsUnended}
 use Rattle.txs_machine.specs.Running.{IsWorking}
 use Rattle.txs_machine.proofs.Working.{thread_there}
 use Rattle.txs_machine.proofs.schedule.first_live.Goals as goal
@@ -16,3 +16,6 @@ returns-in-Some-first_working-clause-live c =
     let w : IsWorking c.args.code.now c.args.shared.now i c.args.players.now.agents.items = subst (IsWorking c.args.code.now c.args.shared.now i) c.as_slice-2.ensures.value c.in-Some-first_working.ensures.working in
     let place : c.len.result + i ≡ length c.args.players.now.threads.items + i = omega (arith, len) in
     inr (i, place, w.0, w.1, w.2, w.3)
+
+pub returns-in-None-clause-ended : goal.returns-in-None-clause-ended
+returns-in-None-clause-ended c e = subst AllEnded c.as_slice.ensures.value (c.in_default.ensures.ended (search rules))

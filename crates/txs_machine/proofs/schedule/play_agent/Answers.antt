@@ -1,7 +1,27 @@
-use Rattle.txs_machine.specs.RunOver.{books_of}
-use Rattle.txs_machine.proofs.RunOver.{not_grown}
+use Rattle.std.proofs.Common.{◌≡◌, None, refl, rules}
+use Rattle.txs_actor.proofs.Following.{actors_run}
+use Rattle.txs_world.specs.Store.{cells_of, next_action}
+use Rattle.txs_shared.specs.SharedState.{numbered_book}
+use Rattle.txs_machine.proofs.Turning.{agent_rests, agent_asks, agent_plays}
 use Rattle.txs_machine.proofs.schedule.play_agent.Goals as goal
 
--- one that has nothing to do adds nothing
-pub returns-then-not-is_due-clause-grown : goal.returns-then-not-is_due-clause-grown
-returns-then-not-is_due-clause-grown c = not_grown c.args.k (books_of c.args.shared.now)
+-- one that has nothing to do stays as it is
+pub returns-then-not-is_due : goal.returns-then-not-is_due
+returns-then-not-is_due c =
+    let x = c.args.agent.now in
+    let s = c.args.shared.now in
+    let none : x.player.actor.outcome ≡ None → next_action (cells_of s.cells) (numbered_book s 0) x.agent ≡ None = c.is_due.ensures.no (search rules) in
+    agent_rests c.args.code.now c.args.k c.args.max_steps s x c.requires.of c.requires.attending c.requires.long none
+
+pub go_on-requires-clause-may : goal.go_on-requires-clause-may
+go_on-requires-clause-may c =
+    let x = c.args.agent.now in
+    let going : x.player.actor.outcome ≡ None = c.is_due.ensures.unended (search rules) in
+    agent_asks c.args.code.now c.args.k c.args.max_steps c.args.shared.now x c.requires.of c.requires.attending c.requires.long c.args.budget going c.requires.may
+
+pub returns : goal.returns
+returns c =
+    let x = c.args.agent.now in
+    let going : x.player.actor.outcome ≡ None = c.is_due.ensures.unended (search rules) in
+    agent_plays c.args.code.now c.args.k c.args.max_steps c.args.shared.now x c.requires.of c.requires.attending c.requires.long c.args.budget going
+    actors_run c.requires.some c.go_on.result c.go_on.new.shared (record { agent = x.agent; player = c.go_on.new.player }) refl c.go_on.ensures

@@ -28,3 +28,7 @@ loop-k-preserved c =
       later = later_than c.args.players.now.threads.items c.loop-k.players.threads.items c.play_rest.new.players.threads.items i.later
           (later_than c.loop-k.players.threads.items c.play_at.new.players.threads.items c.play_rest.new.players.threads.items p.later r.later);
     }
+
+-- where no rounds are wanted all is as it is
+pub returns-then-not-wanted-clause-later : goal.returns-then-not-wanted-clause-later
+returns-then-not-wanted-clause-later c = later_itself c.args.players.now.threads.items

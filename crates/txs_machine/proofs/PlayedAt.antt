@@ -1,0 +1,94 @@
+-- What a play of one actor makes of it, and of all actors.
+use Rattle.std.proofs.Common.{◌≡◌, ◌<◌, ◌+◌, ℕ, [], length, set, Option, Some, None, refl, sym, ap, subst, ◌∙◌, arith}
+use Rattle.std.proofs.lemmas.List.{length-set}
+use Rattle.txs_asks.specs.declared.event.Outcome.{Outcome}
+use Rattle.txs_value.specs.Places.{nth}
+use Rattle.txs_code.specs.OwnCells.{NamesOwnCells}
+use Rattle.txs_code.specs.PlainCode.{PlainCode}
+use Rattle.txs_actor.specs.PlainActor.{PlainActor}
+use Rattle.txs_world.specs.Laws.{ServeKeeps}
+use Rattle.txs_runs.specs.Report.{RunTraced}
+use Rattle.txs_shared.specs.SharedState.{PlainShared}
+use Rattle.txs_machine.specs.Agents.{agents_of}
+use Rattle.txs_machine.specs.Playing.{AreLater, ArePlayedAt, IsBetween}
+use Rattle.txs_machine.specs.Plays.{IsRound, IsThreadsPlay, IsAgentsPlay, IsPlayAt}
+use Rattle.txs_machine.specs.RunOver.{IsAfter, IsLimited, IsStateOf, books_of}
+use Rattle.txs_machine.specs.Running.{ArePlaying}
+use Rattle.txs_machine.specs.declared.player.AgentPlayer.{AgentPlayer}
+use Rattle.txs_machine.specs.declared.player.Player.{Player}
+use Rattle.txs_machine.specs.declared.player.Players.{Players}
+use Rattle.txs_machine.proofs.Mail.{values_known}
+use Rattle.txs_machine.proofs.Played.{thread_playing, thread_left, thread_live, run_after, agent_playing, agent_left, agent_live}
+use Rattle.txs_machine.proofs.Playing.{played_at, played_later, later_itself}
+use Rattle.txs_machine.proofs.RunOver.{not_grown}
+use Rattle.txs_machine.proofs.Together.{attending_at}
+
+abbrev is_some : {A : Type 0} → Option A → Type 0
+is_some None = ⊥
+is_some (Some x) = Unit {0}
+
+-- ---- one thread's actor
+
+-- one that has ended stays as it is
+pub thread_rests : (code : PlainCode) (k limit : ℕ) (s : PlainShared) (x : Player) → IsStateOf code s → IsBetween code k limit (books_of s) x → (x.actor.outcome ≡ None → ⊥) → IsThreadsPlay code k limit s x s x
+thread_rests code k limit s x of h ended = record {
+  of = of;
+  between = h;
+  grown = not_grown k (books_of s);
+  taken = refl;
+  goes = λ st same hold p. record { turns = []; own = tt; shared = same; player = p };
+  played = λ o. absurd (ended o);
+}
+
+none_after : (a : PlainActor) (o : Option Outcome) → IsAfter a o → a.outcome ≡ None → o ≡ None
+none_after a None h e = refl
+none_after a (Some o) h e = absurd (subst is_some (sym h ∙ e) tt)
+
+-- one that hasn't makes turns
+pub thread_plays : (code : PlainCode) (k limit : ℕ) (s : PlainShared) (x : Player) → IsBetween code k limit (books_of s) x → x.actor.outcome ≡ None → (o : Option Outcome) (t : PlainShared) (y : Player)
+    → IsRound code k s x.actor x.trace.items o t y.actor y.trace.items → IsThreadsPlay code k limit s x t y
+thread_plays code k limit s x h going o t y r = record {
+  of = r.of;
+  between = record { lives = r.lives; free = r.free; limited = subst (λ n. IsLimited n y.actor) h.limited.limited r.limited; over = r.over };
+  grown = r.grown;
+  taken = r.taken;
+  goes = r.goes going;
+  played = λ e. (going, r.progress (none_after y.actor o r.after e));
+}
+
+-- ---- all actors
+
+pub thread_play_at : RunTraced → (code : PlainCode) (limit k : ℕ) (s t : PlainShared) (all next : Players) (x y : Player) → ArePlaying code limit s all → k < length all.threads.items → nth all.threads.items k ≡ Some x → IsThreadsPlay code k limit s x t y
+    → next.threads.items ≡ set all.threads.items k y → next.agents.items ≡ all.agents.items → IsPlayAt code limit k s all t next
+thread_play_at law code limit k s t all next x y h below there p new news =
+    let xs = all.threads.items in
+    let gs = all.agents.items in
+    let played = played_at k xs x y there p.played in
+    record {
+      of = p.of;
+      playing = thread_playing law code limit s t xs gs all next refl refl h k x y there below p.between p.grown p.taken p.goes new news;
+      many = ap length new ∙ length-set xs k y;
+      agents = ap length news;
+      played = λ b. subst (ArePlayedAt k xs) (sym new) played;
+      later = subst (AreLater xs) (sym new) (played_later k xs (set xs k y) played);
+      left = thread_left law code limit s t xs gs all next refl refl h k x y there below p.between p.grown p.taken p.goes new news played;
+      live = thread_live law code limit s t xs gs all next refl refl h k x y there below p.between p.grown p.taken p.goes new news played;
+    }
+
+pub agent_play_at : RunTraced → ServeKeeps → (code : PlainCode) (limit k i : ℕ) (s t : PlainShared) (all next : Players) (x y : AgentPlayer) → NamesOwnCells code → ArePlaying code limit s all → k ≡ length all.threads.items + i → nth all.agents.items i ≡ Some x
+    → IsAgentsPlay code k limit s x t y → next.threads.items ≡ all.threads.items → next.agents.items ≡ set all.agents.items i y → IsPlayAt code limit k s all t next
+agent_play_at law keeps code limit k i s t all next x y mine h place there p new news =
+    let xs = all.threads.items in
+    let gs = all.agents.items in
+    let a = attending_at code limit s.taken (length code.threads) i (agents_of code) gs x h.agents there in
+    let after = run_after law code limit s t xs gs all next refl refl h k i x y place there p.attending p.long p.others p.grown p.goes new news in
+    record {
+      of = p.of;
+      playing = agent_playing law code limit s t xs gs all next refl refl h k i x y place there p.attending p.long p.others p.grown p.goes new news (values_known keeps code mine t xs (set gs i y) after);
+      many = ap length new;
+      agents = ap length news ∙ length-set gs i y;
+      played = λ below. absurd (omega (arith, place, below));
+      later = subst (AreLater xs) (sym new) (later_itself xs);
+      left = agent_left law code limit s t xs gs all next refl refl h k i x y place there p.attending p.long p.others p.grown p.goes new news a.2.limited p.later;
+      live = agent_live law code limit s t xs gs all next refl refl h k i x y place there p.attending p.long p.others p.grown p.goes new news a.2.limited p.later p.progress;
+    }

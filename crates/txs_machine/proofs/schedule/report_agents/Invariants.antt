@@ -1,7 +1,0 @@
-use Rattle.std.proofs.Common.{take}
-use Rattle.txs_machine.specs.Playing.{AreReported}
-use Rattle.txs_machine.specs.Running.{attendants}
-use Rattle.txs_machine.proofs.schedule.report_agents.Given as goal
-
-abbrev pub invariant-loop-agent : goal.invariant-loop-agent
-invariant-loop-agent l = AreReported (attendants (take l.agent-index l.players)) l.agents.items

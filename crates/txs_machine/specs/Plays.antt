@@ -1,0 +1,115 @@
+-- What a play of one actor makes of it, and of all actors: before the first play, after each, and what a report says behind the last.
+use Rattle.std.specs.Prelude.{◌≡◌, ◌≤◌, ◌<◌, ℕ, Bool, true, List, [], length, Option, None}
+use Rattle.txs_asks.specs.declared.event.Outcome.{Outcome}
+use Rattle.txs_value.specs.declared.value.CellId.{CellId}
+use Rattle.txs_code.specs.PlainCode.{PlainCode}
+use Rattle.txs_actor.specs.PlainActor.{PlainActor, Lives, unanswered}
+use Rattle.txs_world.specs.Store.{cells_of, none_taken}
+use Rattle.txs_runs.proofs.Growing.{Grown}
+use Rattle.txs_runs.specs.Shared.{untouched}
+use Rattle.txs_shared.specs.SharedState.{PlainShared, shared_of}
+use Rattle.txs_machine.specs.Agents.{agents_of, AgentsAreDone, AreDrained, AreExplainedBy}
+use Rattle.txs_machine.specs.Lawfully.{RunLawfully}
+use Rattle.txs_machine.specs.Playing.{AllEnded, AreBetween, AreLater, AreNew, ArePlayedAt, HaveSteps, IsBetween, IsPlayed}
+use Rattle.txs_machine.specs.RunOver.{IsAfter, IsLimited, IsStateOf, books_of}
+use Rattle.txs_machine.specs.Running.{AreAttending, AreIdle, ArePlaying, GoesAs, HasWork, IsAttending, IsLive, LeavesTaken, attendants, left_all}
+use Rattle.txs_machine.specs.Schedule.{AreDone, ArePlayed, HaveEnded, IsExplainedBy}
+use Rattle.txs_machine.specs.declared.player.AgentPlayer.{AgentPlayer}
+use Rattle.txs_machine.specs.declared.player.Place.{Place}
+use Rattle.txs_machine.specs.declared.player.Player.{Player}
+use Rattle.txs_machine.specs.declared.player.Players.{Players}
+use Rattle.txs_machine.specs.declared.run.Ran.{Ran}
+use Rattle.txs_machine.specs.declared.schedule.Play.{Play}
+use Rattle.txs_machine.specs.declared.schedule.Report.{Report}
+
+-- ---- a play
+
+-- a thread's actor after turns of it, with the ask that they came to served: it has ended so, or has made a step at least
+pub record IsRound (code : PlainCode) (k : ℕ) (s : PlainShared) (a : PlainActor) (tr : List Place) (o : Option Outcome) (t : PlainShared) (z : PlainActor) (new : List Place) : Type 0 where
+  pub lives : Lives code z
+  pub after : IsAfter z o
+  pub free : unanswered z ≡ None
+  pub progress : o ≡ None → a.steps < z.steps
+  pub limited : IsLimited a.limit z
+  pub of : IsStateOf code t
+  pub over : RunLawfully code k (books_of t) new z
+  pub grown : Grown k (books_of s) (books_of t)
+  pub taken : t.taken ≡ s.taken
+  pub goes : a.outcome ≡ None → GoesAs code k s a tr t z new
+
+-- a thread's actor after a play of it
+pub record IsThreadsPlay (code : PlainCode) (k limit : ℕ) (s : PlainShared) (x : Player) (t : PlainShared) (y : Player) : Type 0 where
+  pub of : IsStateOf code t
+  pub between : IsBetween code k limit (books_of t) y
+  pub grown : Grown k (books_of s) (books_of t)
+  pub taken : t.taken ≡ s.taken
+  pub goes : GoesAs code k s x.actor x.trace.items t y.actor y.trace.items
+  pub played : IsPlayed x.actor y.actor
+
+-- an agent's actor after a play of it: one that hasn't ended has made as many steps at least, and more where it had something to do
+pub record IsAgentsPlay (code : PlainCode) (k limit : ℕ) (s : PlainShared) (x : AgentPlayer) (t : PlainShared) (y : AgentPlayer) : Type 0 where
+  pub of : IsStateOf code t
+  pub attending : IsAttending code x.agent k limit t.taken y
+  pub long : length t.taken ≡ length code.cells
+  pub others : LeavesTaken x.agent s.taken t.taken
+  pub grown : Grown k (books_of s) (books_of t)
+  pub goes : GoesAs code k s x.player.actor x.player.trace.items t y.player.actor y.player.trace.items
+  pub later : y.player.actor.outcome ≡ None → (x.player.actor.outcome ≡ None) × (x.player.actor.steps ≤ y.player.actor.steps)
+  pub progress : y.player.actor.outcome ≡ None → HasWork code s x.agent → x.player.actor.steps < y.player.actor.steps
+
+-- all actors after a play of the k-th
+pub record IsPlayAt (code : PlainCode) (limit k : ℕ) (s : PlainShared) (all : Players) (t : PlainShared) (next : Players) : Type 0 where
+  pub of : IsStateOf code t
+  pub playing : ArePlaying code limit t next
+  pub many : length next.threads.items ≡ length all.threads.items
+  pub agents : length next.agents.items ≡ length all.agents.items
+  pub played : k < length all.threads.items → ArePlayedAt k all.threads.items next.threads.items
+  pub later : AreLater all.threads.items next.threads.items
+  pub left : left_all next ≤ left_all all
+  pub live : IsLive code s all k → left_all next < left_all all
+
+-- what is told of a thread's actor that has ended so
+pub record IsRanBy (x : Player) (o : Outcome) (ran : Ran) : Type 0 where
+  pub ended : ran.outcome ≡ o
+  pub printed : ran.printed.items ≡ x.actor.printed
+  pub traced : ran.trace.items ≡ x.trace.items
+  pub counted : ran.steps ≡ x.actor.steps
+
+-- ---- before the first play
+
+-- the actors of so many threads
+pub record AreOpened (code : PlainCode) (limit n : ℕ) (xs : List Player) : Type 0 where
+  pub many : length xs ≡ n
+  pub between : AreBetween code limit (λ i. []) 0 xs
+  pub opened : AreNew code limit 0 xs
+
+-- the actors of these agents, of which the first is the k-th actor
+pub record AreOpenedFor (code : PlainCode) (limit k : ℕ) (gs : List CellId) (xs : List AgentPlayer) : Type 0 where
+  pub attending : AreAttending code limit (none_taken (cells_of code.cells)) k gs xs
+  pub opened : AreNew code limit k (attendants xs)
+
+-- all actors, so many of threads and one of each agent, are where nothing was done yet
+pub record AreReady (code : PlainCode) (limit n : ℕ) (all : Players) : Type 0 where
+  pub many : length all.threads.items ≡ n
+  pub agents : length all.agents.items ≡ length (agents_of code)
+  pub playing : (s : PlainShared) → shared_of s ≡ untouched code.cells → ArePlaying code limit s all
+
+-- ---- behind the last play
+
+-- all actors after the plays of a schedule, and with rounds behind them
+pub record ArePlayedOut (code : PlainCode) (limit : ℕ) (ys : List Play) (rounds : Bool) (t : PlainShared) (all : Players) : Type 0 where
+  pub of : IsStateOf code t
+  pub playing : ArePlaying code limit t all
+  pub steps : HaveSteps ys 0 all.threads.items
+  pub ended : rounds ≡ true → AllEnded all.threads.items
+  pub idle : rounds ≡ true → AreIdle code t all.agents.items
+
+-- what a report says of the plays of a schedule, and of rounds behind them
+pub record SaysOf (code : PlainCode) (limit : ℕ) (ys : List Play) (rounds : Bool) (t : PlainShared) (report : Report) : Type 0 where
+  pub done : AreDone code limit (books_of t) report.threads.items
+  pub played : ArePlayed ys report.threads.items
+  pub ended : rounds ≡ true → HaveEnded report.threads.items
+  pub explained : IsExplainedBy code (shared_of t) report.threads.items
+  pub agents : AgentsAreDone code limit (books_of t) report.agents.items
+  pub drained : rounds ≡ true → AreDrained code (shared_of t) report.agents.items
+  pub all_explained : AreExplainedBy code (shared_of t) report.threads.items report.agents.items
