@@ -10,38 +10,31 @@ use txs_asks::{Ask, Reply};
 pub fn may_answer(ask: &Ask, reply: &Reply) -> bool
     ensures { IsTrue result ↔ MayAnswer ask.now reply.now }
 {
-    match ask {
-        Ask::Begin => matches!(reply, Reply::At(_)),
-        Ask::Look { .. } => matches!(
-            reply,
-            Reply::Is(_) | Reply::Retry(_) | Reply::Full | Reply::Memory
-        ),
-        Ask::View { cells } => match reply {
-            Reply::Views(_, values) => values.as_slice().len() == cells.as_slice().len(),
-            Reply::Memory => true,
+    match reply {
+        Reply::At(_) => matches!(ask, Ask::Begin),
+        Reply::Is(_) => matches!(ask, Ask::Look { .. } | Ask::Peek { .. }),
+        Reply::Views(_, values) => match ask {
+            Ask::View { cells } => values.as_slice().len() == cells.as_slice().len(),
             _ => false,
         },
-        Ask::Commit { .. } => matches!(
-            reply,
-            Reply::Done
-                | Reply::Retry(_)
-                | Reply::Changed(_)
-                | Reply::AgentIsFailed(_)
-                | Reply::Full
-                | Reply::Memory
+        Reply::Done => matches!(
+            ask,
+            Ask::Commit { .. }
+                | Ask::Fail { .. }
+                | Ask::Send { .. }
+                | Ask::Finish { .. }
+                | Ask::CloseAt { .. }
+                | Ask::Broke { .. }
         ),
-        Ask::Peek { .. } => matches!(reply, Reply::Is(_) | Reply::Full | Reply::Memory),
-        Ask::Send { .. } => matches!(
-            reply,
-            Reply::Done | Reply::AgentIsFailed(_) | Reply::Full | Reply::Memory
+        Reply::Retry(_) => matches!(ask, Ask::Look { .. } | Ask::Commit { .. }),
+        Reply::Changed(_) => matches!(ask, Ask::Commit { .. } | Ask::CloseAt { at: Some(_), .. }),
+        Reply::AgentIsFailed(_) => matches!(ask, Ask::Commit { .. } | Ask::Send { .. }),
+        Reply::Action { .. } | Reply::Idle => matches!(ask, Ask::Take { .. }),
+        Reply::Opened(_, _) => matches!(ask, Ask::OpenAt { .. }),
+        Reply::Full => !matches!(
+            ask,
+            Ask::Begin | Ask::View { .. } | Ask::Take { .. } | Ask::OpenAt { .. }
         ),
-        Ask::Take { .. } => matches!(reply, Reply::Action { .. } | Reply::Idle | Reply::Memory),
-        Ask::OpenAt { .. } => matches!(reply, Reply::Opened(_, _) | Reply::Memory),
-        Ask::CloseAt { at: Some(_), .. } => matches!(
-            reply,
-            Reply::Done | Reply::Changed(_) | Reply::Full | Reply::Memory
-        ),
-        Ask::Fail { .. } | Ask::Finish { .. } | Ask::CloseAt { at: None, .. } | Ask::Broke { .. } =>
-            { matches!(reply, Reply::Done | Reply::Full | Reply::Memory) }
+        Reply::Memory => !matches!(ask, Ask::Begin),
     }
 }

@@ -5,7 +5,7 @@ ghost use Rattle.txs_actor.specs.PlainActor.{Lives, unanswered};
 ghost use Rattle.txs_actor.specs.Turns.{Turns, IsAttending, taken, call_of, CanAct, BeginsActing, CanApplyFor, AppliesFor, CanAttend, AttendsSo};
 ghost use Rattle.txs_actor.specs.declared.outcome.Turn.TheVariants as turned;
 
-use crate::actor::{Actor, ends};
+use crate::actor::{Actor, tell};
 use crate::outcome::Turn;
 use txs_asks::Outcome;
 use txs_code::Verified;
@@ -65,7 +65,7 @@ impl Actor {
         ensures lives { Lives code.now self.new }
     {
         if let Some(outcome) = self.over() {
-            ends(turn, outcome);
+            tell(turn, Turn::Ended(outcome));
             return;
         }
         self.count();

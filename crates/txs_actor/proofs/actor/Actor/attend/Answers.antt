@@ -9,7 +9,7 @@ use Rattle.txs_actor.proofs.actor.Actor.attend.Goals as goal
 pub returns-in-Some-clause-turns : goal.returns-in-Some-clause-turns
 returns-in-Some-clause-turns c =
     let a = c.args.self.now in
-    subst (λ (t : Turn). Turns c.args.code.now a t c.over.new.self) (sym c.ends.ensures) (attends_over c.args.code.now a a.outcome c.in-Some.outcome c.over.new.self refl c.requires.lives c.requires.attending c.requires.answered c.in-Some.ensures.over).0
+    subst (λ (t : Turn). Turns c.args.code.now a t c.over.new.self) (sym c.tell.ensures) (attends_over c.args.code.now a a.outcome c.in-Some.outcome c.over.new.self refl c.requires.lives c.requires.attending c.requires.answered c.in-Some.ensures.over).0
 
 pub returns-in-Some-clause-lives : goal.returns-in-Some-clause-lives
 returns-in-Some-clause-lives c =
