@@ -37,8 +37,7 @@ use Rattle.crossbeam_channel.specs.contracts.channel.Sender as sender_is
 use Rattle.crossbeam_channel.specs.contracts.channel.Receiver as receiver_is
 use Rattle.crossbeam_channel.proofs.channel.Receiver.TheSendSync as receiver
 use Rattle.crossbeam_channel.proofs.channel.Sender.TheSendSync as sender
-use Rattle.txs_threads.specs.contracts.run.Message as message_is
-use Rattle.txs_threads.proofs.run.Message.TheSendSync as message
+use Rattle.std.specs.contracts.option.Option as option_is
 use Rattle.txs_value.specs.contracts.value.Value as value
 use Rattle.txs_value.specs.contracts.action.Action as action
 use Rattle.txs_value.proofs.value.CellId.TheSendSync as cell_id_sent
@@ -236,20 +235,20 @@ module _ (R P G : RattleType) (r : IsSync (param 0 R)) (p : IsSend (param 1 P)) 
   desk_shared : IsSync (mutex_is.the_row (desk_is.the_row (param 1 P)))
   desk_shared = mutex.the_sync (desk_is.the_row (param 1 P)) (desk_send (param 1 P) p)
 
-  message_sent : IsSend (message_is.the_row (param 1 P))
-  message_sent = search (message.the_send, p, crosses, sendable) depth 60 fits 20000
+  message_sent : IsSend (option_is.the_row (param 1 P))
+  message_sent = search (option.the_send, p, crosses, sendable) depth 60 fits 20000
 
-  sender_shared : IsSync (sender_is.the_row (message_is.the_row (param 1 P)) global_is.the_row allocator.ghosts)
+  sender_shared : IsSync (sender_is.the_row (option_is.the_row (param 1 P)) global_is.the_row allocator.ghosts)
   sender_shared = search (sender.the_sync, message_sent, global.the_send, global.the_sync, heap.the_frees, crosses, sendable) depth 60 fits 20000
 
-  receiver_shared : IsSync (receiver_is.the_row (message_is.the_row (param 1 P)) global_is.the_row allocator.ghosts)
+  receiver_shared : IsSync (receiver_is.the_row (option_is.the_row (param 1 P)) global_is.the_row allocator.ghosts)
   receiver_shared = search (receiver.the_sync, message_sent, global.the_send, global.the_sync, heap.the_frees, crosses, sendable) depth 60 fits 20000
 
   abbrev pub worker_fields : NamedLft → NamedLft → NamedLft → NamedLft → NamedLft → List RattleType
   worker_fields a b c d e =
       (shr_ref_field a (param 0 R) tt).row ∷ (shr_ref_field b (mutex_is.the_row (desk_is.the_row (param 1 P))) tt).row
-      ∷ (shr_ref_field c (sender_is.the_row (message_is.the_row (param 1 P)) global_is.the_row allocator.ghosts) tt).row
-      ∷ (shr_ref_field d (receiver_is.the_row (message_is.the_row (param 1 P)) global_is.the_row allocator.ghosts) tt).row ∷ (shr_ref_field e (param 2 G) tt).row ∷ []
+      ∷ (shr_ref_field c (sender_is.the_row (option_is.the_row (param 1 P)) global_is.the_row allocator.ghosts) tt).row
+      ∷ (shr_ref_field d (receiver_is.the_row (option_is.the_row (param 1 P)) global_is.the_row allocator.ghosts) tt).row ∷ (shr_ref_field e (param 2 G) tt).row ∷ []
 
   pub worker_send : (n : Sym) (a b c d e : NamedLft) → IsSend (TupleAt n (worker_fields a b c d e))
   worker_send n a b c d e =

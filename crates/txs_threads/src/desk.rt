@@ -1,7 +1,7 @@
 //! What lies under the one lock.
 
 ghost use Rattle.std.proofs.Common.{get_or};
-ghost use Rattle.std.specs.Prelude.{◌≡◌, ◌<◌, ◌≤◌, ◌+◌, ◌-◌, ◌↔◌, false, length, IfSome, IsTrue, None};
+ghost use Rattle.std.specs.Prelude.{◌≡◌, ◌<◌, ◌≤◌, ◌+◌, ◌-◌, ◌++◌, ◌∷◌, [], false, length, vec_capacity, IfSome, OnOk, None};
 ghost use Rattle.txs_shared.specs.SharedState.{is_lawful, answer_to, Answers};
 
 use crate::player::Player;
@@ -43,15 +43,16 @@ impl Server {
         let at = u32::try_from(events.len()).unwrap_or(u32::MAX);
         let number = self.served;
         let reply = self.shared.serve(actor, ask);
-        if is_exchanged(&reply) {
-            self.served = self.served.saturating_add(1);
-        }
+        self.served = self.served.saturating_add(u64::from(is_exchanged(&reply)));
         Some(Served { reply, at, number })
     }
 
-    /// Whether an action waits for the agent of this actor.
+    /// Whether an action waits for the agent of this actor, if it is an agent's.
     #[tactic(auto, using(crate::proofs::Mail::taker_is_agent))]
-    fn has_mail(&self, actor: u16, agent: CellId) -> bool {
+    fn has_mail(&self, actor: u16, agent: Option<CellId>) -> bool {
+        let Some(agent) = agent else {
+            return false;
+        };
         let take = Ask::Take { agent };
         let lawful = self.shared.lawful(actor, &take);
         drop(take);
@@ -84,25 +85,24 @@ pub(crate) fn agent_at(agents: &[CellId], threads: u16, number: u16) -> CellId
     agents[usize::from(number - threads)]
 }
 
-impl<P: Player> Actors<P> {
-    /// None, and no room for any.
-    fn new(alloc: Global) -> Actors<P> {
-        Actors {
-            ready: Vec::new(alloc),
-            parked: Vec::new(alloc),
-            down: Vec::new(alloc),
-            live: 0,
-        }
+/// Adds so many places at which no actor is parked.
+fn add_places<P: Player>(parked: &mut Vec<Option<P>>, cells: usize) -> Result<(), AllocError> {
+    parked.reserve(cells)?;
+    for _ in 0..cells {
+        let _ = parked.push(None);
     }
+    Ok(())
+}
 
+impl<P: Player> Actors<P> {
     /// Makes room for so many actors, all of them live, and places for those of the agents among so many cells.
-    pub fn make_room(&mut self, actors: usize, cells: usize) -> Result<(), AllocError> {
+    pub fn make_room(&mut self, actors: usize, cells: usize) -> Result<(), AllocError>
+        ensures live { OnOk result (self.new.live ≡ actors) }
+        ensures kept { (self.new.ready.items ≡ self.old.ready.items) × (self.new.down.items ≡ self.old.down.items) }
+    {
         self.ready.reserve(actors)?;
         self.down.reserve(actors)?;
-        self.parked.reserve(cells)?;
-        for _ in 0..cells {
-            self.parked.push(None)?;
-        }
+        add_places(&mut self.parked, cells)?;
         self.live = actors;
         Ok(())
     }
@@ -110,45 +110,48 @@ impl<P: Player> Actors<P> {
     /// Adds an actor before its first turn, with its number, where there is room for it: a thread's is ready, and the next one, and an agent's is parked.
     pub fn add(&mut self, agents: &[CellId], threads: u16, number: u16, played: P)
         requires { number < threads + length agents.now }
+        ensures thread { number < threads → length self.old.ready.items < vec_capacity self.old.ready → self.new.ready.items ≡ self.old.ready.items ++ played ∷ [] }
+        ensures agent { threads ≤ number → self.new.ready.items ≡ self.old.ready.items }
     {
         if number < threads {
             let _ = self.ready.push(played);
             return;
         }
-        self.park(agent_at(agents, threads, number), played);
+        self.rest(Some(agent_at(agents, threads, number)), played);
     }
 
-    /// One is live no more: whether it was the last.
-    fn one_less(&mut self) -> bool {
+    /// An actor that no worker turns any more is parked, at the place of this agent, or else put down: whether it was the last that was live.
+    fn rest(&mut self, agent: Option<CellId>, played: P) -> bool
+        ensures { self.new.ready.items ≡ self.old.ready.items }
+    {
+        match agent {
+            Some(agent) if usize::from(agent.number) < self.parked.len() => {
+                let number = usize::from(agent.number);
+                drop(mem::replace(&mut self.parked[number], Some(played)));
+            }
+            _ => {
+                let _ = self.down.push(played);
+            }
+        }
         self.live = self.live.saturating_sub(1);
         self.live == 0
     }
 
-    /// An actor is put down: whether it was the last that was live.
-    fn put(&mut self, played: P) -> bool {
-        let _ = self.down.push(played);
-        self.one_less()
-    }
-
-    /// An agent's actor is parked: whether it was the last that was live.
-    fn park(&mut self, agent: CellId, played: P) -> bool {
-        let number = usize::from(agent.number);
-        if number >= self.parked.len() {
-            return self.put(played);
-        }
-        drop(mem::replace(&mut self.parked[number], Some(played)));
-        self.one_less()
-    }
-
-    /// Wakes every agent's actor that is parked.
-    pub fn wake_all(&mut self) {
+    /// Wakes every agent's actor that is parked. Those that are down stay so, and each agent keeps its place.
+    pub fn wake_all(&mut self)
+        ensures down { self.new.down.items ≡ self.old.down.items }
+        ensures places { length self.new.parked.items ≡ length self.old.parked.items }
+    {
         for cell in 0..self.parked.len() {
             self.wake(cell);
         }
     }
 
     /// Wakes the actor of the agent that this cell is, if it is parked: whether it was.
-    fn wake(&mut self, cell: usize) -> bool {
+    fn wake(&mut self, cell: usize) -> bool
+        ensures down { self.new.down.items ≡ self.old.down.items }
+        ensures places { length self.new.parked.items ≡ length self.old.parked.items }
+    {
         if cell >= self.parked.len() {
             return false;
         }
@@ -159,17 +162,6 @@ impl<P: Player> Actors<P> {
         let _ = self.ready.push(played);
         true
     }
-}
-
-/// What became of an agent's actor that was to be parked.
-#[derive(Drop)]
-pub enum Parking<P> {
-    /// Something waits for it by now.
-    Again(P),
-    /// It is parked.
-    Parked,
-    /// It is parked, and was the last that was live.
-    Last,
 }
 
 /// What came of an ask, and whether agents were woken by it, which are ready.
@@ -184,23 +176,6 @@ pub struct Step {
 pub struct Desk<P> {
     pub server: Server,
     pub actors: Actors<P>,
-}
-
-/// Whether an ask puts actions into mailboxes, where it is done.
-fn sends_actions(ask: &Ask) -> bool {
-    match ask {
-        Ask::Send { .. } => true,
-        Ask::Commit { sends, .. } => !sends.as_slice().is_empty(),
-        _ => false,
-    }
-}
-
-/// Whether what was asked is done.
-fn is_done(served: &Option<Served>) -> bool {
-    match served {
-        Some(served) => matches!(served.reply, Reply::Done),
-        None => false,
-    }
 }
 
 /// Wakes the agents to which an event sent actions: whether one was parked.
@@ -220,10 +195,18 @@ fn wake_by<P: Player>(actors: &mut Actors<P>, event: &Event) -> bool {
 
 impl<P: Player> Desk<P> {
     /// What lies under the lock before there are actors.
-    pub fn new(alloc: Global, shared: SharedState) -> Desk<P> {
+    pub fn new(alloc: Global, shared: SharedState) -> Desk<P>
+        ensures shared { (result.server.shared ≡ shared) × (result.server.served ≡ 0) }
+        ensures none { (result.actors.ready.items ≡ []) × (result.actors.parked.items ≡ []) × (result.actors.down.items ≡ []) × (result.actors.live ≡ 0) }
+    {
         Desk {
             server: Server { shared, served: 0 },
-            actors: Actors::new(alloc),
+            actors: Actors {
+                ready: Vec::new(alloc),
+                parked: Vec::new(alloc),
+                down: Vec::new(alloc),
+                live: 0,
+            },
         }
     }
 
@@ -233,27 +216,20 @@ impl<P: Player> Desk<P> {
         ensures lawful { (result.served ≡ None → is_lawful self.old.server.shared actor ask ≡ false) × (is_lawful self.old.server.shared actor ask ≡ false → result.served ≡ None) }
         ensures refused { result.served ≡ None → self.new.server.shared ≡ self.old.server.shared }
     {
-        let sends = sends_actions(&ask);
+        let before = self.server.shared.events().len();
         let served = self.server.serve(actor, ask);
-        let woke = sends && is_done(&served) && self.wake();
+        let woke = self.wake(before);
         Step { served, woke }
     }
 
-    /// Wakes the agents to which the store's last event sent actions: whether one was parked.
-    fn wake(&mut self) -> bool
+    /// Wakes the agents to which the store's event at this place sent actions, if there is one: whether one was parked.
+    fn wake(&mut self, at: usize) -> bool
         ensures { self.new.server ≡ self.old.server }
     {
-        match self.server.shared.events().last() {
+        match self.server.shared.events().get(at) {
             Some(event) => wake_by(&mut self.actors, event),
             None => false,
         }
-    }
-
-    /// Whether no actor is live.
-    pub fn is_over(&self) -> bool
-        ensures { IsTrue result ↔ (self.now.actors.live ≡ 0) }
-    {
-        self.actors.live == 0
     }
 
     /// The next actor that is ready. What is shared stays as it is.
@@ -267,20 +243,20 @@ impl<P: Player> Desk<P> {
     pub fn put(&mut self, played: P) -> bool
         ensures { self.new.server ≡ self.old.server }
     {
-        self.actors.put(played)
+        self.actors.rest(None, played)
     }
 
-    /// An agent's actor that found nothing to do is parked, unless something waits for it by now. What is shared stays as it is.
-    pub fn park(&mut self, agent: CellId, played: P) -> Parking<P>
+    /// The actor of this agent, which found nothing to do, is parked, and one of none is put down: whether it was the last that was live. What is shared stays
+    /// as it is.
+    ///
+    /// # Errors
+    /// The actor, where something waits for its agent by now.
+    pub fn rest(&mut self, agent: Option<CellId>, played: P) -> Result<bool, P>
         ensures { self.new.server ≡ self.old.server }
     {
         if self.server.has_mail(played.place(), agent) {
-            return Parking::Again(played);
+            return Err(played);
         }
-        if self.actors.park(agent, played) {
-            Parking::Last
-        } else {
-            Parking::Parked
-        }
+        Ok(self.actors.rest(agent, played))
     }
 }

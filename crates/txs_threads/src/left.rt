@@ -11,37 +11,26 @@ use crate::desk::{Actors, Desk, Server};
 use crate::player::{Next, Player};
 use std::alloc::Global;
 use txs_actor::Turn;
-use txs_asks::Ask;
 use txs_code::Verified;
 use txs_machine::{RunError, ThreadReport};
 use txs_played::{Gathered, Played, gather};
 use txs_shared::SharedState;
 use txs_value::CellId;
 
-/// Serves an actor's ask and hands it the answer: whether it goes on.
-fn answer_ask(server: &mut Server, played: &mut Played<'_>, ask: Ask) -> bool {
-    let served = server.serve(played.number(), ask);
-    let next = played.hear(served);
-    matches!(next, Next::GoesOn | Next::Again)
-}
-
-/// Turns an actor that hasn't ended up to its next ask, which is served and answered, or to its end: whether it goes on.
-fn play_one(server: &mut Server, played: &mut Played<'_>) -> bool {
-    if played.outcome().is_some() {
-        return false;
-    }
-    for _ in 0..u64::MAX {
-        match Player::run(played, u64::MAX) {
-            Some(Turn::Went) => {}
-            Some(Turn::Asks(ask)) => return answer_ask(server, played, ask),
-            Some(Turn::Ended(_)) | None => return false,
+/// Turns an actor up to its next ask, which is served and answered, or to its end: whether it goes on. One that has ended stays as it is.
+fn play_one<P: Player>(server: &mut Server, played: &mut P) -> bool {
+    match played.run(u64::MAX) {
+        Some(Turn::Went) => true,
+        Some(Turn::Asks(ask)) => {
+            let served = server.serve(played.place(), ask);
+            matches!(played.hear(served), Next::GoesOn | Next::Again)
         }
+        Some(Turn::Ended(_)) | None => false,
     }
-    false
 }
 
 /// An ask of each actor that hasn't ended: whether one of them goes on.
-fn play_round(server: &mut Server, actors: &mut Vec<Played<'_>>) -> bool {
+fn play_round<P: Player>(server: &mut Server, actors: &mut [P]) -> bool {
     let mut more = false;
     for one in actors.iter_mut() {
         more |= play_one(server, one);
@@ -50,7 +39,7 @@ fn play_round(server: &mut Server, actors: &mut Vec<Played<'_>>) -> bool {
 }
 
 /// Rounds of one ask of each actor that hasn't ended, until none goes on.
-fn play_rounds(server: &mut Server, actors: &mut Vec<Played<'_>>) {
+fn play_rounds<P: Player>(server: &mut Server, actors: &mut [P]) {
     for _ in 0..u64::MAX {
         if !play_round(server, actors) {
             return;
@@ -58,25 +47,20 @@ fn play_rounds(server: &mut Server, actors: &mut Vec<Played<'_>>) {
     }
 }
 
-/// Adds actors to others, which have room for them.
-fn put_all<P: Player>(all: &mut Vec<P>, more: Vec<P>) {
-    for one in more {
-        let _ = all.push(one);
-    }
-}
-
-/// All actors, in the order of their numbers.
-fn all_of<P: Player>(mut actors: Actors<P>) -> Vec<P> {
+/// All actors, in the order of their numbers, when what the workers left unended was played in rounds.
+fn play_out<P: Player>(server: &mut Server, mut actors: Actors<P>) -> Vec<P> {
     actors.wake_all();
     let Actors {
         mut ready,
         parked,
-        down,
+        mut down,
         ..
     } = actors;
     drop(parked);
-    put_all(&mut ready, down);
-    ready.sort_unstable_by_key(|p| p.place());
+    let _ = ready.append(&mut down);
+    drop(down);
+    ready.sort_unstable_by_key(P::place);
+    play_rounds(server, ready.as_mut_slice());
     ready
 }
 
@@ -146,8 +130,7 @@ pub fn gather_left(
     ensures refusals { IfErr result (λ e. (e ≡ JournalMismatch) ⊎ (e ≡ Memory)) }
 {
     let Desk { mut server, actors } = desk;
-    let mut all = all_of(actors);
-    play_rounds(&mut server, &mut all);
+    let all = play_out(&mut server, actors);
     let Server { shared, served } = server;
     let gathered = gather(alloc, code, max_steps, shared, served, all)?;
     if is_whole(&gathered, agents) {

@@ -12,7 +12,7 @@ ghost use Rattle.txs_shared.specs.SharedState.{shared_of};
 ghost use Rattle.txs_threads.specs.Run.{IsLeft};
 
 use crate::actors::{agents_in, open_all};
-use crate::desk::{Desk, Parking, Step};
+use crate::desk::{Desk, Step};
 use crate::gate::{Gate, Moment, kind_of};
 use crate::left::gather_left;
 use crate::player::{Next, Player};
@@ -32,63 +32,33 @@ use txs_value::CellId;
 /// After so many asks an actor is handed on, so that others have their turns.
 const ASKS: u32 = 64;
 
-/// What a worker receives: an actor to run, or the word that none is live, which it sends on.
-#[derive(Drop)]
-enum Message<P> {
-    Run(P),
-    Stop,
-}
-
-/// How it stands with an actor that was run for a while, or up to an ask.
+/// How it stands with an actor that was run for a while.
 #[derive(Clone, Copy)]
 enum Standing {
     /// It goes on, and is handed on.
     GoesOn,
-    /// It is this agent's, and nothing waits for it.
-    Idle(CellId),
-    /// It is turned no more: it has ended, or met what agrees with no run.
-    Down,
-}
-
-/// What came of turns of an actor, up to an ask that was served.
-#[derive(Clone, Copy)]
-enum Turned {
-    /// It asked nothing yet.
-    Went,
-    /// It asked, and goes on.
-    Asked,
-    /// Its worker lets it go.
-    Stands(Standing),
-}
-
-/// Serves an ask under the lock, and lets go.
-fn serve<R: Wait, P: Player>(rt: &R, desk: &Mutex<Desk<P>>, actor: u16, ask: Ask) -> Step {
-    desk.lock(rt).serve(actor, ask)
-}
-
-/// The next actor that is ready.
-fn next<R: Wait, P: Player>(rt: &R, desk: &Mutex<Desk<P>>) -> Option<P> {
-    desk.lock(rt).next()
+    /// It is this agent's, and nothing waits for it; or nobody's, and it is turned no more: it has ended, or met what agrees with no run.
+    Rests(Option<CellId>),
 }
 
 /// Sends the word that no actor is live.
-fn send_stop<R: Wait, P: Player>(rt: &R, to: &Sender<Message<P>>) {
-    let _ = to.send(rt, Message::Stop);
+fn send_stop<R: Wait, P: Player>(rt: &R, to: &Sender<Option<P>>) {
+    let _ = to.send(rt, None);
 }
 
 /// Hands an actor on, or puts it down where that can't be: whether it was the last that was live.
 fn hand_on<R: Wait, P: Player>(
     rt: &R,
     desk: &Mutex<Desk<P>>,
-    to: &Sender<Message<P>>,
+    to: &Sender<Option<P>>,
     played: P,
 ) -> bool {
-    let Err(back) = to.send(rt, Message::Run(played)) else {
+    let Err(back) = to.send(rt, Some(played)) else {
         return false;
     };
     match back.into_inner() {
-        Message::Run(played) => put_down(rt, desk, played),
-        Message::Stop => false,
+        Some(played) => desk.lock(rt).put(played),
+        None => false,
     }
 }
 
@@ -96,17 +66,17 @@ fn hand_on<R: Wait, P: Player>(
 fn hand_on_ready<R: Wait, P: Player>(
     rt: &R,
     desk: &Mutex<Desk<P>>,
-    to: &Sender<Message<P>>,
+    to: &Sender<Option<P>>,
 ) -> bool {
+    let mut last = false;
     for _ in rt.forever() {
-        let Some(played) = next(rt, desk) else {
-            return false;
-        };
-        if hand_on(rt, desk, to, played) {
-            return true;
+        let ready = desk.lock(rt).next();
+        match ready {
+            Some(played) => last = hand_on(rt, desk, to, played),
+            None => return last,
         }
     }
-    false
+    last
 }
 
 /// The agent for which an action is to be taken, if that is what is asked.
@@ -117,21 +87,17 @@ fn taker(ask: &Ask) -> Option<CellId> {
     }
 }
 
-/// How it stands with an actor for which nothing waits.
-fn idle(taker: Option<CellId>) -> Standing {
-    match taker {
-        Some(agent) => Standing::Idle(agent),
-        None => Standing::Down,
-    }
-}
-
-/// What came of an ask, by what the actor is to do next; it may have been for an action for this agent.
-fn after_answer(next: Next, taker: Option<CellId>) -> Turned {
+/// How it stands with an actor after an answer, by what it is to do next; its ask may have been for an action for this agent. Nothing where it has asks left,
+/// and goes on.
+fn after_answer(next: Next, taker: Option<CellId>, left: &mut u32) -> Option<Standing> {
     match next {
-        Next::GoesOn => Turned::Asked,
-        Next::Again => Turned::Stands(Standing::GoesOn),
-        Next::Idle => Turned::Stands(idle(taker)),
-        Next::Broken => Turned::Stands(Standing::Down),
+        Next::GoesOn if *left > 1 => {
+            *left -= 1;
+            None
+        }
+        Next::GoesOn | Next::Again => Some(Standing::GoesOn),
+        Next::Idle => Some(Standing::Rests(taker)),
+        Next::Broken => Some(Standing::Rests(None)),
     }
 }
 
@@ -139,39 +105,41 @@ fn after_answer(next: Next, taker: Option<CellId>) -> Turned {
 fn serve_ask<R: Wait, P: Player, G: Gate>(
     rt: &R,
     desk: &Mutex<Desk<P>>,
-    to: &Sender<Message<P>>,
+    to: &Sender<Option<P>>,
     gate: &G,
     played: &mut P,
     ask: Ask,
-) -> Turned {
+    left: &mut u32,
+) -> Option<Standing> {
     let actor = played.place();
     let kind = kind_of(&ask);
     let agent = taker(&ask);
-    let Step { served, woke } = serve(rt, desk, actor, ask);
+    let Step { served, woke } = desk.lock(rt).serve(actor, ask);
     if woke {
-        let _ = hand_on_ready(rt, desk, to);
+        hand_on_ready(rt, desk, to);
     }
     let next = played.hear(served);
     if !matches!(next, Next::Broken) {
         gate.pass(actor, Moment::Answered(kind));
     }
-    after_answer(next, agent)
+    after_answer(next, agent, left)
 }
 
-/// Turns an actor so often at most, up to its next ask, which is served.
+/// Turns an actor so often at most, up to its next ask, which is served. Nothing where its worker turns it on.
 fn turn_once<R: Wait, P: Player, G: Gate>(
     rt: &R,
     desk: &Mutex<Desk<P>>,
-    to: &Sender<Message<P>>,
+    to: &Sender<Option<P>>,
     gate: &G,
     played: &mut P,
     budget: u64,
-) -> Turned {
+    left: &mut u32,
+) -> Option<Standing> {
     gate.pass(played.place(), Moment::Local);
     match played.run(budget) {
-        Some(Turn::Went) => Turned::Went,
-        Some(Turn::Asks(ask)) => serve_ask(rt, desk, to, gate, played, ask),
-        Some(Turn::Ended(_)) | None => Turned::Stands(Standing::Down),
+        Some(Turn::Went) => None,
+        Some(Turn::Asks(ask)) => serve_ask(rt, desk, to, gate, played, ask, left),
+        Some(Turn::Ended(_)) | None => Some(Standing::Rests(None)),
     }
 }
 
@@ -179,78 +147,49 @@ fn turn_once<R: Wait, P: Player, G: Gate>(
 fn play<R: Wait, P: Player, G: Gate>(
     rt: &R,
     desk: &Mutex<Desk<P>>,
-    to: &Sender<Message<P>>,
+    to: &Sender<Option<P>>,
     gate: &G,
     played: &mut P,
 ) -> Standing {
     let budget = gate.most_turns().max(1);
     let mut left = ASKS;
     for _ in rt.forever() {
-        if left == 0 {
-            return Standing::GoesOn;
-        }
-        match turn_once(rt, desk, to, gate, played, budget) {
-            Turned::Went => {}
-            Turned::Asked => left -= 1,
-            Turned::Stands(standing) => return standing,
+        if let Some(standing) = turn_once(rt, desk, to, gate, played, budget, &mut left) {
+            return standing;
         }
     }
-    Standing::Down
+    Standing::Rests(None)
 }
 
-/// Parks an agent's actor, or hands it on where something waits for it by now: whether none is live any more.
-fn park<R: Wait, P: Player>(
+/// Parks an agent's actor, or puts an actor down; or hands it on where something waits for its agent by now: whether none is live any more.
+fn rest<R: Wait, P: Player>(
     rt: &R,
     desk: &Mutex<Desk<P>>,
-    to: &Sender<Message<P>>,
-    agent: CellId,
+    to: &Sender<Option<P>>,
+    agent: Option<CellId>,
     played: P,
 ) -> bool {
-    let parking = desk.lock(rt).park(agent, played);
-    match parking {
-        Parking::Again(played) => hand_on(rt, desk, to, played),
-        Parking::Parked => false,
-        Parking::Last => true,
+    let rests = desk.lock(rt).rest(agent, played);
+    match rests {
+        Ok(last) => last,
+        Err(played) => hand_on(rt, desk, to, played),
     }
 }
 
-/// Puts an actor down: whether it was the last that was live.
-fn put_down<R: Wait, P: Player>(rt: &R, desk: &Mutex<Desk<P>>, played: P) -> bool {
-    desk.lock(rt).put(played)
-}
-
-/// Hands an actor on, parks it or puts it down, as it stands with it: whether none is live any more.
-fn settle<R: Wait, P: Player>(
-    rt: &R,
-    desk: &Mutex<Desk<P>>,
-    to: &Sender<Message<P>>,
-    standing: Standing,
-    played: P,
-) -> bool {
-    match standing {
-        Standing::GoesOn => hand_on(rt, desk, to, played),
-        Standing::Idle(agent) => park(rt, desk, to, agent, played),
-        Standing::Down => put_down(rt, desk, played),
-    }
-}
-
-/// Runs an actor for a while, and settles what becomes of it: whether none is live any more.
+/// Receives an actor, runs it for a while, and settles what becomes of it: whether none is live any more.
 fn work_on<R: Wait, P: Player, G: Gate>(
     rt: &R,
     desk: &Mutex<Desk<P>>,
-    to: &Sender<Message<P>>,
+    to: &Sender<Option<P>>,
+    from: &Receiver<Option<P>>,
     gate: &G,
-    mut played: P,
 ) -> bool {
-    let standing = play(rt, desk, to, gate, &mut played);
-    settle(rt, desk, to, standing, played)
-}
-
-/// The next actor that is handed to a worker, or nothing where none is live.
-fn receive<R: Wait, P: Player>(rt: &R, from: &Receiver<Message<P>>) -> Option<P> {
-    match from.recv(rt) {
-        Ok(Message::Run(played)) => Some(played),
-        Ok(Message::Stop) | Err(_) => None,
+    let Ok(Some(mut played)) = from.recv(rt) else {
+        return true;
+    };
+    match play(rt, desk, to, gate, &mut played) {
+        Standing::GoesOn => hand_on(rt, desk, to, played),
+        Standing::Rests(agent) => rest(rt, desk, to, agent, played),
     }
 }
 
@@ -258,63 +197,28 @@ fn receive<R: Wait, P: Player>(rt: &R, from: &Receiver<Message<P>>) -> Option<P>
 fn work<R: Wait, P: Player, G: Gate>(
     rt: &R,
     desk: &Mutex<Desk<P>>,
-    to: &Sender<Message<P>>,
-    from: &Receiver<Message<P>>,
+    to: &Sender<Option<P>>,
+    from: &Receiver<Option<P>>,
     gate: &G,
 ) {
     for _ in rt.forever() {
-        let Some(played) = receive(rt, from) else {
-            break;
-        };
-        if work_on(rt, desk, to, gate, played) {
+        if work_on(rt, desk, to, from, gate) {
             break;
         }
     }
     send_stop(rt, to);
 }
 
-/// Hands the workers what is ready, or the word to stop where nothing is live.
-fn feed<R: Wait, P: Player>(rt: &R, desk: &Mutex<Desk<P>>, to: &Sender<Message<P>>) {
-    let none = desk.lock(rt).is_over();
+/// Hands the workers what is ready, or the word to stop where nothing is live or not all of them were started.
+fn feed<R: Wait, P: Player>(rt: &R, desk: &Mutex<Desk<P>>, to: &Sender<Option<P>>, started: bool) {
+    let none = !started || desk.lock(rt).actors.live == 0;
     if none || hand_on_ready(rt, desk, to) {
         send_stop(rt, to);
     }
 }
 
-/// Starts so many workers, and hands them what is ready when all have been started; it returns when all workers have. Whether all could be started: where
-/// not, nothing was run.
-fn run_workers<R: Threads + Wait + Sync, P: Player + Send, G: Gate>(
-    rt: &R,
-    desk: &Mutex<Desk<P>>,
-    to: &Sender<Message<P>>,
-    from: &Receiver<Message<P>>,
-    gate: &G,
-    workers: usize,
-) -> bool {
-    thread::scope(
-        thread::scope_env(),
-        rt,
-        |scope| -> bool
-            requires runtime { IsSync R.row }
-            requires gate { IsSync G.row }
-            requires actors { IsSend P.row }
-        {
-            for _ in 0..workers {
-                let worker = scope.spawn(move || work(rt, desk, to, from, gate));
-                let refused = worker.is_err();
-                drop(worker);
-                if refused {
-                    send_stop(rt, to);
-                    return false;
-                }
-            }
-            feed(rt, desk, to);
-            true
-        },
-    )
-}
-
-/// Has all actors of the desk run by so many workers, who hand them on over a channel with room for so many messages. It returns when all workers have.
+/// Has all actors of the desk run by so many workers, who hand them on over a channel with room for so many messages: each is an actor, or nothing, the word
+/// that none is live. They are handed what is ready when all have been started, and it returns when all have returned.
 ///
 /// # Errors
 /// `NoThread` where a worker couldn't be started, and nothing was run; `Memory` where there was none for the channel.
@@ -328,11 +232,33 @@ fn run_desk<R: Threads + Wait + Sync, P: Player + Send, G: Gate>(
 ) -> Result<(), RunError>
     ensures { IfErr result (λ e. (e ≡ NoThread) ⊎ (e ≡ Memory)) }
 {
-    let (to, from) = crossbeam_channel::bounded(alloc, room)?;
-    let started = run_workers(rt, desk, &to, &from, gate, workers);
-    drop(to);
-    drop(from);
-    if started {
+    let (sender, receiver) = crossbeam_channel::bounded(alloc, room)?;
+    let to = &sender;
+    let from = &receiver;
+    let all = thread::scope(
+        thread::scope_env(),
+        rt,
+        |scope| -> bool
+            requires runtime { IsSync R.row }
+            requires gate { IsSync G.row }
+            requires actors { IsSend P.row }
+        {
+            let mut started = true;
+            for _ in 0..workers {
+                let worker = scope.spawn(move || work(rt, desk, to, from, gate));
+                started = worker.is_ok();
+                drop(worker);
+                if !started {
+                    break;
+                }
+            }
+            feed(rt, desk, to, started);
+            started
+        },
+    );
+    drop(sender);
+    drop(receiver);
+    if all {
         return Ok(());
     }
     Err(RunError::NoThread)

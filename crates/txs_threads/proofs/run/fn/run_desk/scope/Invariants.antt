@@ -1,4 +1,4 @@
-use Rattle.txs_threads.proofs.run.fn.run_workers.scope.Given as goal
+use Rattle.txs_threads.proofs.run.fn.run_desk.scope.Given as goal
 
 abbrev pub invariant-loop : goal.invariant-loop
 invariant-loop g l = Unit {0}
