@@ -1,7 +1,9 @@
 //! What is done with code in its byte form: it is listed, or run.
 
-ghost use Rattle.std.specs.Prelude.{◌≡◌, ◌≤◌, ◌++◌, length, [], IfOk, OnOk};
+ghost use Rattle.std.specs.Prelude.{◌≡◌, ◌≤◌, ◌++◌, ℕ, List, length, [], IfOk, OnOk};
+ghost use Rattle.txs_bytes.specs.CodeForm.{HasForm};
 ghost use Rattle.txs_disasm.specs.Listing.{listing};
+ghost use Rattle.txs_load.specs.Load.{IsFormOf};
 ghost use Rattle.txs_machine.specs.RunOver.{IsStateOf};
 ghost use Rattle.txs_shared.specs.SharedState.{numbered_book};
 ghost use Rattle.txs_tell.specs.Lent.{script_of, told_of};
@@ -11,7 +13,7 @@ ghost use Rattle.txs_tell_code.specs.LentCode.{code_wanted_of};
 
 use crate::lines::refused;
 use std::alloc::{AllocError, Global};
-use txs_code::Code;
+use txs_code::{Code, Verified};
 use txs_disasm::write_listing;
 use txs_load::law::form_is_taken;
 use txs_load::load::{load, load_verified};
@@ -54,15 +56,10 @@ fn listing_of(alloc: Global, code: &Code) -> Result<Told, AllocError>
 fn list_code(alloc: Global, bytes: &[u8]) -> Result<Told, AllocError>
     ensures { IfOk result (λ t. CodeTells bytes.now (told_of t) Listed) }
 {
-    let (code, _rooms) = match load(alloc, bytes) {
-        Ok(loaded) => loaded,
-        Err(error) => {
-            let told = refused(alloc, error)?;
-            return Ok(told);
-        }
-    };
-    let told = listing_of(alloc, &code)?;
-    Ok(told)
+    match load(alloc, bytes) {
+        Ok((code, _rooms)) => listing_of(alloc, &code),
+        Err(error) => refused(alloc, error),
+    }
 }
 
 /// Appends the lines of the code's cells, where they are wanted.
@@ -78,10 +75,10 @@ fn tell_cells(
     ensures errors { told.new.errors.items ≡ told.old.errors.items }
     ensures status { told.new.status ≡ told.old.status }
 {
-    if wanted {
-        write_cells(&mut told.output, code.cells(), shared)?;
+    if !wanted {
+        return Ok(());
     }
-    Ok(())
+    write_cells(&mut told.output, code.cells(), shared)
 }
 
 /// Appends what is told behind a run: the lines of the code's cells, and of the events, where they are wanted.
@@ -99,8 +96,7 @@ pub fn tell_book(
     ensures status { told.new.status ≡ told.old.status }
 {
     tell_cells(told, cells, code, shared)?;
-    tell_events(told, events, shared)?;
-    Ok(())
+    tell_events(told, events, shared)
 }
 
 /// What stands in place of a script: nothing, and no line is explained.
@@ -110,6 +106,30 @@ pub fn no_script<'a>() -> Script<'a>
     Script {
         text: &[],
         file: None,
+    }
+}
+
+/// Runs code that has a byte form, and tells of its cells and events where they are wanted.
+fn run_verified(
+    alloc: Global,
+    code: &Verified,
+    plays: &[Play],
+    steps: u64,
+    cells: bool,
+    events: bool,
+) -> Result<Told, AllocError>
+    requires { HasForm code.now }
+    ensures { IfOk result (λ t. (bytes : List ℕ) → IsFormOf bytes code.now → CodeTells bytes (told_of t) (Ran plays.now steps cells events)) }
+{
+    let bare = code.code();
+    form_is_taken(bare);
+    let mut shared = open_state(alloc, code)?;
+    match run_code(alloc, no_script(), code, plays, steps, &mut shared)? {
+        Some(mut told) => {
+            tell_book(&mut told, cells, events, bare, &shared)?;
+            Ok(told)
+        }
+        None => complaint(alloc, UNUSABLE, "run failed: NoActor"),
     }
 }
 
@@ -124,22 +144,10 @@ fn run_bytes(
 ) -> Result<Told, AllocError>
     ensures { IfOk result (λ t. CodeTells bytes.now (told_of t) (Ran plays.now steps cells events)) }
 {
-    let code = match load_verified(alloc, bytes) {
-        Ok(code) => code,
-        Err(error) => {
-            let told = refused(alloc, error)?;
-            return Ok(told);
-        }
-    };
-    form_is_taken(code.code());
-    let mut shared = open_state(alloc, &code)?;
-    let script = no_script();
-    let Some(mut told) = run_code(alloc, script, &code, plays, steps, &mut shared)? else {
-        let told = complaint(alloc, UNUSABLE, "run failed: NoActor")?;
-        return Ok(told);
-    };
-    tell_book(&mut told, cells, events, code.code(), &shared)?;
-    Ok(told)
+    match load_verified(alloc, bytes) {
+        Ok(code) => run_verified(alloc, &code, plays, steps, cells, events),
+        Err(error) => refused(alloc, error),
+    }
 }
 
 /// Does with the code that the bytes are the form of what is wanted.

@@ -1,3 +1,4 @@
 pub mod CodeWorkersTold
 pub mod WorkersTold
+pub mod RunTold
 pub mod Runner

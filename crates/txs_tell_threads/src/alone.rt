@@ -10,18 +10,22 @@ use txs_code::Verified;
 use txs_machine::{Report, RunError, run_schedule};
 use txs_shared::SharedState;
 use txs_tell::script::open_state;
-use txs_value::{CellDefinition, CellKind};
-
-/// Whether one of these cells is an agent.
-fn has_agent(cells: &[CellDefinition]) -> bool {
-    cells.iter().any(|cell| cell.kind == CellKind::Agent)
-}
+use txs_value::CellKind;
 
 /// Whether the code has one thread at most, and no agent.
 fn is_alone(code: &Verified) -> bool
     ensures { IsTrue result → length code.now.threads ≤ 1 }
 {
-    code.code().threads().len() <= 1 && !has_agent(code.code().cells())
+    let code = code.code();
+    if code.threads().len() > 1 {
+        return false;
+    }
+    for cell in code.cells() {
+        if let CellKind::Agent = cell.kind {
+            return false;
+        }
+    }
+    true
 }
 
 /// Runs all threads and agents of the code in rounds.

@@ -7,15 +7,14 @@ ghost use Rattle.txs_tell_threads.specs.CodeWorkersTold.{StreamWorkedCodeTells};
 ghost use Rattle.txs_tell_threads.specs.Runner.{IsRunnable, RunsLawfully};
 
 use crate::code::work_code;
+use crate::play::{unread, write_answer};
 use crate::script::Working;
 use std::alloc::{AllocError, Global};
 use std::io::{Read, Write};
 use txs_code::Verified;
 use txs_machine::{Report, RunError};
 use txs_shared::SharedState;
-use txs_tell::streams::ReadFault;
-use txs_tell::told::{SPENT, Told, UNUSABLE, complaint};
-use txs_tell::write_told;
+use txs_tell::told::Told;
 use txs_tell_code::play::read_all;
 
 /// Reads the bytes and has their code run.
@@ -29,8 +28,7 @@ fn work_bytes<
 {
     match read_all(alloc, reader) {
         Ok(bytes) => work_code(alloc, runner, bytes.as_slice(), working),
-        Err(ReadFault::Failed) => complaint(alloc, UNUSABLE, "read failed"),
-        Err(ReadFault::Memory) => Err(AllocError),
+        Err(fault) => unread(alloc, fault),
     }
 }
 
@@ -48,14 +46,6 @@ pub fn play_code_workers<
     ensures { IfSome (R.remaining reader.old) (λ input. (t : PlainTold) × StreamWorkedCodeTells input working.steps working.cells working.events t
         × Written (W.contents writer.old) (W.contents writer.new) (F.contents faults.old) (F.contents faults.new) t result) }
 {
-    match work_bytes(alloc, runner, working, reader) {
-        Ok(told) => write_told(
-            told.output.as_slice(),
-            told.errors.as_slice(),
-            told.status,
-            writer,
-            faults,
-        ),
-        Err(_) => write_told(&[], b"out of memory\n", SPENT, writer, faults),
-    }
+    let told = work_bytes(alloc, runner, working, reader);
+    write_answer(told, writer, faults)
 }

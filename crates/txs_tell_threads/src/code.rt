@@ -5,18 +5,17 @@ ghost use Rattle.txs_tell.specs.Lent.{told_of};
 ghost use Rattle.txs_tell_threads.specs.CodeWorkersTold.{WorkedCodeTells};
 ghost use Rattle.txs_tell_threads.specs.Runner.{IsRunnable, RunsLawfully};
 
-use crate::alone::run_all;
-use crate::script::{Working, of_failure};
+use crate::run::run_told;
+use crate::script::Working;
 use std::alloc::{AllocError, Global};
 use txs_code::Verified;
 use txs_load::law::form_is_taken;
 use txs_load::load::load_verified;
 use txs_machine::{Report, RunError};
 use txs_shared::SharedState;
-use txs_tell::script::of_report;
 use txs_tell::told::Told;
 use txs_tell_code::lines::refused;
-use txs_tell_code::usage::{no_script, tell_book};
+use txs_tell_code::usage::no_script;
 
 /// Runs the threads and agents of the code that the bytes are the form of by workers, and tells of its cells and events where they are wanted.
 pub fn work_code<X: Fn(Global, &Verified, usize, u64) -> Result<(SharedState, Report), RunError>>(
@@ -29,28 +28,11 @@ pub fn work_code<X: Fn(Global, &Verified, usize, u64) -> Result<(SharedState, Re
     requires ran { (a : _) (code : _) (n : _) (steps : _) (r : _) → X.post runner.now a code n steps r → RunsLawfully code.now steps r }
     ensures { IfOk result (λ t. WorkedCodeTells bytes.now working.steps working.cells working.events (told_of t)) }
 {
-    let code = match load_verified(alloc, bytes) {
-        Ok(code) => code,
-        Err(error) => {
-            let told = refused(alloc, error)?;
-            return Ok(told);
+    match load_verified(alloc, bytes) {
+        Ok(code) => {
+            form_is_taken(code.code());
+            run_told(alloc, runner, no_script(), &code, working)
         }
-    };
-    form_is_taken(code.code());
-    let (shared, report) = match run_all(alloc, runner, &code, working) {
-        Ok(ran) => ran,
-        Err(failure) => {
-            let told = of_failure(alloc, failure)?;
-            return Ok(told);
-        }
-    };
-    let mut told = of_report(alloc, no_script(), code.code().cells(), &report, &shared)?;
-    tell_book(
-        &mut told,
-        working.cells,
-        working.events,
-        code.code(),
-        &shared,
-    )?;
-    Ok(told)
+        Err(error) => refused(alloc, error),
+    }
 }

@@ -6,6 +6,7 @@ mod alone;
 pub mod bytes;
 pub mod code;
 pub mod play;
+mod run;
 pub mod script;
 
 pub use bytes::play_code_workers;

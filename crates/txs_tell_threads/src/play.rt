@@ -1,7 +1,7 @@
 //! Plays a script by workers: reads it, runs it, and writes what is told of it.
 
-ghost use Rattle.std.specs.Prelude.{IfOk, IfSome};
-ghost use Rattle.txs_tell.specs.Lent.{text_in, told_of};
+ghost use Rattle.std.specs.Prelude.{◌≡◌, ◌++◌, [], codes, IfOk, IfSome};
+ghost use Rattle.txs_tell.specs.Lent.{answer_of, text_in, told_of};
 ghost use Rattle.txs_tell.specs.Told.{Told as PlainTold, Written, front};
 ghost use Rattle.txs_tell_threads.specs.Runner.{IsRunnable, RunsLawfully};
 ghost use Rattle.txs_tell_threads.specs.WorkersTold.{StreamWorkedTells};
@@ -16,6 +16,16 @@ use txs_tell::explain::Script;
 use txs_tell::streams::{ReadFault, read_bytes};
 use txs_tell::told::{SPENT, Told, UNUSABLE, complaint};
 use txs_tell::write_told;
+
+/// What is told of a stream that couldn't be read. Of want of memory the program tells otherwise.
+pub(crate) fn unread(alloc: Global, fault: ReadFault) -> Result<Told, AllocError>
+    ensures { IfOk result (λ t. (t.output.items ≡ []) × (t.errors.items ≡ codes "read failed" ++ codes "\n") × (t.status ≡ 2)) }
+{
+    match fault {
+        ReadFault::Failed => complaint(alloc, UNUSABLE, "read failed"),
+        ReadFault::Memory => Err(AllocError),
+    }
+}
 
 /// Reads the script and has it run.
 fn work_stream<
@@ -37,8 +47,27 @@ fn work_stream<
             let text = bytes.as_slice();
             work_script(alloc, runner, Script { text, file }, working)
         }
-        Err(ReadFault::Failed) => complaint(alloc, UNUSABLE, "read failed"),
-        Err(ReadFault::Memory) => Err(AllocError),
+        Err(fault) => unread(alloc, fault),
+    }
+}
+
+/// Writes what is told, or that there was no memory for it. Answers the status.
+pub(crate) fn write_answer<W: Write, F: Write>(
+    told: Result<Told, AllocError>,
+    writer: &mut W,
+    faults: &mut F,
+) -> u8
+    ensures { Written (W.contents writer.old) (W.contents writer.new) (F.contents faults.old) (F.contents faults.new) (answer_of told) result }
+{
+    match told {
+        Ok(told) => write_told(
+            told.output.as_slice(),
+            told.errors.as_slice(),
+            told.status,
+            writer,
+            faults,
+        ),
+        Err(_) => write_told(&[], b"out of memory\n", SPENT, writer, faults),
     }
 }
 
@@ -64,14 +93,6 @@ pub fn play_workers<
     ensures { IfSome (R.remaining reader.old) (λ input. (t : PlainTold) × StreamWorkedTells (record { text = front input; file = text_in file.entry }) working.steps working.cells working.events t
         × Written (W.contents writer.old) (W.contents writer.new) (F.contents faults.old) (F.contents faults.new) t result) }
 {
-    match work_stream(alloc, runner, working, file, reader) {
-        Ok(told) => write_told(
-            told.output.as_slice(),
-            told.errors.as_slice(),
-            told.status,
-            writer,
-            faults,
-        ),
-        Err(_) => write_told(&[], b"out of memory\n", SPENT, writer, faults),
-    }
+    let told = work_stream(alloc, runner, working, file, reader);
+    write_answer(told, writer, faults)
 }

@@ -1,21 +1,17 @@
-use Rattle.std.proofs.Common.{ℕ, List, subst₂}
+use Rattle.std.proofs.Common.{ℕ, List}
 use Rattle.txs_tell.proofs.Fronts.{some_maps}
-use Rattle.txs_tell.specs.Lent.{text_in, told_of}
-use Rattle.txs_tell.specs.Lines.{Script}
+use Rattle.txs_tell.specs.Lent.{answer_of, text_in}
 use Rattle.txs_tell.specs.Told.{Told, Written, front}
-use Rattle.txs_tell_threads.specs.WorkersTold.{StreamWorkedTells}
+use Rattle.txs_tell_threads.proofs.Answered.{stream_answered}
 use Rattle.txs_tell_threads.proofs.play.play_workers.Goals as goal
+use Rattle.txs_tell_threads.specs.WorkersTold.{StreamWorkedTells, of_memory}
 
-pub returns-in-Ok : goal.returns-in-Ok
-returns-in-Ok g c =
+pub returns : goal.returns
+returns g c =
     let known = g.R.Read.remaining c.args.reader.now in
-    let script : List ℕ → Script = λ input. record { text = front input; file = text_in c.args.file } in
-    let output_old = g.W.Write.contents c.args.writer.now in
-    let output_new = g.W.Write.contents c.write_told.new.writer in
-    let errors_old = g.F.Write.contents c.args.faults.now in
-    let errors_new = g.F.Write.contents c.write_told.new.faults in
-    let told = c.in-Ok.told in
-    let written = subst₂ (λ o e. Written output_old output_new errors_old errors_new (record { output = o; errors = e; status = told.status }) c.write_told.result) c.as_slice.ensures.value c.as_slice-in-Ok.ensures.value c.write_told.ensures in
-    some_maps known (λ input. StreamWorkedTells (script input) c.args.working.steps c.args.working.cells c.args.working.events (told_of told))
-    (λ input. (x : Told) × StreamWorkedTells (script input) c.args.working.steps c.args.working.cells c.args.working.events x × Written output_old output_new errors_old errors_new x c.write_told.result)
-    (λ input is. (told_of told, is, written)) c.in-Ok.ensures
+    let told = c.work_stream-told.result in
+    let working = c.args.working in
+    let tells : List ℕ → Told → Type 0 = λ input t. StreamWorkedTells (record { text = front input; file = text_in c.args.file }) working.steps working.cells working.events t in
+    let writes : Told → Type 0 = λ t. Written (g.W.Write.contents c.args.writer.now) (g.W.Write.contents c.write_answer.new.writer) (g.F.Write.contents c.args.faults.now) (g.F.Write.contents c.write_answer.new.faults) t c.write_answer.result in
+    some_maps known (λ input. tells input (answer_of told)) (λ input. (t : Told) × tells input t × writes t) (λ input is. (answer_of told, is, c.write_answer.ensures))
+    (stream_answered told known tells (λ input t m. of_memory m.0 m.1 m.2) c.work_stream-told.ensures)

@@ -1,51 +1,26 @@
-use Rattle.std.proofs.Common.{◌≡◌, ◌++◌, ◌∙◌, List, length, rules, ap, subst, sym}
-use Rattle.txs_machine.specs.declared.schedule.ThreadReport.{ThreadReport}
-use Rattle.txs_shared.specs.SharedState.{numbered_book}
-use Rattle.txs_tell.proofs.OfAgents.{all_named_from}
-use Rattle.txs_tell.specs.AgentLines.{named_from}
+use Rattle.txs_tell.proofs.Fronts.{ok_maps}
 use Rattle.txs_tell.specs.Lent.{script_of, told_of}
-use Rattle.txs_tell.specs.Told.{EndsTold, IsCompiled, cells_told, events_told, run_status}
-use Rattle.txs_tree.specs.View.{program_of}
-use Rattle.txs_value.specs.declared.cell.CellDefinition.{CellDefinition}
-use Rattle.txs_tell_threads.specs.Runner.{IsWorked, RunsLawfully}
-use Rattle.txs_tell_threads.specs.WorkersTold.{of_failure, of_run}
+use Rattle.txs_tell.specs.Told.{IsCompiled, ScriptTells, Wanted}
+use Rattle.txs_tell_threads.proofs.Ran.{of_script}
 use Rattle.txs_tell_threads.proofs.script.work_script.Goals as goal
+use Rattle.txs_tell_threads.specs.RunTold.{RunTold}
+use Rattle.txs_tell_threads.specs.WorkersTold.{WorkedTells, of_refused}
+use Rattle.txs_tree.specs.View.{program_of}
 
--- the run has no report
-pub returns-in-Err-run_all : goal.returns-in-Err-run_all
-returns-in-Err-run_all g c =
-    let t = c.in_ok-told-in-Err-run_all.ensures in
-    of_failure (program_of c.in-Ok.compiled.0) c.in-Ok.ensures.program c.in-Err-run_all.failure t.told t.output t.errors t.status
-
-pub of_report-requires-clause-one_each : goal.of_report-requires-clause-one_each
-of_report-requires-clause-one_each g c =
-    let code = c.in-Ok.compiled.1 in
-    let ran = c.in-Ok-run_all.ran in
-    let worked : IsWorked code c.args.working.steps ran.0 ran.1 = subst (λ r. RunsLawfully code c.args.working.steps r) c.in-Ok-run_all.is c.run_all.ensures in
-    let is : c.cells.result.now ≡ code.cells = search rules in
-    worked.agents_each ∙ sym (all_named_from 0 code.cells) ∙ ap (λ (ds : List CellDefinition). length (named_from 0 ds)) (sym is)
-
-pub returns : goal.returns
-returns g c =
+pub returns-in-Ok : goal.returns-in-Ok
+returns-in-Ok g c =
+    let p = program_of c.in-Ok.compiled.0 in
     let code = c.in-Ok.compiled.1 in
     let of = c.in-Ok.ensures in
     let script = script_of c.args.script in
-    let ran = c.in-Ok-run_all.ran in
-    let rans : List ThreadReport = ran.1.threads.items in
-    let agents : List ThreadReport = ran.1.agents.items in
-    let worked : IsWorked code c.args.working.steps ran.0 ran.1 = subst (λ r. RunsLawfully code c.args.working.steps r) c.in-Ok-run_all.is c.run_all.ensures in
-    let is : c.cells.result.now ≡ code.cells = search rules in
-    let t = c.in_ok-told.ensures in
-    let book = c.in_ok-tell_book.ensures in
-    let told = told_of c.tell_book.new.told in
-    let compiled : IsCompiled c.args.script.text.now (program_of c.in-Ok.compiled.0) code = record { program = of.program; generated = of.generated; follows = of.code; agents = of.agents; sends = of.sends; same = of.cells } in
-    of_run (program_of c.in-Ok.compiled.0) code compiled
-    (record {
-      shared = ran.0;
-      report = ran.1;
-      worked = worked;
-      explained = worked.explained (program_of c.in-Ok.compiled.0) (sym of.cells) of.code of.agents of.sends;
-      output = book.output ∙ ap (λ xs. (xs ++ cells_told c.args.working.cells (program_of c.in-Ok.compiled.0).cells ran.0) ++ events_told c.args.working.events (numbered_book ran.0 0)) t.output;
-      errors = subst (λ (ds : List CellDefinition). EndsTold ds script ran.0 rans agents told.errors) is (subst (EndsTold c.cells.result.now script ran.0 rans agents) (sym book.errors) t.errors);
-      status = book.status ∙ t.status ∙ ap (λ (ds : List CellDefinition). run_status ds ran.0 rans agents) is;
-    })
+    let working = c.args.working in
+    let compiled : IsCompiled script.text p code = record { program = of.program; generated = of.generated; follows = of.code; agents = of.agents; sends = of.sends; same = of.cells } in
+    ok_maps c.run_told.result (λ t. RunTold code script working.steps working.cells working.events (told_of t)) (λ t. WorkedTells script working.steps working.cells working.events (told_of t))
+    (λ t told. of_script script p code working.steps working.cells working.events (told_of t) compiled told) c.run_told.ensures
+
+-- the script is refused
+pub returns-in-Err : goal.returns-in-Err
+returns-in-Err g c =
+    let script = script_of c.args.script in
+    let working = c.args.working in
+    ok_maps c.refused.result (λ t. (wanted : Wanted) → ScriptTells script (told_of t) wanted) (λ t. WorkedTells script working.steps working.cells working.events (told_of t)) (λ t told. of_refused told) c.refused.ensures
