@@ -87,7 +87,7 @@ value_tells kinds item tag.Cell v fits = ap tag_of (sym fits.1)
 over_exact : (cells : Bool) (kinds : List CellKind) (room : ℕ) (item : Format PlainValue) → Exact item → Exact (value_over cells kinds room item)
 over_exact cells kinds room item h = tagged_exact (tag_format cells room) tag_of (value_body kinds item) (tag_exact cells room) (value_body_exact kinds item h) (value_tells kinds item)
 
-value_exact : (cells : Bool) (kinds : List CellKind) (room : ℕ) → Exact (value_format cells kinds room)
+pub value_exact : (cells : Bool) (kinds : List CellKind) (room : ℕ) → Exact (value_format cells kinds room)
 unfolding value_format
 value_exact cells kinds zero = over_exact cells kinds 0 never never_exact
 value_exact cells kinds (suc room) = over_exact cells kinds (suc room) (value_format cells kinds room) (value_exact cells kinds room)

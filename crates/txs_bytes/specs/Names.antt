@@ -30,3 +30,8 @@ names_keyword bs = list_all is_symbol_byte bs
 -- the bytes that name a cell: those of a symbol, as the reader reads one
 unfoldable pub names_cell : List ℕ → Bool
 names_cell bs = list_all is_symbol_byte bs && not (begins_number bs) && not (begins_foreign bs) && not (is_literal_word bs)
+
+-- the test of a name: a cell's, or else a keyword's
+abbrev pub name_test : Bool → List ℕ → Bool
+name_test true = names_cell
+name_test false = names_keyword

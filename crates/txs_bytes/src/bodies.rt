@@ -27,22 +27,30 @@ fn counted_instrs_at(
     ensures value { Gives (λ x. (paired x.0.instrs.items x.0.spans.items, x.1.now)) result ((counted (tested (number w32) (at_most left)) (placed_format constants functions)).read bytes.now) }
     ensures as_many { IfOk result (λ x. length x.0.spans.items ≡ length x.0.instrs.items) }
 {
-    let (count, rest) = u32_at(bytes)?;
-    if count as usize > left {
-        return Err(refused(CodeErrorKind::TooLarge, bytes));
+    match u32_at(bytes) {
+        Ok((count, rest)) => {
+            if count as usize > left {
+                return Err(refused(CodeErrorKind::TooLarge, bytes));
+            }
+            instrs_at(alloc, constants, functions, count, rest)
+        }
+        Err(stop) => Err(stop),
     }
-    instrs_at(alloc, constants, functions, count, rest)
 }
 
 /// The number of parameters of a thread or of a function.
 fn parameters_at(thread: bool, bytes: &[u8]) -> Result<(u8, &[u8]), Stop>
     ensures { Gives (λ x. (x.0, x.1.now)) result ((parameters_format thread).read bytes.now) }
 {
-    let (parameters, rest) = u8_at(bytes)?;
-    if thread && parameters != 0 {
-        return Err(refused(CodeErrorKind::BadOperand, bytes));
+    match u8_at(bytes) {
+        Ok((parameters, rest)) => {
+            if thread && parameters != 0 {
+                return Err(refused(CodeErrorKind::BadOperand, bytes));
+            }
+            Ok((parameters, rest))
+        }
+        Err(stop) => Err(stop),
     }
-    Ok((parameters, rest))
 }
 
 /// The body of a thread or of a function, of at most so many instructions.
@@ -59,9 +67,13 @@ fn body_at(
 {
     let (parameters, rest) = parameters_at(thread, bytes)?;
     let (locals, rest) = u8_at(rest)?;
-    let (body, rest) = counted_instrs_at(alloc, constants, functions, left, rest)?;
-    let Instructions { instrs, spans } = body;
-    Ok((Body::new(parameters, locals, instrs, spans), rest))
+    match counted_instrs_at(alloc, constants, functions, left, rest) {
+        Ok((body, rest)) => {
+            let Instructions { instrs, spans } = body;
+            Ok((Body::new(parameters, locals, instrs, spans), rest))
+        }
+        Err(stop) => Err(stop),
+    }
 }
 
 /// How many instructions may come behind a body, of those that might come with it.
@@ -111,20 +123,17 @@ fn instructions_left(bodies: &[Body]) -> usize
 fn functions_at(alloc: Global, constants: usize, bytes: &[u8]) -> Result<(Vec<Body>, &[u8]), Stop>
     ensures { Gives (λ x. (x.0.items, x.1.now)) result ((functions_format constants).read bytes.now) }
 {
-    let (count, rest) = u16_at(bytes)?;
-    if count > 1000 {
-        return Err(refused(CodeErrorKind::TooLarge, bytes));
+    match u16_at(bytes) {
+        Ok((count, rest)) => {
+            if count > 1000 {
+                return Err(refused(CodeErrorKind::TooLarge, bytes));
+            }
+            let functions = usize::from(count);
+            let limit = MOST_INSTRUCTIONS;
+            bodies_at(alloc, false, constants, functions, limit, count, rest)
+        }
+        Err(stop) => Err(stop),
     }
-    let functions = usize::from(count);
-    bodies_at(
-        alloc,
-        false,
-        constants,
-        functions,
-        MOST_INSTRUCTIONS,
-        count,
-        rest,
-    )
 }
 
 /// The threads, where there are so many constants and functions, and so many instructions may yet come.
@@ -138,11 +147,15 @@ fn threads_at(
 ) -> Result<(Vec<Body>, &[u8]), Stop>
     ensures { Gives (λ x. (x.0.items, x.1.now)) result ((threads_format constants functions left).read bytes.now) }
 {
-    let (count, rest) = u16_at(bytes)?;
-    if count > 64 {
-        return Err(refused(CodeErrorKind::TooLarge, bytes));
+    match u16_at(bytes) {
+        Ok((count, rest)) => {
+            if count > 64 {
+                return Err(refused(CodeErrorKind::TooLarge, bytes));
+            }
+            bodies_at(alloc, true, constants, functions, left, count, rest)
+        }
+        Err(stop) => Err(stop),
     }
-    bodies_at(alloc, true, constants, functions, left, count, rest)
 }
 
 /// Functions and threads, where there are so many constants.
@@ -156,6 +169,8 @@ pub(crate) fn program_at(
 {
     let (functions, rest) = functions_at(alloc, constants, bytes)?;
     let left = instructions_left(&functions);
-    let (threads, rest) = threads_at(alloc, constants, functions.len(), left, rest)?;
-    Ok(((functions, threads), rest))
+    match threads_at(alloc, constants, functions.len(), left, rest) {
+        Ok((threads, rest)) => Ok(((functions, threads), rest)),
+        Err(stop) => Err(stop),
+    }
 }

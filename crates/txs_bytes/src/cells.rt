@@ -6,7 +6,7 @@ ghost use Rattle.txs_bytes.specs.Format.{Gives, many_at};
 ghost use Rattle.txs_bytes.specs.CellForm.{kinds, kinds_of, kind_format, modes, mode_format, constant_format, cell_format};
 
 use crate::error::{CodeErrorKind, Stop, refused};
-use crate::fields::{cell_name_at, room_for, u8_at};
+use crate::fields::{name_at, room_for, u8_at};
 use crate::values::value_at;
 use std::alloc::Global;
 use txs_value::{CellDefinition, CellKind, ErrorMode, Value};
@@ -47,7 +47,7 @@ fn constant_at<'a>(
 }
 
 /// A cell.
-#[tactic(auto, unfolding(crate::specs::CellForm::cell_format, crate::specs::CellForm::kind_format, crate::specs::CellForm::mode_format))]
+#[tactic(auto, unfolding(crate::specs::CellForm::cell_format, crate::specs::CellForm::kind_format, crate::specs::CellForm::mode_format, crate::specs::ValueForm::cell_name_format))]
 fn cell_at(alloc: Global, bytes: &[u8]) -> Result<(CellDefinition, &[u8]), Stop>
     ensures { Gives (λ x. (x.0, x.1.now)) result (cell_format.read bytes.now) }
 {
@@ -59,15 +59,19 @@ fn cell_at(alloc: Global, bytes: &[u8]) -> Result<(CellDefinition, &[u8]), Stop>
     let Some(error_mode) = mode_of(kind, byte) else {
         return Err(refused(CodeErrorKind::BadOperand, behind));
     };
-    let (name, rest) = cell_name_at(alloc, rest)?;
-    let (opening, rest) = constant_at(alloc, false, &[], rest)?;
-    let cell = CellDefinition {
-        kind,
-        name,
-        opening,
-        error_mode,
-    };
-    Ok((cell, rest))
+    let (name, rest) = name_at(alloc, true, rest)?;
+    match constant_at(alloc, false, &[], rest) {
+        Ok((opening, rest)) => {
+            let cell = CellDefinition {
+                kind,
+                name,
+                opening,
+                error_mode,
+            };
+            Ok((cell, rest))
+        }
+        Err(stop) => Err(stop),
+    }
 }
 
 /// So many cells.
@@ -86,23 +90,4 @@ pub(crate) fn some_cells_at(
         rest = after;
     }
     Ok((cells, rest))
-}
-
-/// So many constants, where these cells are.
-pub(crate) fn some_constants_at<'a>(
-    alloc: Global,
-    defined: &[CellDefinition],
-    count: u32,
-    bytes: &'a [u8],
-) -> Result<(Vec<Value>, &'a [u8]), Stop>
-    ensures { Gives (λ x. (x.0.items, x.1.now)) result (many_at (constant_format true (kinds_of defined.now)).read count bytes.now) }
-{
-    let mut constants = room_for(alloc, bytes.len().min(count as usize), bytes)?;
-    let mut rest = bytes;
-    for _ in 0..count {
-        let (constant, after) = constant_at(alloc, true, defined, rest)?;
-        constants.push(constant)?;
-        rest = after;
-    }
-    Ok((constants, rest))
 }

@@ -7,9 +7,10 @@ ghost use Rattle.txs_bytes.specs.Format.{Gives, whole};
 ghost use Rattle.txs_bytes.specs.CodeForm.{Answers, HasForm, decoded, error_of, form, magic_format, cells_format, constants_format, code_format};
 
 use crate::bodies::program_at;
-use crate::cells::{some_cells_at, some_constants_at};
+use crate::cells::some_cells_at;
 use crate::error::{CodeError, CodeErrorKind, Stop, refused};
 use crate::fields::{u16_at, u32_at};
+use crate::values::values_at;
 use std::alloc::Global;
 use txs_code::Code;
 use txs_value::{CellDefinition, Value};
@@ -22,11 +23,15 @@ const MAGIC: u32 = 0x5458_5331;
 fn cells_at(alloc: Global, bytes: &[u8]) -> Result<(Vec<CellDefinition>, &[u8]), Stop>
     ensures { Gives (λ x. (x.0.items, x.1.now)) result (cells_format.read bytes.now) }
 {
-    let (count, rest) = u16_at(bytes)?;
-    if count > 1000 {
-        return Err(refused(CodeErrorKind::TooLarge, bytes));
+    match u16_at(bytes) {
+        Ok((count, rest)) => {
+            if count > 1000 {
+                return Err(refused(CodeErrorKind::TooLarge, bytes));
+            }
+            some_cells_at(alloc, count, rest)
+        }
+        Err(stop) => Err(stop),
     }
-    some_cells_at(alloc, count, rest)
 }
 
 /// The constants, where these cells are.
@@ -38,11 +43,15 @@ fn constants_at<'a>(
 ) -> Result<(Vec<Value>, &'a [u8]), Stop>
     ensures { Gives (λ x. (x.0.items, x.1.now)) result ((constants_format (kinds_of defined.now)).read bytes.now) }
 {
-    let (count, rest) = u32_at(bytes)?;
-    if count > 1_000_000 {
-        return Err(refused(CodeErrorKind::TooLarge, bytes));
+    match u32_at(bytes) {
+        Ok((count, rest)) => {
+            if count > 1_000_000 {
+                return Err(refused(CodeErrorKind::TooLarge, bytes));
+            }
+            values_at(alloc, true, defined, 32, count, rest)
+        }
+        Err(stop) => Err(stop),
     }
-    some_constants_at(alloc, defined, count, rest)
 }
 
 /// Code, and the bytes behind it.
@@ -56,8 +65,12 @@ fn code_at(alloc: Global, bytes: &[u8]) -> Result<(Code, &[u8]), Stop>
     }
     let (cells, rest) = cells_at(alloc, rest)?;
     let (constants, rest) = constants_at(alloc, &cells, rest)?;
-    let ((functions, threads), rest) = program_at(alloc, constants.len(), rest)?;
-    Ok((Code::new(cells, constants, functions, threads), rest))
+    match program_at(alloc, constants.len(), rest) {
+        Ok(((functions, threads), rest)) => {
+            Ok((Code::new(cells, constants, functions, threads), rest))
+        }
+        Err(stop) => Err(stop),
+    }
 }
 
 /// The code that all of the bytes are the form of.

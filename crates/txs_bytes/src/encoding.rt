@@ -2,8 +2,8 @@
 
 ghost use Rattle.std.specs.Option.{option_map};
 ghost use Rattle.std.specs.Prelude.{◌≡◌, ◌<◌, ◌^◌, ◌++◌, length, slice_index_or, OnOk, IfOk, IsTrue, false};
-ghost use Rattle.txs_code.specs.declared.instr.Instr.TheVariants as instr;
 ghost use Rattle.std.specs.Int.{w16, w32};
+ghost use Rattle.txs_code.specs.declared.instr.Instr.TheVariants as instr;
 ghost use Rattle.txs_bytes.specs.CellForm.{cell_bytes, constant_bytes, kind_byte, mode_byte};
 ghost use Rattle.txs_bytes.specs.CodeForm.{AreBodies, AreCells, AreConstants, FormOf, HasForm, IsSmall, body_bytes, counted_bytes, form};
 ghost use Rattle.txs_bytes.specs.ValueForm.{IsWritable};
@@ -75,20 +75,14 @@ fn put_constants(constants: &[Value], out: &mut Vec<u8>) -> Result<(), AllocErro
     Ok(())
 }
 
-/// The instruction at a place.
-fn instr_at(instrs: &[Instr], place: usize) -> Instr
-    requires { place < length instrs.now }
-    ensures { result ≡ slice_index_or instrs.now place instr.Halt }
+/// The instruction at a place, with its span.
+fn placed_at(instrs: &[Instr], spans: &[Span], place: usize) -> (Instr, Span)
+    requires instr { place < length instrs.now }
+    requires span { place < length spans.now }
+    ensures instr { result.0 ≡ slice_index_or instrs.now place instr.Halt }
+    ensures span { result.1 ≡ slice_index_or spans.now place (record { from = 0; to = 0 }) }
 {
-    instrs[place]
-}
-
-/// The span at a place.
-fn span_at(spans: &[Span], place: usize) -> Span
-    requires { place < length spans.now }
-    ensures { result ≡ slice_index_or spans.now place (record { from = 0; to = 0 }) }
-{
-    spans[place]
+    (instrs[place], spans[place])
 }
 
 /// Appends a body.
@@ -101,7 +95,8 @@ fn put_body(body: &Body, out: &mut Vec<u8>) -> Result<(), AllocError>
     put_behind(body.parameters(), &[body.locals()], out)?;
     out.extend_from_slice(&(instrs.len() as u32).to_be_bytes())?;
     for i in 0..instrs.len() {
-        put_placed(instr_at(instrs, i), span_at(spans, i), out)?;
+        let (instr, span) = placed_at(instrs, spans, i);
+        put_placed(instr, span, out)?;
     }
     Ok(())
 }

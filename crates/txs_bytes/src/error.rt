@@ -6,10 +6,9 @@ ghost use Rattle.txs_bytes.specs.declared.error.Stop.TheVariants as stops;
 
 use std::alloc::{AllocError, AllocFailed};
 use std::fmt::{self, Display, Formatter, Write};
-use thiserror::Error;
 
 /// The reasons for which bytes are no code.
-#[derive(Clone, Copy, Debug, PartialEq, Eq, Error)]
+#[derive(Clone, Copy, PartialEq, Eq)]
 pub enum CodeErrorKind {
     /// They don't begin with `TXS1`.
     BadMagic,

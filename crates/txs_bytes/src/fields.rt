@@ -5,12 +5,11 @@ ghost use Rattle.std.specs.Int.{w16, w32, w64};
 ghost use Rattle.std.specs.List.{list_all};
 ghost use Rattle.std.specs.Str.{is_utf8};
 ghost use Rattle.txs_value.specs.Names.{IsName, is_symbol_byte};
-ghost use Rattle.txs_value.specs.PlainValue.{depth};
 ghost use Rattle.txs_value.specs.View.{plain_of};
 ghost use Rattle.txs_bytes.specs.declared.tag.Tag.TheVariants as tag;
 ghost use Rattle.txs_bytes.specs.Format.{Gives, byte_at, bytes_at, never, number_at};
-ghost use Rattle.txs_bytes.specs.Names.{begins_foreign, begins_number, begins_with_digit, is_literal_word, names_cell};
-ghost use Rattle.txs_bytes.specs.ValueForm.{cell_name_format, keyword_format, text_format, value_body};
+ghost use Rattle.txs_bytes.specs.Names.{begins_foreign, begins_number, begins_with_digit, is_literal_word, name_test};
+ghost use Rattle.txs_bytes.specs.ValueForm.{name_over, text_format, value_body};
 
 use crate::error::{CodeErrorKind, Stop, refused};
 use std::alloc::{AllocError, Global};
@@ -133,58 +132,53 @@ fn is_literal_word(bytes: &[u8]) -> bool
     bytes == b"nil".as_slice() || bytes == b"true".as_slice() || bytes == b"false".as_slice()
 }
 
-/// Whether 1 to 255 bytes may name a cell.
+/// Whether 1 to 255 bytes may name a cell, or else a keyword.
 #[tactic(auto, unfolding(crate::specs::Names::names_cell))]
-fn names_cell(bytes: &[u8]) -> bool
+fn may_name(cell: bool, bytes: &[u8]) -> bool
     requires some { 1 ≤ length bytes.now }
     requires few { length bytes.now ≤ 255 }
-    ensures value { result ≡ names_cell bytes.now }
+    ensures value { result ≡ name_test cell bytes.now }
     ensures symbols { IsTrue result → IsTrue (list_all is_symbol_byte bytes.now) }
 {
+    if !cell {
+        return all_symbol_bytes(bytes);
+    }
     all_symbol_bytes(bytes)
         && !begins_number(bytes)
         && !begins_foreign(bytes)
         && !is_literal_word(bytes)
 }
 
-/// A keyword.
-#[tactic(auto, unfolding(crate::specs::ValueForm::keyword_format))]
-pub(crate) fn keyword_at(alloc: Global, bytes: &[u8]) -> Result<(Value, &[u8]), Stop>
-    ensures value { Gives (λ x. (plain_of x.0, x.1.now)) result ((value_body [] never tag.Key).read bytes.now) }
-    ensures depth { (room : ℕ) → IfOk result (λ x. depth (plain_of x.0) ≤ room) }
+/// The name of a cell, or else of a keyword.
+pub(crate) fn name_at(alloc: Global, cell: bool, bytes: &[u8]) -> Result<(Name, &[u8]), Stop>
+    ensures { Gives (λ x. (x.0, x.1.now)) result ((name_over (name_test cell)).read bytes.now) }
 {
     let (len, rest) = u8_at(bytes)?;
     if len == 0 {
         return Err(refused(CodeErrorKind::BadOperand, bytes));
     }
     let (name, after) = some_at(usize::from(len), rest)?;
-    if !all_symbol_bytes(name) {
-        return Err(refused(CodeErrorKind::BadOperand, rest));
-    }
-    Ok((Value::Key(Name::from_bytes(alloc, name)?), after))
-}
-
-/// The name of a cell.
-#[tactic(auto, unfolding(crate::specs::ValueForm::cell_name_format))]
-pub(crate) fn cell_name_at(alloc: Global, bytes: &[u8]) -> Result<(Name, &[u8]), Stop>
-    ensures { Gives (λ x. (x.0, x.1.now)) result (cell_name_format.read bytes.now) }
-{
-    let (len, rest) = u8_at(bytes)?;
-    if len == 0 {
-        return Err(refused(CodeErrorKind::BadOperand, bytes));
-    }
-    let (name, after) = some_at(usize::from(len), rest)?;
-    if !names_cell(name) {
+    if !may_name(cell, name) {
         return Err(refused(CodeErrorKind::BadOperand, rest));
     }
     Ok((Name::from_bytes(alloc, name)?, after))
 }
 
+/// A keyword.
+#[tactic(auto, unfolding(crate::specs::ValueForm::keyword_format))]
+pub(crate) fn keyword_at(alloc: Global, bytes: &[u8]) -> Result<(Value, &[u8]), Stop>
+    ensures { Gives (λ x. (plain_of x.0, x.1.now)) result ((value_body [] never tag.Key).read bytes.now) }
+{
+    match name_at(alloc, false, bytes) {
+        Ok((name, rest)) => Ok((Value::Key(name), rest)),
+        Err(stop) => Err(stop),
+    }
+}
+
 /// A text.
 #[tactic(auto, unfolding(crate::specs::ValueForm::text_format))]
 pub(crate) fn text_at(alloc: Global, bytes: &[u8]) -> Result<(Value, &[u8]), Stop>
-    ensures value { Gives (λ x. (plain_of x.0, x.1.now)) result ((value_body [] never tag.Text).read bytes.now) }
-    ensures depth { (room : ℕ) → IfOk result (λ x. depth (plain_of x.0) ≤ room) }
+    ensures { Gives (λ x. (plain_of x.0, x.1.now)) result ((value_body [] never tag.Text).read bytes.now) }
 {
     let (len, rest) = u16_at(bytes)?;
     let (text, after) = some_at(usize::from(len), rest)?;

@@ -57,11 +57,15 @@ fn span_at(bytes: &[u8]) -> Result<(Span, &[u8]), Stop>
     ensures { Gives (λ x. (x.0, x.1.now)) result (span_format.read bytes.now) }
 {
     let (from, rest) = u32_at(bytes)?;
-    let (to, after) = u32_at(rest)?;
-    if from > to {
-        return Err(refused(CodeErrorKind::BadOperand, rest));
+    match u32_at(rest) {
+        Ok((to, after)) => {
+            if from > to {
+                return Err(refused(CodeErrorKind::BadOperand, rest));
+            }
+            Ok((Span { from, to }, after))
+        }
+        Err(stop) => Err(stop),
     }
-    Ok((Span { from, to }, after))
 }
 
 /// An instruction and its span, where there are so many constants and functions.
@@ -78,8 +82,10 @@ fn placed_at(
         return Err(refused(CodeErrorKind::BadOpcode, bytes));
     };
     let (instr, rest) = operands_at(constants, functions, opcode, rest)?;
-    let (span, rest) = span_at(rest)?;
-    Ok(((instr, span), rest))
+    match span_at(rest) {
+        Ok((span, rest)) => Ok(((instr, span), rest)),
+        Err(stop) => Err(stop),
+    }
 }
 
 /// Instructions, each with its span.
@@ -101,14 +107,15 @@ pub(crate) fn instrs_at(
     ensures as_many { IfOk result (λ x. length x.0.spans.items ≡ length x.0.instrs.items) }
 {
     let room = bytes.len().min(count as usize);
-    let mut instrs = room_for(alloc, room, bytes)?;
-    let mut spans = room_for(alloc, room, bytes)?;
+    let instrs = room_for(alloc, room, bytes)?;
+    let spans = room_for(alloc, room, bytes)?;
+    let mut body = Instructions { instrs, spans };
     let mut rest = bytes;
     for _ in 0..count {
         let ((instr, span), after) = placed_at(constants, functions, rest)?;
-        instrs.push(instr)?;
-        spans.push(span)?;
+        body.instrs.push(instr)?;
+        body.spans.push(span)?;
         rest = after;
     }
-    Ok((Instructions { instrs, spans }, rest))
+    Ok((body, rest))
 }

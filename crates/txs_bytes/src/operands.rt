@@ -51,21 +51,27 @@ pub(crate) enum Called {
 fn function_at(functions: usize, bytes: &[u8]) -> Result<(u16, &[u8]), Stop>
     ensures { Gives (λ x. (x.0, x.1.now)) result ((tested (number w16) (below functions)).read bytes.now) }
 {
-    let (function, rest) = u16_at(bytes)?;
-    if usize::from(function) >= functions {
-        return Err(refused(CodeErrorKind::BadOperand, bytes));
+    match u16_at(bytes) {
+        Ok((function, rest)) => {
+            if usize::from(function) >= functions {
+                return Err(refused(CodeErrorKind::BadOperand, bytes));
+            }
+            Ok((function, rest))
+        }
+        Err(stop) => Err(stop),
     }
-    Ok((function, rest))
 }
 
 /// An operation in two bytes.
 fn wide_op_at(bytes: &[u8]) -> Result<(Op, &[u8]), Stop>
     ensures { Gives (λ x. (x.0, x.1.now)) result ((one_of (number w16) operations op_number BadOperand).read bytes.now) }
 {
-    let (number, rest) = u16_at(bytes)?;
-    match op_of(number) {
-        Some(op) => Ok((op, rest)),
-        None => Err(refused(CodeErrorKind::BadOperand, bytes)),
+    match u16_at(bytes) {
+        Ok((number, rest)) => match op_of(number) {
+            Some(op) => Ok((op, rest)),
+            None => Err(refused(CodeErrorKind::BadOperand, bytes)),
+        },
+        Err(stop) => Err(stop),
     }
 }
 
@@ -77,14 +83,14 @@ fn callee_at(functions: usize, bytes: &[u8]) -> Result<(Callee, &[u8]), Stop>
     let (byte, rest) = u8_at(bytes)?;
     match CalleeTag::from_byte(byte) {
         None => Err(refused(CodeErrorKind::BadOperand, bytes)),
-        Some(CalleeTag::Core) => {
-            let (op, rest) = wide_op_at(rest)?;
-            Ok((Callee::Core(op), rest))
-        }
-        Some(CalleeTag::Function) => {
-            let (function, rest) = function_at(functions, rest)?;
-            Ok((Callee::Function(function), rest))
-        }
+        Some(CalleeTag::Core) => match wide_op_at(rest) {
+            Ok((op, rest)) => Ok((Callee::Core(op), rest)),
+            Err(stop) => Err(stop),
+        },
+        Some(CalleeTag::Function) => match function_at(functions, rest) {
+            Ok((function, rest)) => Ok((Callee::Function(function), rest)),
+            Err(stop) => Err(stop),
+        },
     }
 }
 
@@ -92,11 +98,15 @@ fn callee_at(functions: usize, bytes: &[u8]) -> Result<(Callee, &[u8]), Stop>
 pub(crate) fn const_at(constants: usize, bytes: &[u8]) -> Result<(Instr, &[u8]), Stop>
     ensures { Gives (λ x. (x.0, x.1.now)) result ((operands constants 0 opcode.Const).read bytes.now) }
 {
-    let (constant, rest) = u32_at(bytes)?;
-    if constant as usize >= constants {
-        return Err(refused(CodeErrorKind::BadOperand, bytes));
+    match u32_at(bytes) {
+        Ok((constant, rest)) => {
+            if constant as usize >= constants {
+                return Err(refused(CodeErrorKind::BadOperand, bytes));
+            }
+            Ok((Instr::Const(constant), rest))
+        }
+        Err(stop) => Err(stop),
     }
-    Ok((Instr::Const(constant), rest))
 }
 
 /// An operation and its count of arguments.
@@ -108,8 +118,10 @@ pub(crate) fn core_at(bytes: &[u8]) -> Result<(Instr, &[u8]), Stop>
     let Some(op) = op_of(u16::from(number)) else {
         return Err(refused(CodeErrorKind::BadOperand, bytes));
     };
-    let (count, rest) = u16_at(rest)?;
-    Ok((Instr::Core(op, count), rest))
+    match u16_at(rest) {
+        Ok((count, rest)) => Ok((Instr::Core(op, count), rest)),
+        Err(stop) => Err(stop),
+    }
 }
 
 /// The number of a function that is called, where there are so many.
@@ -129,11 +141,13 @@ pub(crate) fn called_at(
     ensures { Gives (λ x. (x.0, x.1.now)) result ((callee_and_count functions (called_instr called)).read bytes.now) }
 {
     let (callee, rest) = callee_at(functions, bytes)?;
-    let (count, rest) = u16_at(rest)?;
-    match called {
-        Called::Commute => Ok((Instr::Open(OpenForm::Commute(callee), count), rest)),
-        Called::Swap => Ok((Instr::Open(OpenForm::Swap(callee), count), rest)),
-        Called::Send => Ok((Instr::Send(callee, count), rest)),
+    match u16_at(rest) {
+        Ok((count, rest)) => match called {
+            Called::Commute => Ok((Instr::Open(OpenForm::Commute(callee), count), rest)),
+            Called::Swap => Ok((Instr::Open(OpenForm::Swap(callee), count), rest)),
+            Called::Send => Ok((Instr::Send(callee, count), rest)),
+        },
+        Err(stop) => Err(stop),
     }
 }
 
@@ -142,33 +156,33 @@ pub(crate) fn number_at(numbered: Numbered, bytes: &[u8]) -> Result<(Instr, &[u8
     ensures { Gives (λ x. (x.0, x.1.now)) result ((operands 0 0 (numbered_opcode numbered)).read bytes.now) }
 {
     match numbered {
-        Numbered::Local => {
-            let (local, rest) = u8_at(bytes)?;
-            Ok((Instr::Local(local), rest))
-        }
-        Numbered::Store => {
-            let (local, rest) = u8_at(bytes)?;
-            Ok((Instr::Store(local), rest))
-        }
-        Numbered::Jump => {
-            let (to, rest) = u32_at(bytes)?;
-            Ok((Instr::Jump(to), rest))
-        }
-        Numbered::JumpFalse => {
-            let (to, rest) = u32_at(bytes)?;
-            Ok((Instr::JumpFalse(to), rest))
-        }
-        Numbered::Vector => {
-            let (count, rest) = u16_at(bytes)?;
-            Ok((Instr::Vector(count), rest))
-        }
-        Numbered::Print => {
-            let (count, rest) = u16_at(bytes)?;
-            Ok((Instr::Print(count), rest))
-        }
-        Numbered::Alter => {
-            let (count, rest) = u16_at(bytes)?;
-            Ok((Instr::Open(OpenForm::Alter, count), rest))
-        }
+        Numbered::Local => match u8_at(bytes) {
+            Ok((local, rest)) => Ok((Instr::Local(local), rest)),
+            Err(stop) => Err(stop),
+        },
+        Numbered::Store => match u8_at(bytes) {
+            Ok((local, rest)) => Ok((Instr::Store(local), rest)),
+            Err(stop) => Err(stop),
+        },
+        Numbered::Jump => match u32_at(bytes) {
+            Ok((to, rest)) => Ok((Instr::Jump(to), rest)),
+            Err(stop) => Err(stop),
+        },
+        Numbered::JumpFalse => match u32_at(bytes) {
+            Ok((to, rest)) => Ok((Instr::JumpFalse(to), rest)),
+            Err(stop) => Err(stop),
+        },
+        Numbered::Vector => match u16_at(bytes) {
+            Ok((count, rest)) => Ok((Instr::Vector(count), rest)),
+            Err(stop) => Err(stop),
+        },
+        Numbered::Print => match u16_at(bytes) {
+            Ok((count, rest)) => Ok((Instr::Print(count), rest)),
+            Err(stop) => Err(stop),
+        },
+        Numbered::Alter => match u16_at(bytes) {
+            Ok((count, rest)) => Ok((Instr::Open(OpenForm::Alter, count), rest)),
+            Err(stop) => Err(stop),
+        },
     }
 }

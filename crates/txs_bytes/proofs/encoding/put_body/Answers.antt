@@ -9,9 +9,9 @@ loop-i-preserved c =
     let b = c.args.body.now in
     let n : length b.spans ≡ length b.instrs = search rules in
     let lt : c.loop-i.i < length b.instrs = search rules in
-    let ex = rw c.instrs-instrs.ensures at c.instr_at.ensures in
-    let ey = rw c.spans-spans.ensures.value at c.span_at.ensures in
-    pairs_next b.instrs b.spans c.loop-i.i Halt (record { from = 0; to = 0 }) c.instr_at.result c.span_at.result c.args.out.now.items (b.parameters ∷ b.locals ∷ to_be_bytes w32 (length b.instrs)) c.loop-i.out.items c.put_placed.new.out.items n lt ex ey c.loop-i.invariant c.in_ok-put_placed.ensures
+    let ex = rw c.instrs-instrs.ensures at c.placed_at-instr.ensures.instr in
+    let ey = rw c.spans-spans.ensures.value at c.placed_at-instr.ensures.span in
+    pairs_next b.instrs b.spans c.loop-i.i Halt (record { from = 0; to = 0 }) c.placed_at-instr.result.0 c.placed_at-instr.result.1 c.args.out.now.items (b.parameters ∷ b.locals ∷ to_be_bytes w32 (length b.instrs)) c.loop-i.out.items c.put_placed.new.out.items n lt ex ey c.loop-i.invariant c.in_ok-put_placed.ensures
 
 pub returns : goal.returns
 returns c =

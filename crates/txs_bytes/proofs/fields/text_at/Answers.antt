@@ -3,15 +3,15 @@ use Rattle.txs_bytes.specs.Format.{bytes_at}
 use Rattle.txs_bytes.proofs.TextLemmas.{text_reads, text_refused}
 use Rattle.txs_bytes.proofs.fields.text_at.Goals as goal
 
-pub returns-in_ok-from_string-in-Ok-clause-value : goal.returns-in_ok-from_string-in-Ok-clause-value
-returns-in_ok-from_string-in-Ok-clause-value c =
+pub returns-in_ok-from_string-in-Ok : goal.returns-in_ok-from_string-in-Ok
+returns-in_ok-from_string-in-Ok c =
     let same : c.from.result ≡ c.in_ok-len.len = search rules in
     let front = subst (λ (n : ℕ). bytes_at n c.in_ok-len.rest.now ≡ Ok (c.in_ok-text.text.now, c.in_ok-text.after.now)) same c.in_ok-text.ensures.value in
     let r = text_reads c.args.bytes.now c.in_ok-len.rest.now c.in_ok-text.text.now c.in_ok-text.after.now c.in_ok-len.len c.in_ok-len.ensures front c.in-Ok.ensures.cases.1 in
     search (rules, r)
 
-pub returns-in-Err-clause-value : goal.returns-in-Err-clause-value
-returns-in-Err-clause-value c =
+pub returns-in-Err : goal.returns-in-Err
+returns-in-Err c =
     let same : c.from.result ≡ c.in_ok-len.len = search rules in
     let front = subst (λ (n : ℕ). bytes_at n c.in_ok-len.rest.now ≡ Ok (c.in_ok-text.text.now, c.in_ok-text.after.now)) same c.in_ok-text.ensures.value in
     let r = text_refused c.args.bytes.now c.in_ok-len.rest.now c.in_ok-text.text.now c.in_ok-text.after.now c.in_ok-len.len c.in_ok-len.ensures front c.in-Err.ensures.cases.0 in

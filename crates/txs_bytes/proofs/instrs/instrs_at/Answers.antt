@@ -11,18 +11,18 @@ pub returns-in_err-instr-clause-value : goal.returns-in_err-instr-clause-value
 returns-in_err-instr-clause-value c =
     let p = err_from_is_err_and c.from_residual-in_err-instr.result c.from_residual-in_err-instr.ensures.1 in
     let read = (placed_format c.args.constants c.args.functions).read in
-    rw (p.1, p.2) (ends read c.in_err-instr.field-0.0 (paired c.loop.instrs.items c.loop.spans.items) c.args.count c.loop.counter c.loop.rest.now (many_at read c.args.count c.args.bytes.now) c.loop-test.true c.in_err-instr.ensures c.loop.invariant.told)
+    rw (p.1, p.2) (ends read c.in_err-instr.field-0.0 (paired c.loop.body.instrs.items c.loop.body.spans.items) c.args.count c.loop.counter c.loop.rest.now (many_at read c.args.count c.args.bytes.now) c.loop-test.true c.in_err-instr.ensures c.loop.invariant.told)
 
 pub loop-preserved : goal.loop-preserved
 loop-preserved c =
     let read = (placed_format c.args.constants c.args.functions).read in
-    let more = paired_more c.loop.instrs.items c.loop.spans.items c.in_ok-instr.instr c.in_ok-instr.span c.loop.invariant.as_many in
+    let more = paired_more c.loop.body.instrs.items c.loop.body.spans.items c.in_ok-instr.instr c.in_ok-instr.span c.loop.invariant.as_many in
     record {
-      told = rw (c.in_ok-push.ensures.items, c.in_ok-push-2.ensures.items, more) (goes_on read (paired c.loop.instrs.items c.loop.spans.items) c.args.count c.loop.counter c.loop.rest.now (c.in_ok-instr.instr, c.in_ok-instr.span) c.in_ok-instr.after.now (many_at read c.args.count c.args.bytes.now) c.loop-test.true c.in_ok-instr.ensures c.loop.invariant.told);
-      as_many = rw (c.in_ok-push.ensures.items, c.in_ok-push-2.ensures.items) (omega (arith, c.loop.invariant.as_many, length-append c.loop.instrs.items (c.in_ok-instr.instr ∷ []), length-append c.loop.spans.items (c.in_ok-instr.span ∷ [])));
+      told = rw (c.in_ok-push.ensures.items, c.in_ok-push-2.ensures.items, more) (goes_on read (paired c.loop.body.instrs.items c.loop.body.spans.items) c.args.count c.loop.counter c.loop.rest.now (c.in_ok-instr.instr, c.in_ok-instr.span) c.in_ok-instr.after.now (many_at read c.args.count c.args.bytes.now) c.loop-test.true c.in_ok-instr.ensures c.loop.invariant.told);
+      as_many = rw (c.in_ok-push.ensures.items, c.in_ok-push-2.ensures.items) (omega (arith, c.loop.invariant.as_many, length-append c.loop.body.instrs.items (c.in_ok-instr.instr ∷ []), length-append c.loop.body.spans.items (c.in_ok-instr.span ∷ [])));
     }
 
 pub returns-clause-value : goal.returns-clause-value
 returns-clause-value c =
     let read = (placed_format c.args.constants c.args.functions).read in
-    is_done read (paired c.loop.instrs.items c.loop.spans.items) c.args.count c.loop.counter c.loop.rest.now (many_at read c.args.count c.args.bytes.now) c.loop-test.false c.loop.invariant.told
+    is_done read (paired c.loop.body.instrs.items c.loop.body.spans.items) c.args.count c.loop.counter c.loop.rest.now (many_at read c.args.count c.args.bytes.now) c.loop-test.false c.loop.invariant.told

@@ -8,6 +8,6 @@ use Rattle.txs_bytes.proofs.instrs.instrs_at.Given as goal
 abbrev pub invariant-loop : goal.invariant-loop
 invariant-loop l =
     record {
-      told : with_front (paired l.instrs.items l.spans.items) (many_at (placed_format l.constants l.functions).read (l.count - l.counter) l.rest) ≡ many_at (placed_format l.constants l.functions).read l.count l.bytes;
-      as_many : length l.spans.items ≡ length l.instrs.items;
+      told : with_front (paired l.body.instrs.items l.body.spans.items) (many_at (placed_format l.constants l.functions).read (l.count - l.counter) l.rest) ≡ many_at (placed_format l.constants l.functions).read l.count l.bytes;
+      as_many : length l.body.spans.items ≡ length l.body.instrs.items;
     }

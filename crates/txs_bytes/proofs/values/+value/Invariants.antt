@@ -1,5 +1,4 @@
-use Rattle.std.proofs.Common.{◌≡◌, ◌≤◌, ◌+◌, ◌*◌, ◌-◌, length}
-use Rattle.txs_value.specs.PlainValue.{row_depth, plain_row}
+use Rattle.std.proofs.Common.{◌≡◌, ◌+◌, ◌*◌, ◌-◌}
 use Rattle.txs_value.specs.View.{plains_of}
 use Rattle.txs_bytes.specs.CellForm.{kinds_of}
 use Rattle.txs_bytes.specs.Format.{many_at}
@@ -21,8 +20,4 @@ decreases-value_at l = 4 * l.room + 1
 
 abbrev pub invariant-values_at-loop : goal.invariant-values_at-loop
 invariant-values_at-loop l =
-    record {
-      told : with_front (plains_of l.values.items) (many_at (value_format l.cells (kinds_of l.defined) l.room).read (l.count - l.counter) l.rest) ≡ many_at (value_format l.cells (kinds_of l.defined) l.room).read l.count l.bytes;
-      depth : row_depth (plain_row (plains_of l.values.items)) ≤ l.room;
-      as_many : length l.values.items ≡ l.counter;
-    }
+    with_front (plains_of l.values.items) (many_at (value_format l.cells (kinds_of l.defined) l.room).read (l.count - l.counter) l.rest) ≡ many_at (value_format l.cells (kinds_of l.defined) l.room).read l.count l.bytes
