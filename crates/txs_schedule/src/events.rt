@@ -1,8 +1,9 @@
 //! The lines that tell of a book's events.
 
-ghost use Rattle.std.specs.Prelude.{◌≡◌, ◌≤◌, ◌++◌, codes, decimal, length, OnOk};
+ghost use Rattle.std.specs.Prelude.{◌≡◌, ◌≤◌, ◌++◌, codes, decimal, length, OnErr, OnOk};
 ghost use Rattle.txs_schedule.specs.EventLines.{event_name, event_line, event_lines};
 ghost use Rattle.txs_value.specs.Limits.{most_events};
+ghost use Rattle.txs_value.specs.Printed.{Extends};
 
 use itoa::Buffer;
 use std::alloc::AllocError;
@@ -28,7 +29,8 @@ fn name_of(kind: &EventKind) -> &'static str
 
 /// Appends a number and a space.
 fn write_number(output: &mut Vec<u8>, number: u32) -> Result<(), AllocError>
-    ensures { OnOk result (output.new.items ≡ output.old.items ++ decimal number ++ codes " ") }
+    ensures ok { OnOk result (output.new.items ≡ output.old.items ++ decimal number ++ codes " ") }
+    ensures kept { Extends output.old.items output.new.items }
 {
     let mut buffer = Buffer::new();
     output.extend_from_slice(buffer.format(number).as_bytes())?;
@@ -37,7 +39,8 @@ fn write_number(output: &mut Vec<u8>, number: u32) -> Result<(), AllocError>
 
 /// Appends the line of an event: its place in the book, its actor, and what that did.
 fn write_event(output: &mut Vec<u8>, place: u32, event: &Event) -> Result<(), AllocError>
-    ensures { OnOk result (output.new.items ≡ output.old.items ++ event_line place event.now) }
+    ensures ok { OnOk result (output.new.items ≡ output.old.items ++ event_line place event.now) }
+    ensures kept { Extends output.old.items output.new.items }
 {
     write_number(output, place)?;
     write_number(output, u32::from(event.actor))?;
@@ -45,14 +48,29 @@ fn write_event(output: &mut Vec<u8>, place: u32, event: &Event) -> Result<(), Al
     Ok(output.push(b'\n')?)
 }
 
-/// Appends a line for each event of a book, in their order.
+/// Appends the lines of events.
 #[tactic(auto, unfolding(txs_value::specs::Limits::most_events))]
-pub fn write_events(output: &mut Vec<u8>, events: &[Event]) -> Result<(), AllocError>
+fn append_events(output: &mut Vec<u8>, events: &[Event]) -> Result<(), AllocError>
     requires { length events.now ≤ most_events }
-    ensures { OnOk result (output.new.items ≡ output.old.items ++ event_lines 0 events.now) }
+    ensures ok { OnOk result (output.new.items ≡ output.old.items ++ event_lines 0 events.now) }
+    ensures kept { Extends output.old.items output.new.items }
 {
     for (place, event) in events.iter().enumerate() {
         write_event(output, place as u32, event)?;
     }
     Ok(())
+}
+
+/// Appends a line for each event of a book, in their order. After an error nothing is appended.
+pub fn write_events(output: &mut Vec<u8>, events: &[Event]) -> Result<(), AllocError>
+    requires { length events.now ≤ most_events }
+    ensures ok { OnOk result (output.new.items ≡ output.old.items ++ event_lines 0 events.now) }
+    ensures err { OnErr result (output.new.items ≡ output.old.items) }
+{
+    let length = output.len();
+    let done = append_events(output, events);
+    if done.is_err() {
+        output.truncate(length);
+    }
+    done
 }

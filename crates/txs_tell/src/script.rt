@@ -1,7 +1,7 @@
 //! What is told of a script: that it is refused, that it compiles, the listing of its code, its code's byte form, or what its run told.
 
 ghost use Rattle.std.specs.Option.{option_map};
-ghost use Rattle.std.specs.Prelude.{◌≡◌, ◌++◌, ◌≤◌, length, [], codes, IfOk, OnOk};
+ghost use Rattle.std.specs.Prelude.{◌≡◌, ◌++◌, ◌≤◌, length, [], codes, IfOk, OnErr, OnOk};
 ghost use Rattle.txs_bytes.specs.CodeForm.{HasForm};
 ghost use Rattle.txs_disasm.specs.Listing.{listing};
 ghost use Rattle.txs_machine.specs.RunOver.{IsStateOf};
@@ -88,28 +88,30 @@ pub fn open_state(alloc: Global, code: &Verified) -> Result<SharedState, AllocEr
     SharedState::open(alloc, code.cells(), code.threads().len() as u16)
 }
 
-/// Appends the lines of the program's cells, where they are wanted.
+/// Appends the lines of cells, where they are wanted. After an error nothing is appended.
 fn tell_cells(
     told: &mut Told,
     wanted: bool,
-    program: &Program,
+    cells: &[CellDefinition],
     shared: &SharedState,
 ) -> Result<(), AllocError>
-    requires made { shared.now.cells ≡ program.now.cells }
-    ensures output { OnOk result (told.new.output.items ≡ told.old.output.items ++ cells_told wanted program.now.cells shared.now) }
+    requires few { length cells.now ≤ 1000 }
+    requires made { shared.now.cells ≡ cells.now }
+    ensures output { OnOk result (told.new.output.items ≡ told.old.output.items ++ cells_told wanted cells.now shared.now) }
+    ensures unchanged { OnErr result (told.new.output.items ≡ told.old.output.items) }
     ensures errors { told.new.errors.items ≡ told.old.errors.items }
     ensures status { told.new.status ≡ told.old.status }
 {
-    if wanted {
-        program.is_sound();
-        write_cells(&mut told.output, program.cells(), shared)?;
+    if !wanted {
+        return Ok(());
     }
-    Ok(())
+    write_cells(&mut told.output, cells, shared)
 }
 
-/// Appends the lines of the events of the store's book, where they are wanted.
-pub fn tell_events(told: &mut Told, wanted: bool, shared: &SharedState) -> Result<(), AllocError>
+/// Appends the lines of the events of the store's book, where they are wanted. After an error nothing is appended.
+fn tell_events(told: &mut Told, wanted: bool, shared: &SharedState) -> Result<(), AllocError>
     ensures output { OnOk result (told.new.output.items ≡ told.old.output.items ++ events_told wanted (numbered_book shared.now 0)) }
+    ensures unchanged { OnErr result (told.new.output.items ≡ told.old.output.items) }
     ensures errors { told.new.errors.items ≡ told.old.errors.items }
     ensures status { told.new.status ≡ told.old.status }
 {
@@ -119,22 +121,29 @@ pub fn tell_events(told: &mut Told, wanted: bool, shared: &SharedState) -> Resul
     Ok(())
 }
 
-/// Appends what is told behind a run: the lines of the program's cells, and of the events, where they are wanted.
+/// Appends what is told behind a run: the lines of the cells, of which the state is made, and of the events of the store's book, where
+/// they are wanted. After an error nothing is appended.
 pub fn tell_book(
     told: &mut Told,
-    cells: bool,
-    events: bool,
-    program: &Program,
+    wants_cells: bool,
+    wants_events: bool,
+    cells: &[CellDefinition],
     shared: &SharedState,
 ) -> Result<(), AllocError>
-    requires made { shared.now.cells ≡ program.now.cells }
-    ensures output { OnOk result (told.new.output.items ≡ (told.old.output.items ++ cells_told cells program.now.cells shared.now) ++ events_told events (numbered_book shared.now 0)) }
+    requires few { length cells.now ≤ 1000 }
+    requires made { shared.now.cells ≡ cells.now }
+    ensures output { OnOk result (told.new.output.items ≡ (told.old.output.items ++ cells_told wants_cells cells.now shared.now) ++ events_told wants_events (numbered_book shared.now 0)) }
+    ensures unchanged { OnErr result (told.new.output.items ≡ told.old.output.items) }
     ensures errors { told.new.errors.items ≡ told.old.errors.items }
     ensures status { told.new.status ≡ told.old.status }
 {
-    tell_cells(told, cells, program, shared)?;
-    tell_events(told, events, shared)?;
-    Ok(())
+    let length = told.output.len();
+    tell_cells(told, wants_cells, cells, shared)?;
+    let done = tell_events(told, wants_events, shared);
+    if done.is_err() {
+        told.output.truncate(length);
+    }
+    done
 }
 
 /// Adds to what is told of a run what stands behind it.
@@ -150,7 +159,8 @@ fn with_book(
     ensures errors { IfOk result (λ t. t.errors.items ≡ told.errors.items) }
     ensures status { IfOk result (λ t. t.status ≡ told.status) }
 {
-    tell_book(&mut told, cells, events, program, shared)?;
+    program.is_sound();
+    tell_book(&mut told, cells, events, program.cells(), shared)?;
     Ok(told)
 }
 

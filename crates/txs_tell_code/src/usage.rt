@@ -1,13 +1,10 @@
 //! What is done with code in its byte form: it is listed, or run.
 
-ghost use Rattle.std.specs.Prelude.{◌≡◌, ◌≤◌, ◌++◌, ℕ, List, length, [], IfOk, OnOk};
+ghost use Rattle.std.specs.Prelude.{◌≡◌, ℕ, List, [], IfOk};
 ghost use Rattle.txs_bytes.specs.CodeForm.{HasForm};
 ghost use Rattle.txs_disasm.specs.Listing.{listing};
 ghost use Rattle.txs_load.specs.Load.{IsFormOf};
-ghost use Rattle.txs_machine.specs.RunOver.{IsStateOf};
-ghost use Rattle.txs_shared.specs.SharedState.{numbered_book};
 ghost use Rattle.txs_tell.specs.Lent.{script_of, told_of};
-ghost use Rattle.txs_tell.specs.Told.{cells_told, events_told};
 ghost use Rattle.txs_tell_code.specs.CodeTold.{CodeTells, Listed, Ran, no_script};
 ghost use Rattle.txs_tell_code.specs.LentCode.{code_wanted_of};
 
@@ -18,10 +15,8 @@ use txs_disasm::write_listing;
 use txs_load::law::form_is_taken;
 use txs_load::load::{load, load_verified};
 use txs_machine::Play;
-use txs_shared::SharedState;
-use txs_tell::cells::write_cells;
 use txs_tell::explain::Script;
-use txs_tell::script::{open_state, run_code, tell_events};
+use txs_tell::script::{open_state, run_code, tell_book};
 use txs_tell::told::{Told, UNUSABLE, answer, complaint};
 
 /// What is done with code.
@@ -62,43 +57,6 @@ fn list_code(alloc: Global, bytes: &[u8]) -> Result<Told, AllocError>
     }
 }
 
-/// Appends the lines of the code's cells, where they are wanted.
-fn tell_cells(
-    told: &mut Told,
-    wanted: bool,
-    code: &Code,
-    shared: &SharedState,
-) -> Result<(), AllocError>
-    requires few { length code.now.cells ≤ 1000 }
-    requires of { IsStateOf code.now shared.now }
-    ensures output { OnOk result (told.new.output.items ≡ told.old.output.items ++ cells_told wanted code.now.cells shared.now) }
-    ensures errors { told.new.errors.items ≡ told.old.errors.items }
-    ensures status { told.new.status ≡ told.old.status }
-{
-    if !wanted {
-        return Ok(());
-    }
-    write_cells(&mut told.output, code.cells(), shared)
-}
-
-/// Appends what is told behind a run: the lines of the code's cells, and of the events, where they are wanted.
-pub fn tell_book(
-    told: &mut Told,
-    cells: bool,
-    events: bool,
-    code: &Code,
-    shared: &SharedState,
-) -> Result<(), AllocError>
-    requires few { length code.now.cells ≤ 1000 }
-    requires of { IsStateOf code.now shared.now }
-    ensures output { OnOk result (told.new.output.items ≡ (told.old.output.items ++ cells_told cells code.now.cells shared.now) ++ events_told events (numbered_book shared.now 0)) }
-    ensures errors { told.new.errors.items ≡ told.old.errors.items }
-    ensures status { told.new.status ≡ told.old.status }
-{
-    tell_cells(told, cells, code, shared)?;
-    tell_events(told, events, shared)
-}
-
 /// What stands in place of a script: nothing, and no line is explained.
 pub fn no_script<'a>() -> Script<'a>
     ensures { script_of result ≡ no_script }
@@ -126,7 +84,7 @@ fn run_verified(
     let mut shared = open_state(alloc, code)?;
     match run_code(alloc, no_script(), code, plays, steps, &mut shared)? {
         Some(mut told) => {
-            tell_book(&mut told, cells, events, bare, &shared)?;
+            tell_book(&mut told, cells, events, bare.cells(), &shared)?;
             Ok(told)
         }
         None => complaint(alloc, UNUSABLE, "run failed: NoActor"),

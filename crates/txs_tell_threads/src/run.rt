@@ -12,9 +12,8 @@ use txs_code::{Code, Verified};
 use txs_machine::{Report, RunError};
 use txs_shared::SharedState;
 use txs_tell::explain::Script;
-use txs_tell::script::of_report;
+use txs_tell::script::{of_report, tell_book};
 use txs_tell::told::{SPENT, Told, complaint};
-use txs_tell_code::usage::tell_book;
 
 /// What is told of a run that has no report, but for want of memory, of which the program tells otherwise.
 fn of_failure(alloc: Global, failure: RunError) -> Result<Told, AllocError>
@@ -41,8 +40,9 @@ fn of_run(
     requires worked { IsWorked code.now working.steps shared.now report.now }
     ensures { IfOk result (λ t. ReportTells code.now (script_of script.entry) shared.now report.now working.cells working.events (told_of t)) }
 {
-    let mut told = of_report(alloc, script, code.cells(), report, shared)?;
-    tell_book(&mut told, working.cells, working.events, code, shared)?;
+    let cells = code.cells();
+    let mut told = of_report(alloc, script, cells, report, shared)?;
+    tell_book(&mut told, working.cells, working.events, cells, shared)?;
     Ok(told)
 }
 

@@ -11,6 +11,7 @@ use Rattle.txs_tell.specs.Told.{RunAnswers, RunTells, cells_told, events_told}
 use Rattle.txs_tell.specs.declared.told.Told as owned
 use Rattle.txs_tell.proofs.Fronts.{ok_three}
 use Rattle.txs_tell_code.specs.CodeTold.{CodeTells, Ran, no_script, of_run, of_no_actor}
+use Rattle.txs_value.specs.declared.cell.CellDefinition.{CellDefinition}
 use Rattle.txs_tell_code.proofs.usage.run_verified.Goals as goal
 
 -- a play names no actor
@@ -37,7 +38,8 @@ returns-in-Some c =
     in
     let t = c.in_ok-tell_book-in-Some.ensures in
     let output = c.tell_book.new.told.output.items in
-    let is : output ≡ (told.output.items ++ cells_told c.args.cells code.cells s) ++ events_told c.args.events (numbered_book s 0) =
-    subst (λ (d : PlainCode). output ≡ (told.output.items ++ cells_told c.args.cells d.cells s) ++ events_told c.args.events (numbered_book s 0)) c.code-bare.ensures.value t.output
+    let with_cells : List CellDefinition → Type 0 = λ ds. output ≡ (told.output.items ++ cells_told c.args.cells ds s) ++ events_told c.args.events (numbered_book s 0) in
+    let is : with_cells code.cells =
+    subst (λ (d : PlainCode). with_cells d.cells) c.code-bare.ensures.value (subst with_cells c.cells.ensures t.output)
     in
     λ bytes of. of_run plays c.args.steps c.args.cells c.args.events (told_of told) code s of c.run_code.ensures.of ran.0 ran.1 is t.errors t.status

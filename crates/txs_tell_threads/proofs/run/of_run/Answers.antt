@@ -10,7 +10,7 @@ use Rattle.txs_value.specs.declared.cell.CellDefinition.{CellDefinition}
 pub of_report-requires-clause-one_each : goal.of_report-requires-clause-one_each
 of_report-requires-clause-one_each c =
     let code = c.args.code.now in
-    c.requires.worked.agents_each ∙ sym (all_named_from 0 code.cells) ∙ ap (λ (ds : List CellDefinition). length (named_from 0 ds)) (sym c.cells.ensures)
+    c.requires.worked.agents_each ∙ sym (all_named_from 0 code.cells) ∙ ap (λ (ds : List CellDefinition). length (named_from 0 ds)) (sym c.cells-cells.ensures)
 
 pub returns : goal.returns
 returns c =
@@ -21,10 +21,11 @@ returns c =
     let working = c.args.working in
     let script = script_of c.args.script in
     let t = c.in_ok-told.ensures in
+    let first = c.in_ok-told.told.output.items in
     let book = c.in_ok-tell_book.ensures in
     let told = told_of c.tell_book.new.told in
     record {
-      output = book.output ∙ ap (λ xs. (xs ++ cells_told working.cells code.cells shared) ++ events_told working.events (numbered_book shared 0)) t.output;
-      errors = subst (λ (ds : List CellDefinition). EndsTold ds script shared rans agents told.errors) c.cells.ensures (subst (EndsTold c.cells.result.now script shared rans agents) (sym book.errors) t.errors);
-      status = book.status ∙ t.status ∙ ap (λ (ds : List CellDefinition). run_status ds shared rans agents) c.cells.ensures;
+      output = book.output ∙ ap (λ (ds : List CellDefinition). (first ++ cells_told working.cells ds shared) ++ events_told working.events (numbered_book shared 0)) c.cells-cells.ensures ∙ ap (λ xs. (xs ++ cells_told working.cells code.cells shared) ++ events_told working.events (numbered_book shared 0)) t.output;
+      errors = subst (λ (ds : List CellDefinition). EndsTold ds script shared rans agents told.errors) c.cells-cells.ensures (subst (EndsTold c.cells-cells.result.now script shared rans agents) (sym book.errors) t.errors);
+      status = book.status ∙ t.status ∙ ap (λ (ds : List CellDefinition). run_status ds shared rans agents) c.cells-cells.ensures;
     }
