@@ -6,11 +6,12 @@ use Rattle.txs_value.specs.declared.cell.CellDefinition.{CellDefinition}
 use Rattle.txs_value.specs.declared.value.Value.{Value}
 use Rattle.txs_asks.specs.SeenEvent.{SeenEvent}
 use Rattle.txs_asks.specs.declared.event.Outcome.{Outcome}
-use Rattle.txs_eval.specs.Evaluated.{Account, Accounts, Concluded, Yields, Tells, TellsTx, Waitless, thread_source, source_in, means, around_it, forms_on, thread_state, idle}
+use Rattle.txs_eval.specs.Told.{Account, Accounts, Concluded, Tells, TellsTx, Waitless, thread_source, source_in}
+use Rattle.txs_evaluate.specs.Evaluated.{Yields, means, around_it, forms_on, thread_state, idle}
 use Rattle.txs_eval_work.specs.Worked.{Gives, Stops, tx_state}
 use Rattle.txs_tree.specs.Known.{known}
 use Rattle.txs_tree.specs.Meaning.{Completion, Completes, Faults, OutOfTurns, closed, eval, call_at}
-use Rattle.txs_eval.specs.Setting.{Setting, callable, zone_in}
+use Rattle.txs_evaluate.specs.Setting.{Setting, callable, zone_in}
 use Rattle.txs_tree.specs.Sound.{Sound, SoundTree, in_thread, in_dosync}
 use Rattle.txs_tree.specs.Thread.{ThreadState, on_events, thread_meaning}
 use Rattle.txs_tree.specs.Transaction.{TxState, tx_start, tx_meaning}
@@ -22,15 +23,15 @@ use Rattle.txs_eval.specs.declared.meaning.ThreadMeaning.{ThreadMeaning}
 use Rattle.txs_tree.specs.declared.node.Function.{Function}
 use Rattle.txs_tree.specs.declared.node.Thread.{Thread}
 use Rattle.txs_eval.specs.declared.pure_call.EvalStop.TheVariants.{Turns as FewTurns}
-use Rattle.txs_eval.specs.declared.state.State.{State}
+use Rattle.txs_evaluate.specs.declared.state.State.{State}
 use Rattle.txs_eval_work.specs.declared.work.TxWork.{TxWork}
 use Rattle.txs_eval_work.specs.declared.stop.ThreadStop.{ThreadStop}
 use Rattle.txs_eval_work.specs.declared.stop.ThreadStop.TheVariants.{Fault, Event, Wrong, Turns, Memory}
 use Rattle.txs_eval.specs.declared.transaction.TxMeaning.{TxMeaning}
 use Rattle.txs_value.specs.declared.fault.Fault as fault
-use Rattle.txs_eval.proofs.Called.{sound_everywhere}
+use Rattle.txs_evaluate.proofs.Called.{sound_everywhere}
 use Rattle.txs_tree.proofs.Callable.{length-functions_of}
-use Rattle.txs_eval.proofs.Ending.{closed_gives}
+use Rattle.txs_evaluate.proofs.Ending.{closed_gives}
 use Rattle.txs_tree.proofs.Soundness.{SoundThread-at}
 
 thread-at : (ts : List Thread) (k : ℕ) (t : Thread) → k < length ts → t ≡ get_or ts k t → nth (threads_of ts) k ≡ Some (thread_of t)

@@ -1,13 +1,4 @@
-pub mod Acting
-pub mod Applying
-pub mod Called
-pub mod Counting
-pub mod Ending
 pub mod Ends
-pub mod Evaluation
-pub mod Forms
 pub mod Leaf
 pub mod MoreTurns
 pub mod PureEnds
-pub mod Recurs
-pub mod Shaping

@@ -3,17 +3,17 @@ use Rattle.std.proofs.Common.{◌≡◌, ℕ, false, List, length, None, Result,
 use Rattle.txs_value.specs.declared.cell.CellDefinition.{CellDefinition}
 use Rattle.txs_value.specs.declared.op.Callee.TheVariants.{Function}
 use Rattle.txs_value.specs.declared.value.Value.{Value}
-use Rattle.txs_eval.specs.Evaluated.{applied}
+use Rattle.txs_evaluate.specs.Evaluated.{applied}
 use Rattle.txs_eval_work.specs.Worked.{Told}
 use Rattle.txs_tree.specs.Known.{known}
 use Rattle.txs_tree.specs.Meaning.{apply}
 use Rattle.txs_tree.specs.Pure.{nowhere, pure_calls, pure_meaning}
-use Rattle.txs_eval.specs.Setting.{Setting, callable}
+use Rattle.txs_evaluate.specs.Setting.{Setting, callable}
 use Rattle.txs_tree.specs.Sound.{SoundCallee, PureCall}
 use Rattle.txs_tree.specs.View.{functions_of}
 use Rattle.txs_tree.specs.declared.node.Function as function
 use Rattle.txs_eval_work.specs.declared.stop.ThreadStop.{ThreadStop}
-use Rattle.txs_eval.proofs.Called.{pure_everywhere}
+use Rattle.txs_evaluate.proofs.Called.{pure_everywhere}
 use Rattle.txs_tree.proofs.Callable.{length-functions_of}
 use Rattle.txs_eval.proofs.Ends.{whole}
 

@@ -1,4 +1,1 @@
-pub mod Evaluated
-pub mod Events
-pub mod Setting
-pub mod Shapes
+pub mod Told

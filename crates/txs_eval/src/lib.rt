@@ -4,19 +4,12 @@
 //! `eval_pure` the pure meaning of a callee.
 #![tactic(auto)]
 
-mod closing;
-mod context;
-mod evaluate;
 pub mod meaning;
 pub mod pure_call;
-pub mod seen;
-mod shape;
-mod state;
-mod thread;
 pub mod transaction;
 
 pub use meaning::{Needs, ThreadMeaning, eval_thread};
 pub use pure_call::{EvalStop, eval_pure, more_turns_change_no_answer};
-pub use seen::Seen;
 pub use transaction::{TxMeaning, eval_tx};
 pub use txs_eval_work::RefView;
+pub use txs_evaluate::Seen;

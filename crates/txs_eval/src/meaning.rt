@@ -1,19 +1,18 @@
 //! What a thread means.
 
 ghost use Rattle.std.specs.Prelude.{◌≡◌, ◌<◌, length, map, IfOk, IfSome};
-ghost use Rattle.txs_eval.specs.Evaluated.{Account, Accounts, Concluded, Tells, thread_source, thread_state, told_run};
+ghost use Rattle.txs_eval.specs.Told.{Account, Accounts, Concluded, Tells, thread_source, told_run};
+ghost use Rattle.txs_evaluate.specs.Evaluated.{thread_state};
 ghost use Rattle.txs_tree.specs.Thread.{thread_meaning};
 ghost use Rattle.txs_tree.specs.View.{program_of};
-ghost use Rattle.txs_eval.specs.Events.{seen_events};
+ghost use Rattle.txs_evaluate.specs.Events.{seen_events};
 
-use crate::context::Context;
-use crate::evaluate::evaluate;
-use crate::seen::Seen;
-use crate::state::{Progress, State, Transacted};
 use crate::transaction::{TxMeaning, meaning_of};
 use std::alloc::{AllocError, Global};
 use txs_asks::Outcome;
 use txs_eval_work::ThreadStop;
+use txs_evaluate::evaluate::evaluate;
+use txs_evaluate::{Context, Progress, Seen, State, Transacted};
 use txs_tree::Program;
 use txs_value::{Listed, Value};
 

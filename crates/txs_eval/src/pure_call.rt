@@ -1,7 +1,7 @@
 //! What a pure callee means.
 
 ghost use Rattle.std.specs.Prelude.{◌≡◌, ◌≤◌, ℕ, List, IfOk, length, true};
-ghost use Rattle.txs_eval.specs.Evaluated.{PureGives, Waitless};
+ghost use Rattle.txs_eval.specs.Told.{PureGives, Waitless};
 ghost use Rattle.txs_eval_work.specs.Worked.{Told};
 ghost use Rattle.txs_tree.specs.Known.{known};
 ghost use Rattle.txs_tree.specs.Meaning.{Completion, result_of};
@@ -15,10 +15,10 @@ ghost use Rattle.txs_operations.specs.Core.{core, takes};
 ghost use Rattle.txs_value.specs.declared.op.Callee.TheVariants.{Function};
 ghost use Rattle.txs_eval.specs.declared.pure_call.EvalStop.TheVariants.{Memory};
 
-use crate::context::Context;
-use crate::evaluate::{apply_callee, copy_locals};
 use std::alloc::{AllocError, AllocFailed, Global};
 use txs_eval_work::ThreadStop;
+use txs_evaluate::Context;
+use txs_evaluate::evaluate::{apply_callee, copy_locals};
 use txs_operations::apply;
 use txs_tree::Program;
 use txs_value::{Callee, Fault, Op, Span, Stop, Value};

@@ -1,7 +1,7 @@
 //! What a transaction means on one world of refs.
 
 ghost use Rattle.std.specs.Prelude.{◌≡◌, length, IfOk, None, true};
-ghost use Rattle.txs_eval.specs.Evaluated.{TellsTx, Waitless};
+ghost use Rattle.txs_eval.specs.Told.{TellsTx, Waitless};
 ghost use Rattle.txs_eval_work.specs.Worked.{Gives, tx_state};
 ghost use Rattle.txs_tree.specs.Known.{known};
 ghost use Rattle.txs_tree.specs.Sound.{SoundTree, in_dosync};
@@ -11,12 +11,11 @@ ghost use Rattle.txs_tree.specs.View.{functions_of, tree_of};
 ghost use Rattle.txs_eval_work.specs.Views.{plain_view, world_of};
 ghost use Rattle.txs_value.specs.declared.value.Value.{Value as AnyValue};
 
-use crate::context::Context;
-use crate::evaluate::{copy_locals, evaluate};
 use crate::pure_call::EvalStop;
-use crate::state::State;
 use std::alloc::Global;
 use txs_eval_work::{RefView, ThreadStop, TxWork};
+use txs_evaluate::evaluate::{copy_locals, evaluate};
+use txs_evaluate::{Context, State};
 use txs_frame::TxFrame;
 use txs_tree::{Node, Program};
 use txs_value::{CellId, Fault, Listed, Value};

@@ -1,6 +1,7 @@
 use Rattle.std.proofs.Common.{[], ap, length, sym, subst, IfOk}
-use Rattle.txs_eval.specs.Evaluated.{Accounts, thread_state}
-use Rattle.txs_eval.specs.Events.{seen_events}
+use Rattle.txs_eval.specs.Told.{Accounts}
+use Rattle.txs_evaluate.specs.Evaluated.{thread_state}
+use Rattle.txs_evaluate.specs.Events.{seen_events}
 use Rattle.txs_tree.specs.Sound.{SoundFunctions}
 use Rattle.txs_tree.specs.View.{functions_of}
 use Rattle.txs_eval.proofs.Ends.{whole_of, sound_body, told_account}

@@ -1,4 +1,4 @@
-use Rattle.txs_eval.specs.Evaluated.{thread_state}
+use Rattle.txs_evaluate.specs.Evaluated.{thread_state}
 use Rattle.txs_eval.proofs.Ends.{accounted}
 use Rattle.txs_eval.proofs.meaning.tell_thread.Goals as goal
 

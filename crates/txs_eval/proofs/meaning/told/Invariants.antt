@@ -1,5 +1,5 @@
 use Rattle.std.proofs.Common.{◌≡◌, map}
-use Rattle.txs_eval.specs.Evaluated.{told_run}
+use Rattle.txs_eval.specs.Told.{told_run}
 use Rattle.txs_eval.proofs.meaning.told.Given as goal
 
 abbrev pub invariant-loop-run : goal.invariant-loop-run

@@ -1,0 +1,10 @@
+pub mod Acting
+pub mod Applying
+pub mod Called
+pub mod Counting
+pub mod Ending
+pub mod Evaluation
+pub mod Forms
+pub mod Leaf
+pub mod Recurs
+pub mod Shaping

@@ -1,0 +1,4 @@
+pub mod Evaluated
+pub mod Events
+pub mod Setting
+pub mod Shapes
