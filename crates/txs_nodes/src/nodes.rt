@@ -256,16 +256,6 @@ fn single_kind(single: Single, part: Box<Node>) -> NodeKind
     }
 }
 
-/// The kind of a form that calls something, of its cell and the nodes of its arguments.
-fn called_kind(change: Change, callee: Callee, cell: Box<Node>, args: Vec<Node>) -> NodeKind
-    ensures { (m : Mark) → kind_tree result m ≡ change_node change (tree_of cell.value) callee (nodes_tree args.items) m }
-{
-    match change {
-        Change::Update(form) => NodeKind::Update(form, cell, callee, args),
-        Change::Send => NodeKind::Send(cell, callee, args),
-    }
-}
-
 /// The kind of a form that calls something, of the nodes of its cell and its arguments.
 fn change_kind(
     alloc: Global,
@@ -279,7 +269,10 @@ fn change_kind(
     let mut args = parts;
     let cell = args.remove(0);
     let cell = Box::new(alloc, cell)?;
-    Ok(called_kind(change, callee, cell, args))
+    match change {
+        Change::Update(form) => Ok(NodeKind::Update(form, cell, callee, args)),
+        Change::Send => Ok(NodeKind::Send(cell, callee, args)),
+    }
 }
 
 /// The kind of a special form, of the nodes of its parts.
