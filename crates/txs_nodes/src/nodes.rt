@@ -183,25 +183,18 @@ fn last_two(alloc: Global, nodes: &mut Vec<Node>) -> Result<Branches, AllocError
     Ok(Branches { one, other })
 }
 
-/// A choice by a test. Turned, the second branch is the one of a true test.
-fn if_kind(turned: bool, test: Box<Node>, branches: Branches) -> NodeKind
-    ensures { (m : Mark) → kind_tree result m ≡ choice_node turned (tree_of test.value) (tree_of branches.one.value) (tree_of branches.other.value) m }
-{
-    let Branches { one, other } = branches;
-    if turned {
-        return NodeKind::If(test, other, one);
-    }
-    NodeKind::If(test, one, other)
-}
-
-/// The kind of a choice by a test, of these three nodes.
+/// The kind of a choice by a test, of these three nodes. Turned, the second branch is the one of a true test.
 fn choice_kind(alloc: Global, turned: bool, parts: &mut Vec<Node>) -> Result<NodeKind, AllocError>
     requires { length parts.old.items ≡ 3 }
     ensures { IfOk result (λ k. (x y z : ANode) (m : Mark) → parts.old.items ≡ x ∷ y ∷ z ∷ [] → kind_tree k m ≡ choice_node turned (tree_of x) (tree_of y) (tree_of z) m) }
 {
     let branches = last_two(alloc, parts)?;
     let test = boxed_last(alloc, parts)?;
-    Ok(if_kind(turned, test, branches))
+    let Branches { one, other } = branches;
+    if turned {
+        return Ok(NodeKind::If(test, other, one));
+    }
+    Ok(NodeKind::If(test, one, other))
 }
 
 /// The kind of a row of nodes.
