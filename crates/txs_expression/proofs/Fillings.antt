@@ -100,6 +100,14 @@ module _ (s : Spot) (scope : Scope) where
   abbrev by : Resolver
   by = named (s.room - 1)
 
+  -- what is told of the form that a special form is
+  pub of_form : {f g : Special} (r : Result (Unit {0}) ResolveError) (before now : Nodes) → f ≡ g → Fills r g before now (spot_mark s) (put_together by scope s (special_form s.span g))
+      → Fills r f before now (spot_mark s) (put_together by scope s (special_form s.span f))
+  of_form r before now is h = subst (λ x. Fills r x before now (spot_mark s) (put_together by scope s (special_form s.span x))) (sym is) h
+
+  pub of_form_stops : {f g : Special} {e : ResolveError} → f ≡ g → put_together by scope s (special_form s.span g) ≡ Err e → put_together by scope s (special_form s.span f) ≡ Err e
+  of_form_stops is h = ap (λ x. put_together by scope s (special_form s.span x)) is ∙ h
+
   pub row_filled : (r : Result (Unit {0}) ResolveError) (k : Sequence) (fs : Bor (List Form)) (before now : Nodes) (w l : Bool) → w ≡ are_wanted k → l ≡ (are_wanted k || s.wanted)
       → PushesAll r before now (narrow (0 + length fs.now) s (named_all by scope w l (plain fs.now)))
       → Fills r (special.Row k fs) before now (spot_mark s) (put_together by scope s (special_form s.span (special.Row k fs)))

@@ -7,13 +7,11 @@ ghost use Rattle.txs_expand.specs.Expressions.{changing, made, named, named_all,
 ghost use Rattle.txs_expression.specs.Given.{Becomes, Fills, IsWithin, PushesAll, PushesBound};
 ghost use Rattle.txs_nodes.specs.Given.{Pushes};
 ghost use Rattle.txs_expand.specs.Parts.{part_form, plain, special_form, PartFits, SpecialFits};
-ghost use Rattle.txs_expand.specs.declared.parts.Special.TheVariants as special;
 
 use crate::below::{are_wanted, bindable, flag_at, hide, inner, last_wanted, part_wanted};
 use std::alloc::Global;
 use txs_expand::{
-    Change, Core, Couple, Part, ResolveError, ResolveErrorKind, Special, Spot, callee, core_at,
-    refusal,
+    Change, Core, Part, ResolveError, ResolveErrorKind, Special, Spot, callee, core_at, refusal,
 };
 use txs_names::{FormName, Scope};
 use txs_nodes::{Nodes, Stop, build, build_change, push_whole};
@@ -98,7 +96,7 @@ fn changed<'a>(
     Ok(())
 }
 
-/// The nodes of a special form's parts.
+/// The nodes of a special form's parts, in source order. Behind them no more is in scope than before.
 #[cycle(resolve)]
 fn children<'a>(
     alloc: Global,
@@ -112,128 +110,42 @@ fn children<'a>(
     ensures nodes { Fills result special.entry parts.old parts.new (spot_mark spot) (put_together (named (spot.room - 1)) scope.old spot (special_form spot.span special.entry)) }
     ensures kept { OnOk result (scope.new ≡ scope.old) }
 {
+    // One whose value is wanted, and one whose value is the form's own.
+    let (value, tail) = (inner(spot, true), inner(spot, spot.wanted));
     match special {
         Special::Row(kind, forms) => {
             let (wanted, last) = (are_wanted(kind), last_wanted(kind, spot.wanted));
             items(alloc, scope, parts, spot, 0, wanted, last, forms)
-        },
-        Special::Single(single, part) => {
-            let inner = inner(spot, part_wanted(single, spot.wanted));
-            expression(alloc, scope, parts, inner, part)
         }
-        Special::Pair(couple, first, second) => pair(
-            alloc, scope, parts, spot, couple, first, second,
-        ),
-        Special::Choice(turned, test, one, other) => choice(
-            alloc, scope, parts, spot, turned, test, one, other,
-        ),
-        Special::Binding(is_loop, pairs, forms) => bound(
-            alloc, scope, parts, spot, is_loop, pairs, forms,
-        ),
-        Special::Hidden(is_or, first, rest) => hidden(
-            alloc, scope, parts, spot, is_or, first, rest,
-        ),
+        Special::Single(single, part) => {
+            let only = inner(spot, part_wanted(single, spot.wanted));
+            expression(alloc, scope, parts, only, part)
+        }
+        Special::Pair(_, first, second) => {
+            expression(alloc, scope, parts, value, first)?;
+            expression(alloc, scope, parts, value, Part::Written(second))
+        }
+        Special::Choice(_, test, one, other) => {
+            expression(alloc, scope, parts, value, test)?;
+            expression(alloc, scope, parts, tail, one)?;
+            expression(alloc, scope, parts, tail, other)
+        }
+        Special::Binding(_, pairs, forms) => {
+            let outer = scope.len();
+            bindings(alloc, scope, parts, spot, pairs)?;
+            expression(alloc, scope, parts, tail, Part::List(FormName::Do, forms))?;
+            scope.truncate(outer);
+            Ok(())
+        }
+        Special::Hidden(is_or, first, rest) => {
+            expression(alloc, scope, parts, value, Part::Written(first))?;
+            let local = hide(scope, spot)?;
+            let choice = Part::Choice(local, is_or, rest);
+            expression(alloc, scope, parts, tail, choice)?;
+            scope.truncate(usize::from(local));
+            Ok(())
+        }
     }
-}
-
-/// The nodes of two parts, whose results are wanted.
-#[cycle(resolve)]
-fn pair<'a>(
-    alloc: Global,
-    scope: &mut Scope<'a>,
-    parts: &mut Nodes,
-    spot: Spot,
-    couple: Couple,
-    first: Part<'a>,
-    second: &'a Form,
-) -> Result<(), ResolveError>
-    requires room { 1 ≤ spot.room }
-    requires fits { PartFits scope.old first }
-    ensures nodes { Fills result (special.Pair couple first.entry second.entry) parts.old parts.new (spot_mark spot) (put_together (named (spot.room - 1)) scope.old spot (special_form spot.span (special.Pair couple first.entry second.entry))) }
-    ensures kept { OnOk result (scope.new ≡ scope.old) }
-{
-    let inner = inner(spot, true);
-    expression(alloc, scope, parts, inner, first)?;
-    expression(alloc, scope, parts, inner, Part::Written(second))
-}
-
-/// The nodes of a test and of its two branches, as they are written.
-#[cycle(resolve)]
-fn choice<'a>(
-    alloc: Global,
-    scope: &mut Scope<'a>,
-    parts: &mut Nodes,
-    spot: Spot,
-    turned: bool,
-    test: Part<'a>,
-    one: Part<'a>,
-    other: Part<'a>,
-) -> Result<(), ResolveError>
-    requires room { 1 ≤ spot.room }
-    requires fits { SpecialFits scope.old (special.Choice turned test one other) }
-    ensures nodes { Fills result (special.Choice turned test.entry one.entry other.entry) parts.old parts.new (spot_mark spot) (put_together (named (spot.room - 1)) scope.old spot (special_form spot.span (special.Choice turned test.entry one.entry other.entry))) }
-    ensures kept { OnOk result (scope.new ≡ scope.old) }
-{
-    let branch = inner(spot, spot.wanted);
-    expression(alloc, scope, parts, inner(spot, true), test)?;
-    expression(alloc, scope, parts, branch, one)?;
-    expression(alloc, scope, parts, branch, other)
-}
-
-/// The nodes of the values of a `let` or a `loop`, and of its body.
-#[cycle(resolve)]
-fn bound<'a>(
-    alloc: Global,
-    scope: &mut Scope<'a>,
-    parts: &mut Nodes,
-    spot: Spot,
-    is_loop: bool,
-    pairs: &'a [Form],
-    forms: &'a [Form],
-) -> Result<(), ResolveError>
-    requires room { 1 ≤ spot.room }
-    ensures nodes { Fills result (special.Binding is_loop pairs.entry forms.entry) parts.old parts.new (spot_mark spot) (put_together (named (spot.room - 1)) scope.old spot (special_form spot.span (special.Binding is_loop pairs.entry forms.entry))) }
-    ensures kept { OnOk result (scope.new ≡ scope.old) }
-{
-    let outer = scope.len();
-    bindings(alloc, scope, parts, spot, pairs)?;
-    expression(
-        alloc,
-        scope,
-        parts,
-        inner(spot, spot.wanted),
-        Part::List(FormName::Do, forms),
-    )?;
-    scope.truncate(outer);
-    Ok(())
-}
-
-/// The node of a value that is bound to a hidden local, and that of the choice by it.
-#[cycle(resolve)]
-fn hidden<'a>(
-    alloc: Global,
-    scope: &mut Scope<'a>,
-    parts: &mut Nodes,
-    spot: Spot,
-    is_or: bool,
-    first: &'a Form,
-    rest: &'a [Form],
-) -> Result<(), ResolveError>
-    requires room { 1 ≤ spot.room }
-    ensures nodes { Fills result (special.Hidden is_or first.entry rest.entry) parts.old parts.new (spot_mark spot) (put_together (named (spot.room - 1)) scope.old spot (special_form spot.span (special.Hidden is_or first.entry rest.entry))) }
-    ensures kept { OnOk result (scope.new ≡ scope.old) }
-{
-    expression(alloc, scope, parts, inner(spot, true), Part::Written(first))?;
-    let local = hide(scope, spot)?;
-    expression(
-        alloc,
-        scope,
-        parts,
-        inner(spot, spot.wanted),
-        Part::Choice(local, is_or, rest),
-    )?;
-    scope.truncate(usize::from(local));
-    Ok(())
 }
 
 /// The nodes of the values of a `let` or a `loop`, with its names in scope.

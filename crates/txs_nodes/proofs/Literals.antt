@@ -40,6 +40,11 @@ module _ (room : ℕ) (fs : List Form) (i : ℕ) (vs : List Value) where
       ∙ ap (λ (o : Answer Value). values_after vs (o >>= λ w. rest >>= λ ws. Ok (w ∷ ws))) e
       ∙ values_snoc vs v rest
 
+  pub literals_stop : (d : Form) (e : ResolveError) → i < length fs → literal room (tree (get_or fs i d)) ≡ Err e → values_after vs (literals room (plain (drop i fs))) ≡ Err e
+  literals_stop d e lt h =
+      let rest = literals room (plain (drop (i + 1) fs)) in
+      ap (λ l. values_after vs (literals room l)) (plain_at fs i d lt) ∙ ap (λ (o : Answer Value). values_after vs (o >>= λ w. rest >>= λ ws. Ok (w ∷ ws))) h
+
 -- one value more
 pub deeper : (vs : List Value) (v : Value) (n : ℕ) → row_depth (plain_row (plains_of vs)) ≤ n → depth (plain_of v) ≤ n → row_depth (plain_row (plains_of (vs ++ v ∷ []))) ≤ n
 deeper [] v n some one = omega (arith, one)

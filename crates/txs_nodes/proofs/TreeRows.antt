@@ -1,5 +1,6 @@
 -- Nodes, seen as the row of their trees.
-use Rattle.std.proofs.Common.{◌≡◌, ◌++◌, Bool, true, false, List, [], ◌∷◌, Result, Ok, Err, OnOk, is_ok, map, refl, sym, ap, ◌∙◌}
+use Rattle.std.proofs.Common.{◌≡◌, ◌++◌, Bool, true, false, List, [], ◌∷◌, Option, Some, None, IfSome, OnSome, is_some, Result, Ok, Err, IfOk, is_ok, if◌then◌else◌, map, refl, sym, subst, ap, ◌∙◌}
+use Rattle.std.specs.Result.{result_ok}
 use Rattle.std.proofs.lemmas.List.{map-append}
 use Rattle.txs_tree.specs.Tree.{Mark, Tree, more}
 use Rattle.txs_tree.specs.View.{tree_of, trees_of}
@@ -18,10 +19,20 @@ row_trees (n ∷ ns) = ap (more (tree_of n)) (row_trees ns)
 pub put_behind : (before now : List Node) (t : Tree) → IsBehind before now t → map tree_of now ≡ map tree_of before ++ t ∷ []
 put_behind before now t h = ap (map tree_of) h.1 ∙ map-append tree_of before (h.0 ∷ []) ∙ ap (λ (x : Tree). map tree_of before ++ x ∷ []) h.2
 
--- what is told of an answer that is there
-pub was_ok : {A E : Type 0} (r : Result A E) (P : Type 0) → is_ok r ≡ true → OnOk r P → P
-was_ok (Ok x) P h p = p
-was_ok (Err e) P h p = absurd cc
+-- what is told of an answer's value, where it is forgotten why there is none
+pub some_of : {A E : Type 0} (r : Result A E) (o : Option A) (P Q : A → Type 0) → o ≡ result_ok r → ((x : A) → P x → Q x) → IfOk r P → IfSome o Q
+some_of (Ok x) o P Q is go h = subst (λ z. IfSome z Q) (sym is) (go x h)
+some_of (Err e) o P Q is go h = subst (λ z. IfSome z Q) (sym is) tt
+
+-- what is told of a value that is there
+pub was_some : {A : Type 0} (o : Option A) (P : Type 0) → is_some o ≡ true → OnSome o P → P
+was_some (Some x) P h p = p
+was_some None P h p = absurd cc
+
+-- one more node, where there was memory for it
+pub behind : {E : Type 0} (r : Result (Unit {0}) E) (o : Option (Unit {0})) (before now : List Node) (n : Node) (t : Tree) → o ≡ result_ok r → now ≡ (if is_ok r then before ++ n ∷ [] else before) → tree_of n ≡ t → OnSome o (IsBehind before now t)
+behind (Ok u) o before now n t is items made = subst (λ z. OnSome z (IsBehind before now t)) (sym is) (n, items, made)
+behind (Err e) o before now n t is items made = subst (λ z. OnSome z (IsBehind before now t)) (sym is) tt
 
 -- ---- the nodes of some trees
 

@@ -1,10 +1,11 @@
 //! How many levels a tree has.
 
-ghost use Rattle.std.specs.Prelude.{◌≡◌, ◌≤◌};
+ghost use Rattle.std.specs.Prelude.{◌≡◌, ◌≤◌, max, suc};
 ghost use Rattle.txs_nodes.specs.Depths.{at_place, callee_depth, depths, depths_in};
 ghost use Rattle.txs_tree.specs.View.{tree_of, trees_of};
 ghost use Rattle.txs_value.specs.Limits.{most_levels};
 
+use std::slice::from_ref;
 use txs_tree::{Node, NodeKind};
 use txs_value::Callee;
 
@@ -28,41 +29,40 @@ fn of_callee(known: &[u16], callee: Callee) -> usize
     }
 }
 
+/// What a node's levels are counted from: the levels of what it calls, and up to three rows of parts.
+fn parts<'a>(known: &[u16], node: &'a Node) -> (usize, &'a [Node], &'a [Node], &'a [Node])
+    ensures { depths known.now (tree_of node.now) ≡ suc (max result.0 (max (depths_in known.now (trees_of result.1.now)) (max (depths_in known.now (trees_of result.2.now)) (depths_in known.now (trees_of result.3.now))))) }
+{
+    let none: &[Node] = &[];
+    match &node.kind {
+        NodeKind::Const(_) | NodeKind::Local(_) => (0, none, none, none),
+        NodeKind::If(test, yes, no) => (0, from_ref(test), from_ref(yes), from_ref(no)),
+        NodeKind::Do(items)
+        | NodeKind::Recur(items)
+        | NodeKind::Core(_, items)
+        | NodeKind::Vector(items)
+        | NodeKind::Println(items) => (0, items, none, none),
+        NodeKind::Call(number, args) => (at_place(known, *number), args, none, none),
+        NodeKind::Let(values, body) | NodeKind::Loop(values, body) => {
+            (0, values, from_ref(body), none)
+        }
+        NodeKind::Dosync(part) | NodeKind::Look(_, part) => (0, from_ref(part), none, none),
+        NodeKind::Put(_, cell, value) => (0, from_ref(cell), from_ref(value), none),
+        NodeKind::Update(_, cell, callee, args) | NodeKind::Send(cell, callee, args) => {
+            (of_callee(known, *callee), from_ref(cell), args, none)
+        }
+    }
+}
+
 /// How many nodes stand in one another at most, with those of the functions that are called, whose levels are known.
 #[cycle(levels)]
 pub fn levels(known: &[u16], node: &Node) -> usize
     requires { depths known.now (tree_of node.now) ≤ most_levels }
     ensures { result ≡ depths known.now (tree_of node.now) }
 {
-    match &node.kind {
-        NodeKind::Const(_) => 1,
-        NodeKind::Local(_) => 1,
-        NodeKind::If(test, yes, no) => {
-            let branches = levels(known, yes).max(levels(known, no));
-            1 + levels(known, test).max(branches)
-        }
-        NodeKind::Do(items) => 1 + most_levels(known, items),
-        NodeKind::Let(values, body) => 1 + most_levels(known, values).max(levels(known, body)),
-        NodeKind::Loop(values, body) => 1 + most_levels(known, values).max(levels(known, body)),
-        NodeKind::Recur(values) => 1 + most_levels(known, values),
-        NodeKind::Core(_, args) => 1 + most_levels(known, args),
-        NodeKind::Call(number, args) => {
-            1 + at_place(known, *number).max(most_levels(known, args))
-        }
-        NodeKind::Vector(items) => 1 + most_levels(known, items),
-        NodeKind::Println(args) => 1 + most_levels(known, args),
-        NodeKind::Dosync(body) => 1 + levels(known, body),
-        NodeKind::Look(_, cell) => 1 + levels(known, cell),
-        NodeKind::Put(_, cell, value) => 1 + levels(known, cell).max(levels(known, value)),
-        NodeKind::Update(_, cell, callee, args) => {
-            let parts = levels(known, cell).max(most_levels(known, args));
-            1 + of_callee(known, *callee).max(parts)
-        }
-        NodeKind::Send(cell, callee, args) => {
-            let parts = levels(known, cell).max(most_levels(known, args));
-            1 + of_callee(known, *callee).max(parts)
-        }
-    }
+    let (called, first, second, third) = parts(known, node);
+    let most = most_levels(known, second).max(most_levels(known, third));
+    1 + called.max(most_levels(known, first).max(most))
 }
 
 /// The most of them that one of the nodes has.

@@ -1,6 +1,6 @@
 //! Nodes of what is resolved: of forms without parts, and of special forms by the nodes of their parts.
 
-ghost use Rattle.std.specs.Prelude.{◌≡◌, ◌<◌, ◌≤◌, ◌+◌, ◌-◌, [], ◌∷◌, ◌++◌, List, false, true, is_some, length, map, Ok, IfOk, IfSome, OnOk};
+ghost use Rattle.std.specs.Prelude.{◌≡◌, ◌<◌, ◌≤◌, ◌+◌, ◌-◌, [], ◌∷◌, ◌++◌, List, false, true, is_some, length, map, Ok, IfOk, IfSome, OnSome};
 ghost use Rattle.txs_expand.specs.Expressions.{change_node, choice_node, single_node, leaf_node, binding_node, sequence_node, spot_mark, symbol_node};
 ghost use Rattle.txs_nodes.specs.Given.{row, IsBehind, Pushes, Puts, Shows};
 ghost use Rattle.txs_nodes.specs.Made.{couple_node, simple_tree, with_room, IsMade, IsSimple, Makes};
@@ -65,17 +65,6 @@ pub enum Simple<'s> {
     Truth,
 }
 
-/// A node of this kind at this spot.
-fn node(spot: Spot, kind: NodeKind) -> Node
-    ensures { result ≡ record { kind = kind; span = spot.span; wanted = spot.wanted } }
-{
-    Node {
-        kind,
-        span: spot.span,
-        wanted: spot.wanted,
-    }
-}
-
 /// The branches of a choice, or another two nodes.
 #[derive(Drop)]
 struct Branches {
@@ -131,14 +120,28 @@ fn simple_kind(simple: Simple<'_>) -> Result<NodeKind, Stop>
     }
 }
 
-/// The node of what has no parts, behind these nodes.
-fn push_simple(nodes: &mut Vec<Node>, spot: Spot, simple: Simple<'_>) -> Result<(), Stop>
-    requires { IsSimple simple }
-    ensures { OnOk result (IsBehind nodes.old.items nodes.new.items (simple_tree simple.entry (spot_mark spot))) }
+/// The node of this kind at this spot, behind these nodes; none where there is no kind, or no memory for the node.
+fn try_push(nodes: &mut Vec<Node>, spot: Spot, kind: Option<NodeKind>) -> Option<()>
+    ensures { (t : Tree) → IfSome kind (λ k. kind_tree k (spot_mark spot) ≡ t) → OnSome result (IsBehind nodes.old.items nodes.new.items t) }
 {
-    let kind = simple_kind(simple)?;
-    nodes.push(node(spot, kind))?;
-    Ok(())
+    let kind = kind?;
+    let node = Node {
+        kind,
+        span: spot.span,
+        wanted: spot.wanted,
+    };
+    nodes.push(node).ok()
+}
+
+/// The node of this kind at this spot, behind these nodes, which are lost where memory was wanted for the kind or is for
+/// the node.
+fn push(nodes: &mut Nodes, spot: Spot, kind: Option<NodeKind>)
+    ensures { (t : Tree) → IfSome kind (λ k. kind_tree k (spot_mark spot) ≡ t) → Puts nodes.old nodes.new (t ∷ []) }
+{
+    if try_push(&mut nodes.items, spot, kind).is_some() {
+        return;
+    }
+    nodes.lost = true;
 }
 
 /// The node of a form without parts, behind these nodes.
@@ -155,10 +158,7 @@ pub fn push_whole(
     if spot.room == 0 {
         return Err(refusal(ResolveErrorKind::TooMany, spot.span));
     }
-    if push_simple(&mut nodes.items, spot, simple).is_ok() {
-        return Ok(());
-    }
-    nodes.lost = true;
+    push(nodes, spot, simple_kind(simple).ok());
     Ok(())
 }
 
@@ -183,25 +183,18 @@ fn last_two(alloc: Global, nodes: &mut Vec<Node>) -> Result<Branches, AllocError
     Ok(Branches { one, other })
 }
 
-/// A choice by a test. Turned, the second branch is the one of a true test.
-fn if_kind(turned: bool, test: Box<Node>, branches: Branches) -> NodeKind
-    ensures { (m : Mark) → kind_tree result m ≡ choice_node turned (tree_of test.value) (tree_of branches.one.value) (tree_of branches.other.value) m }
-{
-    let Branches { one, other } = branches;
-    if turned {
-        return NodeKind::If(test, other, one);
-    }
-    NodeKind::If(test, one, other)
-}
-
-/// The kind of a choice by a test, of these three nodes.
+/// The kind of a choice by a test, of these three nodes. Turned, the second branch is the one of a true test.
 fn choice_kind(alloc: Global, turned: bool, parts: &mut Vec<Node>) -> Result<NodeKind, AllocError>
     requires { length parts.old.items ≡ 3 }
     ensures { IfOk result (λ k. (x y z : ANode) (m : Mark) → parts.old.items ≡ x ∷ y ∷ z ∷ [] → kind_tree k m ≡ choice_node turned (tree_of x) (tree_of y) (tree_of z) m) }
 {
     let branches = last_two(alloc, parts)?;
     let test = boxed_last(alloc, parts)?;
-    Ok(if_kind(turned, test, branches))
+    let Branches { one, other } = branches;
+    if turned {
+        return Ok(NodeKind::If(test, other, one));
+    }
+    Ok(NodeKind::If(test, one, other))
 }
 
 /// The kind of a row of nodes.
@@ -256,16 +249,6 @@ fn single_kind(single: Single, part: Box<Node>) -> NodeKind
     }
 }
 
-/// The kind of a form that calls something, of its cell and the nodes of its arguments.
-fn called_kind(change: Change, callee: Callee, cell: Box<Node>, args: Vec<Node>) -> NodeKind
-    ensures { (m : Mark) → kind_tree result m ≡ change_node change (tree_of cell.value) callee (nodes_tree args.items) m }
-{
-    match change {
-        Change::Update(form) => NodeKind::Update(form, cell, callee, args),
-        Change::Send => NodeKind::Send(cell, callee, args),
-    }
-}
-
 /// The kind of a form that calls something, of the nodes of its cell and its arguments.
 fn change_kind(
     alloc: Global,
@@ -279,7 +262,10 @@ fn change_kind(
     let mut args = parts;
     let cell = args.remove(0);
     let cell = Box::new(alloc, cell)?;
-    Ok(called_kind(change, callee, cell, args))
+    match change {
+        Change::Update(form) => Ok(NodeKind::Update(form, cell, callee, args)),
+        Change::Send => Ok(NodeKind::Send(cell, callee, args)),
+    }
 }
 
 /// The kind of a special form, of the nodes of its parts.
@@ -298,22 +284,6 @@ fn kind_of(alloc: Global, special: Special<'_>, parts: Vec<Node>) -> Result<Node
     }
 }
 
-/// The node of a special form, of the nodes of its parts, behind these nodes.
-fn push_built(
-    alloc: Global,
-    nodes: &mut Vec<Node>,
-    spot: Spot,
-    special: Special<'_>,
-    parts: Vec<Node>,
-) -> Result<(), AllocError>
-    requires { (m : Mark) → (t : Tree) × IsMade special parts.items m t }
-    ensures { (t : Tree) → IsMade special.entry parts.items (spot_mark spot) t → OnOk result (IsBehind nodes.old.items nodes.new.items t) }
-{
-    let kind = kind_of(alloc, special, parts)?;
-    nodes.push(node(spot, kind))?;
-    Ok(())
-}
-
 /// The node of a special form, of the nodes of its parts, behind these nodes, which are lost where those are.
 pub fn build(alloc: Global, nodes: &mut Nodes, spot: Spot, special: Special<'_>, parts: Nodes)
     requires { parts.lost ≡ false → (m : Mark) → (t : Tree) × Makes special (map tree_of parts.items.items) m t }
@@ -324,27 +294,7 @@ pub fn build(alloc: Global, nodes: &mut Nodes, spot: Spot, special: Special<'_>,
         nodes.lost = true;
         return;
     }
-    if push_built(alloc, &mut nodes.items, spot, special, parts.items).is_ok() {
-        return;
-    }
-    nodes.lost = true;
-}
-
-/// The node of a form that calls something, of the nodes of its cell and its arguments, behind these nodes.
-fn push_change(
-    alloc: Global,
-    nodes: &mut Vec<Node>,
-    spot: Spot,
-    change: Change,
-    callee: Callee,
-    parts: Vec<Node>,
-) -> Result<(), AllocError>
-    requires { 0 < length parts.items }
-    ensures { (n : ANode) (vs : List ANode) → parts.items ≡ n ∷ vs → OnOk result (IsBehind nodes.old.items nodes.new.items (change_node change (tree_of n) callee (nodes_tree vs) (spot_mark spot))) }
-{
-    let kind = change_kind(alloc, change, callee, parts)?;
-    nodes.push(node(spot, kind))?;
-    Ok(())
+    push(nodes, spot, kind_of(alloc, special, parts.items).ok());
 }
 
 /// The node of a form that calls something, of the nodes of its cell and its arguments, behind these nodes, which are
@@ -365,8 +315,9 @@ pub fn build_change(
         nodes.lost = true;
         return;
     }
-    if push_change(alloc, &mut nodes.items, spot, change, callee, parts.items).is_ok() {
-        return;
-    }
-    nodes.lost = true;
+    push(
+        nodes,
+        spot,
+        change_kind(alloc, change, callee, parts.items).ok(),
+    );
 }

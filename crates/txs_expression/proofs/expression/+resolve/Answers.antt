@@ -10,13 +10,13 @@ use Rattle.txs_expand.specs.declared.error.ResolveError.{ResolveError}
 use Rattle.txs_expand.specs.declared.shapes.Spot.{Spot}
 use Rattle.txs_expand.specs.declared.parts.Core.TheVariants as core
 use Rattle.txs_expand.specs.Expressions.{bound_name, change_node, flag, named, named_all, named_bindings, put_together, spot_mark}
-use Rattle.txs_expression.specs.Given.{Fills, IsWithin}
+use Rattle.txs_expression.specs.Given.{IsWithin}
 use Rattle.txs_nodes.specs.Given.{row, Pushes}
 use Rattle.txs_nodes.specs.Made.{Makes}
 use Rattle.txs_expand.specs.Parts.{core_form, part_form, plain, special_form}
 use Rattle.txs_expand.proofs.Rows.{roomy}
 use Rattle.txs_expression.proofs.Building.{all_end, all_step, bindings_end, bindings_step, bindings_unvalued, bound_after, puts_more, puts_none, within_push}
-use Rattle.txs_expression.proofs.Fillings.{args_then, bound_filled, choice_filled, hidden_filled, hidden_full, hidden_stops, named_core, named_stop, narrow_ok, pair_filled, pair_stops, remade, row_filled, shown, single_filled}
+use Rattle.txs_expression.proofs.Fillings.{args_then, bound_filled, choice_filled, hidden_filled, hidden_full, hidden_stops, named_core, named_stop, narrow_ok, of_form, of_form_stops, pair_filled, pair_stops, remade, row_filled, shown, single_filled}
 use Rattle.txs_expression.proofs.Stops.{bound_nil}
 use Rattle.txs_expression.proofs.expression.+resolve.Goals as goal
 
@@ -102,69 +102,80 @@ changed-returns-clause-node t c =
 pub children-returns-in-Row-clause-nodes : goal.children-returns-in-Row-clause-nodes
 children-returns-in-Row-clause-nodes t c =
     let s = c.args.spot in
-    subst (λ f. Fills c.items.result f c.args.parts.now c.items.new.nodes (spot_mark s) (put_together (named (s.room - 1)) c.args.scope.now s (special_form s.span f))) (sym c.in-Row.is)
+    of_form s c.args.scope.now c.items.result c.args.parts.now c.items.new.nodes c.in-Row.is
     (row_filled s c.args.scope.now c.items.result c.in-Row.kind c.in-Row.forms c.args.parts.now c.items.new.nodes c.are_wanted-wanted.result c.last_wanted-last.result c.are_wanted-wanted.ensures c.last_wanted-last.ensures c.items.ensures.nodes)
 
 pub children-returns-in-Single-clause-nodes : goal.children-returns-in-Single-clause-nodes
 children-returns-in-Single-clause-nodes t c =
     let s = c.args.spot in
     let e = c.expression in
-    subst (λ f. Fills e.result f c.args.parts.now e.new.nodes (spot_mark s) (put_together (named (s.room - 1)) c.args.scope.now s (special_form s.span f))) (sym c.in-Single.is)
-    (single_filled s c.args.scope.now e.result c.in-Single.single c.in-Single.part c.args.parts.now e.new.nodes c.inner-inner.result c.part_wanted.result c.part_wanted.ensures c.inner-inner.ensures e.ensures.node)
+    of_form s c.args.scope.now e.result c.args.parts.now e.new.nodes c.in-Single.is
+    (single_filled s c.args.scope.now e.result c.in-Single.single c.in-Single.part c.args.parts.now e.new.nodes c.inner-only.result c.part_wanted.result c.part_wanted.ensures c.inner-only.ensures e.ensures.node)
 
-pub pair-returns-in_err-expression-clause-nodes : goal.pair-returns-in_err-expression-clause-nodes
-pair-returns-in_err-expression-clause-nodes t c =
+pub children-returns-in_err-expression-in-Pair-clause-nodes : goal.children-returns-in_err-expression-in-Pair-clause-nodes
+children-returns-in_err-expression-in-Pair-clause-nodes t c =
     let p = err_from_is_err_and c.from_residual.result c.from_residual.ensures.1 in
-    rw (p.1, p.2) (pair_stops c.args.spot c.args.scope.now c.args.couple c.args.first c.args.second c.inner-inner.result _ c.inner-inner.ensures c.in_err-expression.ensures.node)
+    let k = c.in-Pair in
+    rw (p.1, p.2) (of_form_stops c.args.spot c.args.scope.now k.is (pair_stops c.args.spot c.args.scope.now k.field-0 k.first k.second c.inner-value.result _ c.inner-value.ensures c.in_err-expression-in-Pair.ensures.node))
 
-pub pair-returns-clause-nodes : goal.pair-returns-clause-nodes
-pair-returns-clause-nodes t c =
-    let a = c.in_ok-expression.ensures in
-    let e = c.expression-2 in
-    pair_filled c.args.spot c.args.scope.now e.result c.args.couple c.args.first c.args.second c.expression.new.scope c.args.parts.now c.expression.new.nodes e.new.nodes c.inner-inner.result a.node.0
-    c.inner-inner.ensures a.kept a.node.1 a.node.2 e.ensures.node
+pub children-returns-in_ok-expression-in-Pair-clause-nodes : goal.children-returns-in_ok-expression-in-Pair-clause-nodes
+children-returns-in_ok-expression-in-Pair-clause-nodes t c =
+    let k = c.in-Pair in
+    let a = c.in_ok-expression-in-Pair.ensures in
+    let e = c.expression-in-Pair-2 in
+    of_form c.args.spot c.args.scope.now e.result c.args.parts.now e.new.nodes k.is
+    (pair_filled c.args.spot c.args.scope.now e.result k.field-0 k.first k.second c.expression-in-Pair.new.scope c.args.parts.now c.expression-in-Pair.new.nodes e.new.nodes c.inner-value.result a.node.0
+    c.inner-value.ensures a.kept a.node.1 a.node.2 e.ensures.node)
 
-pub choice-returns-clause-nodes : goal.choice-returns-clause-nodes
-choice-returns-clause-nodes t c =
-    let a = c.in_ok-expression.ensures in
-    let b = c.in_ok-expression-2.ensures in
-    let e = c.expression-3 in
-    choice_filled c.args.spot c.args.scope.now e.result c.args.turned c.args.test c.args.one c.args.other c.expression.new.scope c.expression-2.new.scope c.args.parts.now c.expression.new.nodes c.expression-2.new.nodes e.new.nodes
-    c.inner.result c.inner-branch.result a.node.0 b.node.0 c.inner.ensures c.inner-branch.ensures a.kept b.kept a.node.1 a.node.2 b.node.1 b.node.2 e.ensures.node
+pub children-returns-in_ok-expression-in-Choice-2-clause-nodes : goal.children-returns-in_ok-expression-in-Choice-2-clause-nodes
+children-returns-in_ok-expression-in-Choice-2-clause-nodes t c =
+    let k = c.in-Choice in
+    let a = c.in_ok-expression-in-Choice.ensures in
+    let b = c.in_ok-expression-in-Choice-2.ensures in
+    let e = c.expression-in-Choice-3 in
+    of_form c.args.spot c.args.scope.now e.result c.args.parts.now e.new.nodes k.is
+    (choice_filled c.args.spot c.args.scope.now e.result k.field-0 k.test k.one k.other c.expression-in-Choice.new.scope c.expression-in-Choice-2.new.scope c.args.parts.now c.expression-in-Choice.new.nodes c.expression-in-Choice-2.new.nodes e.new.nodes
+    c.inner-value.result c.inner-tail.result a.node.0 b.node.0 c.inner-value.ensures c.inner-tail.ensures a.kept b.kept a.node.1 a.node.2 b.node.1 b.node.2 e.ensures.node)
 
-pub bound-returns-clause-nodes : goal.bound-returns-clause-nodes
-bound-returns-clause-nodes t c =
-    let v = c.in_ok-bindings.ensures.values in
-    let n = c.in_ok-expression.ensures.node in
-    bound_filled c.args.spot c.args.scope.now c.args.is_loop c.args.pairs c.args.forms c.bindings.new.scope c.args.parts.now c.bindings.new.values c.expression.new.nodes v.0 c.inner.result n.0
-    c.inner.ensures v.1 v.2 n.1 n.2
+pub children-returns-in_ok-expression-in-Binding-clause-nodes : goal.children-returns-in_ok-expression-in-Binding-clause-nodes
+children-returns-in_ok-expression-in-Binding-clause-nodes t c =
+    let k = c.in-Binding in
+    let v = c.in_ok-bindings-in-Binding.ensures.values in
+    let n = c.in_ok-expression-in-Binding.ensures.node in
+    of_form c.args.spot c.args.scope.now (Ok tt) c.args.parts.now c.expression-in-Binding.new.nodes k.is
+    (bound_filled c.args.spot c.args.scope.now k.field-0 k.pairs k.forms c.bindings.new.scope c.args.parts.now c.bindings.new.values c.expression-in-Binding.new.nodes v.0 c.inner-tail.result n.0
+    c.inner-tail.ensures v.1 v.2 n.1 n.2)
 
 -- ---- hidden locals
 
-pub hidden-returns-in_err-local-clause-nodes : goal.hidden-returns-in_err-local-clause-nodes
-hidden-returns-in_err-local-clause-nodes t c =
-    let p = err_from_is_err_and c.from_residual-in_err-local.result c.from_residual-in_err-local.ensures.1 in
+pub children-returns-in_err-local-in-Hidden-clause-nodes : goal.children-returns-in_err-local-in-Hidden-clause-nodes
+children-returns-in_err-local-in-Hidden-clause-nodes t c =
+    let p = err_from_is_err_and c.from_residual-in_err-local-in-Hidden.result c.from_residual-in_err-local-in-Hidden.ensures.1 in
     let s = c.args.spot in
-    let a = c.in_ok-expression.ensures in
-    let h = c.in_err-local.ensures in
-    rw (p.1, p.2) (hidden_full s c.args.scope.now c.args.is_or c.args.first c.args.rest c.inner.result a.node.0 c.inner.ensures a.node.1 (subst (λ (z : Scope). 200 ≤ length z.locals) a.kept h.0) ∙ ap (λ (x : ResolveError). Err x) (sym h.1))
+    let k = c.in-Hidden in
+    let a = c.in_ok-expression-in-Hidden.ensures in
+    let h = c.in_err-local-in-Hidden.ensures in
+    rw (p.1, p.2) (of_form_stops s c.args.scope.now k.is (hidden_full s c.args.scope.now k.is_or k.first k.rest c.inner-value.result a.node.0 c.inner-value.ensures a.node.1 (subst (λ (z : Scope). 200 ≤ length z.locals) a.kept h.0)) ∙ ap (λ (x : ResolveError). Err x) (sym h.1))
 
-pub hidden-returns-in_err-expression-2-clause-nodes : goal.hidden-returns-in_err-expression-2-clause-nodes
-hidden-returns-in_err-expression-2-clause-nodes t c =
-    let p = err_from_is_err_and c.from_residual-in_err-expression-2.result c.from_residual-in_err-expression-2.ensures.1 in
-    let a = c.in_ok-expression.ensures in
-    let h = c.in_ok-local.ensures in
-    rw (p.1, p.2) (hidden_stops c.args.spot c.args.scope.now c.args.is_or c.args.first c.args.rest c.inner.result a.node.0 c.inner.ensures a.node.1 c.inner-2.result c.hide.new.scope c.in_ok-local.local c.inner-2.ensures
-    (h.2 ∙ ap (with_local []) a.kept) (subst (λ (z : Scope). length z.locals < 200) a.kept h.1) _ c.in_err-expression-2.ensures.node)
+pub children-returns-in_err-expression-in-Hidden-2-clause-nodes : goal.children-returns-in_err-expression-in-Hidden-2-clause-nodes
+children-returns-in_err-expression-in-Hidden-2-clause-nodes t c =
+    let p = err_from_is_err_and c.from_residual-in_err-expression-in-Hidden-2.result c.from_residual-in_err-expression-in-Hidden-2.ensures.1 in
+    let k = c.in-Hidden in
+    let a = c.in_ok-expression-in-Hidden.ensures in
+    let h = c.in_ok-local-in-Hidden.ensures in
+    rw (p.1, p.2) (of_form_stops c.args.spot c.args.scope.now k.is (hidden_stops c.args.spot c.args.scope.now k.is_or k.first k.rest c.inner-value.result a.node.0 c.inner-value.ensures a.node.1 c.inner-tail.result c.hide.new.scope c.in_ok-local-in-Hidden.local c.inner-tail.ensures
+    (h.2 ∙ ap (with_local []) a.kept) (subst (λ (z : Scope). length z.locals < 200) a.kept h.1) _ c.in_err-expression-in-Hidden-2.ensures.node))
 
-pub hidden-returns-clause-nodes : goal.hidden-returns-clause-nodes
-hidden-returns-clause-nodes t c =
-    let a = c.in_ok-expression.ensures in
-    let b = c.in_ok-expression-2.ensures in
-    let h = c.in_ok-local.ensures in
-    hidden_filled c.args.spot c.args.scope.now c.args.is_or c.args.first c.args.rest c.inner.result a.node.0 c.inner.ensures a.node.1 c.inner-2.result c.hide.new.scope c.in_ok-local.local c.inner-2.ensures
+pub children-returns-in_ok-expression-in-Hidden-2-clause-nodes : goal.children-returns-in_ok-expression-in-Hidden-2-clause-nodes
+children-returns-in_ok-expression-in-Hidden-2-clause-nodes t c =
+    let k = c.in-Hidden in
+    let a = c.in_ok-expression-in-Hidden.ensures in
+    let b = c.in_ok-expression-in-Hidden-2.ensures in
+    let h = c.in_ok-local-in-Hidden.ensures in
+    of_form c.args.spot c.args.scope.now (Ok tt) c.args.parts.now c.expression-in-Hidden-2.new.nodes k.is
+    (hidden_filled c.args.spot c.args.scope.now k.is_or k.first k.rest c.inner-value.result a.node.0 c.inner-value.ensures a.node.1 c.inner-tail.result c.hide.new.scope c.in_ok-local-in-Hidden.local c.inner-tail.ensures
     (h.2 ∙ ap (with_local []) a.kept) (subst (λ (z : Scope). length z.locals < 200) a.kept h.1)
-    c.args.parts.now c.expression.new.nodes c.expression-2.new.nodes b.node.0 a.node.2 b.node.1 b.node.2
+    c.args.parts.now c.expression-in-Hidden.new.nodes c.expression-in-Hidden-2.new.nodes b.node.0 a.node.2 b.node.1 b.node.2)
 
 -- ---- bindings
 

@@ -28,31 +28,19 @@ decreases-bindings-loop-at l = length l.pairs - l.at
 
 -- each part finds one level less; within a level the functions are ranked among one another
 abbrev pub decreases-expression : goal.decreases-expression
-decreases-expression l = 8 * l.spot.room + 6
+decreases-expression l = 4 * l.spot.room + 3
 
 abbrev pub decreases-parted : goal.decreases-parted
-decreases-parted l = 8 * l.spot.room + 5
+decreases-parted l = 4 * l.spot.room + 2
 
 abbrev pub decreases-changed : goal.decreases-changed
-decreases-changed l = 8 * l.spot.room + 5
+decreases-changed l = 4 * l.spot.room + 2
 
 abbrev pub decreases-children : goal.decreases-children
-decreases-children l = 8 * l.spot.room + 4
-
-abbrev pub decreases-pair : goal.decreases-pair
-decreases-pair l = 8 * l.spot.room + 3
-
-abbrev pub decreases-choice : goal.decreases-choice
-decreases-choice l = 8 * l.spot.room + 3
-
-abbrev pub decreases-bound : goal.decreases-bound
-decreases-bound l = 8 * l.spot.room + 3
-
-abbrev pub decreases-hidden : goal.decreases-hidden
-decreases-hidden l = 8 * l.spot.room + 3
+decreases-children l = 4 * l.spot.room + 1
 
 abbrev pub decreases-bindings : goal.decreases-bindings
-decreases-bindings l = 8 * l.spot.room
+decreases-bindings l = 4 * l.spot.room
 
 abbrev pub decreases-items : goal.decreases-items
-decreases-items l = 8 * l.spot.room
+decreases-items l = 4 * l.spot.room

@@ -12,7 +12,7 @@ use Rattle.txs_nodes.specs.Literals.{literal, literals}
 use Rattle.txs_expand.specs.Parts.{plain}
 use Rattle.txs_nodes.proofs.Stops.{failed}
 use Rattle.txs_expand.proofs.Rows.{then_err, then_ok}
-use Rattle.txs_nodes.proofs.Literals.{values_after, literals_step, deeper, square_roomless, square_wide, square_fits}
+use Rattle.txs_nodes.proofs.Literals.{values_after, literals_step, literals_stop, deeper, square_roomless, square_wide, square_fits}
 use Rattle.txs_nodes.proofs.values.+literal.Goals.{literal-then-room-eq0-via-then-room-eq0, literal-then-room-eq0-via-else-room-eq0+then-len-gt-MOST_ITEMS}
 use Rattle.txs_nodes.proofs.values.+literal.Goals as goal
 
@@ -47,6 +47,14 @@ literal-returns-in_ok-from_vec-in-Group-Square-default-default-clause-value t c 
     square_fits c.args.room c.args.form.now forms at whole c.if-room-eq0.false (omega (arith, c.len.ensures, forms.ok, c.if-len-gt-MOST_ITEMS.false))
     ∙ then_ok (literals (c.args.room - 1) (plain forms.items)) (λ vs. Ok (Vector (plains_of vs))) c.in_ok-items-in-Group-Square-default-default.items.items (ap (λ l. literals (c.args.room - 1) (plain l)) (sym c.deref.ensures.value) ∙ c.in_ok-items-in-Group-Square-default-default.ensures.values)
     ∙ ap (λ (ds : List PlainValue). Ok (Vector ds)) (sym c.in_ok-from_vec-in-Group-Square-default-default.ensures)
+
+pub literals-returns-in_err-value-clause-values : goal.literals-returns-in_err-value-clause-values
+literals-returns-in_err-value-clause-values t c =
+    let p = err_from_is_err_and c.from_residual.result c.from_residual.ensures.1 in
+    let fs = c.args.forms.now in
+    rw (p.1, p.2) (failed (λ (v : Value). v) (λ (vs : Vec Value Global). vs.items) _ _ _ c.in_err-value.ensures.value (λ e no.
+    c.loop-form.invariant.same
+    ∙ literals_stop c.args.room fs c.loop-form.form-index c.loop-form.values.items c.form-item.result e c.loop-form-test.true (ap (λ f. literal c.args.room (tree f)) (sym c.form-item.is) ∙ no)))
 
 pub literals-loop-form-preserved : goal.literals-loop-form-preserved
 literals-loop-form-preserved t c =

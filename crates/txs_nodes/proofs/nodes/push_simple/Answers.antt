@@ -1,7 +1,0 @@
-use Rattle.std.proofs.Common.{ap, ◌∙◌}
-use Rattle.txs_tree.specs.View.{tree_of}
-use Rattle.txs_expand.specs.Expressions.{spot_mark}
-use Rattle.txs_nodes.proofs.nodes.push_simple.Goals as goal
-
-pub returns : goal.returns
-returns c = (c.node.result, c.in_ok-push.ensures.items, ap tree_of c.node.ensures ∙ c.in_ok-kind.ensures (spot_mark c.args.spot))
