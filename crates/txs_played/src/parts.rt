@@ -46,7 +46,7 @@ fn is_stopped_so(shared: &SharedState, played: &Played<'_>) -> bool
 
 /// Whether it is the actor with this number, made with this code and for so many steps, waits for no reply, and was stopped by a full book only where that
 /// is full.
-#[tactic(auto, using(crate::proofs::Gathering::other_number, crate::proofs::Gathering::other_code, crate::proofs::Gathering::other_limit, crate::proofs::Gathering::asking, crate::proofs::Gathering::stopped_otherwise, crate::proofs::Gathering::player_of))]
+#[tactic(auto, using(crate::proofs::Gathering::other_limit))]
 fn is_player(
     code: &Verified,
     max_steps: u64,
@@ -204,7 +204,8 @@ fn report_all(
 {
     let mut reports = Vec::with_capacity(alloc, played.len())?;
     for one in played {
-        reports.push(report_of(alloc, shared, one)?)?;
+        let told = report_of(alloc, shared, one)?;
+        reports.push_reserved(told);
     }
     Ok(reports)
 }
@@ -220,10 +221,12 @@ fn report_parts(
     ensures threads { IfOk result (λ r. AreReportsOf shared.now (take threads played.now) r.threads.items) }
     ensures agents { IfOk result (λ r. AreReportsOf shared.now (drop threads played.now) r.agents.items) }
 {
-    let (front, back) = played.split_at(threads);
-    let threads = report_all(alloc, shared, front)?;
-    let agents = report_all(alloc, shared, back)?;
-    Ok(Report { threads, agents })
+    let told = report_all(alloc, shared, &played[..threads])?;
+    let agents = report_all(alloc, shared, &played[threads..])?;
+    Ok(Report {
+        threads: told,
+        agents,
+    })
 }
 
 /// What each of them kept.
@@ -232,7 +235,7 @@ fn take_kept(alloc: Global, played: Vec<Played<'_>>) -> Result<Vec<KeptEntries>,
 {
     let mut kept = Vec::with_capacity(alloc, played.len())?;
     for one in played {
-        kept.push(one.into_kept())?;
+        kept.push_reserved(one.into_kept());
     }
     Ok(kept)
 }
@@ -283,7 +286,8 @@ fn check_kept(
     ensures refusals { IfErr result (λ e. (e ≡ JournalMismatch) ⊎ (e ≡ Memory)) }
 {
     let kept = take_kept(alloc, played)?;
-    if !replays(alloc, shared, served, kept)? {
+    let agrees = replays(alloc, shared, served, kept)?;
+    if !agrees {
         return Err(RunError::JournalMismatch);
     }
     Ok(())
