@@ -1,6 +1,6 @@
 use Rattle.std.proofs.Common.{◌≡◌, ◌+◌, ◌++◌, length, map, vec_capacity}
 use Rattle.txs_played.specs.Played.{PlainPlayed}
-use Rattle.txs_played.proofs.parts.take_kept.Given as goal
+use Rattle.txs_played.proofs.parts.move_kept.Given as goal
 
 abbrev pub invariant-loop-one : goal.invariant-loop-one
 invariant-loop-one l =
