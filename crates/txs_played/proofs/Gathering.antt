@@ -1,5 +1,5 @@
 -- Where parts agree, the books told each actor what it kept, and each program that the code follows explains the report.
-use Rattle.std.proofs.Common.{◌≡◌, ◌+◌, ◌<◌, ◌≤◌, ℕ, zero, suc, true, List, [], ◌∷◌, ◌++◌, length, map, take, drop, get_or, false, Option, Some, None, refl, sym, ap, subst, ◌∙◌, arith}
+use Rattle.std.proofs.Common.{◌≡◌, ◌+◌, ◌<◌, ◌≤◌, ℕ, zero, suc, true, List, [], ◌∷◌, ◌++◌, length, map, take, drop, get_or, Option, Some, None, refl, sym, ap, subst, ◌∙◌, arith}
 use Rattle.txs_asks.specs.Ask.{Exchange}
 use Rattle.txs_asks.specs.declared.ask.Ask.{Ask}
 use Rattle.txs_asks.specs.declared.event.Event.{Event}
@@ -17,7 +17,7 @@ use Rattle.txs_code.specs.PlainCode.{CodeBody, PlainCode, thread_code, function_
 use Rattle.txs_follows.specs.Follows.{Follows}
 use Rattle.txs_follows.specs.FollowsAgent.{GoesOn}
 use Rattle.txs_follows.specs.FollowsAll.{source_of, FollowsAll}
-use Rattle.txs_actor.specs.PlainActor.{PlainActor, agents_from, own_body, unanswered, code_of}
+use Rattle.txs_actor.specs.PlainActor.{PlainActor, agents_from, own_body, code_of}
 use Rattle.txs_world.specs.Book.{has_agent}
 use Rattle.txs_world.specs.Book as world
 use Rattle.txs_world.specs.Laws.{DoneIsUndisturbed, RefusedIsUndisturbed}
@@ -43,7 +43,7 @@ use Rattle.txs_machine.specs.declared.schedule.ThreadReport.{ThreadReport}
 use Rattle.txs_machine.proofs.Explaining.{Known, part_explained, part_printed, code_at, length_map, books_stand}
 use Rattle.txs_machine.proofs.Together.{agent_at, agent_acts}
 use Rattle.txs_played.specs.Adds.{kept_trace}
-use Rattle.txs_played.specs.Gather.{HasFullBook, StoppedSo, IsPlayer, AreWhole, ArePlayed, ArePlayers, IsMadeFor, kept_by, Agrees, IsReportOf, AreReportsOf, AllHaveDone, AllHaveAttended}
+use Rattle.txs_played.specs.Gather.{HasFullBook, IsPlayer, AreWhole, ArePlayed, ArePlayers, IsMadeFor, kept_by, Agrees, IsReportOf, AreReportsOf, AllHaveDone, AllHaveAttended}
 use Rattle.txs_played.specs.Goes.{IsThere}
 use Rattle.txs_played.specs.Played.{PlainPlayed, WasStoppedAt, HasPlayed}
 use Rattle.txs_played.proofs.Adding.{trace_is_kept, drop_read}

@@ -156,8 +156,10 @@ fn note(trace: &mut Vec<Place>, shared: &SharedState, kept: &Kept) -> Result<(),
         book: shared.book_for(&kept.ask) as u32,
         at: kept.at,
     };
-    trace.push(place)?;
-    Ok(())
+    match trace.push(place) {
+        Ok(()) => Ok(()),
+        Err(_) => Err(AllocError),
+    }
 }
 
 /// The places of the events that these entries added.

@@ -173,7 +173,6 @@ impl<'a> Played<'a> {
 
     /// Up to so many turns of the actor: an ask or an end is the last. Where it asks, and there is no memory to keep the ask, it has ended so from
     /// then on.
-    #[tactic(auto, using(crate::proofs::Playing::turns_number))]
     pub fn run(&mut self, budget: u64) -> Turn
         requires free { self.old.lost ≡ false → unanswered self.old.actor ≡ None }
         ensures kept { self.new.kept ≡ self.old.kept }
@@ -201,7 +200,6 @@ impl<'a> Played<'a> {
     }
 
     /// A turn of the actor. Where it asks, and there is no memory to keep the ask, it has ended so from then on.
-    #[tactic(auto, using(crate::proofs::Playing::one_turn))]
     pub fn turn(&mut self) -> Turn
         requires free { self.old.lost ≡ false → unanswered self.old.actor ≡ None }
         ensures kept { self.new.kept ≡ self.old.kept }

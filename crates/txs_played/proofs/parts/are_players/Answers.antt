@@ -1,4 +1,4 @@
-use Rattle.std.proofs.Common.{◌≡◌, ◌<◌, ◌≤◌, length, get_or, arith, rules}
+use Rattle.std.proofs.Common.{◌<◌, arith}
 use Rattle.txs_played.proofs.Gathering.{players_next}
 use Rattle.txs_played.proofs.parts.are_players.Goals as goal
 
