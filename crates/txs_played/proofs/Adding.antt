@@ -154,9 +154,9 @@ noted_added cells k ps p adds e f =
 pub noted_none : (cells : List CellDefinition) (k : Kept) (ps : List Place) → adds_event k.ask k.reply ≡ false → IsNotedBehind cells k ps ps
 noted_none cells k ps none = sym (ap (λ l. places_of ps ++ l) (ap (λ b. if b then record { book = book_for cells k.ask; at = k.at } ∷ [] else []) none) ∙ append_nil (places_of ps))
 
--- what is left of the entries at a place
-pub drop_read : (ks : List Kept) (i : ℕ) (k : Kept) → i < length ks → k ≡ get_or ks i k → drop i ks ≡ k ∷ drop (i + 1) ks
-drop_read ks i k h e = drop_more ks i k h ∙ ap (λ x. x ∷ drop (i + 1) ks) (sym e)
+-- what is left of a list at a place
+pub drop_read : {A : Type 0} (xs : List A) (i : ℕ) (x : A) → i < length xs → x ≡ get_or xs i x → drop i xs ≡ x ∷ drop (i + 1) xs
+drop_read xs i x h e = drop_more xs i x h ∙ ap (λ y. y ∷ drop (i + 1) xs) (sym e)
 
 -- nothing is left
 pub noted_all : (cells : List CellDefinition) (ks : List Kept) (i : ℕ) (ps : List Place) → length ks ≤ i → places_of ps ++ kept_trace cells (drop i ks) ≡ kept_trace cells ks → places_of ps ≡ kept_trace cells ks

@@ -1,5 +1,5 @@
 -- Where parts agree, the books told each actor what it kept, and each program that the code follows explains the report.
-use Rattle.std.proofs.Common.{◌≡◌, ◌+◌, ◌<◌, ◌≤◌, ℕ, zero, suc, true, List, [], ◌∷◌, ◌++◌, length, map, take, drop, false, Option, Some, None, refl, sym, ap, subst, ◌∙◌, arith}
+use Rattle.std.proofs.Common.{◌≡◌, ◌+◌, ◌<◌, ◌≤◌, ℕ, zero, suc, true, List, [], ◌∷◌, ◌++◌, length, map, take, drop, get_or, Option, Some, None, refl, sym, ap, subst, ◌∙◌, arith}
 use Rattle.txs_asks.specs.Ask.{Exchange}
 use Rattle.txs_asks.specs.declared.ask.Ask.{Ask}
 use Rattle.txs_asks.specs.declared.event.Event.{Event}
@@ -17,7 +17,7 @@ use Rattle.txs_code.specs.PlainCode.{CodeBody, PlainCode, thread_code, function_
 use Rattle.txs_follows.specs.Follows.{Follows}
 use Rattle.txs_follows.specs.FollowsAgent.{GoesOn}
 use Rattle.txs_follows.specs.FollowsAll.{source_of, FollowsAll}
-use Rattle.txs_actor.specs.PlainActor.{PlainActor, agents_from, own_body, unanswered, code_of}
+use Rattle.txs_actor.specs.PlainActor.{PlainActor, agents_from, own_body, code_of}
 use Rattle.txs_world.specs.Book.{has_agent}
 use Rattle.txs_world.specs.Book as world
 use Rattle.txs_world.specs.Laws.{DoneIsUndisturbed, RefusedIsUndisturbed}
@@ -43,10 +43,10 @@ use Rattle.txs_machine.specs.declared.schedule.ThreadReport.{ThreadReport}
 use Rattle.txs_machine.proofs.Explaining.{Known, part_explained, part_printed, code_at, length_map, books_stand}
 use Rattle.txs_machine.proofs.Together.{agent_at, agent_acts}
 use Rattle.txs_played.specs.Adds.{kept_trace}
-use Rattle.txs_played.specs.Gather.{HasFullBook, StoppedSo, IsPlayer, ArePlayed, ArePlayers, IsMadeFor, kept_by, Agrees, IsReportOf, AreReportsOf, AllHaveDone, AllHaveAttended}
+use Rattle.txs_played.specs.Gather.{HasFullBook, IsPlayer, AreWhole, ArePlayed, ArePlayers, IsMadeFor, kept_by, Agrees, IsReportOf, AreReportsOf, AllHaveDone, AllHaveAttended}
 use Rattle.txs_played.specs.Goes.{IsThere}
 use Rattle.txs_played.specs.Played.{PlainPlayed, WasStoppedAt, HasPlayed}
-use Rattle.txs_played.proofs.Adding.{trace_is_kept}
+use Rattle.txs_played.proofs.Adding.{trace_is_kept, drop_read}
 
 abbrev is_some : {A : Type 0} → Option A → Type 0
 is_some None = ⊥
@@ -391,24 +391,19 @@ as_many_agents code s ps rs made rep = as_many s (drop s.threads ps) rs rep ∙ 
 
 -- ---- tests
 
-module _ (code : PlainCode) (limit : ℕ) (s : PlainShared) (k : ℕ) (p : PlainPlayed) where
-  pub other_number : (p.actor.number ≡ k → ⊥) → IsPlayer code limit s k p → ⊥
-  other_number n h = n h.number
+pub other_limit : (code : PlainCode) (limit : ℕ) (s : PlainShared) (k : ℕ) (p : PlainPlayed) → (p.actor.limit ≡ limit → ⊥) → IsPlayer code limit s k p → ⊥
+other_limit code limit s k p n h = n h.limited
 
-  pub other_code : (p.code ≡ code → ⊥) → IsPlayer code limit s k p → ⊥
-  other_code n h = n h.code_is
-
-  pub other_limit : (p.actor.limit ≡ limit → ⊥) → IsPlayer code limit s k p → ⊥
-  other_limit n h = n h.limited
-
-  pub asking : (unanswered p.actor ≡ None → ⊥) → IsPlayer code limit s k p → ⊥
-  asking n h = n h.free
-
-  pub stopped_otherwise : (StoppedSo s p → ⊥) → IsPlayer code limit s k p → ⊥
-  stopped_otherwise n h = n h.full
-
-  pub player_of : p.actor.number ≡ k → p.code ≡ code → p.actor.limit ≡ limit → unanswered p.actor ≡ None → p.lost ≡ false → StoppedSo s p → IsPlayer code limit s k p
-  player_of n c l f w t = record { number = n; code_is = c; limited = l; free = f; whole = w; full = t }
+-- one player more
+pub players_next : (code : PlainCode) (limit : ℕ) (s : PlainShared) (ps : List PlainPlayed) (n : ℕ) (p : PlainPlayed) → n < length ps → p ≡ get_or ps n p → IsPlayer code limit s n p → AreWhole (drop n ps) → (ArePlayers code limit s 0 ps → ArePlayers code limit s n (drop n ps)) → (ArePlayers code limit s n (drop n ps) → ArePlayers code limit s 0 ps)
+    → AreWhole (drop (n + 1) ps) × (ArePlayers code limit s 0 ps → ArePlayers code limit s (n + 1) (drop (n + 1) ps)) × (ArePlayers code limit s (n + 1) (drop (n + 1) ps) → ArePlayers code limit s 0 ps)
+players_next code limit s ps n p within read one whole to back =
+    let e : drop n ps ≡ p ∷ drop (n + 1) ps = drop_read ps n p within read in
+    let same : suc n ≡ n + 1 = omega arith in (
+      (subst AreWhole e whole).1,
+      (λ a. subst (λ k. ArePlayers code limit s k (drop (n + 1) ps)) same (subst (ArePlayers code limit s n) e (to a)).1),
+      (λ a. back (subst (ArePlayers code limit s n) (sym e) (one, subst (λ k. ArePlayers code limit s k (drop (n + 1) ps)) (sym same) a))),
+    )
 
 -- what agrees was made for the code
 pub made_of : (code : PlainCode) (limit : ℕ) (s : PlainShared) (served : ℕ) (ps : List PlainPlayed) → Agrees code limit s served ps → IsMadeFor code s (length ps)

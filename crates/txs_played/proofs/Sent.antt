@@ -154,6 +154,11 @@ nth_read [] i x d h e = absurd (omega (arith, h))
 nth_read (y ∷ xs) zero x d h e = ap Some (sym e)
 nth_read (y ∷ xs) (suc i) x d h e = nth_read xs i x d (omega (arith, h)) e
 
+read : {A : Type 0} (xs : List A) (i : ℕ) (d : A) → i < length xs → nth xs i ≡ Some (get_or xs i d)
+read [] i d h = absurd (omega (arith, h))
+read (y ∷ xs) zero d h = refl
+read (y ∷ xs) (suc i) d h = read xs i d (omega (arith, h))
+
 some_is : {A : Type 0} (x y : A) → Some x ≡ Some y → x ≡ y
 some_is x y e = cc
 
@@ -237,6 +242,28 @@ same_more P Q a b same h = record { many = h.many; marked = λ f. ((λ e. to f (
     back f (inl x) = inl x
     back f (inr x) = inr ((same f).0 x)
 
+-- what is sent at a marked place
+pub place_sent : (is : List Instr) (places : Marks) (at : ℕ) (d : Instr) (m : Mark) (a b : List Bool) → at < length is → mark_at places at ≡ Some m → MarksMore (λ f. sent_by (get_or is at d) ≡ Some f) a b → MarksMore (IsSentAt is places at) a b
+place_sent is places at d m a b within marked h =
+    same_more (λ f. sent_by i ≡ Some f) (IsSentAt is places at) a b (λ f. (to f, (λ e. record { instr = i; mark = m; stands = stands; marked = marked; sends = e }))) h
+  where
+    i : Instr
+    i = get_or is at d
+
+    stands : nth is at ≡ Some i
+    stands = read is at d within
+
+    to : (f : ℕ) → IsSentAt is places at f → sent_by i ≡ Some f
+    to f s = subst (λ x. sent_by x ≡ Some f) (some_is s.instr i (sym s.stands ∙ stands)) s.sends
+
+-- and at one without a mark
+pub place_unsent : (is : List Instr) (places : Marks) (at : ℕ) (a : List Bool) → ((m : Mark) → mark_at places at ≡ Some m → ⊥) → MarksMore (IsSentAt is places at) a a
+place_unsent is places at a none = record { many = refl; marked = λ f. ((λ e. inl e), from f) }
+  where
+    from : (f : ℕ) → (nth a f ≡ Some true) ⊎ IsSentAt is places at f → nth a f ≡ Some true
+    from f (inl e) = e
+    from f (inr s) = absurd (none s.mark s.marked)
+
 -- ---- the places of a body
 
 below_or_last : (p n : ℕ) → p < suc n → (p < n) ⊎ (p ≡ n)
@@ -302,6 +329,28 @@ body_more code bodies n b there f = (λ s. to s.number s.body s.there s.sent (be
     back : IsSentAmong code bodies n f ⊎ IsSentIn code b f → IsSentAmong code bodies (n + 1) f
     back (inl s) = record { number = s.number; within = omega (arith, s.within); body = s.body; there = s.there; sent = s.sent }
     back (inr s) = record { number = n; within = omega arith; body = b; there = there; sent = s }
+
+-- none is marked at first
+unmarked : (n f : ℕ) → nth (replicate n false) f ≡ Some true → ⊥
+unmarked zero f e = subst is_some (sym e) tt
+unmarked (suc n) zero e = cc
+unmarked (suc n) (suc f) e = unmarked n f e
+
+-- what functions and threads send is all that is marked
+pub all_callees : (code : PlainCode) (n : ℕ) (b c : List Bool) → MarksMore (IsSentAmong code code.functions (length code.functions)) (replicate n false) b → MarksMore (IsSentAmong code code.threads (length code.threads)) b c → AreCallees code c
+all_callees code n b c first second f = ((λ e. to ((second.marked f).0 e)), (λ h. back h.0 h.1 h.2))
+  where
+    of_functions : (nth (replicate n false) f ≡ Some true) ⊎ IsSentAmong code code.functions (length code.functions) f → IsCallee code f
+    of_functions (inl x) = absurd (unmarked n f x)
+    of_functions (inr s) = (s.body, inl (s.number, s.there), s.sent)
+
+    to : (nth b f ≡ Some true) ⊎ IsSentAmong code code.threads (length code.threads) f → IsCallee code f
+    to (inl x) = of_functions ((first.marked f).0 x)
+    to (inr s) = (s.body, inr (s.number, s.there), s.sent)
+
+    back : (d : CodeBody) → IsBodyOf code d → IsSentIn code d f → nth c f ≡ Some true
+    back d (inl k) s = (second.marked f).1 (inl ((first.marked f).1 (inr (record { number = k.0; within = nth_within code.functions k.0 d k.1; body = d; there = k.1; sent = s }))))
+    back d (inr k) s = (second.marked f).1 (inr (record { number = k.0; within = nth_within code.threads k.0 d k.1; body = d; there = k.1; sent = s }))
 
 -- ---- parameters
 

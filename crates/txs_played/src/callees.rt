@@ -69,7 +69,7 @@ fn mark_body(
     ensures many { length marks.new.items ≡ length marks.old.items }
     ensures more { OnOk result (MarksMore (IsSentIn code.now body.now) marks.old.items marks.new.items) }
 {
-    let _rooms = code.rooms();
+    let (_functions, _threads) = code.rooms();
     let instrs = body.instrs();
     if instrs.len() >= 4_294_967_295 {
         return Ok(());

@@ -1,6 +1,6 @@
 //! The comparison of what actors kept with what they shared.
 
-ghost use Rattle.std.specs.Prelude.{◌≡◌, ◌≤◌, ◌<◌, ◌↔◌, ◌⊎◌, [], length, take, drop, false, IsTrue, IfOk, IfErr, OnOk};
+ghost use Rattle.std.specs.Prelude.{◌≡◌, ◌≤◌, ◌<◌, ◌↔◌, ◌⊎◌, [], length, take, drop, false, IsTrue, IfOk, IfErr, OnOk, vec_capacity};
 ghost use Rattle.txs_machine.specs.Agents.{agents_of, AreExplainedBy};
 ghost use Rattle.txs_actor.specs.PlainActor.{agents_from, with_agent};
 ghost use Rattle.txs_machine.specs.RunOver.{places_of};
@@ -46,7 +46,7 @@ fn is_stopped_so(shared: &SharedState, played: &Played<'_>) -> bool
 
 /// Whether it is the actor with this number, made with this code and for so many steps, waits for no reply, and was stopped by a full book only where that
 /// is full.
-#[tactic(auto, using(crate::proofs::Gathering::other_number, crate::proofs::Gathering::other_code, crate::proofs::Gathering::other_limit, crate::proofs::Gathering::asking, crate::proofs::Gathering::stopped_otherwise, crate::proofs::Gathering::player_of))]
+#[tactic(auto, using(crate::proofs::Gathering::other_limit))]
 fn is_player(
     code: &Verified,
     max_steps: u64,
@@ -156,8 +156,10 @@ fn note(trace: &mut Vec<Place>, shared: &SharedState, kept: &Kept) -> Result<(),
         book: shared.book_for(&kept.ask) as u32,
         at: kept.at,
     };
-    trace.push(place)?;
-    Ok(())
+    match trace.push(place) {
+        Ok(()) => Ok(()),
+        Err(_) => Err(AllocError),
+    }
 }
 
 /// The places of the events that these entries added.
@@ -194,19 +196,22 @@ fn report_of(
     })
 }
 
-/// What these actors did.
+/// Tells what these actors did, in a list that was empty.
 fn report_all(
     alloc: Global,
     shared: &SharedState,
     played: &[Played<'_>],
-) -> Result<Vec<ThreadReport>, AllocError>
-    ensures { IfOk result (λ v. AreReportsOf shared.now played.now v.items) }
+    reports: &mut Vec<ThreadReport>,
+) -> Result<(), AllocError>
+    requires { reports.old.items ≡ [] }
+    ensures { OnOk result (AreReportsOf shared.now played.now reports.new.items) }
 {
-    let mut reports = Vec::with_capacity(alloc, played.len())?;
+    reports.reserve(played.len())?;
     for one in played {
-        reports.push(report_of(alloc, shared, one)?)?;
+        let told = report_of(alloc, shared, one)?;
+        reports.push_reserved(told);
     }
-    Ok(reports)
+    Ok(())
 }
 
 /// What all actors did, of whom the first so many are those of the threads.
@@ -220,21 +225,24 @@ fn report_parts(
     ensures threads { IfOk result (λ r. AreReportsOf shared.now (take threads played.now) r.threads.items) }
     ensures agents { IfOk result (λ r. AreReportsOf shared.now (drop threads played.now) r.agents.items) }
 {
-    let (front, back) = played.split_at(threads);
-    let threads = report_all(alloc, shared, front)?;
-    let agents = report_all(alloc, shared, back)?;
-    Ok(Report { threads, agents })
+    let mut report = Report {
+        threads: Vec::new(alloc),
+        agents: Vec::new(alloc),
+    };
+    report_all(alloc, shared, &played[..threads], &mut report.threads)?;
+    report_all(alloc, shared, &played[threads..], &mut report.agents)?;
+    Ok(report)
 }
 
-/// What each of them kept.
-fn take_kept(alloc: Global, played: Vec<Played<'_>>) -> Result<Vec<KeptEntries>, AllocError>
-    ensures { IfOk result (λ v. v.items ≡ kept_by played.entry.items) }
+/// Moves what each of them kept into a list with just that room.
+fn move_kept(played: Vec<Played<'_>>, kept: &mut Vec<KeptEntries>)
+    requires room { vec_capacity kept.old ≡ length played.items }
+    requires empty { kept.old.items ≡ [] }
+    ensures { kept.new.items ≡ kept_by played.entry.items }
 {
-    let mut kept = Vec::with_capacity(alloc, played.len())?;
     for one in played {
-        kept.push(one.into_kept())?;
+        kept.push_reserved(one.into_kept());
     }
-    Ok(kept)
 }
 
 /// Whether they are the actors of a run over what is shared: one for each thread and behind these one for each agent, each made with this code and for
@@ -282,8 +290,10 @@ fn check_kept(
     ensures differs { IfErr result (λ e. e ≡ JournalMismatch → AreReplayed shared.now served (kept_by played.entry.items) → ⊥) }
     ensures refusals { IfErr result (λ e. (e ≡ JournalMismatch) ⊎ (e ≡ Memory)) }
 {
-    let kept = take_kept(alloc, played)?;
-    if !replays(alloc, shared, served, kept)? {
+    let mut kept = Vec::with_capacity(alloc, played.len())?;
+    move_kept(played, &mut kept);
+    let agrees = replays(alloc, shared, served, kept)?;
+    if !agrees {
         return Err(RunError::JournalMismatch);
     }
     Ok(())
@@ -354,7 +364,7 @@ pub fn gather(
     done_is_undisturbed();
     refused_is_undisturbed();
     unwritten_stays();
-    let _rooms = code.rooms();
+    let (_functions, _threads) = code.rooms();
     let _stands = shared.events();
     let report = compare(alloc, code, max_steps, &shared, served, played)?;
     Ok(Gathered { shared, report })

@@ -8,18 +8,17 @@ ghost use Rattle.txs_asks.specs.declared.ask.Ask.{Ask as AnAsk};
 ghost use Rattle.txs_asks.specs.declared.event.Outcome.{Outcome as AnOutcome};
 ghost use Rattle.txs_asks.specs.declared.event.Outcome.TheVariants as outcome;
 ghost use Rattle.txs_played.specs.Asked.{asked_after};
-ghost use Rattle.txs_played.specs.Callees.{AreCallees, HandsOutSent};
+ghost use Rattle.txs_played.specs.Callees.{AreCallees};
 ghost use Rattle.txs_played.specs.Gather.{HasFullBook};
 ghost use Rattle.txs_played.specs.Played.{PlainPlayed, HasPlayed, MayBeTold, new_player, kept_after, stopped_after, kept_of};
 ghost use Rattle.txs_replay.specs.Replay.{entry_of};
-ghost use Rattle.txs_value.specs.Limits.{most_events};
 
 use crate::callees::hands_out;
 use std::alloc::Global;
 use std::marker::Model;
 use std::mem;
 use txs_actor::{Actor, Turn, actors_run, may_answer};
-use txs_asks::{Ask, Event, Outcome, Reply, copy_ask, copy_reply};
+use txs_asks::{Ask, Outcome, Reply, copy_ask, copy_reply};
 use txs_code::Verified;
 use txs_replay::replay::is_exchanged;
 use txs_replay::{Kept, KeptEntries};
@@ -103,14 +102,6 @@ fn note_ask(alloc: Global, kept: &mut KeptEntries, asked: &mut Option<Ask>, turn
     }
 }
 
-/// Whether a book of these events has as many as it may have.
-#[tactic(auto, unfolding(txs_value::specs::Limits::most_events))]
-fn is_full(events: &[Event]) -> bool
-    ensures { IsTrue result ↔ (most_events ≤ length events.now) }
-{
-    events.len() >= MOST_EVENTS
-}
-
 /// Keeps an ask with a copy of its reply, or as the one at which the actor was stopped; one that has no action for an agent is put away. Whether it was lost,
 /// as there was no memory to keep it.
 fn keep_or_lose(
@@ -166,7 +157,7 @@ impl<'a> Played<'a> {
     {
         actors_run();
         typed_stands();
-        let _rooms = code.rooms();
+        let (_functions, _threads) = code.rooms();
         Played {
             alloc,
             code,
@@ -182,7 +173,6 @@ impl<'a> Played<'a> {
 
     /// Up to so many turns of the actor: an ask or an end is the last. Where it asks, and there is no memory to keep the ask, it has ended so from
     /// then on.
-    #[tactic(auto, using(crate::proofs::Playing::turns_number))]
     pub fn run(&mut self, budget: u64) -> Turn
         requires free { self.old.lost ≡ false → unanswered self.old.actor ≡ None }
         ensures kept { self.new.kept ≡ self.old.kept }
@@ -210,7 +200,6 @@ impl<'a> Played<'a> {
     }
 
     /// A turn of the actor. Where it asks, and there is no memory to keep the ask, it has ended so from then on.
-    #[tactic(auto, using(crate::proofs::Playing::one_turn))]
     pub fn turn(&mut self) -> Turn
         requires free { self.old.lost ≡ false → unanswered self.old.actor ≡ None }
         ensures kept { self.new.kept ≡ self.old.kept }
@@ -297,23 +286,15 @@ impl<'a> Played<'a> {
         self.asked.is_some()
     }
 
-    /// Whether a reply hands out no action but one that its code can have sent.
-    fn can_take(&self, reply: &Reply) -> bool
-        ensures { IsTrue result ↔ HandsOutSent self.now.code reply.now }
-    {
-        hands_out(self.code, self.callees, reply)
-    }
-
     /// Whether the ask that has no answer yet may have this reply, nothing was lost, and an action that the reply hands out is one that the code can have
     /// sent: its callee, which takes the agent's state and the arguments, is an operation, or a function that is the callee of a send to which a path of
     /// the code comes. Such a one its agent can run.
-    #[tactic(auto, using(crate::proofs::Sent::hands_sent))]
     pub fn may_answer(&self, reply: &Reply) -> bool
         ensures exactly { IsTrue result ↔ MayBeTold self.now reply.now }
         ensures hands_out { IsTrue result → HandsOut self.now.code reply.now }
     {
         match &self.asked {
-            Some(ask) => may_answer(ask, reply) && self.can_take(reply),
+            Some(ask) => may_answer(ask, reply) && hands_out(self.code, self.callees, reply),
             None => false,
         }
     }
@@ -331,7 +312,7 @@ impl<'a> Played<'a> {
         ensures { IsTrue result ↔ HasFullBook shared.now self.now.stopped }
     {
         match &self.stopped {
-            Some(ask) => is_full(shared.numbered_events(shared.book_for(ask))),
+            Some(ask) => shared.numbered_events(shared.book_for(ask)).len() >= MOST_EVENTS,
             None => false,
         }
     }

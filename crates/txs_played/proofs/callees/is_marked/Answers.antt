@@ -1,5 +1,4 @@
 use Rattle.std.proofs.Common.{◌≡◌, ◌<◌, length, get_or, refl, rules, Some, None, Option}
-use Rattle.txs_verify.specs.Marks.{mark_at}
 use Rattle.txs_verify.specs.declared.walk.Mark.{Mark}
 use Rattle.txs_played.proofs.Sent.{mark_read, no_mark}
 use Rattle.txs_played.proofs.callees.is_marked.Goals as goal

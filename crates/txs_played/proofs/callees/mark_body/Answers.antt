@@ -8,13 +8,13 @@ use Rattle.txs_played.proofs.callees.mark_body.Goals as goal
 
 pub mark_places-requires-clause-jumps : goal.mark_places-requires-clause-jumps
 mark_places-requires-clause-jumps c =
-    subst AllJumpWithin (sym c.instrs-instrs.ensures) (all_jump c.args.code.now _ _ c.rooms-rooms.ensures c.args.body.now c.requires.of)
+    subst AllJumpWithin (sym c.instrs-instrs.ensures) (all_jump c.args.code.now _ _ c.rooms.ensures c.args.body.now c.requires.of)
 
 pub mark_place-requires-clause-sends : goal.mark_place-requires-clause-sends
 mark_place-requires-clause-sends c =
     let code = c.args.code.now in
     let many : length c.loop-at.marks.items ≡ length code.functions = c.loop-at.invariant.many ∙ c.requires.many in
-    subst (λ n. SendWithin n c.instrs-instrs.result.now) (sym many) (subst (SendWithin (length code.functions)) (sym c.instrs-instrs.ensures) (send_within code _ _ c.rooms-rooms.ensures c.args.body.now c.requires.of))
+    subst (λ n. SendWithin n c.instrs-instrs.result.now) (sym many) (subst (SendWithin (length code.functions)) (sym c.instrs-instrs.ensures) (send_within code _ _ c.rooms.ensures c.args.body.now c.requires.of))
 
 pub loop-at-preserved : goal.loop-at-preserved
 loop-at-preserved c =

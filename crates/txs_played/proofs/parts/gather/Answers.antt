@@ -34,7 +34,7 @@ returns c =
       fits = c.told_fits.ensures;
     } in
     let explained : IsExplainedBy code (shared_of s) ts = all_explained by code limit s served ps ts agrees stands many done in
-    let staged = c.typed_threads_are_staged.ensures code _ _ c.rooms-rooms.ensures in
+    let staged = c.typed_threads_are_staged.ensures code _ _ c.rooms.ensures in
     record {
       shared = search rules;
       agrees = agrees;

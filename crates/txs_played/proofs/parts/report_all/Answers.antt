@@ -11,9 +11,13 @@ loop-one-preserved c =
     let i = c.loop-one.one-index in
     let p = c.one-item.result in
     let rs = c.loop-one.reports.items in
-    let r = c.in_ok-report_of.field-0 in
+    let r = c.in_ok-told.told in
     let within : i < length ps = search rules in
     let read : p ≡ get_or ps i p = search rules in
-    let pushed : c.push.new.self.items ≡ rs ++ r ∷ [] = search rules in
-    subst (λ l. AreReportsOf s (take (i + 1) ps) l) (sym pushed)
-    (subst (λ l. AreReportsOf s l (rs ++ r ∷ [])) (sym (taken_read ps i p within read)) (reports_more s (take i ps) rs p r c.loop-one.invariant c.in_ok-report_of.ensures))
+    let pushed : c.push_reserved.new.self.items ≡ rs ++ r ∷ [] = search rules in
+    record {
+      room = search rules;
+      many = search rules;
+      told = subst (λ l. AreReportsOf s (take (i + 1) ps) l) (sym pushed)
+          (subst (λ l. AreReportsOf s l (rs ++ r ∷ [])) (sym (taken_read ps i p within read)) (reports_more s (take i ps) rs p r c.loop-one.invariant.told c.in_ok-told.ensures));
+    }

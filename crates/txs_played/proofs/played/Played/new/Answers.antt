@@ -12,7 +12,7 @@ invariant_of-result c =
         c.requires.lives,
         (
           sym c.requires.new.unasking,
-          subst (λ ks. HasPlayed code (map entry_of ks) None a) (sym c.new.ensures) (new_played c.actors_run.ensures c.typed_stands.ensures code _ _ c.args.max_steps a c.rooms-rooms.ensures c.requires.new),
+          subst (λ ks. HasPlayed code (map entry_of ks) None a) (sym c.new.ensures) (new_played c.actors_run.ensures c.typed_stands.ensures code _ _ c.args.max_steps a c.rooms.ensures c.requires.new),
         ),
       ),
       c.requires.callees,

@@ -1,8 +1,9 @@
 use Rattle.std.proofs.Common.{rules, ◌≡◌, map, sym, subst, true, false, ◌∙◌, None}
 use Rattle.txs_actor.specs.PlainActor.{unanswered}
+use Rattle.txs_actor.specs.Turns.{TurnsOf}
 use Rattle.txs_replay.specs.Replay.{entry_of}
 use Rattle.txs_played.specs.Played.{PlainPlayed, HasPlayed, IsPlayed}
-use Rattle.txs_played.proofs.Playing.{turns_played, turns_limit}
+use Rattle.txs_played.proofs.Playing.{turns_played, turns_number, turns_limit}
 use Rattle.txs_played.proofs.Noting.{noted_so, says_went, says_asks, says_ended}
 use Rattle.txs_played.proofs.played.Played.run.Goals as goal
 
@@ -48,6 +49,11 @@ invariant_of-self-2 c =
       turns_limit code (map entry_of kept) at c.args.budget a b t c.run-turn.ensures.turns was.1 ∙ c.self.invariant.2,
     )
 
+pub returns-then-note_ask-clause-turned : goal.returns-then-note_ask-clause-turned
+returns-then-note_ask-clause-turned c =
+    let turns : TurnsOf c.self.inside.code.now c.args.budget c.self.inside.actor c.run-turn.result c.run-turn.new.self = c.run-turn.ensures.turns in
+    search rules
+
 pub returns-then-note_ask-clause-went : goal.returns-then-note_ask-clause-went
 returns-then-note_ask-clause-went c =
     let lost : c.self.inside.lost ≡ false = search rules in
@@ -60,3 +66,13 @@ returns-then-note_ask-clause-asks c =
 
 pub returns-then-note_ask-clause-ended : goal.returns-then-note_ask-clause-ended
 returns-then-note_ask-clause-ended c = λ o e w. says_ended c.run-turn.result c.run-turn.new.self o c.run-turn.ensures.says e
+
+pub returns-then-note_ask-clause-number : goal.returns-then-note_ask-clause-number
+returns-then-note_ask-clause-number c =
+    let same : c.self.inside.actor.number ≡ c.args.self.now.actor.number = search rules in
+    turns_number c.self.inside.code.now _ c.self.inside.actor c.run-turn.new.self c.run-turn.result c.run-turn.ensures.turns ∙ same
+
+pub returns-clause-number : goal.returns-clause-number
+returns-clause-number c =
+    let same : c.self.inside.actor.number ≡ c.args.self.now.actor.number = search rules in
+    turns_number c.self.inside.code.now _ c.self.inside.actor c.run-turn.new.self c.run-turn.result c.run-turn.ensures.turns ∙ same

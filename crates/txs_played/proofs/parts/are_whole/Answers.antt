@@ -1,0 +1,14 @@
+use Rattle.std.proofs.Common.{◌≡◌, ◌+◌, ◌∷◌, ◌∙◌, drop, false, sym, subst}
+use Rattle.txs_played.specs.Gather.{AreWhole, ArePlayed}
+use Rattle.txs_played.proofs.Adding.{drop_read}
+use Rattle.txs_played.proofs.parts.are_whole.Goals as goal
+
+pub loop-one-preserved : goal.loop-one-preserved
+loop-one-preserved c =
+    let ps = c.args.played.now in
+    let i = c.loop-one.one-index in
+    let p = c.one-item.result in
+    let h = c.loop-one.invariant in
+    let read : drop i ps ≡ p ∷ drop (i + 1) ps = drop_read ps i p c.loop-one-test.true c.one-item.is in
+    let whole : p.lost ≡ false = sym c.is_lost.ensures.value ∙ c.if-is_lost.false in
+    ((λ w. (subst AreWhole read (h.0 w)).1), (λ w. h.1 (subst AreWhole (sym read) (whole, w))), (λ w. h.2 (subst ArePlayed (sym read) (c.is_lost.ensures.played c.if-is_lost.false, w))))

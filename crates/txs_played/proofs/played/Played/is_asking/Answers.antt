@@ -1,0 +1,5 @@
+use Rattle.std.proofs.Common.{rules}
+use Rattle.txs_played.proofs.played.Played.is_asking.Goals as goal
+
+pub returns-clause-free : goal.returns-clause-free
+returns-clause-free c = search rules

@@ -1,0 +1,18 @@
+use Rattle.std.proofs.Common.{◌≡◌, ◌↔◌, true, rules, subst}
+use Rattle.txs_played.specs.Callees.{HandsOutSent}
+use Rattle.txs_played.proofs.Sent.{hands_sent}
+use Rattle.txs_played.proofs.played.Played.may_answer.Goals as goal
+
+pub returns-then-may_answer-clause-exactly : goal.returns-then-may_answer-clause-exactly
+returns-then-may_answer-clause-exactly c =
+    let same : c.self.inside.code.now ≡ c.args.self.now.code = search rules in
+    let able : (c.hands_out.result ≡ true) ↔ HandsOutSent c.args.self.now.code c.args.reply.now = subst (λ d. (c.hands_out.result ≡ true) ↔ HandsOutSent d c.args.reply.now) same c.hands_out.ensures in
+    search rules
+
+pub returns-then-may_answer-clause-hands_out : goal.returns-then-may_answer-clause-hands_out
+returns-then-may_answer-clause-hands_out c =
+    let same : c.self.inside.code.now ≡ c.args.self.now.code = search rules in
+    λ t. hands_sent c.args.self.now.code c.args.reply.now (subst (λ d. HandsOutSent d c.args.reply.now) same (c.hands_out.ensures.0 t))
+
+pub returns-else-may_answer-clause-exactly : goal.returns-else-may_answer-clause-exactly
+returns-else-may_answer-clause-exactly c = search rules
