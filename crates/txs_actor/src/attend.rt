@@ -9,21 +9,10 @@ use crate::actor::{Actor, tell};
 use crate::outcome::Turn;
 use txs_asks::Outcome;
 use txs_code::Verified;
+use txs_transaction::Pending;
 use txs_value::Callee;
 
 impl Actor {
-    /// The function of the action begins.
-    fn begin_function(&mut self, code: &Verified, f: u16, turn: &mut Turn)
-        requires can { CanAct code.now self.old f }
-        requires went { turn.old ≡ turned.Went }
-        ensures { BeginsActing code.now self.old f turn.new self.new }
-    {
-        match self.action_stack(code, f) {
-            Ok(stack) => self.begin_acting(stack),
-            Err(_) => self.end(Outcome::Memory, turn),
-        }
-    }
-
     /// The action that was taken is run: an operation at once, a function in turns of its own.
     fn run_action(&mut self, code: &Verified, turn: &mut Turn)
         requires can { CanApplyFor code.now self.old (call_of (taken self.old.tx)) }
@@ -32,7 +21,10 @@ impl Actor {
     {
         match self.call_taken() {
             Some(Callee::Core(op)) => self.run_operation(op, turn),
-            Some(Callee::Function(f)) => self.begin_function(code, f, turn),
+            Some(Callee::Function(f)) => match self.action_stack(code, f) {
+                Ok(stack) => self.begin_acting(stack),
+                Err(_) => self.end(Outcome::Memory, turn),
+            },
             None => unreachable!(),
         }
     }
@@ -45,7 +37,10 @@ impl Actor {
     {
         let at = self.place();
         if at == 0 {
-            self.take(turn);
+            match self.agent_in() {
+                Some(agent) => self.ask(Pending::Take(agent), turn),
+                None => unreachable!(),
+            }
             return;
         }
         if at == 1 {
