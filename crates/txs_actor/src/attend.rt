@@ -2,7 +2,7 @@
 
 ghost use Rattle.std.specs.Prelude.{◌≡◌, None};
 ghost use Rattle.txs_actor.specs.PlainActor.{Lives, unanswered};
-ghost use Rattle.txs_actor.specs.Turns.{Turns, IsAttending, taken, call_of, CanAct, BeginsActing, CanApplyFor, AppliesFor, CanAttend, AttendsSo};
+ghost use Rattle.txs_actor.specs.Turns.{Turns, IsAttending, taken, call_of, CanApplyFor, AppliesFor, CanAttend, AttendsSo};
 ghost use Rattle.txs_actor.specs.declared.outcome.Turn.TheVariants as turned;
 
 use crate::actor::{Actor, tell};
@@ -19,13 +19,16 @@ impl Actor {
         requires went { turn.old ≡ turned.Went }
         ensures { AppliesFor code.now self.old (call_of (taken self.old.tx)) turn.new self.new }
     {
-        match self.call_taken() {
-            Some(Callee::Core(op)) => self.run_operation(op, turn),
-            Some(Callee::Function(f)) => match self.action_stack(code, f) {
+        let Some(action) = self.action() else {
+            unreachable!();
+        };
+        let (callee, span) = (action.callee, action.span);
+        match callee {
+            Callee::Core(op) => self.run_operation(op, span, turn),
+            Callee::Function(f) => match self.action_stack(code, f) {
                 Ok(stack) => self.begin_acting(stack),
                 Err(_) => self.end(Outcome::Memory, turn),
             },
-            None => unreachable!(),
         }
     }
 
