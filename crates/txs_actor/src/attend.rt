@@ -2,38 +2,33 @@
 
 ghost use Rattle.std.specs.Prelude.{◌≡◌, None};
 ghost use Rattle.txs_actor.specs.PlainActor.{Lives, unanswered};
-ghost use Rattle.txs_actor.specs.Turns.{Turns, IsAttending, taken, call_of, CanAct, BeginsActing, CanApplyFor, AppliesFor, CanAttend, AttendsSo};
+ghost use Rattle.txs_actor.specs.Turns.{Turns, IsAttending, taken, call_of, CanApplyFor, AppliesFor, CanAttend, AttendsSo};
 ghost use Rattle.txs_actor.specs.declared.outcome.Turn.TheVariants as turned;
 
 use crate::actor::{Actor, tell};
 use crate::outcome::Turn;
 use txs_asks::Outcome;
 use txs_code::Verified;
+use txs_transaction::Pending;
 use txs_value::Callee;
 
 impl Actor {
-    /// The function of the action begins.
-    fn begin_function(&mut self, code: &Verified, f: u16, turn: &mut Turn)
-        requires can { CanAct code.now self.old f }
-        requires went { turn.old ≡ turned.Went }
-        ensures { BeginsActing code.now self.old f turn.new self.new }
-    {
-        match self.action_stack(code, f) {
-            Ok(stack) => self.begin_acting(stack),
-            Err(_) => self.end(Outcome::Memory, turn),
-        }
-    }
-
     /// The action that was taken is run: an operation at once, a function in turns of its own.
     fn run_action(&mut self, code: &Verified, turn: &mut Turn)
         requires can { CanApplyFor code.now self.old (call_of (taken self.old.tx)) }
         requires went { turn.old ≡ turned.Went }
         ensures { AppliesFor code.now self.old (call_of (taken self.old.tx)) turn.new self.new }
     {
-        match self.call_taken() {
-            Some(Callee::Core(op)) => self.run_operation(op, turn),
-            Some(Callee::Function(f)) => self.begin_function(code, f, turn),
-            None => unreachable!(),
+        let Some(action) = self.action() else {
+            unreachable!();
+        };
+        let (callee, span) = (action.callee, action.span);
+        match callee {
+            Callee::Core(op) => self.run_operation(op, span, turn),
+            Callee::Function(f) => match self.action_stack(code, f) {
+                Ok(stack) => self.begin_acting(stack),
+                Err(_) => self.end(Outcome::Memory, turn),
+            },
         }
     }
 
@@ -45,7 +40,10 @@ impl Actor {
     {
         let at = self.place();
         if at == 0 {
-            self.take(turn);
+            match self.agent_in() {
+                Some(agent) => self.ask(Pending::Take(agent), turn),
+                None => unreachable!(),
+            }
             return;
         }
         if at == 1 {
