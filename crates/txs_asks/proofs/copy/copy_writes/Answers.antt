@@ -1,0 +1,6 @@
+use Rattle.std.proofs.Common.{rules, arith}
+use Rattle.std.proofs.lemmas.Grind.{common_steps}
+use Rattle.txs_asks.proofs.copy.copy_writes.Goals as goal
+
+pub loop-write-preserved : goal.loop-write-preserved
+loop-write-preserved c = grind (arith, common_steps)

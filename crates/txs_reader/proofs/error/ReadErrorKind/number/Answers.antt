@@ -1,0 +1,5 @@
+use Rattle.std.proofs.Common.{rules}
+use Rattle.txs_reader.proofs.error.ReadErrorKind.number.Goals as goal
+
+pub returns-in-LeftOut : goal.returns-in-LeftOut
+returns-in-LeftOut c = search rules
