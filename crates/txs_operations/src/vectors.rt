@@ -22,6 +22,16 @@ fn items(value: &Value) -> Result<&Items, FaultKind>
     }
 }
 
+/// The items of the vector that a value was.
+fn taken_items(value: Value) -> Result<Items, FaultKind>
+    ensures { MatchResult result (λ r. items_of value ≡ Ok r) (λ k. items_of value ≡ Err k) }
+{
+    match value.into_items() {
+        Some(items) => Ok(items),
+        None => Err(FaultKind::NotAVector),
+    }
+}
+
 /// Whether vectors nest in the value at most this deep.
 #[cycle(depth)]
 pub fn is_within(value: &Value, limit: u8) -> bool
@@ -103,9 +113,7 @@ pub(crate) fn peek(value: &Value) -> Result<Value, Stop>
 pub(crate) fn conj_owned(alloc: Global, vector: Value, item: Value) -> Result<Value, Stop>
     ensures { Answers result (conj_of vector item) }
 {
-    let Value::Vector(items) = vector else {
-        return Err(Stop::Fault(FaultKind::NotAVector));
-    };
+    let items = taken_items(vector)?;
     if items.len() >= MOST_ITEMS {
         return Err(Stop::Fault(FaultKind::TooLong));
     }
@@ -119,9 +127,7 @@ pub(crate) fn conj_owned(alloc: Global, vector: Value, item: Value) -> Result<Va
 pub(crate) fn pop_owned(alloc: Global, vector: Value) -> Result<Value, Stop>
     ensures { Answers result (pop_of vector) }
 {
-    let Value::Vector(items) = vector else {
-        return Err(Stop::Fault(FaultKind::NotAVector));
-    };
+    let items = taken_items(vector)?;
     if items.len() == 0 {
         return Err(Stop::Fault(FaultKind::PopEmpty));
     }
@@ -160,9 +166,7 @@ pub(crate) fn assoc_owned(
 ) -> Result<Value, Stop>
     ensures { Answers result (assoc_of vector index.now item) }
 {
-    let Value::Vector(items) = vector else {
-        return Err(Stop::Fault(FaultKind::NotAVector));
-    };
+    let items = taken_items(vector)?;
     let index = number(index)?;
     let place = place_in(&items, index)?;
     if place >= MOST_ITEMS {
