@@ -76,3 +76,15 @@ pub returns-clause-number : goal.returns-clause-number
 returns-clause-number c =
     let same : c.self.inside.actor.number ≡ c.args.self.now.actor.number = search rules in
     turns_number c.self.inside.code.now _ c.self.inside.actor c.run-turn.new.self c.run-turn.result c.run-turn.ensures.turns ∙ same
+
+pub returns-clause-turned : goal.returns-clause-turned
+returns-clause-turned c = λ l. cc
+
+pub returns-clause-went : goal.returns-clause-went
+returns-clause-went c = λ e. cc
+
+pub returns-clause-asks : goal.returns-clause-asks
+returns-clause-asks c = λ q e. cc
+
+pub returns-clause-ended : goal.returns-clause-ended
+returns-clause-ended c = λ o e l. cc
