@@ -5,14 +5,14 @@ ghost use Rattle.std.specs.List.{count_by};
 ghost use Rattle.txs_position.specs.Place.{is_newline, begins_character, characters};
 
 /// Whether a character begins with this byte: any but 0x80 to 0xBF, which go on with one in UTF-8.
-pub fn begins_character(byte: u8) -> bool
+pub(crate) fn begins_character(byte: u8) -> bool
     ensures { result ≡ begins_character byte }
 {
     !matches!(byte, 0x80..=0xBF)
 }
 
 /// How many newlines there are.
-pub fn newlines(bytes: &[u8]) -> usize
+pub(crate) fn newlines(bytes: &[u8]) -> usize
     ensures { result ≡ count_by is_newline bytes.now }
 {
     let mut count = 0;
@@ -25,7 +25,7 @@ pub fn newlines(bytes: &[u8]) -> usize
 }
 
 /// How many characters begin here.
-pub fn characters(bytes: &[u8]) -> usize
+pub(crate) fn characters(bytes: &[u8]) -> usize
     ensures { result ≡ characters bytes.now }
 {
     let mut count = 0;

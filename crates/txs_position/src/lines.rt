@@ -5,21 +5,21 @@ ghost use Rattle.std.specs.List.{before_first, after_last};
 ghost use Rattle.txs_position.specs.Place.{is_newline, line_before, line_behind, line_around};
 
 /// What stands before the offset; the whole text where the offset is past its end.
-pub fn before(text: &[u8], offset: usize) -> &[u8]
+pub(crate) fn before(text: &[u8], offset: usize) -> &[u8]
     ensures { result.now ≡ take offset text.now }
 {
     &text[..offset.min(text.len())]
 }
 
 /// What stands from the offset on; nothing where the offset is past the end.
-pub fn behind(text: &[u8], offset: usize) -> &[u8]
+pub(crate) fn behind(text: &[u8], offset: usize) -> &[u8]
     ensures { result.now ≡ drop offset text.now }
 {
     &text[offset.min(text.len())..]
 }
 
 /// What stands behind the last newline.
-pub fn last_line(bytes: &[u8]) -> &[u8]
+pub(crate) fn last_line(bytes: &[u8]) -> &[u8]
     ensures { result.now ≡ after_last is_newline bytes.now }
 {
     let mut from = bytes.len();
@@ -30,7 +30,7 @@ pub fn last_line(bytes: &[u8]) -> &[u8]
 }
 
 /// What stands before the first newline.
-pub fn first_line(bytes: &[u8]) -> &[u8]
+pub(crate) fn first_line(bytes: &[u8]) -> &[u8]
     ensures { result.now ≡ before_first is_newline bytes.now }
 {
     for (i, byte) in bytes.iter().enumerate() {
