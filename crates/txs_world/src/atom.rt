@@ -93,8 +93,9 @@ impl AtomBook {
     pub fn lawful(&self, actor: u16, place: u32) -> bool
         ensures { result ≡ may_name true self.now.book actor place }
     {
+        let events = self.journal.book.len();
         let stand = stand_of(self.journal.views.as_slice(), actor);
-        place as usize <= self.journal.book.len() && stand <= place
+        place as usize <= events && stand <= place
     }
 
     /// The number of events and the newest value, with which a swap begins.

@@ -64,8 +64,7 @@ impl Journal {
     {
         self.book.reserve(1)?;
         make_room(&mut self.views, actor)?;
-        make_room(&mut self.tries, actor)?;
-        Ok(())
+        make_room(&mut self.tries, actor)
     }
 
     /// Adds an event that has its room, and answers how many there are with it.
