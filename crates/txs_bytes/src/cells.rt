@@ -27,8 +27,11 @@ fn kind_of(byte: u8) -> Option<CellKind>
 fn mode_of(kind: CellKind, byte: u8) -> Option<ErrorMode>
     ensures { result ≡ nth (modes kind) byte }
 {
+    let is_fail = byte == 0;
+    if is_fail {
+        return Some(ErrorMode::Fail);
+    }
     match (kind, byte) {
-        (_, 0) => Some(ErrorMode::Fail),
         (CellKind::Agent, 1) => Some(ErrorMode::Continue),
         _ => None,
     }
