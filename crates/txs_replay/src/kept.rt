@@ -88,7 +88,7 @@ impl KeptEntries {
     }
 
     /// Whether so many asks were served before the first of these.
-    pub fn is_next(&self, number: u64) -> bool
+    pub(crate) fn is_next(&self, number: u64) -> bool
         ensures { result ≡ is_next number self.now }
     {
         match self.entries.front() {

@@ -7,7 +7,7 @@ mod holders;
 pub mod kept;
 pub mod law;
 pub mod replay;
-pub mod same;
+mod same;
 
 pub use kept::{Kept, KeptEntries};
 pub use replay::replays;

@@ -79,7 +79,7 @@ fn same_new(a: &Result<Value, Fault>, b: &Result<Value, Fault>) -> bool
 }
 
 /// Whether two replies are equal.
-pub fn same_reply(a: &Reply, b: &Reply) -> bool
+pub(crate) fn same_reply(a: &Reply, b: &Reply) -> bool
     ensures { IsTrue result ↔ (a.now ≡ b.now) }
 {
     match (a, b) {
@@ -192,7 +192,7 @@ fn same_event(a: &Event, b: &Event) -> bool
 }
 
 /// Whether two books are equal.
-pub fn same_events(a: &[Event], b: &[Event]) -> bool
+pub(crate) fn same_events(a: &[Event], b: &[Event]) -> bool
     ensures { IsTrue result ↔ (a.now ≡ b.now) }
 {
     if a.len() != b.len() {
