@@ -3,7 +3,7 @@
 #![tactic(auto)]
 
 ghost use Rattle.std.specs.Thread.{IsSync};
-ghost use Rattle.txs_tell_threads.specs.Runner.{IsRunnable, RunsLawfully};
+ghost use Rattle.txs_play.specs.Runner.{IsRunnable, RunsLawfully};
 
 use std::alloc::Global;
 use std::fs::File;

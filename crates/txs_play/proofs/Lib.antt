@@ -1,1 +1,4 @@
+pub mod Answered
+pub mod Ran
+mod Refused
 pub mod Words

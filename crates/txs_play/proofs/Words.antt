@@ -7,9 +7,9 @@ use Rattle.txs_tell.specs.Told.{Told, ScheduleTells, front}
 use Rattle.txs_tell.proofs.Fronts.{some_maps}
 use Rattle.txs_words.specs.declared.words.Words.{Words}
 use Rattle.txs_words.specs.declared.words.Words.TheVariants.{Work, Run, WorkCode, RunCode}
-use Rattle.txs_tell_code.specs.CodeTold.{BytesScheduleTell}
-use Rattle.txs_tell_threads.specs.CodeWorkersTold.{StreamWorkedCodeTells}
-use Rattle.txs_tell_threads.specs.WorkersTold.{StreamWorkedTells}
+use Rattle.txs_play.specs.CodeTold.{BytesScheduleTell}
+use Rattle.txs_play.specs.CodeWorkersTold.{StreamWorkedCodeTells}
+use Rattle.txs_play.specs.WorkersTold.{StreamWorkedTells}
 use Rattle.txs_play.specs.Telling.{WordsTell, WorkedWordsTell, explained_as}
 
 abbrev script_named : List ℕ → Option (List ℕ) → Script

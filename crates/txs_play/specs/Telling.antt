@@ -3,9 +3,9 @@ use Rattle.std.specs.Prelude.{◌≡◌, ℕ, Bool, true, false, List, [], codes
 use Rattle.std.proofs.Common.{String, Global}
 use Rattle.txs_tell.specs.Told.{Told, Tells, ScheduleTells, front}
 use Rattle.txs_tell.specs.Told as wanted
-use Rattle.txs_tell_threads.specs.CodeWorkersTold.{StreamWorkedCodeTells}
-use Rattle.txs_tell_threads.specs.WorkersTold.{StreamWorkedTells}
-use Rattle.txs_tell_code.specs.CodeTold.{Listed, BytesTell, BytesScheduleTell}
+use Rattle.txs_play.specs.CodeWorkersTold.{StreamWorkedCodeTells}
+use Rattle.txs_play.specs.WorkersTold.{StreamWorkedTells}
+use Rattle.txs_play.specs.CodeTold.{Listed, BytesTell, BytesScheduleTell}
 use Rattle.txs_words.specs.declared.words.Words.{Words}
 use Rattle.txs_words.specs.declared.words.Words.TheVariants.{Check, Listing, Build, Work, Run, ListCode, WorkCode, RunCode, Shown, Faulty}
 

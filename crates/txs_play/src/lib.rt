@@ -1,9 +1,20 @@
 //! The program over any streams: `play` takes the words of the command line and a script, and writes what
-//! a run, a check, a listing or a refusal tells, or the text of help or of a usage fault.
+//! a run, a check, a listing or a refusal tells, or the text of help or of a usage fault. `play_with` is handed in
+//! how workers run: this crate starts nothing and waits for nobody.
 #![tactic(auto)]
 
+mod alone;
+mod bytes;
+mod code;
+mod code_play;
+mod lines;
 pub mod program;
+mod run;
+mod schedule;
+mod script;
+mod usage;
 pub mod workers;
+mod workers_play;
 
 pub use program::{play, play_words};
 pub use workers::play_with;

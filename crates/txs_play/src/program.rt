@@ -5,11 +5,13 @@ ghost use Rattle.txs_play.specs.Telling.{ArgsTell, WordsTell, explained_as};
 ghost use Rattle.txs_tell.specs.Lent.{text_in};
 ghost use Rattle.txs_tell.specs.Told.{Told, Written};
 
+use crate::code_play::play_code;
+use crate::schedule::schedule_code;
+use crate::usage::CodeUse;
 use std::alloc::Global;
 use std::io::{Read, Write};
 use txs_tell::told::{DONE, SPENT, UNUSABLE};
 use txs_tell::{Use, play_schedule, play_script, write_told};
-use txs_tell_code::{CodeUse, play_code, schedule_code};
 use txs_words::{Words, parse_words};
 
 /// The name under which lines are explained, where they are: that of the file, or `-` for standard input.

@@ -1,17 +1,19 @@
 //! The program, over any streams, with what runs scripts and code handed in.
 
 ghost use Rattle.std.specs.Prelude.{IfSome};
+ghost use Rattle.txs_play.specs.Runner.{IsRunnable, RunsLawfully};
 ghost use Rattle.txs_play.specs.Telling.{WorkedWordsTell};
 ghost use Rattle.txs_tell.specs.Told.{Told, Written};
-ghost use Rattle.txs_tell_threads.specs.Runner.{IsRunnable, RunsLawfully};
 
+use crate::bytes::play_code_workers;
 use crate::program::{explained_as, play_words};
+use crate::script::Working;
+use crate::workers_play::play_workers;
 use std::alloc::Global;
 use std::io::{Read, Write};
 use txs_code::Verified;
 use txs_machine::{Report, RunError};
 use txs_shared::SharedState;
-use txs_tell_threads::{Working, play_code_workers, play_workers};
 use txs_words::Words;
 
 /// Does what the words ask for, as `play_words` does; but where they ask for a run by workers, it is made by this runner.

@@ -1,6 +1,6 @@
 // The program, where workers run what it is told to run: as `main` does it, with `run_threads` handed in.
 ghost use Rattle.std.specs.Thread.{IsSync};
-ghost use Rattle.txs_tell_threads.specs.Runner.{IsRunnable, RunsLawfully};
+ghost use Rattle.txs_play.specs.Runner.{IsRunnable, RunsLawfully};
 
 use std::alloc::Global;
 use std::sync::Wait;

@@ -1,3 +1,4 @@
+use Rattle.std.proofs.Common.{rules}
 use Rattle.txs_play.specs.Telling.{ArgsTell, WordsTell, of_words}
 use Rattle.txs_tell.specs.Told.{Told, Written}
 use Rattle.txs_tell.proofs.Fronts.{some_maps}
@@ -10,3 +11,6 @@ returns-in-Ok g c =
     some_maps known (λ input. (t : Told) × WordsTell input c.in-Ok.words t × writes t)
     (λ input. (t : Told) × ArgsTell input t × writes t)
     (λ input h. (h.0, of_words c.in-Ok.words h.1, h.2)) c.play_words.ensures
+
+pub returns-in-Err : goal.returns-in-Err
+returns-in-Err g c = search rules

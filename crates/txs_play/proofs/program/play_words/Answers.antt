@@ -1,7 +1,11 @@
+use Rattle.std.proofs.Common.{rules}
 use Rattle.txs_tell.specs.Lent.{text_in}
 use Rattle.txs_tell.specs.Told.{Told, Written}
 use Rattle.txs_play.proofs.Words.{run_told, run_code_told, work_told, work_code_told}
 use Rattle.txs_play.proofs.program.play_words.Goals as goal
+
+pub returns-in-Check : goal.returns-in-Check
+returns-in-Check g c = search rules
 
 pub returns-in-Run : goal.returns-in-Run
 returns-in-Run g c =

@@ -1,0 +1,38 @@
+-- What holds of an answer, or of a want of memory for it.
+use Rattle.std.proofs.Common.{◌≡◌, ◌≢◌, ◌++◌, ℕ, Bool, List, [], Option, Result, Ok, Err, IfOk, codes, refl}
+use Rattle.std.specs.Option.{IfSome}
+use Rattle.txs_load.specs.Load.{IsRefusal}
+use Rattle.txs_load.specs.declared.error.LoadError.{LoadError}
+use Rattle.txs_load.specs.declared.error.LoadError.TheVariants.{Memory as NoMemory}
+use Rattle.txs_machine.specs.ErrorName.{error_name}
+use Rattle.txs_machine.specs.declared.run_error.RunError.{RunError}
+use Rattle.txs_machine.specs.declared.run_error.RunError.TheVariants.{Memory}
+use Rattle.txs_tell.proofs.Fronts.{some_always}
+use Rattle.txs_tell.specs.Lent.{answer_of, told_of}
+use Rattle.txs_tell.specs.Told.{Told}
+use Rattle.txs_tell.specs.declared.told.Told as owned
+use Rattle.txs_play.specs.CodeTold.{load_line}
+use Rattle.txs_play.specs.CodeWorkersTold.{WorkedCodeTells, of_refused}
+use Rattle.txs_play.specs.RunTold.{FailureTells}
+
+-- there was no memory
+abbrev pub IsMemory : Told → Type 0
+IsMemory t = (t.output ≡ []) × (t.errors ≡ codes "out of memory\n") × (t.status ≡ 4)
+
+-- of a stream: what is told of all of its bytes
+pub stream_answered : {E : Type 0} (r : Result owned.Told E) (known : Option (List ℕ)) (P : List ℕ → Told → Type 0) → ((input : List ℕ) (t : Told) → IsMemory t → P input t)
+    → IfOk r (λ t. IfSome known (λ input. P input (told_of t))) → IfSome known (λ input. P input (answer_of r))
+stream_answered (Ok t) known P memory h = h
+stream_answered (Err e) known P memory h = some_always known (λ input. P input (answer_of (Err e))) (λ input. memory input (answer_of (Err e)) (refl, refl, refl))
+
+-- of bytes that are refused
+pub refused_answered : {E : Type 0} (r : Result owned.Told E) (bytes : List ℕ) (steps : ℕ) (cells events : Bool) (e : LoadError) → IsRefusal bytes e → IfOk r (λ t. e ≢ NoMemory)
+    → IfOk r (λ t. t.output.items ≡ []) → IfOk r (λ t. t.errors.items ≡ load_line e) → IfOk r (λ t. t.status ≡ 1) → IfOk r (λ t. WorkedCodeTells bytes steps cells events (told_of t))
+refused_answered (Ok t) bytes steps cells events e refused told output errors status = of_refused e told refused output errors status
+refused_answered (Err x) bytes steps cells events e refused told output errors status = tt
+
+-- of a run that has no report
+pub failure_answered : {E : Type 0} (r : Result owned.Told E) (failure : RunError) → failure ≢ Memory → IfOk r (λ t. t.output.items ≡ [])
+    → IfOk r (λ t. t.errors.items ≡ (codes "run failed: " ++ error_name failure) ++ codes "\n") → IfOk r (λ t. t.status ≡ 4) → IfOk r (λ t. FailureTells failure (told_of t))
+failure_answered (Ok t) failure told output errors status = record { told = told; output = output; errors = errors; status = status }
+failure_answered (Err x) failure told output errors status = tt

@@ -1,0 +1,23 @@
+use Rattle.txs_tell.proofs.Fronts.{ok_maps}
+use Rattle.txs_tell.specs.Lent.{script_of, told_of}
+use Rattle.txs_play.proofs.Answered.{refused_answered}
+use Rattle.txs_play.proofs.Ran.{of_bytes}
+use Rattle.txs_play.proofs.code.work_code.Goals as goal
+use Rattle.txs_play.specs.CodeWorkersTold.{WorkedCodeTells}
+use Rattle.txs_play.specs.RunTold.{RunTold}
+
+pub returns-in-Ok : goal.returns-in-Ok
+returns-in-Ok g c =
+    let bytes = c.args.bytes.now in
+    let code = c.in-Ok.code in
+    let script = script_of c.no_script.result in
+    let working = c.args.working in
+    ok_maps c.run_told.result (λ t. RunTold code script working.steps working.cells working.events (told_of t)) (λ t. WorkedCodeTells bytes working.steps working.cells working.events (told_of t))
+    (λ t told. of_bytes bytes code script working.steps working.cells working.events (told_of t) c.in-Ok.ensures.form c.no_script.ensures told) c.run_told.ensures
+
+-- the bytes aren't taken
+pub returns-in-Err : goal.returns-in-Err
+returns-in-Err g c =
+    let working = c.args.working in
+    let e = c.refused.ensures in
+    refused_answered c.refused.result c.args.bytes.now working.steps working.cells working.events c.in-Err.error c.in-Err.ensures.refused e.told e.output e.errors e.status

@@ -1,0 +1,26 @@
+use Rattle.txs_tell.proofs.Fronts.{ok_maps}
+use Rattle.txs_tell.specs.Lent.{script_of, told_of}
+use Rattle.txs_tell.specs.Told.{IsCompiled, ScriptTells, Wanted}
+use Rattle.txs_play.proofs.Ran.{of_script}
+use Rattle.txs_play.proofs.script.work_script.Goals as goal
+use Rattle.txs_play.specs.RunTold.{RunTold}
+use Rattle.txs_play.specs.WorkersTold.{WorkedTells, of_refused}
+use Rattle.txs_tree.specs.View.{program_of}
+
+pub returns-in-Ok : goal.returns-in-Ok
+returns-in-Ok g c =
+    let p = program_of c.in-Ok.compiled.0 in
+    let code = c.in-Ok.compiled.1 in
+    let of = c.in-Ok.ensures in
+    let script = script_of c.args.script in
+    let working = c.args.working in
+    let compiled : IsCompiled script.text p code = record { program = of.program; generated = of.generated; follows = of.code; agents = of.agents; sends = of.sends; same = of.cells } in
+    ok_maps c.run_told.result (λ t. RunTold code script working.steps working.cells working.events (told_of t)) (λ t. WorkedTells script working.steps working.cells working.events (told_of t))
+    (λ t told. of_script script p code working.steps working.cells working.events (told_of t) compiled told) c.run_told.ensures
+
+-- the script is refused
+pub returns-in-Err : goal.returns-in-Err
+returns-in-Err g c =
+    let script = script_of c.args.script in
+    let working = c.args.working in
+    ok_maps c.refused.result (λ t. (wanted : Wanted) → ScriptTells script (told_of t) wanted) (λ t. WorkedTells script working.steps working.cells working.events (told_of t)) (λ t told. of_refused told) c.refused.ensures

@@ -1,2 +1,0 @@
-pub mod CodeTold
-pub mod LentCode

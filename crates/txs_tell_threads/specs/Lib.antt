@@ -1,4 +1,0 @@
-pub mod CodeWorkersTold
-pub mod WorkersTold
-pub mod RunTold
-pub mod Runner
