@@ -133,7 +133,7 @@ fn copy_topmost(alloc: Global, stack: &Stack, n: usize) -> Result<Listed<Value>,
 {
     let mut copies = Vec::with_capacity(alloc, n)?;
     for i in 0..n {
-        copies.push(copy_value(stack.under(n - i - 1))?)?;
+        copies.push_reserved(copy_value(stack.under(n - i - 1))?);
     }
     Ok(Listed::from_vec(copies))
 }
