@@ -1,6 +1,6 @@
 //! Instructions on cells and the transaction of an actor.
 
-ghost use Rattle.std.specs.Prelude.{ℕ, ◌+◌, ◌++◌, ◌∷◌, [], List, ◌≡◌, ◌<◌, ◌≤◌, ◌^◌, ◌↔◌, length, true, Ok, None, Some, Option, IfOk, IfSome, IsTrue};
+ghost use Rattle.std.specs.Prelude.{ℕ, ◌+◌, ◌++◌, ◌∷◌, [], List, ◌≡◌, ◌<◌, ◌≤◌, ◌^◌, length, true, Ok, None, Some, Option, IfOk, IfSome};
 ghost use Rattle.txs_asks.specs.Ask.{buffered};
 ghost use Rattle.txs_frame.specs.Frame.{Work, commuted};
 ghost use Rattle.txs_frame.specs.Phase.{next_arguments};
@@ -133,7 +133,7 @@ fn copy_topmost(alloc: Global, stack: &Stack, n: usize) -> Result<Listed<Value>,
 {
     let mut copies = Vec::with_capacity(alloc, n)?;
     for i in 0..n {
-        copies.push(copy_value(stack.under(n - i - 1))?)?;
+        copies.push_reserved(copy_value(stack.under(n - i - 1))?);
     }
     Ok(Listed::from_vec(copies))
 }
@@ -392,13 +392,6 @@ fn begin(tx: &mut KeptTransaction) -> Quick
     }
 }
 
-/// Whether a transaction has commuted refs that it didn't set, if there is memory to tell.
-fn has_commuted(frame: &TxFrame) -> Result<bool, AllocError>
-    ensures { IfOk result (λ b. IsTrue b ↔ (0 < length (commuted frame.now))) }
-{
-    Ok(!frame.commuted()?.is_empty())
-}
-
 /// A transaction with no commutes ends, or leaves the one that runs.
 #[inline(always)]
 fn end_plainly(tx: &mut KeptTransaction, frame: &TxFrame) -> Option<Quick>
@@ -408,10 +401,14 @@ fn end_plainly(tx: &mut KeptTransaction, frame: &TxFrame) -> Option<Quick>
     match tx.end() {
         Ending::Inner => Some(Quick::On),
         Ending::Other => None,
-        Ending::Commits => match has_commuted(frame) {
+        Ending::Commits => match frame.commuted() {
             Err(_) => Some(Quick::Memory),
-            Ok(true) => None,
-            Ok(false) => Some(Quick::Commits),
+            Ok(cells) => {
+                if cells.is_empty() {
+                    return Some(Quick::Commits);
+                }
+                None
+            }
         },
     }
 }
