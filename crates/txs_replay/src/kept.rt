@@ -68,7 +68,10 @@ impl KeptEntries {
     {
         match self.entries.push_back(kept) {
             Ok(()) => Ok(()),
-            Err(_) => Err(AllocError),
+            Err(refused) => {
+                drop(refused);
+                Err(AllocError)
+            }
         }
     }
 

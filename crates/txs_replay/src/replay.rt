@@ -3,7 +3,7 @@
 ghost use Rattle.std.specs.Prelude.{◌≡◌, ◌≤◌, ◌<◌, ◌↔◌, [], length, true, false, IsTrue, IfOk, IfSome, OnOk, None, Some};
 ghost use Rattle.std.proofs.Common.{get_or};
 ghost use Rattle.txs_replay.specs.Holders.{AreFirst};
-ghost use Rattle.txs_replay.specs.Replay.{IsTaken, IsUnheld, IsServable, IsServedSo, IsStepped, AreReplayed, AllEmpty, HaveSameBooks};
+ghost use Rattle.txs_replay.specs.Replay.{IsServable, IsServedSo, IsStepped, AreReplayed, AllEmpty, HaveSameBooks};
 ghost use Rattle.txs_asks.specs.declared.ask.Reply.TheVariants.{Memory};
 ghost use Rattle.txs_runs.specs.Told.{IsExchanged};
 ghost use Rattle.txs_shared.specs.SharedState.{numbered_book, shared_of};
@@ -54,19 +54,6 @@ fn serve_again(fresh: &mut SharedState, actor: u16, kept: Kept) -> Result<bool, 
     told
 }
 
-/// The entry behind so many of all actors, which is taken out, with the number of its actor.
-fn take_next(rests: &mut Vec<KeptEntries>, firsts: &[u16], number: u64) -> Option<(u16, Kept)>
-    requires few { length rests.old.items ≤ 65536 }
-    requires first { AreFirst firsts.now rests.old.items }
-    ensures taken { IfSome result (λ x. IsTaken rests.old.items number x.0 x.1 rests.new.items) }
-    ensures none { result ≡ None → IsUnheld rests.old.items number }
-    ensures few { length rests.new.items ≡ length rests.old.items }
-{
-    let actor = holder(rests.as_slice(), firsts, number)?;
-    let kept = rests[actor].take()?;
-    Some((actor as u16, kept))
-}
-
 /// Serves again the entry behind so many of all actors, where it is there and is answered so.
 fn serve_next(
     fresh: &mut SharedState,
@@ -79,11 +66,14 @@ fn serve_next(
     ensures stepped { IfOk result (λ ok. IsStepped fresh.old rests.old.items number ok fresh.new rests.new.items) }
     ensures few { length rests.new.items ≡ length rests.old.items }
 {
-    let Some((actor, kept)) = take_next(rests, firsts, number) else {
+    let Some(actor) = holder(rests.as_slice(), firsts, number) else {
         return Ok(false);
     };
-    if may_serve(fresh, actor, &kept) {
-        return serve_again(fresh, actor, kept);
+    let Some(kept) = rests[actor].take() else {
+        return Ok(false);
+    };
+    if may_serve(fresh, actor as u16, &kept) {
+        return serve_again(fresh, actor as u16, kept);
     }
     drop(kept);
     Ok(false)

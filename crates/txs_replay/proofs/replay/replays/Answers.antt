@@ -1,10 +1,27 @@
-use Rattle.std.proofs.Common.{rules, ◌≡◌, ◌<◌, ◌≤◌, ◌∙◌, length, true, false, subst, sym}
+use Rattle.std.proofs.Common.{rules, ◌≡◌, ◌<◌, ◌≤◌, ◌-◌, ◌∙◌, length, true, false, ap, subst, sym, arith}
+use Rattle.txs_runs.specs.Shared.{untouched}
 use Rattle.txs_shared.specs.SharedState.{shared_of}
-use Rattle.txs_replay.specs.Replay.{AllEmpty, IsStepped, MadeStep}
+use Rattle.txs_replay.specs.Replay.{AllEmpty, IsStepped, MadeStep, Replays}
 use Rattle.txs_replay.specs.Holders.{AreFirst}
 use Rattle.txs_replay.proofs.Holding.{stays_first}
 use Rattle.txs_replay.proofs.Steps.{goes_on, came_from, ends_here, ends, begins_end}
 use Rattle.txs_replay.proofs.replay.replays.Goals as goal
+
+pub loop-number-init : goal.loop-number-init
+loop-number-init c =
+    let s = c.args.shared.now in
+    let rests = c.args.rests.items in
+    let books = (shared_of s).books in
+    let opened = c.in_ok-fresh.ensures in
+    let all : c.args.served - 0 ≡ c.args.served = omega arith in
+    let fresh : shared_of c.in_ok-fresh.fresh ≡ untouched s.cells = opened.untouched ∙ ap untouched c.cells.ensures in (
+      c.requires.few,
+      opened.cells ∙ c.cells.ensures,
+      opened.threads ∙ c.threads.ensures,
+      λ h. subst (λ n. Replays s.cells s.threads n 0 rests (shared_of c.in_ok-fresh.fresh) books) (sym all) (subst (λ sh. Replays s.cells s.threads c.args.served 0 rests sh books) (sym fresh) h),
+      λ h. subst (λ sh. Replays s.cells s.threads c.args.served 0 rests sh books) fresh (subst (λ n. Replays s.cells s.threads n 0 rests (shared_of c.in_ok-fresh.fresh) books) all h),
+      subst (AreFirst c.in_ok-firsts.firsts.items) c.as_slice.ensures.value c.in_ok-firsts.ensures,
+    )
 
 pub returns-then-not-branch : goal.returns-then-not-branch
 returns-then-not-branch c =
