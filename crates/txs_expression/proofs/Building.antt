@@ -4,12 +4,12 @@ use Rattle.txs_reader.specs.declared.form.Form.{Form}
 use Rattle.txs_reader.specs.Tree.{tree, first, place, Trees as Forms}
 use Rattle.txs_tree.specs.Tree.{Tree, Trees, more, none}
 use Rattle.txs_tree.specs.View.{tree_of}
-use Rattle.txs_nodes.specs.Given.{row, Puts}
-use Rattle.txs_nodes.specs.declared.nodes.Nodes.{Nodes}
+use Rattle.txs_expression.specs.Given.{row, Puts}
+use Rattle.txs_expression.specs.declared.nodes.Nodes.{Nodes}
 use Rattle.txs_expand.specs.declared.error.ResolveError.{ResolveError}
 use Rattle.txs_expand.specs.declared.error.ResolveErrorKind.TheVariants.{BadForm}
 use Rattle.txs_expand.specs.Expressions.{Answer, Bound, Resolver, bound_name, flag, named_all, named_bindings}
-use Rattle.txs_expression.specs.Given.{IsWithin}
+use Rattle.txs_expression.specs.Walk.{IsWithin}
 use Rattle.txs_expand.specs.Parts.{plain}
 use Rattle.txs_expand.proofs.Rows.{drop_all, plain_at}
 use Rattle.txs_expand.specs.Answers.{◌>>=◌, refuse}
@@ -123,3 +123,7 @@ puts_more a b c ts us one two =
     let q = two kept in
     let p = one q.0 in
     (p.0, q.1 ∙ ap (λ (l : List Tree). l ++ us) p.1 ∙ append_assoc (map tree_of a.items.items) ts us)
+
+pub bound_nil : (a : Answer Bound) → a ≡ bound_after [] a
+bound_nil (Ok b) = refl
+bound_nil (Err e) = refl

@@ -13,7 +13,7 @@ use Rattle.txs_names.specs.declared.names.FormName.TheVariants as kind
 use Rattle.txs_names.specs.Scope.{Scope, may_bind, with_local}
 use Rattle.txs_expand.specs.declared.error.ResolveError.{ResolveError}
 use Rattle.txs_expand.specs.declared.error.ResolveErrorKind.TheVariants.{TooMany}
-use Rattle.txs_nodes.specs.declared.nodes.Nodes.{Nodes}
+use Rattle.txs_expression.specs.declared.nodes.Nodes.{Nodes}
 use Rattle.txs_expand.specs.declared.shapes.Change.{Change}
 use Rattle.txs_expand.specs.declared.shapes.Couple.{Couple}
 use Rattle.txs_expand.specs.declared.shapes.Couple.TheVariants as couple
@@ -27,9 +27,9 @@ use Rattle.txs_expand.specs.declared.parts.Special.TheVariants as special
 use Rattle.txs_expand.specs.Answers.{◌>>=◌, refuse}
 use Rattle.txs_expand.specs.Expansions.{alone, body, expand_once, hidden}
 use Rattle.txs_expand.specs.Expressions.{Answer, Bound, Core, whole, parted, Resolver, are_wanted, bound_name, binding_node, callee_of, change_node, changing, choice_node, core_of, is_wanted, made, named, named_all, named_bindings, narrow, put_together, resolved, sequence_node, single_node, spot_at, spot_mark}
-use Rattle.txs_expression.specs.Given.{Fills, PushesAll}
-use Rattle.txs_nodes.specs.Given.{row, Pushes, Puts, Shows}
-use Rattle.txs_nodes.specs.Made.{Makes, couple_node}
+use Rattle.txs_expression.specs.Walk.{Fills, PushesAll}
+use Rattle.txs_expression.specs.Given.{row, Pushes, Puts, Shows}
+use Rattle.txs_expression.specs.Made.{Makes, couple_node}
 use Rattle.txs_expression.proofs.Building.{puts_more}
 use Rattle.txs_expand.specs.Parts.{core_at, own_spot, hidden_choice, part_form, plain, special_form}
 use Rattle.txs_expand.proofs.Rows.{parts_plain, roomy}

@@ -1,49 +1,43 @@
--- What the walk's answers say.
-use Rattle.std.specs.Prelude.{◌≡◌, ◌≤◌, ◌<◌, ◌-◌, ℕ, List, [], drop, length, Result, Ok, Err, IsOk}
-use Rattle.txs_tree.specs.Tree.{Tree, Trees, Mark}
+-- What an answer says that may be want of memory, and what nodes are that may be lost for it.
+use Rattle.std.specs.Prelude.{◌≡◌, false, List, [], ◌∷◌, ◌++◌, map, Option, Some, None, Result, Ok, Err}
+use Rattle.txs_tree.specs.Tree.{Tree, Trees, more, none}
 use Rattle.txs_tree.specs.declared.node.Node.{Node}
 use Rattle.txs_tree.specs.View.{tree_of}
-use Rattle.txs_names.specs.Scope.{Scope, with_local, with_locals}
 use Rattle.txs_expand.specs.declared.error.ResolveError.{ResolveError}
-use Rattle.txs_expand.specs.declared.error.ResolveErrorKind.TheVariants.{TooMany}
-use Rattle.txs_expand.specs.declared.shapes.Spot.{Spot}
-use Rattle.txs_expand.specs.Expressions.{Answer, Bound}
-use Rattle.txs_nodes.specs.Given.{row, Puts}
-use Rattle.txs_nodes.specs.Made.{Makes}
-use Rattle.txs_nodes.specs.declared.nodes.Nodes.{Nodes}
-use Rattle.txs_nodes.specs.declared.stop.Stop.{Stop}
-use Rattle.txs_nodes.specs.declared.stop.Stop.TheVariants.{Refused, Memory}
-use Rattle.txs_expand.specs.declared.parts.Special.{Special}
-use Rattle.txs_value.specs.Limits.{most_locals}
+use Rattle.txs_expand.specs.Expressions.{Answer}
+use Rattle.txs_expression.specs.declared.nodes.Nodes.{Nodes}
+use Rattle.txs_expression.specs.declared.stop.Stop.{Stop}
+use Rattle.txs_expression.specs.declared.stop.Stop.TheVariants.{Refused, Memory}
 
--- the node is the definition's, or the form is refused as the definition says; memory is wanted only for a form that isn't refused
-abbrev pub Becomes : Result Node Stop → Answer Tree → Type 0
-Becomes (Ok n) wanted = wanted ≡ Ok (tree_of n)
-Becomes (Err (Refused e)) wanted = wanted ≡ Err e
-Becomes (Err Memory) wanted = IsOk wanted
+-- the answer is the definition's, seen as plain data, unless memory ran out
+abbrev pub Gives : {A B : Type 0} → (A → B) → Result A Stop → Answer B → Type 0
+Gives view (Ok x) wanted = wanted ≡ Ok (view x)
+Gives view (Err (Refused e)) wanted = wanted ≡ Err e
+Gives view (Err Memory) wanted = Unit {0}
 
--- more nodes stand behind these, of the definition's trees, unless they are lost; or it refuses
-abbrev pub PushesAll : Result (Unit {0}) ResolveError → Nodes → Nodes → Answer Trees → Type 0
-PushesAll (Ok u) before now wanted = (ts : List Tree) × (wanted ≡ Ok (row ts)) × Puts before now ts
-PushesAll (Err e) before now wanted = wanted ≡ Err e
+-- why an answer is a refusal, if it is one
+abbrev pub refusal_of : {A : Type 0} → Answer A → Option ResolveError
+refusal_of (Ok x) = None
+refusal_of (Err e) = Some e
 
--- the same of the values of a `let`, behind which these names are in scope
-abbrev pub PushesBound : Result (Unit {0}) ResolveError → Nodes → Nodes → Scope → Answer Bound → Type 0
-PushesBound (Ok u) before now scope wanted = (ts : List Tree) × (wanted ≡ Ok (record { values = row ts; scope = scope })) × Puts before now ts
-PushesBound (Err e) before now scope wanted = wanted ≡ Err e
+-- these trees in a row
+abbrev pub row : List Tree → Trees
+row [] = none
+row (t ∷ ts) = more t (row ts)
 
--- the same of the parts of a special form, which are put together to the definition's tree
-abbrev pub Fills : Result (Unit {0}) ResolveError → Special → Nodes → Nodes → Mark → Answer Tree → Type 0
-Fills (Ok u) special before now m wanted = (ts : List Tree) × (t : Tree) × Makes special ts m t × (wanted ≡ Ok t) × Puts before now ts
-Fills (Err e) special before now m wanted = wanted ≡ Err e
+-- the nodes have these trees, unless they are lost
+abbrev pub Shows : Nodes → List Tree → Type 0
+Shows nodes ts = nodes.lost ≡ false → map tree_of nodes.items.items ≡ ts
 
--- the inner scope has the outer one's locals behind its own, and the same definitions
-abbrev pub IsWithin : Scope → Scope → Type 0
-IsWithin outer inner =
-    (length outer.locals ≤ length inner.locals)
-    × (with_locals (drop (length inner.locals - length outer.locals) inner.locals) inner ≡ outer)
+-- behind the nodes stand more, of these trees, unless they are lost; what was lost stays so
+abbrev pub Puts : Nodes → Nodes → List Tree → Type 0
+Puts before now ts = now.lost ≡ false → (before.lost ≡ false) × (map tree_of now.items.items ≡ map tree_of before.items.items ++ ts)
 
--- one more local is in scope, hidden, and this is its number; or there were 200
-abbrev pub Hides : Result ℕ ResolveError → Spot → Scope → Scope → Type 0
-Hides (Ok n) s before now = (n ≡ length before.locals) × (length before.locals < most_locals) × (now ≡ with_local [] before)
-Hides (Err e) s before now = (most_locals ≤ length before.locals) × (e ≡ record { kind = TooMany; at = s.span })
+-- one more node stands behind these, of this tree
+abbrev pub IsBehind : List Node → List Node → Tree → Type 0
+IsBehind before now t = (n : Node) × (now ≡ before ++ n ∷ []) × (tree_of n ≡ t)
+
+-- one more node stands behind these, of the definition's tree, unless they are lost; or the form is refused, as the definition says
+abbrev pub Pushes : Result (Unit {0}) ResolveError → Nodes → Nodes → Answer Tree → Type 0
+Pushes (Ok u) before now wanted = (t : Tree) × (wanted ≡ Ok t) × Puts before now (t ∷ [])
+Pushes (Err e) before now wanted = wanted ≡ Err e

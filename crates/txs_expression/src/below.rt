@@ -4,7 +4,7 @@ ghost use Rattle.std.specs.Prelude.{◌≡◌, ◌<◌, ◌≤◌, ◌+◌, ◌-
 ghost use Rattle.txs_expand.specs.Expressions.{are_wanted, bound_name, flag, is_wanted, spot_at};
 ghost use Rattle.txs_expand.specs.Parts.{seen};
 ghost use Rattle.txs_reader.specs.Tree.{tree, trees, trees_of};
-ghost use Rattle.txs_expression.specs.Given.{Hides};
+ghost use Rattle.txs_expression.specs.Walk.{Hides};
 ghost use Rattle.txs_value.specs.Limits.{most_locals};
 
 use txs_expand::{ResolveError, ResolveErrorKind, Sequence, Single, Spot, refusal};

@@ -4,17 +4,18 @@ ghost use Rattle.std.specs.Prelude.{◌≡◌, ◌≤◌, ◌+◌, ◌-◌, leng
 ghost use Rattle.txs_reader.specs.Tree.{tree, trees, trees_of};
 ghost use Rattle.txs_expand.specs.Expansions.{body as the_body};
 ghost use Rattle.txs_expand.specs.Expressions.{changing, made, named, named_all, named_bindings, narrow, parted, put_together, spot_mark};
-ghost use Rattle.txs_expression.specs.Given.{Becomes, Fills, IsWithin, PushesAll, PushesBound};
-ghost use Rattle.txs_nodes.specs.Given.{Pushes};
+ghost use Rattle.txs_expression.specs.Walk.{Becomes, Fills, IsWithin, PushesAll, PushesBound};
+ghost use Rattle.txs_expression.specs.Given.{Pushes};
 ghost use Rattle.txs_expand.specs.Parts.{part_form, plain, special_form, PartFits, SpecialFits};
 
 use crate::below::{are_wanted, bindable, flag_at, hide, inner, last_wanted, part_wanted};
+use crate::nodes::{Nodes, build, build_change, push_whole};
+use crate::stop::Stop;
 use std::alloc::Global;
 use txs_expand::{
     Change, Core, Part, ResolveError, ResolveErrorKind, Special, Spot, callee, core_at, refusal,
 };
 use txs_names::{FormName, Scope};
-use txs_nodes::{Nodes, Stop, build, build_change, push_whole};
 use txs_reader::Form;
 use txs_tree::Node;
 use txs_value::limits::MOST_ITEMS;

@@ -7,8 +7,8 @@ use Rattle.txs_names.specs.declared.scope.Definition.{Definition}
 use Rattle.txs_names.specs.declared.scope.Definition.TheVariants.{Constant, Cell, Function}
 use Rattle.txs_names.specs.Scope.{Entry, Scope}
 use Rattle.txs_expand.specs.Expressions.{Answer, named}
-use Rattle.txs_nodes.specs.Depths.{depths}
-use Rattle.txs_nodes.proofs.LevelLists.{depths_levels, known_levels, place_levels}
+use Rattle.txs_expression.specs.Depths.{depths}
+use Rattle.txs_expression.proofs.LevelLists.{depths_levels, known_levels, place_levels}
 use Rattle.txs_resolve.specs.Names.{State, nothing}
 use Rattle.txs_resolve.specs.Scripts.{AreKnown, IsKnown, ScopedState}
 use Rattle.txs_resolve.proofs.Scoping.{Every}

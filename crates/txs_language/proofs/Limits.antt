@@ -28,7 +28,7 @@ use Rattle.txs_expand.specs.declared.shapes.Single.{Single}
 use Rattle.txs_expand.specs.declared.shapes.Single.TheVariants as single
 use Rattle.txs_expand.specs.declared.shapes.Spot.{Spot}
 use Rattle.txs_expand.specs.Answers.{◌>>=◌, refuse}
-use Rattle.txs_nodes.specs.Depths.{at_place, callee_depth, depths, depths_in}
+use Rattle.txs_expression.specs.Depths.{at_place, callee_depth, depths, depths_in}
 use Rattle.txs_expand.specs.Expansions.{alone, body, expand_once, form_at}
 use Rattle.txs_expand.specs.Expressions.{Answer, Bound, Special, row, one_part, putting, choice, binding, changing, Core as ACore, whole, parted, Resolver, spot_at, spot_mark, some_room, in_room, narrow, symbol_node, leaf_node, callee_at, callee_of, flag, sequence_node, are_wanted, choice_node, single_node, is_wanted, change_node, binding_node, are_pairs, bound_in, cell_form, of_family, special, applied, list_core, core_of, bound_name, named_all, named_bindings, put_together, made, resolved, named}
 use Rattle.txs_language.specs.Levels.{IfGives, Limited, as_wider, too_many}

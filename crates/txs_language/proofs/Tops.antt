@@ -22,7 +22,7 @@ use Rattle.txs_expand.specs.declared.error.ResolveErrorKind.TheVariants.{BadForm
 use Rattle.txs_expand.specs.Answers.{◌>>=◌, refuse}
 use Rattle.txs_expand.specs.Expansions.{body, form_at}
 use Rattle.txs_expand.specs.Expressions.{Answer, is_symbol, named}
-use Rattle.txs_nodes.specs.Literals.{is_literal, are_literals, literal, literals}
+use Rattle.txs_expression.specs.Literals.{is_literal, are_literals, literal, literals}
 use Rattle.txs_resolve.specs.Names.{State, nothing, new_name, Defining, NamedForm, only_literal, mode_behind, opened, cell_of, kind_at, defining_of, named_form, with_definition, entered, defined_as_one, defined_at, are_symbols, parameter, parameters, Written, written, written_behind, untold, with_function, function, with_thread, future, top_level, step, ResolveStops}
 use Rattle.txs_language.specs.Standing.{IsOne, one_now, one_later}
 use Rattle.txs_language.specs.Faults.{FaultInForm, is_free, is_definition, is_top_level, Defines, by_def, by_defn, IsTooMuch, is_too_deep, is_too_long, has_too_much, IsNth, nth_now, nth_later, HasParameter, has_parameter, HasTopFault, is_no_definition, defines_other, defines_no_literal, defines_no_function, defines_reserved, parameter_reserved, defines_again, defines_too_many, functions_too_many, threads_too_many, parameters_too_many, defines_too_much, FaultAtTop, of_itself, of_body, of_thread, FaultInScript}

@@ -19,7 +19,7 @@ use Rattle.txs_expand.specs.declared.error.ResolveErrorKind.TheVariants.{BadForm
 use Rattle.txs_expand.specs.Answers.{◌>>=◌, refuse}
 use Rattle.txs_expand.specs.Expansions.{body, form_at}
 use Rattle.txs_expand.specs.Expressions.{Answer, named}
-use Rattle.txs_nodes.specs.Literals.{literal, literals}
+use Rattle.txs_expression.specs.Literals.{literal, literals}
 use Rattle.txs_resolve.specs.Names.{State, nothing, new_name, Defining, NamedForm, defining_of, named_form, with_definition, entered, defined_as_one, defined_at, parameter, parameters, Written, written, with_function, function, with_thread, future, top_level, step, steps}
 use Rattle.txs_language.specs.FirstForm.{StopsAt}
 use Rattle.txs_language.specs.Standing.{IsOne, one_now, one_later}

@@ -24,9 +24,9 @@ use Rattle.txs_expand.specs.declared.shapes.Spot.{Spot}
 use Rattle.txs_expand.specs.Answers.{◌>>=◌, refuse}
 use Rattle.txs_expand.specs.Expansions.{alone, body, expand_once, form_at}
 use Rattle.txs_expand.specs.Expressions.{Answer, Bound, Special, row, one_part, putting, choice, binding, changing, Core as ACore, whole, parted, Resolver, spot_at, spot_mark, some_room, in_room, narrow, symbol_node, leaf_value, leaf_node, callee_at, callee_of, flag, sequence_node, are_wanted, choice_node, single_node, is_wanted, change_node, binding_node, are_pairs, cell_form, of_family, special, applied, list_core, core_of, bound_name, named_all, named_bindings, put_together, made, resolved, named}
-use Rattle.txs_nodes.specs.Literals.{literal, literals}
-use Rattle.txs_nodes.specs.declared.stop.Stop.{Stop}
-use Rattle.txs_nodes.specs.declared.stop.Stop.TheVariants.{Refused}
+use Rattle.txs_expression.specs.Literals.{literal, literals}
+use Rattle.txs_expression.specs.declared.stop.Stop.{Stop}
+use Rattle.txs_expression.specs.declared.stop.Stop.TheVariants.{Refused}
 use Rattle.txs_resolve.specs.Given.{Ends}
 use Rattle.txs_resolve.specs.Names.{State, nothing, program, new_name, Defining, defining_of, with_definition, entered, defined_as_one, NamedForm, named_form, defined_at, parameter, parameters, Written, written, with_function, function, with_thread, future, top_level, step, steps, behind_namespace, named_script, ResolveStops}
 

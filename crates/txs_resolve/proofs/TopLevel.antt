@@ -6,16 +6,16 @@ use Rattle.txs_reader.specs.Tree.{tree, leaf, symbol, first}
 use Rattle.txs_names.specs.declared.names.FormName.TheVariants.{Ns}
 use Rattle.txs_expand.specs.Expressions.{Answer, is_symbol}
 use Rattle.txs_expand.specs.Answers.{◌>>=◌}
-use Rattle.txs_expression.specs.Given.{Becomes}
+use Rattle.txs_expression.specs.Walk.{Becomes}
 use Rattle.txs_tree.specs.Tree.{Tree}
 use Rattle.txs_resolve.specs.Given.{Ends, Leaves}
 use Rattle.txs_expand.specs.declared.error.ResolveError.{ResolveError}
 use Rattle.txs_value.specs.declared.value.Value.{Value}
-use Rattle.txs_nodes.specs.Given.{Gives, refusal_of}
+use Rattle.txs_expression.specs.Given.{Gives, refusal_of}
 use Rattle.txs_resolve.specs.declared.definition.CellSort.{CellSort}
 use Rattle.txs_resolve.specs.Names.{State, named_form, names_space, with_definition}
-use Rattle.txs_nodes.specs.declared.stop.Stop.{Stop}
-use Rattle.txs_nodes.specs.declared.stop.Stop.TheVariants.{Refused, Memory}
+use Rattle.txs_expression.specs.declared.stop.Stop.{Stop}
+use Rattle.txs_expression.specs.declared.stop.Stop.TheVariants.{Refused, Memory}
 use Rattle.txs_expand.specs.Parts.{plain}
 
 pub not_one_form : (name : List ℕ) (at : Span) (fs : List Form) → (length fs ≡ 1 → ⊥) → named_form (first (leaf (symbol name) at) (plain fs)) ≡ None

@@ -11,7 +11,7 @@ use Rattle.txs_tree.specs.declared.node.Thread.{Thread}
 use Rattle.txs_tree.specs.declared.node.Function.{Function}
 use Rattle.txs_tree.proofs.Callable.{length-functions_of}
 use Rattle.txs_tree.specs.Known.{Known, known, known_of, levels}
-use Rattle.txs_nodes.specs.Depths.{depths}
+use Rattle.txs_expression.specs.Depths.{depths}
 use Rattle.txs_names.specs.declared.scope.Definition.TheVariants.{Function as AFunction}
 use Rattle.txs_expand.specs.declared.error.ResolveErrorKind.TheVariants.{TooMany}
 use Rattle.txs_resolve.specs.declared.script.Script.{Script}
@@ -22,7 +22,7 @@ use Rattle.txs_expand.specs.Answers.{◌>>=◌, refuse}
 use Rattle.txs_names.specs.Scope.{Scope, Entry}
 use Rattle.txs_resolve.specs.Scripts.{state_of, IsScript}
 use Rattle.txs_expand.specs.Parts.{plain}
-use Rattle.txs_nodes.proofs.LevelLists.{depths_levels}
+use Rattle.txs_expression.proofs.LevelLists.{depths_levels}
 use Rattle.txs_resolve.proofs.ScopedScripts.{known_more}
 use Rattle.txs_resolve.proofs.Scoping.{Every, Placed, form_named}
 

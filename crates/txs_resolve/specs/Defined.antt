@@ -11,7 +11,7 @@ use Rattle.txs_names.specs.declared.names.FormName.TheVariants as kind
 use Rattle.txs_resolve.specs.declared.definition.CellSort.{CellSort}
 use Rattle.txs_expand.specs.Expansions.{form_at}
 use Rattle.txs_expand.specs.Expressions.{Answer}
-use Rattle.txs_nodes.specs.Literals.{literal}
+use Rattle.txs_expression.specs.Literals.{literal}
 use Rattle.txs_resolve.specs.Names.{Defining, defining_of, NamedForm, named_form, new_cell, Written, written}
 
 -- what top-level forms define: cells, names, and the places of functions and of threads, each in script order

@@ -22,7 +22,7 @@ use Rattle.txs_value.specs.declared.cell.ErrorMode.{ErrorMode}
 use Rattle.txs_value.specs.declared.cell.ErrorMode.TheVariants.{Fail, Continue}
 use Rattle.txs_expand.specs.Expansions.{body, form_at}
 use Rattle.txs_expand.specs.Expressions.{Answer, is_symbol, named}
-use Rattle.txs_nodes.specs.Literals.{is_literal, literal}
+use Rattle.txs_expression.specs.Literals.{is_literal, literal}
 use Rattle.txs_expand.specs.Answers.{◌>>=◌, refuse}
 use Rattle.txs_names.specs.Scope.{Entry, definition_of, with_name, operations, may_bind, is_none}
 

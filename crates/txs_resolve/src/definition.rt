@@ -4,7 +4,7 @@ ghost use Rattle.std.specs.Prelude.{◌≡◌, Some};
 ghost use Rattle.txs_reader.specs.Tree.{tree, trees, trees_of};
 ghost use Rattle.txs_expand.specs.Expansions.{form_at};
 ghost use Rattle.txs_resolve.specs.Names.{cell_of, defining_of, is_error_mode, kind_at, mode_behind, mode_of, only_literal};
-ghost use Rattle.txs_nodes.specs.Literals.{are_literals, is_literal};
+ghost use Rattle.txs_expression.specs.Literals.{are_literals, is_literal};
 ghost use Rattle.txs_resolve.specs.Scripts.{defining};
 
 use txs_expand::form_at;

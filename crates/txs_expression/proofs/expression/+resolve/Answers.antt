@@ -10,14 +10,13 @@ use Rattle.txs_expand.specs.declared.error.ResolveError.{ResolveError}
 use Rattle.txs_expand.specs.declared.shapes.Spot.{Spot}
 use Rattle.txs_expand.specs.declared.parts.Core.TheVariants as core
 use Rattle.txs_expand.specs.Expressions.{bound_name, change_node, flag, named, named_all, named_bindings, put_together, spot_mark}
-use Rattle.txs_expression.specs.Given.{IsWithin}
-use Rattle.txs_nodes.specs.Given.{row, Pushes}
-use Rattle.txs_nodes.specs.Made.{Makes}
+use Rattle.txs_expression.specs.Walk.{IsWithin}
+use Rattle.txs_expression.specs.Given.{row, Pushes}
+use Rattle.txs_expression.specs.Made.{Makes}
 use Rattle.txs_expand.specs.Parts.{core_form, part_form, plain, special_form}
 use Rattle.txs_expand.proofs.Rows.{roomy}
-use Rattle.txs_expression.proofs.Building.{all_end, all_step, bindings_end, bindings_step, bindings_unvalued, bound_after, puts_more, puts_none, within_push}
+use Rattle.txs_expression.proofs.Building.{all_end, all_step, bindings_end, bindings_step, bindings_unvalued, bound_after, bound_nil, puts_more, puts_none, within_push}
 use Rattle.txs_expression.proofs.Fillings.{args_then, bound_filled, choice_filled, hidden_filled, hidden_full, hidden_stops, named_core, named_stop, narrow_ok, of_form, of_form_stops, pair_filled, pair_stops, remade, row_filled, shown, single_filled}
-use Rattle.txs_expression.proofs.Stops.{bound_nil}
 use Rattle.txs_expression.proofs.expression.+resolve.Goals as goal
 
 -- ---- forms

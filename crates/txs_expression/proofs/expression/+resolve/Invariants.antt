@@ -1,8 +1,8 @@
 use Rattle.std.proofs.Common.{◌≡◌, ◌≤◌, ◌-◌, ◌+◌, ◌*◌, List, drop, length}
 use Rattle.txs_tree.specs.Tree.{Tree}
-use Rattle.txs_nodes.specs.Given.{Puts}
+use Rattle.txs_expression.specs.Given.{Puts}
 use Rattle.txs_expand.specs.Expressions.{named, named_all, named_bindings}
-use Rattle.txs_expression.specs.Given.{IsWithin}
+use Rattle.txs_expression.specs.Walk.{IsWithin}
 use Rattle.txs_expand.specs.Parts.{plain}
 use Rattle.txs_expression.proofs.Building.{all_after, bound_after}
 use Rattle.txs_expression.proofs.expression.+resolve.Given as goal

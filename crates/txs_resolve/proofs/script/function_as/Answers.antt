@@ -5,7 +5,7 @@ use Rattle.txs_resolve.specs.Names.{State, Written, function}
 use Rattle.txs_names.specs.Scope.{Scope}
 use Rattle.txs_tree.specs.View.{functions_of, threads_of}
 use Rattle.txs_resolve.specs.Scripts.{function_with, state_of}
-use Rattle.txs_nodes.specs.declared.stop.Stop.{Stop}
+use Rattle.txs_expression.specs.declared.stop.Stop.{Stop}
 use Rattle.txs_expand.specs.Parts.{plain}
 use Rattle.txs_resolve.proofs.Tops.{function_full, function_named, function_bound}
 use Rattle.txs_resolve.proofs.script.function_as.Goals as goal

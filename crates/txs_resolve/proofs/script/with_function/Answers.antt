@@ -1,6 +1,6 @@
 use Rattle.std.proofs.Common.{◌≡◌, ◌++◌, [], ◌∷◌, ℕ, length, ap, ◌∙◌, subst, arith, Ok}
 use Rattle.txs_tree.specs.View.{tree_of}
-use Rattle.txs_nodes.specs.Depths.{depths}
+use Rattle.txs_expression.specs.Depths.{depths}
 use Rattle.txs_resolve.specs.Names.{State}
 use Rattle.txs_names.specs.Scope.{Scope}
 use Rattle.txs_resolve.specs.Scripts.{ScopedState, state_of}

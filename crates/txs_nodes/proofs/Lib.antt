@@ -1,6 +1,0 @@
-pub mod Leaves
-pub mod LevelLists
-pub mod Literals
-pub mod NodeTrees
-pub mod Stops
-pub mod TreeRows

@@ -1,5 +1,0 @@
-use Rattle.std.proofs.Common.{arith}
-use Rattle.txs_nodes.proofs.depth.+levels.Goals as goal
-
-pub levels-returns : goal.levels-returns
-levels-returns t c = omega arith

@@ -1,4 +1,0 @@
-pub mod Depths
-pub mod Given
-pub mod Literals
-pub mod Made
