@@ -12,7 +12,7 @@ use txs_tree::{Function, Node, NodeKind};
 use txs_value::{CellForm, Standing};
 
 /// What a body is: for transactions alone, for outside alone, or pure.
-#[derive(Clone, Copy, PartialEq, Eq)]
+#[derive(Clone, Copy)]
 pub struct Class {
     pub inside: bool,
     pub outside: bool,
@@ -20,7 +20,7 @@ pub struct Class {
 }
 
 /// What is known of a function.
-#[derive(Clone, Copy, PartialEq, Eq)]
+#[derive(Clone, Copy)]
 pub struct Signature {
     pub parameters: u8,
     pub class: Class,
@@ -100,22 +100,15 @@ fn class_of_function(signatures: &[Signature], number: u16) -> Class
     }
 }
 
-/// What stands so: no form on a cell is pure.
-fn class_of_standing(standing: Standing) -> Class
-    ensures { result ≡ class_standing standing }
+/// What a form on a cell is, without its parts: none is pure.
+fn class_of_form(form: CellForm) -> Class
+    ensures { result ≡ class_standing (rule form).stands }
 {
-    match standing {
+    match form.rule().stands {
         Standing::Anywhere => IMPURE,
         Standing::Inside => INSIDE,
         Standing::Outside => OUTSIDE,
     }
-}
-
-/// What a form on a cell is, without its parts.
-fn class_of_form(form: CellForm) -> Class
-    ensures { result ≡ class_standing (rule form).stands }
-{
-    class_of_standing(form.rule().stands)
 }
 
 /// What a node is, where so much is known of functions.
@@ -124,8 +117,7 @@ fn class_of(signatures: &[Signature], node: &Node) -> Class
     ensures { result ≡ class_in (known_as signatures.now) (tree_of node.now) }
 {
     match &node.kind {
-        NodeKind::Const(_) => PURE,
-        NodeKind::Local(_) => PURE,
+        NodeKind::Const(_) | NodeKind::Local(_) => PURE,
         NodeKind::If(test, first, second) => {
             let branches = class_of(signatures, first).join(class_of(signatures, second));
             class_of(signatures, test).join(branches)

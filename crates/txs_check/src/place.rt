@@ -8,7 +8,7 @@ use txs_value::{Span, Standing};
 
 /// Where a node stands: in a function outside every transaction of it, in a future outside every transaction,
 /// or in a transaction.
-#[derive(Clone, Copy, PartialEq, Eq)]
+#[derive(Clone, Copy)]
 pub enum Zone {
     InFunction,
     InFuture,
@@ -17,7 +17,7 @@ pub enum Zone {
 
 /// What a recur meets: no loop or function at all, one with a `dosync` between, or one of so many values, in
 /// whose tail position it stands or not.
-#[derive(Clone, Copy, PartialEq, Eq)]
+#[derive(Clone, Copy)]
 pub enum Target {
     Nowhere,
     Across,

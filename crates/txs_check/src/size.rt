@@ -16,8 +16,7 @@ pub fn nodes_left(node: &Node, limit: u32) -> Option<u32>
         return None;
     }
     match &node.kind {
-        NodeKind::Const(_) => Some(limit - 1),
-        NodeKind::Local(_) => Some(limit - 1),
+        NodeKind::Const(_) | NodeKind::Local(_) => Some(limit - 1),
         NodeKind::If(test, yes, no) => {
             let left = nodes_left(test, limit - 1)?;
             let left = nodes_left(yes, left)?;

@@ -120,20 +120,15 @@ fn check_here(
     ensures { result ≡ here (known_as signatures.now) zone target (tree_of node.now) }
 {
     match &node.kind {
-        NodeKind::Const(_) => Ok(()),
-        NodeKind::Local(_) => Ok(()),
-        NodeKind::If(_, _, _) => Ok(()),
-        NodeKind::Do(_) => Ok(()),
-        NodeKind::Let(_, _) => Ok(()),
-        NodeKind::Loop(_, _) => Ok(()),
+        NodeKind::Const(_) | NodeKind::Local(_) | NodeKind::If(_, _, _) => Ok(()),
+        NodeKind::Do(_) | NodeKind::Let(_, _) | NodeKind::Loop(_, _) => Ok(()),
         NodeKind::Recur(values) => target.check_recur(values.len(), node.span),
         NodeKind::Core(op, args) => check_operation(*op, args.len(), node.span),
         NodeKind::Call(number, args) => {
             check_call(signatures, zone, *number, args.len(), node.span)
         }
-        NodeKind::Vector(_) => Ok(()),
+        NodeKind::Vector(_) | NodeKind::Dosync(_) => Ok(()),
         NodeKind::Println(_) => zone.check_standing(Standing::Outside, node.span),
-        NodeKind::Dosync(_) => Ok(()),
         NodeKind::Look(form, _) => check_form(zone, CellForm::Look(*form), node.span),
         NodeKind::Put(form, _, _) => check_form(zone, CellForm::Put(*form), node.span),
         NodeKind::Update(form, _, callee, args) => {
@@ -167,8 +162,7 @@ pub fn check_node(
     check_here(signatures, zone, target, node)?;
     let inner = target.inner();
     match &node.kind {
-        NodeKind::Const(_) => Ok(()),
-        NodeKind::Local(_) => Ok(()),
+        NodeKind::Const(_) | NodeKind::Local(_) => Ok(()),
         NodeKind::If(test, first, second) => {
             check_node(signatures, zone, inner, test)?;
             if is_turned(node.span.from, first.span.from, second.span.from) {

@@ -8,10 +8,9 @@ ghost use Rattle.txs_reader.specs.Tree.{tree, group, first, place};
 ghost use Rattle.txs_value.specs.declared.fault.Span.{Span as ASpan};
 ghost use Rattle.txs_value.specs.declared.form.CellForm.TheVariants.{Look, Put};
 ghost use Rattle.txs_value.specs.declared.op.Callee.TheVariants.{Core as CoreOp};
-ghost use Rattle.txs_expand.specs.declared.error.ResolveErrorKind.TheVariants.{BadForm};
 ghost use Rattle.txs_expand.specs.Expansions.{expand_once};
 ghost use Rattle.txs_expand.specs.declared.shapes.Spot.{Spot as ASpot};
-ghost use Rattle.txs_expand.specs.Expressions.{applied, cell_form, core_of, of_family, spot_at};
+ghost use Rattle.txs_expand.specs.Expressions.{applied, cell_form, core_of, of_family};
 ghost use Rattle.txs_expand.specs.Parts.{binding_name, change_form, choice_name, core_form, guard_name, first_or_nil, logic_name, own_spot, part_form, plain, seen, table, told, CoreFits, PartFits};
 ghost use Rattle.txs_expand.specs.Parts.{core_at as the_core};
 
@@ -209,15 +208,8 @@ fn shaped<'a>(spot: Spot, name: FormName, args: &'a [Form]) -> Result<Core<'a>, 
 {
     match special(name, args) {
         Some(core) => Ok(core),
-        None => Err(bad_form(spot)),
+        None => Err(refusal(ResolveErrorKind::BadForm, spot.span)),
     }
-}
-
-/// No form of the language.
-fn bad_form(spot: Spot) -> ResolveError
-    ensures { result ≡ record { kind = BadForm; at = spot.span } }
-{
-    refusal(ResolveErrorKind::BadForm, spot.span)
 }
 
 /// An operation: that on more than two arguments is the chain of its pairs.
@@ -241,7 +233,7 @@ fn list<'a>(scope: &Scope<'_>, spot: Spot, forms: &'a [Form]) -> Result<Core<'a>
     ensures fits { IfOk result (CoreFits scope.now) }
 {
     let Some((head, args)) = forms.split_first() else {
-        return Err(bad_form(spot));
+        return Err(refusal(ResolveErrorKind::BadForm, spot.span));
     };
     if let Some(name) = form_at(head) {
         return shaped(spot, name, args);
@@ -306,17 +298,6 @@ fn place_of(part: Part<'_>, made: Span) -> Span
     }
 }
 
-/// The spot itself, for a form at this place.
-fn moved(spot: Spot, span: Span) -> Spot
-    ensures { result ≡ spot_at spot.room span spot.wanted }
-{
-    Spot {
-        room: spot.room,
-        span,
-        wanted: spot.wanted,
-    }
-}
-
 /// What a form is, once it is expanded, and the spot at which it is that: its own, since a form of one part may be
 /// that part. A form's shape is looked at before the room that its node finds.
 ///
@@ -333,6 +314,10 @@ pub fn core_at<'a>(
     ensures fits { IfOk result (λ c. CoreFits scope.now c.1) }
 {
     let part = alone(part);
-    let spot = moved(spot, place_of(part, spot.span));
+    let spot = Spot {
+        room: spot.room,
+        span: place_of(part, spot.span),
+        wanted: spot.wanted,
+    };
     Ok((spot, plan(scope, spot, part)?))
 }

@@ -1,7 +1,7 @@
 //! Where nodes stand, of which kinds they are, and what forms are by themselves.
 
 ghost use Rattle.std.specs.Prelude.{◌≡◌};
-ghost use Rattle.txs_expand.specs.Expressions.{are_pairs, callee_at, callee_of, folds, is_chain, is_symbol};
+ghost use Rattle.txs_expand.specs.Expressions.{are_pairs, callee_at, callee_of, is_chain, is_symbol};
 ghost use Rattle.txs_names.specs.Viewed.{meant};
 ghost use Rattle.txs_reader.specs.Tree.{tree, trees, trees_of};
 
@@ -82,18 +82,11 @@ pub fn callee(scope: &Scope<'_>, spot: Spot, form: &Form) -> Result<Callee, Reso
     }
 }
 
-/// Whether the operation folds any number of arguments from the left.
-fn folds(op: Op) -> bool
-    ensures { result ≡ folds op }
-{
-    matches!(op, Op::Add | Op::Subtract | Op::Multiply)
-}
-
-/// Whether the operation on so many arguments is the chain of its pairs.
+/// Whether the operation on so many arguments is the chain of its pairs: those fold any number from the left.
 pub fn is_chain(op: Op, count: usize) -> bool
     ensures { result ≡ is_chain op count }
 {
-    folds(op) && count > 2
+    matches!(op, Op::Add | Op::Subtract | Op::Multiply) && count > 2
 }
 
 /// Whether the form is a symbol.

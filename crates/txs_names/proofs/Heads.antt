@@ -1,12 +1,15 @@
 -- What is found by its name.
-use Rattle.std.proofs.Common.{◌≡◌, ◌≢◌, ◌<◌, ◌+◌, ℕ, suc, false, List, [], ◌∷◌, length, drop, get_or, Option, Some, None, bytes_eq, cond, refl, sym, ap, ◌∙◌, subst, drop-cons, add-one}
+use Rattle.std.proofs.Common.{◌≡◌, ◌≢◌, ◌<◌, ◌+◌, ℕ, suc, Bool, false, if◌then◌else◌, List, [], ◌∷◌, length, drop, get_or, Option, Some, None, bytes_eq, cond, refl, sym, ap, ◌∙◌, subst, drop-cons, add-one}
+use Rattle.std.specs.List.{list_any}
 use Rattle.std.specs.Prelude.{MatchOption}
 use Rattle.std.proofs.lemmas.Bool.{false_from_ne_true}
 use Rattle.std.proofs.lemmas.Slice.Eq.{bytes_eq-Decides}
 use Rattle.txs_value.specs.Operations.{op_name}
 use Rattle.txs_value.specs.declared.op.Op.{Op}
 use Rattle.txs_value.specs.declared.op.Op.TheVariants.{Add, Subtract, Multiply, Inc, Dec, Quot, Rem, Mod, Equal, NotEqual, Less, Greater, LessOrEqual, GreaterOrEqual, Max, Min, Not, IsNil, IsZero, IsPositive, IsNegative, Count, Nth, Conj, Assoc, Peek, Pop}
-use Rattle.txs_names.specs.Scope.{with_name, operations}
+use Rattle.txs_names.specs.declared.names.FormName.{FormName}
+use Rattle.txs_names.specs.declared.scope.Definition.{Definition}
+use Rattle.txs_names.specs.Scope.{Scope, Meaning, dotted, the_current, or_form, or_local, or_defined, or_unknown, definition_of, form_name, form_names, is_current, is_dot, local_number, meaning, with_name, operations}
 
 found : (op : Op) → with_name op_name (op_name op) operations ≡ Some op
 found Add = refl
@@ -59,3 +62,14 @@ passed name_of name xs i d lt e =
     ap (with_name name_of name) (drop-cons xs i d lt)
     ∙ ap (λ b. cond b (Some (get_or xs i d)) (with_name name_of name (drop (suc i) xs))) e
     ∙ ap (λ (k : ℕ). with_name name_of name (drop k xs)) (sym (add-one i))
+
+-- what a name stands for, by what each search for it found
+abbrev pub stands : Option FormName → Bool → Option ℕ → Bool → Option Definition → Option Op → Meaning
+stands form dot local current defined op =
+    or_form form (if dot then dotted else or_local local (if current then the_current else or_defined defined (or_unknown op)))
+
+pub stands_so : (name : List ℕ) (scope : Scope) (form : Option FormName) (dot : Bool) (local : Option ℕ) (current : Bool) (defined : Option Definition) (op : Option Op)
+    → form ≡ with_name form_name name form_names → dot ≡ list_any is_dot name → local ≡ local_number name scope → current ≡ is_current name scope.current
+    → defined ≡ definition_of name scope.defined → op ≡ with_name op_name name operations → stands form dot local current defined op ≡ meaning name scope
+unfolding meaning
+stands_so name scope form dot local current defined op f d l c e o = λ k. stands (f k) (d k) (l k) (c k) (e k) (o k)

@@ -10,5 +10,5 @@ pub mod law;
 pub mod names;
 pub mod scope;
 
-pub use names::{FormName, form_of, has_dot, may_bind, operation_of};
+pub use names::{FormName, form_of, may_bind, operation_of};
 pub use scope::{Definition, Found, Scope};

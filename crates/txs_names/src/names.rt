@@ -8,7 +8,7 @@ ghost use Rattle.txs_names.specs.Scope.{form_name, form_names, operations, with_
 use txs_value::Op;
 
 /// The forms that have a name.
-#[derive(Clone, Copy, PartialEq, Eq)]
+#[derive(Clone, Copy)]
 pub enum FormName {
     Ns,
     Def,
@@ -130,10 +130,10 @@ pub fn operation_of(name: &[u8]) -> Option<Op>
 }
 
 /// Whether there is a dot in the name.
-pub fn has_dot(name: &[u8]) -> bool
+pub(crate) fn has_dot(name: &[u8]) -> bool
     ensures { result ≡ list_any is_dot name.now }
 {
-    name.iter().any(|b| *b == b'.')
+    name.contains(&b'.')
 }
 
 /// Whether a local may have this name: it is that of no form, and has no dot.

@@ -180,14 +180,14 @@ impl<'a> Scope<'a> {
 
     /// What the name stands for: a form, else the nearest local, else the function that is being defined or an
     /// earlier definition, else a core operation.
-    #[tactic(auto, unfolding(crate::specs::Scope::meaning))]
     pub fn lookup(&self, name: &Name) -> Found<'_>
         ensures { meant result ≡ meaning name.now self.now }
     {
-        if let Some(form) = form_of(name.as_bytes()) {
+        let bytes = name.as_bytes();
+        if let Some(form) = form_of(bytes) {
             return Found::Form(form);
         }
-        if has_dot(name.as_bytes()) {
+        if has_dot(bytes) {
             return Found::Dotted;
         }
         if let Some(i) = self.find(name) {
@@ -199,7 +199,7 @@ impl<'a> Scope<'a> {
         if let Some(d) = self.definition(name) {
             return Found::Defined(d);
         }
-        match operation_of(name.as_bytes()) {
+        match operation_of(bytes) {
             Some(op) => Found::Operation(op),
             None => Found::Unknown,
         }

@@ -29,7 +29,7 @@ returns-clause-core c =
     let p = c.alone-part.result in
     let same = c.alone-part.ensures.form here.span in
     let own = own_spot here (part_form here.span c.args.part) in
-    let is : c.moved-spot.result ≡ own = c.moved-spot.ensures ∙ ap (λ (at : Span). spot_at here.room at here.wanted) (c.place_of.ensures ∙ ap place (sym same)) in
+    let is : spot_at here.room c.place_of.result here.wanted ≡ own = ap (λ (at : Span). spot_at here.room at here.wanted) (c.place_of.ensures ∙ ap place (sym same)) in
     c.in_ok-plan.ensures.core
     ∙ ap (λ (z : Spot). core_of scope z (expand_once (part_form z.span p))) is
     ∙ ap (λ (f : FormTree). core_of scope own (expand_once f)) (ap (λ (f : FormTree). part_form (place f) p) same ∙ part_same here.span p ∙ sym same)

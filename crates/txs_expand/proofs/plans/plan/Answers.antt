@@ -1,4 +1,4 @@
-use Rattle.std.proofs.Common.{sym, ap, ◌∙◌}
+use Rattle.std.proofs.Common.{rules, sym, ap, ◌∙◌}
 use Rattle.txs_expand.specs.Expansions.{expand_once}
 use Rattle.txs_expand.specs.Expressions.{core_of}
 use Rattle.txs_expand.specs.Parts.{part_form}
@@ -11,3 +11,6 @@ returns-in-List-clause-core c =
 
 pub returns-in-List-clause-fits : goal.returns-in-List-clause-fits
 returns-in-List-clause-fits c = c.shaped.ensures.fits c.args.scope.now
+
+pub returns-after-is_or-clause-core : goal.returns-after-is_or-clause-core
+returns-after-is_or-clause-core c = search rules

@@ -1,8 +1,11 @@
-use Rattle.std.proofs.Common.{sym, ap, ◌∙◌, bytes_eq}
+use Rattle.std.proofs.Common.{rules, sym, ap, ◌∙◌, bytes_eq}
 use Rattle.txs_names.specs.Scope.{form_name, form_names}
 use Rattle.txs_names.specs.declared.names.FormName.TheVariants.{Ns}
 use Rattle.txs_names.proofs.Heads.{passed}
 use Rattle.txs_names.proofs.names.form_of.Goals as goal
+
+pub returns-then-eq : goal.returns-then-eq
+returns-then-eq c = search rules
 
 pub loop-form-preserved : goal.loop-form-preserved
 loop-form-preserved c =
