@@ -22,7 +22,7 @@ pub fn copy_writes(
 }
 
 /// The same actions in a list of its own.
-pub fn copy_actions(alloc: Global, actions: &Listed<Action>) -> Result<Listed<Action>, AllocError>
+fn copy_actions(alloc: Global, actions: &Listed<Action>) -> Result<Listed<Action>, AllocError>
     ensures { IfOk result (λ c. c ≡ actions.now) }
 {
     let mut copies = Vec::with_capacity(alloc, actions.as_slice().len())?;

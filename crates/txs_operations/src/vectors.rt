@@ -34,7 +34,7 @@ fn taken_items(value: Value) -> Result<Items, FaultKind>
 
 /// Whether vectors nest in the value at most this deep.
 #[cycle(depth)]
-pub fn is_within(value: &Value, limit: u8) -> bool
+pub(crate) fn is_within(value: &Value, limit: u8) -> bool
     ensures { IsTrue result ↔ (depth (plain_of value.now) ≤ limit) }
 {
     match value {
