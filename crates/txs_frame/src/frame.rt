@@ -115,14 +115,14 @@ impl TxFrame {
         ensures { SetAnswers (set_ref cell value self.old) self.old result self.new }
     {
         let place = find(self.own.as_slice(), cell.number);
+        if was_commuted(how_at(self.own.as_slice(), place)) {
+            return Err(SetError::SetAfterCommute);
+        }
         let own = Own {
             number: cell.number,
             value,
             how: How::Set,
         };
-        if was_commuted(how_at(self.own.as_slice(), place)) {
-            return Err(SetError::SetAfterCommute);
-        }
         put(&mut self.own, place, own)?;
         Ok(())
     }
@@ -141,12 +141,12 @@ impl TxFrame {
         ensures same { OnErr result (self.new ≡ self.old) }
     {
         let place = find(self.own.as_slice(), cell.number);
+        self.commutes.reserve(1)?;
         let own = Own {
             number: cell.number,
             value,
             how: with_commute(how_at(self.own.as_slice(), place)),
         };
-        self.commutes.reserve(1)?;
         put(&mut self.own, place, own)?;
         self.commutes.push_reserved(Commute { cell, callee, args });
         Ok(())
@@ -322,18 +322,7 @@ fn push_set(writes: &mut Vec<(CellId, Value)>, own: &Own) -> Result<(), AllocErr
     Ok(())
 }
 
-/// The same commute once more.
-fn copy_commute(alloc: Global, commute: &Commute) -> Result<Commute, AllocError>
-    ensures { IfOk result (λ c. c ≡ commute.now) }
-{
-    Ok(Commute {
-        cell: commute.cell,
-        callee: commute.callee,
-        args: copy_values(alloc, &commute.args)?,
-    })
-}
-
-/// Adds a commute if it is one of the ref with this number.
+/// Adds the same commute once more if it is one of the ref with this number.
 fn push_if_of(
     alloc: Global,
     work: &mut Vec<Commute>,
@@ -343,7 +332,12 @@ fn push_if_of(
     ensures { OnOk result (work.new.items ≡ work.old.items ++ commutes_of number (commute.now ∷ [])) }
 {
     if commute.cell.number == number {
-        work.push(copy_commute(alloc, commute)?)?;
+        work.reserve(1)?;
+        work.push_reserved(Commute {
+            cell: commute.cell,
+            callee: commute.callee,
+            args: copy_values(alloc, &commute.args)?,
+        });
     }
     Ok(())
 }

@@ -74,9 +74,11 @@ fn with_more(alloc: Global, first: Value, more: &[Value]) -> Result<Vec<Value>, 
     ensures { IfOk result (λ all. all.items ≡ first ∷ more.now) }
 {
     let mut all = Vec::new(alloc);
-    all.push(first)?;
+    all.reserve(1)?;
+    all.push_reserved(first);
     for value in more {
-        all.push(copy_value(value)?)?;
+        all.reserve(1)?;
+        all.push_reserved(copy_value(value)?);
     }
     Ok(all)
 }
@@ -111,10 +113,11 @@ impl TxFrame {
         ensures { IfOk result (λ p. p ≡ record { work = phase_work self.now; values = blank (commuted self.now) }) }
     {
         let cells = self.commuted()?;
-        let work = self.work_on(cells.as_slice())?;
-        let mut values = Vec::new(alloc);
-        for cell in &cells {
-            values.push((*cell, Value::Nil))?;
+        let refs = cells.as_slice();
+        let work = self.work_on(refs)?;
+        let mut values = Vec::with_capacity(alloc, refs.len())?;
+        for cell in refs {
+            values.push_reserved((*cell, Value::Nil));
         }
         Ok(Phase {
             alloc,
@@ -170,7 +173,8 @@ impl Phase {
     {
         let mut writes = Vec::new(self.alloc);
         for write in &self.values {
-            writes.push((write.0, copy_value(&write.1)?))?;
+            writes.reserve(1)?;
+            writes.push_reserved((write.0, copy_value(&write.1)?));
         }
         Ok(writes)
     }

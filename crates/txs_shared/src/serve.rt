@@ -1,11 +1,8 @@
 //! What the state that actors share answers.
 
-ghost use Rattle.std.specs.Prelude.{◌≡◌, ◌&&◌, true};
+ghost use Rattle.std.specs.Prelude.{◌≡◌, true};
 ghost use Rattle.txs_runs.specs.Shared.{has_atom};
-ghost use Rattle.txs_shared.specs.Kept.{names_place};
-ghost use Rattle.txs_shared.specs.SharedState.{is_lawful, book_of, answer_to, Answers};
-ghost use Rattle.txs_world.specs.Book.{has_cell};
-ghost use Rattle.txs_world.specs.Store.{cells_of};
+ghost use Rattle.txs_shared.specs.SharedState.{is_lawful, answer_to, Answers};
 
 use crate::atoms::{atom_named, names_place, serve_at};
 use crate::state::SharedState;
@@ -19,31 +16,23 @@ impl SharedState {
         ensures { result ≡ is_lawful self.now actor ask.now }
     {
         match atom_named(ask) {
-            Some(cell) => actor < self.store.threads() && self.may_name(actor, cell, ask),
+            Some(cell) => {
+                actor < self.store.threads()
+                    && self.has_atom(cell)
+                    && names_place(self.atom(cell), actor, ask)
+            }
             None => self.store.lawful(actor, ask),
         }
-    }
-
-    /// Whether there is this atom, and the actor may name the place of its book that it asks with.
-    fn may_name(&self, actor: u16, cell: CellId, ask: &Ask) -> bool
-        ensures { result ≡ (has_atom self.now.cells cell && names_place actor ask.now (book_of self.now cell)) }
-    {
-        self.has_atom(cell) && names_place(self.atom(cell), actor, ask)
     }
 
     /// Whether there is this cell, and it is an atom.
     fn has_atom(&self, cell: CellId) -> bool
         ensures { result ≡ has_atom self.now.cells cell }
     {
-        cell.kind == CellKind::Atom && self.has_cell(cell)
-    }
-
-    /// Whether there is a cell of this kind and number.
-    fn has_cell(&self, cell: CellId) -> bool
-        ensures { result ≡ has_cell (cells_of self.now.cells) cell }
-    {
         let number = usize::from(cell.number);
-        number < self.cells.len() && self.cells[number].kind == cell.kind
+        cell.kind == CellKind::Atom
+            && number < self.cells.len()
+            && self.cells[number].kind == cell.kind
     }
 
     /// Answers an ask of an actor from the book that it is for, as a whole; no other book changes. The reply is `Full` exactly

@@ -191,7 +191,16 @@ impl SharedState {
     pub fn made_for(&self, cells: &[CellDefinition]) -> bool
         ensures { IsTrue result ↔ (self.now.cells ≡ cells.now) }
     {
-        are_cells(self.cells(), cells)
+        let own = self.cells();
+        if own.len() != cells.len() {
+            return false;
+        }
+        for (i, cell) in cells.iter().enumerate() {
+            if !is_cell(&own[i], cell) {
+                return false;
+            }
+        }
+        true
     }
 
     /// How many atoms there are before the cell with this number.
@@ -212,21 +221,6 @@ impl SharedState {
         let place = self.place(cell.number);
         &self.atoms[place]
     }
-}
-
-/// Whether two lists of definitions are equal, each to the one in its place.
-fn are_cells(cells: &[CellDefinition], others: &[CellDefinition]) -> bool
-    ensures { IsTrue result ↔ (cells.now ≡ others.now) }
-{
-    if cells.len() != others.len() {
-        return false;
-    }
-    for (i, cell) in cells.iter().enumerate() {
-        if !is_cell(cell, &others[i]) {
-            return false;
-        }
-    }
-    true
 }
 
 /// Whether two definitions are equal.

@@ -1,4 +1,4 @@
-use Rattle.std.proofs.Common.{◌∙◌, List, ap, subst, sym}
+use Rattle.std.proofs.Common.{◌∙◌, List, ap, rules, subst, sym}
 use Rattle.txs_value.specs.declared.value.CellId.{CellId}
 use Rattle.txs_frame.specs.Frame.{Work, with_cell}
 use Rattle.txs_frame.specs.Kept.{IsKept}
@@ -10,3 +10,6 @@ invariant_of-self c =
     let s = c.self.inside in
     let e = c.into_vec.ensures ∙ c.requires ∙ ap (λ (w : Work). with_cell w.ensures c.args.cell) (sym c.self.view_is) in
     subst (λ (x : List CellId). IsKept s.own.items x s.commutes.items) (sym e) (ensured_kept s.own.items s.ensured.items s.commutes.items c.args.cell c.self.invariant)
+
+pub returns : goal.returns
+returns c = search rules
