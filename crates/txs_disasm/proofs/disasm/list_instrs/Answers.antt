@@ -41,4 +41,4 @@ loop-i-preserved g c =
     Sent-next (g.W.Write.contents c.args.writer.now) (g.W.Write.contents c.loop-i.writer) (c.args.page.now.bytes.items ++ instr_lines 0 is ss) c.loop-i.page.bytes.items (instr_lines i (drop i is) (drop i ss)) (instr_line i x y) (instr_lines (i + 1) (drop (i + 1) is) (drop (i + 1) ss)) split c.loop-i.invariant (g.W.Write.contents c.send_long.new.writer) c.put_instr.new.out.items c.send_long.new.self.bytes.items c.in_ok-put_instr.ensures c.in_ok-send_long.ensures.sent
 
 pub returns-clause-sent : goal.returns-clause-sent
-returns-clause-sent g c = first_of (search rules, grind (arith, common_steps))
+returns-clause-sent g c = grind (arith, common_steps)
