@@ -48,7 +48,7 @@ fn given(
 // Whether `swapped` gives a vector of the second and the first of two numbers.
 fn swaps(alloc: Global, program: &Program) -> bool {
     let values = [Value::Int(1), Value::Int(2)];
-    match given(alloc, program, Callee::Function(0), &values, 1) {
+    match &given(alloc, program, Callee::Function(0), &values, 1) {
         Some(Ok(Value::Vector(pair))) => {
             pair.len() == 2 && same(pair.get(0), &values[1]) && same(pair.get(1), &values[0])
         }
