@@ -1,4 +1,5 @@
 use Rattle.std.proofs.Common.{ℕ, ◌≡◌, List, length, subst, arith, drop}
+use Rattle.std.proofs.lemmas.Grind.{common_steps}
 use Rattle.txs_reader.specs.OpenForms.{opens, inner}
 use Rattle.txs_reader.specs.Script.{Open, Holds}
 use Rattle.txs_reader.specs.Tree.{trees}
@@ -14,3 +15,6 @@ returns-in-Some-clause-err c =
     let ends : c.loop-at.at ≡ length bytes = omega arith in
     let Q : ℕ → Type 0 = λ n. Holds bytes (opens state) (inner state) (drop n bytes) in
     stop_unclosed bytes _ (inner state) _ (subst (λ (os : List Open). Holds bytes os (inner state) (drop (length bytes) bytes)) popped (subst Q ends c.loop-at.invariant.reached))
+
+pub returns-clause-ok : goal.returns-clause-ok
+returns-clause-ok c = grind (arith, common_steps)
