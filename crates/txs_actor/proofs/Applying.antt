@@ -223,10 +223,6 @@ module _ (op : Op) where
   stage_faults left from vs w had [] ws x e f = cc
   stage_faults left from vs w had (k ∷ ks) ws x e f = ap (λ y. applies y left from vs w had k ks ws) (some e) ∙ ap (applies_as left from vs w had k ks ws) f
 
-pub stage_commits : (left : ℕ) (from : Origin) (vs : List Value) (w : Work) (had : Option Commute) (ks : List Commute) (ws : Writes) → next_callee ks ≡ None → goes_through left from vs w had ks ws ≡ waits pending.Commit vs (applying left from ks ws) w had
-stage_commits left from vs w had [] ws e = refl
-stage_commits left from vs w had (k ∷ ks) ws e = cc
-
 -- a function is no operation
 pub no_function : (f : ℕ) (ks : List Commute) → Operates ks → next_callee ks ≡ Some (callee.Function f) → ⊥
 no_function f [] all e = cc
