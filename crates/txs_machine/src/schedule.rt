@@ -1,6 +1,6 @@
 //! Runs of all threads and agents over what they share, by turns that a schedule names.
 
-ghost use Rattle.std.specs.Prelude.{◌≡◌, ◌<◌, ◌≤◌, ◌+◌, ℕ, [], length, true, false, IfOk, IfErr, IfSome, Some, None};
+ghost use Rattle.std.specs.Prelude.{◌≡◌, ◌<◌, ◌≤◌, ◌+◌, ℕ, [], length, true, false, IfOk, IfErr, IfSome, OnOk, Some, None};
 ghost use Rattle.txs_actor.specs.PlainActor.{MayRun, with_agent};
 ghost use Rattle.txs_machine.specs.declared.schedule.ScheduleError.TheVariants.{Memory};
 ghost use Rattle.txs_machine.specs.RunOver.{IsStateOf, books_of};
@@ -119,22 +119,23 @@ fn are_named(plays: &[Play], actors: u16) -> bool
     true
 }
 
-/// The actors of all threads and behind them of the agents, in the order of the cells, which may make so many steps, where nothing was done yet.
+/// Adds the actors of all threads and behind them of the agents, in the order of the cells, which may make so many steps, where there was none and nothing was
+/// done yet.
 fn open_players(
     alloc: Global,
     code: &Verified,
     threads: u16,
     max_steps: u64,
-) -> Result<Players, AllocError>
+    players: &mut Players,
+) -> Result<(), AllocError>
     requires many { threads ≡ length code.now.threads }
     requires few { length code.now.threads + length code.now.cells ≤ 65535 }
-    ensures { IfOk result (λ all. AreReady code.now max_steps threads all) }
+    requires no_threads { players.old.threads.items ≡ [] }
+    requires no_agents { players.old.agents.items ≡ [] }
+    ensures { OnOk result (AreReady code.now max_steps threads players.new) }
 {
     let _rooms = code.rooms();
-    let mut players = Players {
-        threads: Vec::with_capacity(alloc, threads as usize)?,
-        agents: Vec::new(alloc),
-    };
+    players.threads.reserve(threads as usize)?;
     for k in 0..threads {
         let actor = Actor::thread(alloc, code, k, max_steps)?;
         players.threads.push_reserved(Player {
@@ -146,7 +147,7 @@ fn open_players(
     for cell in 0..cells.len() {
         open_next(alloc, code, &mut players.agents, cell, threads, max_steps)?;
     }
-    Ok(players)
+    Ok(())
 }
 
 /// A play of an actor: up to so many turns, up to its end or an ask, which is served. One that has ended stays as it is.
@@ -355,26 +356,29 @@ pub(crate) fn report_of(alloc: Global, player: &Player) -> Result<ThreadReport, 
     })
 }
 
-/// What the actors of threads and of agents did.
+/// Tells what the actors of threads and of agents did, in a report of none.
 fn report_all(
     alloc: Global,
     players: &[Player],
     attending: &[AgentPlayer],
-) -> Result<Report, AllocError>
-    ensures threads { IfOk result (λ report. AreReported players.now report.threads.items) }
-    ensures agents { IfOk result (λ report. AreReported (attendants attending.now) report.agents.items) }
+    report: &mut Report,
+) -> Result<(), AllocError>
+    requires no_threads { report.old.threads.items ≡ [] }
+    requires no_agents { report.old.agents.items ≡ [] }
+    ensures threads { OnOk result (AreReported players.now report.new.threads.items) }
+    ensures agents { OnOk result (AreReported (attendants attending.now) report.new.agents.items) }
 {
-    let mut threads = Vec::with_capacity(alloc, players.len())?;
+    report.threads.reserve(players.len())?;
     for player in players {
         let told = report_of(alloc, player)?;
-        threads.push_reserved(told);
+        report.threads.push_reserved(told);
     }
-    let mut agents = Vec::with_capacity(alloc, attending.len())?;
+    report.agents.reserve(attending.len())?;
     for agent in attending {
         let ran = report_of(alloc, &agent.player)?;
-        agents.push_reserved(ran);
+        report.agents.push_reserved(ran);
     }
-    Ok(Report { threads, agents })
+    Ok(())
 }
 
 /// One for an agent, and none for another cell.
@@ -420,11 +424,21 @@ fn run_all(
     ensures says { IfOk result (λ report. SaysOf code.now max_steps plays.now rounds shared.new report) }
 {
     let _rooms = code.rooms();
-    let mut players = open_players(alloc, code, shared.threads(), max_steps)?;
+    let mut players = Players {
+        threads: Vec::new(alloc),
+        agents: Vec::new(alloc),
+    };
+    open_players(alloc, code, shared.threads(), max_steps, &mut players)?;
     play_all(&mut players, code, shared, plays, max_steps);
     play_rounds(&mut players, code, shared, actors, max_steps, rounds);
     let _stands = shared.events();
-    report_all(alloc, players.threads.as_slice(), players.agents.as_slice())
+    let mut report = Report {
+        threads: Vec::new(alloc),
+        agents: Vec::new(alloc),
+    };
+    let threads = players.threads.as_slice();
+    report_all(alloc, threads, players.agents.as_slice(), &mut report)?;
+    Ok(report)
 }
 
 /// Runs all threads and agents of the code over a state in which nothing was done yet: the plays of a schedule in their order, and with `rounds` behind them one ask of
