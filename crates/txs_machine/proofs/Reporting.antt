@@ -1,5 +1,5 @@
 -- What a report says, where it tells of all actors behind the last play.
-use Rattle.std.proofs.Common.{ℕ, Bool, List, length, map}
+use Rattle.std.proofs.Common.{ℕ, Bool, List, length, map, Result, Ok, Err, IfOk}
 use Rattle.txs_code.specs.PlainCode.{PlainCode, thread_code}
 use Rattle.txs_runs.specs.Invariant.{SharedStands}
 use Rattle.txs_runs.specs.Report.{CodesStaged}
@@ -18,8 +18,8 @@ use Rattle.txs_machine.proofs.Together.{agents_done, agents_drained, all_explain
 
 module _ (code : PlainCode) (limit : ℕ) (ys : List Play) (rounds : Bool) (s : PlainShared) (all : Players) (out : ArePlayedOut code limit ys rounds s all) (stands : SharedStands code.cells (length code.threads) (shared_of s))
     (staged : CodesStaged (map (thread_code code) code.threads)) where
-  pub says_of : (report : Report) → AreReported all.threads.items report.threads.items → AreReported (attendants all.agents.items) report.agents.items → SaysOf code limit ys rounds s report
-  says_of report threads agents =
+  says : (report : Report) → AreReported all.threads.items report.threads.items → AreReported (attendants all.agents.items) report.agents.items → SaysOf code limit ys rounds s report
+  says report threads agents =
       let xs = all.threads.items in
       let ts = report.threads.items in
       let rs = report.agents.items in
@@ -33,3 +33,8 @@ module _ (code : PlainCode) (limit : ℕ) (ys : List Play) (rounds : Bool) (s : 
         drained = λ wanted. agents_drained traced code limit s all rs out.playing agents (out.idle wanted);
         all_explained = all_explained_by traced code limit s all rs out.playing agents reported staged ts explained;
       }
+
+  -- so it does, where there is one
+  pub says_of : {E : Type 0} (r : Result Report E) → IfOk r (λ report. AreReported all.threads.items report.threads.items) → IfOk r (λ report. AreReported (attendants all.agents.items) report.agents.items) → IfOk r (λ report. SaysOf code limit ys rounds s report)
+  says_of (Ok report) threads agents = says report threads agents
+  says_of (Err e) threads agents = tt

@@ -356,29 +356,26 @@ pub(crate) fn report_of(alloc: Global, player: &Player) -> Result<ThreadReport, 
     })
 }
 
-/// Tells what the actors of threads and of agents did, in a report of none.
+/// What the actors of threads and of agents did.
 fn report_all(
     alloc: Global,
     players: &[Player],
     attending: &[AgentPlayer],
-    report: &mut Report,
-) -> Result<(), AllocError>
-    requires no_threads { report.old.threads.items ≡ [] }
-    requires no_agents { report.old.agents.items ≡ [] }
-    ensures threads { OnOk result (AreReported players.now report.new.threads.items) }
-    ensures agents { OnOk result (AreReported (attendants attending.now) report.new.agents.items) }
+) -> Result<Report, AllocError>
+    ensures threads { IfOk result (λ report. AreReported players.now report.threads.items) }
+    ensures agents { IfOk result (λ report. AreReported (attendants attending.now) report.agents.items) }
 {
-    report.threads.reserve(players.len())?;
+    let mut threads = Vec::with_capacity(alloc, players.len())?;
     for player in players {
         let told = report_of(alloc, player)?;
-        report.threads.push_reserved(told);
+        threads.push_reserved(told);
     }
-    report.agents.reserve(attending.len())?;
+    let mut agents = Vec::with_capacity(alloc, attending.len())?;
     for agent in attending {
         let ran = report_of(alloc, &agent.player)?;
-        report.agents.push_reserved(ran);
+        agents.push_reserved(ran);
     }
-    Ok(())
+    Ok(Report { threads, agents })
 }
 
 /// One for an agent, and none for another cell.
@@ -432,13 +429,7 @@ fn run_all(
     play_all(&mut players, code, shared, plays, max_steps);
     play_rounds(&mut players, code, shared, actors, max_steps, rounds);
     let _stands = shared.events();
-    let mut report = Report {
-        threads: Vec::new(alloc),
-        agents: Vec::new(alloc),
-    };
-    let threads = players.threads.as_slice();
-    report_all(alloc, threads, players.agents.as_slice(), &mut report)?;
-    Ok(report)
+    report_all(alloc, players.threads.as_slice(), players.agents.as_slice())
 }
 
 /// Runs all threads and agents of the code over a state in which nothing was done yet: the plays of a schedule in their order, and with `rounds` behind them one ask of

@@ -9,14 +9,13 @@ loop-player-preserved c =
     let xs = c.args.players.now in
     let i = c.loop-player.player-index in
     let x = c.player-item.result in
-    let rs = c.loop-player.report.threads.items in
+    let rs = c.loop-player.threads.items in
     let r = c.in_ok-told.told in
     let within : i < length xs = search rules in
     let read : x ≡ get_or xs i x = search rules in
     let pushed : c.push_reserved.new.self.items ≡ rs ++ r ∷ [] = search rules in
     record {
       room = search rules;
-      none = c.loop-player.invariant.none;
       many = search rules;
       told = subst (λ l. AreReported (take (i + 1) xs) l) (sym pushed)
           (subst (λ l. AreReported l (rs ++ r ∷ [])) (sym (taken_read xs i x within read)) (reported_more (take i xs) rs x r c.loop-player.invariant.told c.in_ok-told.ensures));
@@ -27,13 +26,12 @@ loop-agent-preserved c =
     let xs = c.args.attending.now in
     let i = c.loop-agent.agent-index in
     let x = c.agent-item.result in
-    let rs = c.loop-agent.report.agents.items in
+    let rs = c.loop-agent.agents.items in
     let r = c.in_ok-ran.ran in
     let within : i < length xs = search rules in
     let read : x ≡ get_or xs i x = search rules in
     let pushed : c.push_reserved-in-loop-agent.new.self.items ≡ rs ++ r ∷ [] = search rules in
     record {
-      threads = c.loop-agent.invariant.threads;
       room = search rules;
       many = search rules;
       told = subst (λ l. AreReported (attendants (take (i + 1) xs)) l) (sym pushed)

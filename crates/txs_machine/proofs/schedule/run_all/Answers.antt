@@ -1,4 +1,4 @@
-use Rattle.std.proofs.Common.{◌≡◌, ◌+◌, length, true, subst, arith}
+use Rattle.std.proofs.Common.{◌≡◌, ◌+◌, length, true, IfOk, subst, arith}
 use Rattle.txs_runs.proofs.Report.{typed_staged}
 use Rattle.txs_runs.specs.Invariant.{SharedStands}
 use Rattle.txs_shared.specs.SharedState.{shared_of}
@@ -34,7 +34,6 @@ returns-clause-says c =
     let s = c.play_rounds.new.shared in
     let all = c.play_rounds.new.players in
     let e = c.play_rounds.ensures in
-    let report = c.report_all.new.report in
     let stands : SharedStands s.cells s.threads (shared_of s) = c.events-stands.ensures.stands in
     let out : ArePlayedOut code limit c.args.plays.now c.args.rounds s all = record {
       of = e.of;
@@ -43,6 +42,6 @@ returns-clause-says c =
       ended = e.ended;
       idle = e.idle;
     } in
-    says_of code limit c.args.plays.now c.args.rounds s all out (state_stands code s e.of stands) (typed_staged code c.rooms-rooms.result.0.now c.rooms-rooms.result.1.now c.rooms-rooms.ensures) report
-    (subst (λ xs. AreReported xs report.threads.items) c.as_slice-threads.ensures.value c.in_ok-report_all.ensures.threads)
-    (subst (λ gs. AreReported (attendants gs) report.agents.items) c.as_slice.ensures.value c.in_ok-report_all.ensures.agents)
+    says_of code limit c.args.plays.now c.args.rounds s all out (state_stands code s e.of stands) (typed_staged code c.rooms-rooms.result.0.now c.rooms-rooms.result.1.now c.rooms-rooms.ensures) c.report_all.result
+    (subst (λ xs. IfOk c.report_all.result (λ r. AreReported xs r.threads.items)) c.as_slice.ensures.value c.report_all.ensures.threads)
+    (subst (λ gs. IfOk c.report_all.result (λ r. AreReported (attendants gs) r.agents.items)) c.as_slice-2.ensures.value c.report_all.ensures.agents)
