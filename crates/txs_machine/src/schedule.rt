@@ -1,6 +1,6 @@
 //! Runs of all threads and agents over what they share, by turns that a schedule names.
 
-ghost use Rattle.std.specs.Prelude.{◌≡◌, ◌<◌, ◌≤◌, ◌+◌, ℕ, [], length, true, false, IfOk, IfErr, IfSome, Some, None};
+ghost use Rattle.std.specs.Prelude.{◌≡◌, ◌<◌, ◌≤◌, ◌+◌, ℕ, [], length, true, false, IfOk, IfErr, IfSome, OnOk, Some, None};
 ghost use Rattle.txs_actor.specs.PlainActor.{MayRun, with_agent};
 ghost use Rattle.txs_machine.specs.declared.schedule.ScheduleError.TheVariants.{Memory};
 ghost use Rattle.txs_machine.specs.RunOver.{IsStateOf, books_of};
@@ -119,22 +119,23 @@ fn are_named(plays: &[Play], actors: u16) -> bool
     true
 }
 
-/// The actors of all threads and behind them of the agents, in the order of the cells, which may make so many steps, where nothing was done yet.
+/// Adds the actors of all threads and behind them of the agents, in the order of the cells, which may make so many steps, where there was none and nothing was
+/// done yet.
 fn open_players(
     alloc: Global,
     code: &Verified,
     threads: u16,
     max_steps: u64,
-) -> Result<Players, AllocError>
+    players: &mut Players,
+) -> Result<(), AllocError>
     requires many { threads ≡ length code.now.threads }
     requires few { length code.now.threads + length code.now.cells ≤ 65535 }
-    ensures { IfOk result (λ all. AreReady code.now max_steps threads all) }
+    requires no_threads { players.old.threads.items ≡ [] }
+    requires no_agents { players.old.agents.items ≡ [] }
+    ensures { OnOk result (AreReady code.now max_steps threads players.new) }
 {
     let _rooms = code.rooms();
-    let mut players = Players {
-        threads: Vec::with_capacity(alloc, threads as usize)?,
-        agents: Vec::new(alloc),
-    };
+    players.threads.reserve(threads as usize)?;
     for k in 0..threads {
         let actor = Actor::thread(alloc, code, k, max_steps)?;
         players.threads.push_reserved(Player {
@@ -146,7 +147,7 @@ fn open_players(
     for cell in 0..cells.len() {
         open_next(alloc, code, &mut players.agents, cell, threads, max_steps)?;
     }
-    Ok(players)
+    Ok(())
 }
 
 /// A play of an actor: up to so many turns, up to its end or an ask, which is served. One that has ended stays as it is.
@@ -420,7 +421,11 @@ fn run_all(
     ensures says { IfOk result (λ report. SaysOf code.now max_steps plays.now rounds shared.new report) }
 {
     let _rooms = code.rooms();
-    let mut players = open_players(alloc, code, shared.threads(), max_steps)?;
+    let mut players = Players {
+        threads: Vec::new(alloc),
+        agents: Vec::new(alloc),
+    };
+    open_players(alloc, code, shared.threads(), max_steps, &mut players)?;
     play_all(&mut players, code, shared, plays, max_steps);
     play_rounds(&mut players, code, shared, actors, max_steps, rounds);
     let _stands = shared.events();

@@ -146,24 +146,6 @@ pub fn tell_book(
     done
 }
 
-/// Adds to what is told of a run what stands behind it.
-fn with_book(
-    mut told: Told,
-    cells: bool,
-    events: bool,
-    program: &Program,
-    shared: &SharedState,
-) -> Result<Told, AllocError>
-    requires made { shared.now.cells ≡ program.now.cells }
-    ensures output { IfOk result (λ t. t.output.items ≡ (told.output.items ++ cells_told cells program.now.cells shared.now) ++ events_told events (numbered_book shared.now 0)) }
-    ensures errors { IfOk result (λ t. t.errors.items ≡ told.errors.items) }
-    ensures status { IfOk result (λ t. t.status ≡ told.status) }
-{
-    program.is_sound();
-    tell_book(&mut told, cells, events, program.cells(), shared)?;
-    Ok(told)
-}
-
 /// Runs the code of a script that compiles over its state, and tells of its cells and events where they are wanted.
 fn run_compiled(
     alloc: Global,
@@ -184,7 +166,11 @@ fn run_compiled(
     ensures { IfOk result (λ t. ScriptTells (script_of script.entry) (told_of t) (Run plays.now steps cells events)) }
 {
     match run_code(alloc, script, code, plays, steps, shared)? {
-        Some(told) => with_book(told, cells, events, program, shared),
+        Some(mut told) => {
+            program.is_sound();
+            tell_book(&mut told, cells, events, program.cells(), shared)?;
+            Ok(told)
+        }
         None => complaint(alloc, UNUSABLE, "run failed: NoActor"),
     }
 }

@@ -60,5 +60,8 @@ pub fn write_bytes<W: Write>(writer: &mut W, bytes: &[u8]) -> Result<(), WriteFa
     if write_all(writer, bytes).is_err() {
         return Err(WriteFault);
     }
-    writer.flush().map_err(|_| WriteFault)
+    match writer.flush() {
+        Ok(()) => Ok(()),
+        Err(_) => Err(WriteFault),
+    }
 }

@@ -161,24 +161,6 @@ fn write_front(line: &mut Vec<u8>, front: Front<'_>) -> Result<(), AllocError>
     }
 }
 
-/// Appends how the line of one that failed ends.
-fn end_failed(line: &mut Vec<u8>, fault: Fault) -> Result<(), AllocError>
-    ensures { OnOk result (line.new.items ≡ failed_line line.old.items fault) }
-{
-    line.extend_from_slice(b" failed: ")?;
-    line.extend_from_slice(fault.kind.name().as_bytes())?;
-    write_place(line, fault.span)
-}
-
-/// Appends how the line of one that was stopped ends.
-fn end_stopped(line: &mut Vec<u8>, why: &[u8]) -> Result<(), AllocError>
-    ensures { OnOk result (line.new.items ≡ stopped_line line.old.items why.now) }
-{
-    line.extend_from_slice(b" stopped: ")?;
-    line.extend_from_slice(why)?;
-    Ok(line.push(b'\n')?)
-}
-
 /// The refusal of a script that isn't compiled, but for one for want of memory, of which the program tells otherwise.
 fn refusal_of(error: &CompileError) -> Option<Refusal>
     ensures told { IfSome result (λ r. error.now ≢ Memory) }
@@ -289,7 +271,9 @@ fn write_failed(
     ensures { OnOk result ((line : List ℕ) × IsLesson (script_of script.entry) (failed_line (front_of front.entry) fault) (Some fault.span) line × (errors.new.items ≡ errors.old.items ++ line)) }
 {
     write_front(errors, front)?;
-    end_failed(errors, fault)?;
+    errors.extend_from_slice(b" failed: ")?;
+    errors.extend_from_slice(fault.kind.name().as_bytes())?;
+    write_place(errors, fault.span)?;
     explain(errors, script, Some(fault.span), of_fault(fault.kind))
 }
 
@@ -304,17 +288,10 @@ fn write_stopped(
     ensures { OnOk result ((line : List ℕ) × IsLesson (script_of script.entry) (stopped_line (front_of front.entry) why.now) None line × (errors.new.items ≡ errors.old.items ++ line)) }
 {
     write_front(errors, front)?;
-    end_stopped(errors, why)?;
+    errors.extend_from_slice(b" stopped: ")?;
+    errors.extend_from_slice(why)?;
+    errors.push(b'\n')?;
     explain(errors, script, None, advice)
-}
-
-/// Nothing on either stream.
-pub fn nothing(alloc: Global) -> Told
-    ensures output { result.output.items ≡ [] }
-    ensures errors { result.errors.items ≡ [] }
-    ensures status { result.status ≡ 0 }
-{
-    answer(Vec::new(alloc), alloc)
 }
 
 /// Appends the line that tells how a thread, an agent or an agent's actor ended, if there is one, and what explains it.
@@ -393,7 +370,7 @@ pub fn of_threads(alloc: Global, script: Script<'_>, report: &Report) -> Result<
     ensures errors { IfOk result (λ t. AreLessons (script_of script.entry) 0 report.now.threads.items t.errors.items) }
     ensures status { IfOk result (λ t. t.status ≡ status_from 0 report.now.threads.items) }
 {
-    let mut told = nothing(alloc);
+    let mut told = answer(Vec::new(alloc), alloc);
     for (k, thread) in report.threads.iter().enumerate() {
         add_thread(&mut told, script, k as u16, thread)?;
     }

@@ -24,7 +24,7 @@ loop-k-preserved c =
     let k = c.loop-k.k in
     let players = c.loop-k.players.threads.items in
     let new = c.in_ok-actor.ensures.new in
-    let x : Player = record { actor = a; trace = c.new-in-loop-k.result } in
+    let x : Player = record { actor = a; trace = c.new.result } in
     let pushed : c.push_reserved.new.self.items ≡ players ++ x ∷ [] = search rules in
     let many = c.loop-k.invariant.many in
     let there : k < length code.threads = search rules in
@@ -34,7 +34,7 @@ loop-k-preserved c =
       lives = c.in_ok-actor.ensures.lives;
       free = new.unasking;
       limited = new_limited most a new.limited new.unended new.unused;
-      over = new_over actors_run code k most c.new-in-loop-k.result.items a c.new-in-loop-k.ensures.items there stands new;
+      over = new_over actors_run code k most c.new.result.items a c.new.ensures.items there stands new;
     } in
     record {
       room = search rules;
@@ -42,7 +42,7 @@ loop-k-preserved c =
       many = search rules;
       between = subst (λ l. AreBetween code most (λ n. []) 0 l) (sym pushed)
           (between_more code most (λ n. []) 0 players x c.loop-k.invariant.between (subst (λ (n : ℕ). IsBetween code n most (λ i. []) x) place between));
-      opened = subst (λ l. AreNew code most 0 l) (sym pushed) (new_more code most 0 players x c.loop-k.invariant.opened (subst (λ (n : ℕ). IsNew code n most a) place new) c.new-in-loop-k.ensures.items);
+      opened = subst (λ l. AreNew code most 0 l) (sym pushed) (new_more code most 0 players x c.loop-k.invariant.opened (subst (λ (n : ℕ). IsNew code n most a) place new) c.new.ensures.items);
     }
 
 pub loop-cell-init : goal.loop-cell-init

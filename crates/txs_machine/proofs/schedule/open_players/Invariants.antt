@@ -1,4 +1,4 @@
-use Rattle.std.proofs.Common.{◌≡◌, length, take, [], vec_capacity}
+use Rattle.std.proofs.Common.{◌≡◌, ◌≤◌, length, take, [], vec_capacity}
 use Rattle.txs_actor.specs.PlainActor.{agents_from}
 use Rattle.txs_machine.specs.Playing.{AreBetween, AreNew}
 use Rattle.txs_machine.specs.Plays.{AreOpened, AreOpenedFor}
@@ -7,7 +7,7 @@ use Rattle.txs_machine.proofs.schedule.open_players.Given as goal
 abbrev pub invariant-loop-k : goal.invariant-loop-k
 invariant-loop-k l =
     record {
-      room : vec_capacity l.players.threads ≡ l.threads;
+      room : l.threads ≤ vec_capacity l.players.threads;
       none : l.players.agents.items ≡ [];
       many : length l.players.threads.items ≡ l.k;
       between : AreBetween l.code l.max_steps (λ n. []) 0 l.players.threads.items;

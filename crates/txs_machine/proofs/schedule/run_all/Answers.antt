@@ -13,17 +13,17 @@ use Rattle.txs_machine.proofs.schedule.run_all.Goals as goal
 
 pub play_all-requires-clause-named : goal.play_all-requires-clause-named
 play_all-requires-clause-named c =
-    let e = c.in_ok-players.ensures in
-    let all = c.in_ok-players.players in
+    let e = c.in_ok-open_players.ensures in
+    let all = c.open_players.new.players in
     let many : c.args.actors ≡ length all.threads.items + length all.agents.items = omega (arith, c.requires.many, e.many, e.agents, c.threads.ensures, c.requires.of.threads) in
     subst (λ n. all_named n c.args.plays.now ≡ true) many c.requires.named
 
 pub play_all-requires-clause-playing : goal.play_all-requires-clause-playing
-play_all-requires-clause-playing c = c.in_ok-players.ensures.playing c.args.shared.now c.requires.unused
+play_all-requires-clause-playing c = c.in_ok-open_players.ensures.playing c.args.shared.now c.requires.unused
 
 pub play_rounds-requires-clause-many : goal.play_rounds-requires-clause-many
 play_rounds-requires-clause-many c =
-    let e = c.in_ok-players.ensures in
+    let e = c.in_ok-open_players.ensures in
     let p = c.play_all.ensures in
     omega (arith, c.requires.many, e.many, e.agents, c.threads.ensures, c.requires.of.threads, p.many, p.agents)
 

@@ -1,4 +1,4 @@
-use Rattle.std.proofs.Common.{◌≡◌, ◌++◌, [], Option, codes, true, false, sym, subst}
+use Rattle.std.proofs.Common.{◌≡◌, ◌++◌, [], Option, codes, true, false, rules, sym, subst}
 use Rattle.std.specs.Option.{option_map}
 use Rattle.txs_machine.specs.Agents.{actors_of}
 use Rattle.txs_machine.specs.Schedule.{all_named}
@@ -23,8 +23,8 @@ returns-in-None c =
     ok_three c.complaint.result (λ t. t.output.items ≡ []) (λ t. t.errors.items ≡ codes "run failed: NoActor" ++ codes "\n") (λ t. t.status ≡ 2) (λ t. ScriptTells script (told_of t) (Run plays c.args.steps c.args.cells c.args.events))
     (λ t. of_no_actor plays c.args.steps c.args.cells c.args.events (program_of c.args.program.now) code c.requires.compiled unnamed) e.output e.errors e.status
 
-pub returns-in-Some : goal.returns-in-Some
-returns-in-Some c =
+pub returns-in_ok-tell_book-in-Some : goal.returns-in_ok-tell_book-in-Some
+returns-in_ok-tell_book-in-Some c =
     let script = script_of c.args.script in
     let code = c.args.code.now in
     let p = program_of c.args.program.now in
@@ -36,7 +36,7 @@ returns-in-Some c =
     subst (λ (o : Option owned.Told). RunAnswers code script plays c.args.steps s (option_map told_of o)) c.in-Some.is c.in_ok-told.ensures.told
     in
     let explained = ran.1.all_explained p (sym of.same) of.follows of.agents of.sends in
-    let e = c.with_book.ensures in
-    ok_three c.with_book.result (λ t. t.output.items ≡ (told.output.items ++ cells_told c.args.cells p.cells s) ++ events_told c.args.events (numbered_book s 0)) (λ t. t.errors.items ≡ told.errors.items) (λ t. t.status ≡ told.status)
-    (λ t. ScriptTells script (told_of t) (Run plays c.args.steps c.args.cells c.args.events))
-    (λ t. of_run plays c.args.steps c.args.cells c.args.events (told_of told) p code s of c.run_code.ensures.of ran.0 ran.1 explained) e.output e.errors e.status
+    let new = c.tell_book.new.told in
+    let e = c.in_ok-tell_book-in-Some.ensures in
+    let output : new.output.items ≡ (told.output.items ++ cells_told c.args.cells p.cells s) ++ events_told c.args.events (numbered_book s 0) = search rules in
+    of_run plays c.args.steps c.args.cells c.args.events (told_of told) p code s of c.run_code.ensures.of ran.0 ran.1 explained output e.errors e.status

@@ -1,4 +1,4 @@
-use Rattle.std.proofs.Common.{◌≡◌, ◌++◌, ℕ, List, Some}
+use Rattle.std.proofs.Common.{◌≡◌, ◌++◌, ℕ, List, Some, rules}
 use Rattle.txs_tell.specs.Lent.{front_of, script_of}
 use Rattle.txs_tell.specs.Lines.{IsLesson, failed_line, lesson_of}
 use Rattle.txs_tell.proofs.Fronts.{on_ok}
@@ -11,8 +11,10 @@ returns c =
     let front = front_of c.args.front in
     let f = c.args.fault in
     let old = c.args.errors.now.items in
-    let ended = c.end_failed.new.line.items in
+    let begun = c.write_front.new.line.items in
+    let ended = c.write_place.new.line.items in
     let new = c.explain.new.errors.items in
     let advice = c.of_fault.result.now in
+    let written : ended ≡ failed_line begun f = search rules in
     on_ok c.explain.result (new ≡ ended ++ lesson_of script.file script.text (Some f.span) (Some advice)) ((line : List ℕ) × IsLesson script (failed_line front f) (Some f.span) line × (new ≡ old ++ line))
-    (failed_behind script f front old c.write_front.new.line.items ended new advice c.in_ok-write_front.ensures c.in_ok-end_failed.ensures) c.explain.ensures
+    (failed_behind script f front old begun ended new advice c.in_ok-write_front.ensures written) c.explain.ensures

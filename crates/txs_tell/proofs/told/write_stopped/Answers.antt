@@ -1,4 +1,4 @@
-use Rattle.std.proofs.Common.{◌≡◌, ◌++◌, ℕ, List, None, Some}
+use Rattle.std.proofs.Common.{◌≡◌, ◌++◌, ℕ, List, None, Some, rules}
 use Rattle.txs_tell.specs.Lent.{front_of, script_of}
 use Rattle.txs_tell.specs.Lines.{IsLesson, lesson_of, stopped_line}
 use Rattle.txs_tell.proofs.Fronts.{on_ok}
@@ -11,8 +11,10 @@ returns c =
     let front = front_of c.args.front in
     let why = c.args.why.now in
     let old = c.args.errors.now.items in
-    let ended = c.end_stopped.new.line.items in
+    let begun = c.write_front.new.line.items in
+    let ended = c.push.new.self.items in
     let new = c.explain.new.errors.items in
     let advice = c.args.advice.now in
+    let written : ended ≡ stopped_line begun why = search rules in
     on_ok c.explain.result (new ≡ ended ++ lesson_of script.file script.text None (Some advice)) ((line : List ℕ) × IsLesson script (stopped_line front why) None line × (new ≡ old ++ line))
-    (stopped_behind script why front old c.write_front.new.line.items ended new advice c.in_ok-write_front.ensures c.in_ok-end_stopped.ensures) c.explain.ensures
+    (stopped_behind script why front old begun ended new advice c.in_ok-write_front.ensures written) c.explain.ensures
