@@ -5,6 +5,7 @@ pub mod InOrder
 pub mod Laws
 pub mod Lists
 pub mod Order
+pub mod Rows
 pub mod Same
 pub mod Steps
 pub mod TrueRefusals

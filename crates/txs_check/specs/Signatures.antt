@@ -1,9 +1,12 @@
 -- What the table of functions says of them: all that is known but how deep they are.
 use Rattle.std.specs.Prelude.{ℕ, Bool, false, ◌==◌, ◌&&◌, ◌||◌, List, map, Option, Some, None}
 use Rattle.txs_value.specs.Places.{nth}
+use Rattle.txs_value.specs.Forms.{rule}
+use Rattle.txs_value.specs.declared.form.CellForm.TheVariants as form_of
 use Rattle.txs_value.specs.declared.form.Standing.{Standing}
+use Rattle.txs_value.specs.declared.form.Standing.TheVariants.{Outside}
 use Rattle.txs_tree.specs.Known.{Known, only_inside, only_outside, is_inside, is_outside, is_pure, inside_in, any_inside, outside_in, any_outside, pure_in, all_pure}
-use Rattle.txs_tree.specs.Tree.{Tree, Trees}
+use Rattle.txs_tree.specs.Tree.{Tree, Const, Local, If, Do, Let, Loop, Recur, Core, Call, VectorOf, Println, Dosync, Look, Put, Update, Send, Trees}
 use Rattle.txs_check.specs.declared.class.Class.{Class}
 use Rattle.txs_check.specs.declared.class.Signature.{Signature}
 
@@ -26,6 +29,25 @@ class_standing s = record { inside = only_inside s; outside = only_outside s; pu
 -- what a call is
 abbrev pub class_known : Option Known → Class
 class_known k = record { inside = is_inside k; outside = is_outside k; pure = is_pure k }
+
+-- what a form is whose parts are this together
+abbrev pub class_above : List Known → Tree → Class → Class
+class_above ks (Const v m) parts = parts
+class_above ks (Local i m) parts = parts
+class_above ks (If c a b m) parts = parts
+class_above ks (Do items m) parts = parts
+class_above ks (Let values body m) parts = parts
+class_above ks (Loop values body m) parts = parts
+class_above ks (Recur values m) parts = parts
+class_above ks (Core op args m) parts = parts
+class_above ks (Call f args m) parts = joined (class_known (nth ks f)) parts
+class_above ks (VectorOf items m) parts = parts
+class_above ks (Println args m) parts = joined (class_standing Outside) parts
+class_above ks (Dosync body m) parts = record { inside = false; outside = parts.outside; pure = false }
+class_above ks (Look form cell m) parts = joined (class_standing (rule (form_of.Look form)).stands) parts
+class_above ks (Put form cell value m) parts = joined (class_standing (rule (form_of.Put form)).stands) parts
+class_above ks (Update form cell callee args m) parts = joined (class_standing (rule (form_of.Update form)).stands) parts
+class_above ks (Send cell callee args m) parts = joined (class_standing (rule form_of.Send).stands) parts
 
 -- what a row of the table says, where no levels are counted
 abbrev pub known_row : Signature → Known

@@ -5,8 +5,9 @@ ghost use Rattle.txs_tree.specs.Known.{known};
 ghost use Rattle.txs_value.specs.Forms.{rule};
 ghost use Rattle.txs_value.specs.Places.{nth};
 ghost use Rattle.txs_tree.specs.View.{tree_of, trees_of, function_of, functions_of};
-ghost use Rattle.txs_check.specs.Signatures.{joined, class_in, class_in_all, class_known, class_standing, bare, known_as, known_if};
+ghost use Rattle.txs_check.specs.Signatures.{joined, class_above, class_in, class_in_all, class_known, class_standing, bare, known_as, known_if};
 
+use crate::parts::parts;
 use std::alloc::{AllocError, Global};
 use txs_tree::{Function, Node, NodeKind};
 use txs_value::{CellForm, Standing};
@@ -111,48 +112,33 @@ fn class_of_form(form: CellForm) -> Class
     }
 }
 
+/// What a node is whose parts are this together.
+fn class_above(signatures: &[Signature], node: &Node, parts: Class) -> Class
+    ensures { result ≡ class_above (known_as signatures.now) (tree_of node.now) parts }
+{
+    match &node.kind {
+        NodeKind::Const(_) | NodeKind::Local(_) | NodeKind::If(_, _, _) => parts,
+        NodeKind::Do(_) | NodeKind::Let(_, _) | NodeKind::Loop(_, _) => parts,
+        NodeKind::Recur(_) | NodeKind::Core(_, _) | NodeKind::Vector(_) => parts,
+        NodeKind::Call(number, _) => class_of_function(signatures, *number).join(parts),
+        NodeKind::Println(_) => OUTSIDE.join(parts),
+        NodeKind::Dosync(_) => parts.in_transaction(),
+        NodeKind::Look(form, _) => class_of_form(CellForm::Look(*form)).join(parts),
+        NodeKind::Put(form, _, _) => class_of_form(CellForm::Put(*form)).join(parts),
+        NodeKind::Update(form, _, _, _) => class_of_form(CellForm::Update(*form)).join(parts),
+        NodeKind::Send(_, _, _) => class_of_form(CellForm::Send).join(parts),
+    }
+}
+
 /// What a node is, where so much is known of functions.
 #[cycle(class)]
 fn class_of(signatures: &[Signature], node: &Node) -> Class
     ensures { result ≡ class_in (known_as signatures.now) (tree_of node.now) }
 {
-    match &node.kind {
-        NodeKind::Const(_) | NodeKind::Local(_) => PURE,
-        NodeKind::If(test, first, second) => {
-            let branches = class_of(signatures, first).join(class_of(signatures, second));
-            class_of(signatures, test).join(branches)
-        }
-        NodeKind::Do(items) => class_of_all(signatures, items),
-        NodeKind::Let(values, body) => {
-            class_of_all(signatures, values).join(class_of(signatures, body))
-        }
-        NodeKind::Loop(values, body) => {
-            class_of_all(signatures, values).join(class_of(signatures, body))
-        }
-        NodeKind::Recur(values) => class_of_all(signatures, values),
-        NodeKind::Core(_, args) => class_of_all(signatures, args),
-        NodeKind::Call(number, args) => {
-            class_of_function(signatures, *number).join(class_of_all(signatures, args))
-        }
-        NodeKind::Vector(items) => class_of_all(signatures, items),
-        NodeKind::Println(args) => OUTSIDE.join(class_of_all(signatures, args)),
-        NodeKind::Dosync(body) => class_of(signatures, body).in_transaction(),
-        NodeKind::Look(form, cell) => {
-            class_of_form(CellForm::Look(*form)).join(class_of(signatures, cell))
-        }
-        NodeKind::Put(form, cell, value) => {
-            let parts = class_of(signatures, cell).join(class_of(signatures, value));
-            class_of_form(CellForm::Put(*form)).join(parts)
-        }
-        NodeKind::Update(form, cell, _, args) => {
-            let parts = class_of(signatures, cell).join(class_of_all(signatures, args));
-            class_of_form(CellForm::Update(*form)).join(parts)
-        }
-        NodeKind::Send(agent, _, args) => {
-            let parts = class_of(signatures, agent).join(class_of_all(signatures, args));
-            class_of_form(CellForm::Send).join(parts)
-        }
-    }
+    let (first, second, third) = parts(node);
+    let behind = class_of_all(signatures, second).join(class_of_all(signatures, third));
+    let together = class_of_all(signatures, first).join(behind);
+    class_above(signatures, node, together)
 }
 
 /// What the nodes are together.

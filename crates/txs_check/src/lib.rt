@@ -8,6 +8,7 @@ pub mod callee;
 mod class;
 pub mod error;
 pub mod law;
+mod parts;
 mod place;
 pub mod program;
 mod size;

@@ -189,23 +189,19 @@ pub fn check_node(
             let own = Target::Nearest(values.len(), true);
             check_node(signatures, zone, own, body)
         }
-        NodeKind::Recur(values) => check_all(signatures, zone, inner, values),
-        NodeKind::Core(_, args) => check_all(signatures, zone, inner, args),
-        NodeKind::Call(_, args) => check_all(signatures, zone, inner, args),
-        NodeKind::Vector(items) => check_all(signatures, zone, inner, items),
-        NodeKind::Println(args) => check_all(signatures, zone, inner, args),
+        NodeKind::Recur(items)
+        | NodeKind::Core(_, items)
+        | NodeKind::Call(_, items)
+        | NodeKind::Vector(items)
+        | NodeKind::Println(items) => check_all(signatures, zone, inner, items),
         NodeKind::Dosync(body) => check_node(signatures, Zone::InDosync, target.across(), body),
         NodeKind::Look(_, cell) => check_node(signatures, zone, inner, cell),
         NodeKind::Put(_, cell, value) => {
             check_node(signatures, zone, inner, cell)?;
             check_node(signatures, zone, inner, value)
         }
-        NodeKind::Update(_, cell, _, args) => {
+        NodeKind::Update(_, cell, _, args) | NodeKind::Send(cell, _, args) => {
             check_node(signatures, zone, inner, cell)?;
-            check_all(signatures, zone, inner, args)
-        }
-        NodeKind::Send(agent, _, args) => {
-            check_node(signatures, zone, inner, agent)?;
             check_all(signatures, zone, inner, args)
         }
     }

@@ -1,65 +1,53 @@
-use Rattle.std.proofs.Common.{rules, ◌≡◌, true, false, length, [], ◌∷◌, ◌++◌, Err, refl, sym, ap, ◌∙◌}
-use Rattle.txs_tree.specs.Tree.{count}
+use Rattle.std.proofs.Common.{rules, ◌≡◌, ◌⊎◌, ℕ, true, false, length, List, [], ◌∷◌, ◌++◌, Err, inl, inr, refl, sym, ap, ◌∙◌, Vec, Global, Box}
+use Rattle.txs_value.specs.declared.form.UpdateForm.{UpdateForm}
+use Rattle.txs_value.specs.declared.op.Callee.{Callee}
+use Rattle.txs_value.specs.declared.op.Op.{Op}
+use Rattle.txs_tree.specs.declared.node.Node.{Node}
+use Rattle.txs_tree.specs.declared.node.NodeKind.TheVariants.{Recur, Core, Call, Vector, Println, Update, Send}
+use Rattle.txs_tree.specs.Known.{Known}
+use Rattle.txs_tree.specs.Tree.{Tree, Trees, count}
 use Rattle.txs_tree.specs.View.{mark_of, tree_of, trees_of}
+use Rattle.txs_check.specs.declared.place.Target.{Target}
 use Rattle.txs_check.specs.declared.place.Target.TheVariants.{Nearest}
-use Rattle.txs_check.specs.Refused.{◌>>◌, here, inner, in_turn, turned, checked, checked_all, checked_do}
+use Rattle.txs_check.specs.declared.place.Zone.{Zone}
+use Rattle.txs_check.specs.Refused.{Checked, ◌>>◌, here, inner, in_turn, turned, checked, checked_all, checked_do}
 use Rattle.txs_check.specs.Signatures.{known_as}
 use Rattle.txs_check.proofs.Lists.{count_nodes, branches_in_turn, do_nothing, do_parts}
 use Rattle.txs_tree.proofs.Trees.{if_node, do_node, let_node, loop_node, recur_node, core_node, call_node, vector_node, println_node, update_node, send_node}
 use Rattle.txs_check.proofs.walk.+walk.Goals as goal
+
+module _ (ks : List Known) (z : Zone) (t0 : Target) where
+  abbrev whole : Tree → Checked
+  whole e = checked ks z t0 e
+
+  abbrev over_row : Trees → Tree → Checked
+  over_row es e = here ks z t0 e >> checked_all ks z (inner t0) es
+
+  abbrev over_change : Tree → Trees → Tree → Checked
+  over_change cell es e = here ks z t0 e >> (checked ks z (inner t0) cell >> checked_all ks z (inner t0) es)
+
+  module _ (n : Node) (v : Vec Node Global) (ns : List Node) (same : ns ≡ v.items) where
+    of_row : (n.kind ≡ Recur v) ⊎ (((op : Op) × (n.kind ≡ Core op v)) ⊎ (((f : ℕ) × (n.kind ≡ Call f v)) ⊎ ((n.kind ≡ Vector v) ⊎ (n.kind ≡ Println v)))) → whole (tree_of n) ≡ over_row (trees_of ns) (tree_of n)
+    of_row (inl is) = let e = recur_node n v ns is same in ap whole e ∙ sym (ap (over_row (trees_of ns)) e)
+    of_row (inr (inl is)) = let e = core_node n is.0 v ns is.1 same in ap whole e ∙ sym (ap (over_row (trees_of ns)) e)
+    of_row (inr (inr (inl is))) = let e = call_node n is.0 v ns is.1 same in ap whole e ∙ sym (ap (over_row (trees_of ns)) e)
+    of_row (inr (inr (inr (inl is)))) = let e = vector_node n v ns is same in ap whole e ∙ sym (ap (over_row (trees_of ns)) e)
+    of_row (inr (inr (inr (inr is)))) = let e = println_node n v ns is same in ap whole e ∙ sym (ap (over_row (trees_of ns)) e)
+
+    of_change : (cell : Box Node Global) (b : Node) → b ≡ cell.value → ((form : UpdateForm) × (callee : Callee) × (n.kind ≡ Update form cell callee v)) ⊎ ((callee : Callee) × (n.kind ≡ Send cell callee v))
+        → whole (tree_of n) ≡ over_change (tree_of b) (trees_of ns) (tree_of n)
+    of_change cell b there (inl is) = let e = update_node n is.0 cell is.1 v b ns is.2 there same in ap whole e ∙ sym (ap (over_change (tree_of b) (trees_of ns)) e)
+    of_change cell b there (inr is) = let e = send_node n cell is.0 v b ns is.1 there same in ap whole e ∙ sym (ap (over_change (tree_of b) (trees_of ns)) e)
 
 pub check_node-returns-in-Recur : goal.check_node-returns-in-Recur
 check_node-returns-in-Recur t c =
     let ks = known_as c.args.signatures.now in
     let z = c.args.zone in
     let t0 = c.args.target in
-    let e = recur_node c.args.node.now c.in-Recur.values c.deref-in-Recur.result.now c.in-Recur.is c.deref-in-Recur.ensures.value in
-    let es = trees_of c.deref-in-Recur.result.now in
-    let parts = checked_all ks z (inner t0) es in
-    let own = c.in_ok-check_here.ensures ∙ ap (λ x. here ks z t0 x) e in
-    c.check_all-in-Recur.ensures ∙ ap (λ i. checked_all ks z i es) c.inner-inner.ensures ∙ ap (λ x. x >> parts) own ∙ sym (ap (λ x. checked ks z t0 x) e)
-
-pub check_node-returns-in-Core : goal.check_node-returns-in-Core
-check_node-returns-in-Core t c =
-    let ks = known_as c.args.signatures.now in
-    let z = c.args.zone in
-    let t0 = c.args.target in
-    let e = core_node c.args.node.now c.in-Core.field-0 c.in-Core.args c.deref-in-Core.result.now c.in-Core.is c.deref-in-Core.ensures.value in
-    let es = trees_of c.deref-in-Core.result.now in
-    let parts = checked_all ks z (inner t0) es in
-    let own = c.in_ok-check_here.ensures ∙ ap (λ x. here ks z t0 x) e in
-    c.check_all-in-Core.ensures ∙ ap (λ i. checked_all ks z i es) c.inner-inner.ensures ∙ ap (λ x. x >> parts) own ∙ sym (ap (λ x. checked ks z t0 x) e)
-
-pub check_node-returns-in-Call : goal.check_node-returns-in-Call
-check_node-returns-in-Call t c =
-    let ks = known_as c.args.signatures.now in
-    let z = c.args.zone in
-    let t0 = c.args.target in
-    let e = call_node c.args.node.now c.in-Call.field-0 c.in-Call.args c.deref-in-Call.result.now c.in-Call.is c.deref-in-Call.ensures.value in
-    let es = trees_of c.deref-in-Call.result.now in
-    let parts = checked_all ks z (inner t0) es in
-    let own = c.in_ok-check_here.ensures ∙ ap (λ x. here ks z t0 x) e in
-    c.check_all-in-Call.ensures ∙ ap (λ i. checked_all ks z i es) c.inner-inner.ensures ∙ ap (λ x. x >> parts) own ∙ sym (ap (λ x. checked ks z t0 x) e)
-
-pub check_node-returns-in-Println : goal.check_node-returns-in-Println
-check_node-returns-in-Println t c =
-    let ks = known_as c.args.signatures.now in
-    let z = c.args.zone in
-    let t0 = c.args.target in
-    let e = println_node c.args.node.now c.in-Println.args c.deref-in-Println.result.now c.in-Println.is c.deref-in-Println.ensures.value in
-    let es = trees_of c.deref-in-Println.result.now in
-    let parts = checked_all ks z (inner t0) es in
-    let own = c.in_ok-check_here.ensures ∙ ap (λ x. here ks z t0 x) e in
-    c.check_all-in-Println.ensures ∙ ap (λ i. checked_all ks z i es) c.inner-inner.ensures ∙ ap (λ x. x >> parts) own ∙ sym (ap (λ x. checked ks z t0 x) e)
-
-pub check_node-returns-in-Vector : goal.check_node-returns-in-Vector
-check_node-returns-in-Vector t c =
-    let ks = known_as c.args.signatures.now in
-    let z = c.args.zone in
-    let t0 = c.args.target in
-    let e = vector_node c.args.node.now c.in-Vector.items c.deref-in-Vector.result.now c.in-Vector.is c.deref-in-Vector.ensures.value in
-    let es = trees_of c.deref-in-Vector.result.now in
-    c.check_all-in-Vector.ensures ∙ ap (λ i. checked_all ks z i es) c.inner-inner.ensures ∙ sym (ap (λ x. checked ks z t0 x) e)
+    let ns = c.deref-in-Recur.result.now in
+    let parts = checked_all ks z (inner t0) (trees_of ns) in
+    c.check_all-in-Recur.ensures ∙ ap (λ i. checked_all ks z i (trees_of ns)) c.inner-inner.ensures ∙ ap (λ x. x >> parts) c.in_ok-check_here.ensures
+    ∙ sym (of_row ks z t0 c.args.node.now c.in-Recur.items ns c.deref-in-Recur.ensures.value c.in-Recur.is)
 
 pub check_node-returns-in_err-check_all-in-Let : goal.check_node-returns-in_err-check_all-in-Let
 check_node-returns-in_err-check_all-in-Let t c =
@@ -146,6 +134,19 @@ check_node-returns-in_ok-check_all-in-Some t c =
     let whole = ap (λ x. checked ks z t0 x) e ∙ ap (λ l. checked_do ks z t0 (trees_of l)) parts ∙ do_parts ks z t0 before last in
     c.check_node-in-Some.ensures ∙ ap (λ x. x >> end) (c.in_ok-check_all-in-Some.ensures ∙ ap (λ i. checked_all ks z i (trees_of before)) c.inner-inner.ensures) ∙ sym whole
 
+pub check_node-returns-in_err-check_node-in-Update : goal.check_node-returns-in_err-check_node-in-Update
+check_node-returns-in_err-check_node-in-Update t c =
+    let ks = known_as c.args.signatures.now in
+    let z = c.args.zone in
+    let t0 = c.args.target in
+    let b = c.deref-in-Update.result.now in
+    let ns = c.in-Update.args.items in
+    let args = checked_all ks z (inner t0) (trees_of ns) in
+    let refused : c.from_residual-in_err-check_node-in-Update.result ≡ Err c.in_err-check_node-in-Update.field-0.0 = search rules in
+    refused ∙ ap (λ x. x >> args) (c.in_err-check_node-in-Update.ensures ∙ ap (λ i. checked ks z i (tree_of b)) c.inner-inner.ensures)
+    ∙ ap (λ x. x >> (checked ks z (inner t0) (tree_of b) >> args)) c.in_ok-check_here.ensures
+    ∙ sym (of_change ks z t0 c.args.node.now c.in-Update.args ns refl c.in-Update.cell b c.deref-in-Update.ensures c.in-Update.is)
+
 pub check_node-returns-in_ok-check_node-in-Update : goal.check_node-returns-in_ok-check_node-in-Update
 check_node-returns-in_ok-check_node-in-Update t c =
     let ks = known_as c.args.signatures.now in
@@ -153,30 +154,11 @@ check_node-returns-in_ok-check_node-in-Update t c =
     let t0 = c.args.target in
     let b = c.deref-in-Update.result.now in
     let ns = c.deref-in-Update-2.result.now in
-    let e = update_node c.args.node.now c.in-Update.field-0 c.in-Update.cell c.in-Update.field-2 c.in-Update.args b ns c.in-Update.is c.deref-in-Update.ensures c.deref-in-Update-2.ensures.value in
-    let es = trees_of ns in
-    let own = c.in_ok-check_here.ensures ∙ ap (λ x. here ks z t0 x) e in
-    let args = checked_all ks z (inner t0) es in
-    c.check_all-in-Update.ensures ∙ ap (λ i. checked_all ks z i es) c.inner-inner.ensures
+    let args = checked_all ks z (inner t0) (trees_of ns) in
+    c.check_all-in-Update.ensures ∙ ap (λ i. checked_all ks z i (trees_of ns)) c.inner-inner.ensures
     ∙ ap (λ x. x >> args) (c.in_ok-check_node-in-Update.ensures ∙ ap (λ i. checked ks z i (tree_of b)) c.inner-inner.ensures)
-    ∙ ap (λ x. x >> (checked ks z (inner t0) (tree_of b) >> args)) own
-    ∙ sym (ap (λ x. checked ks z t0 x) e)
-
-pub check_node-returns-in_ok-check_node-in-Send : goal.check_node-returns-in_ok-check_node-in-Send
-check_node-returns-in_ok-check_node-in-Send t c =
-    let ks = known_as c.args.signatures.now in
-    let z = c.args.zone in
-    let t0 = c.args.target in
-    let b = c.deref-in-Send.result.now in
-    let ns = c.deref-in-Send-2.result.now in
-    let e = send_node c.args.node.now c.in-Send.agent c.in-Send.field-1 c.in-Send.args b ns c.in-Send.is c.deref-in-Send.ensures c.deref-in-Send-2.ensures.value in
-    let es = trees_of ns in
-    let own = c.in_ok-check_here.ensures ∙ ap (λ x. here ks z t0 x) e in
-    let args = checked_all ks z (inner t0) es in
-    c.check_all-in-Send.ensures ∙ ap (λ i. checked_all ks z i es) c.inner-inner.ensures
-    ∙ ap (λ x. x >> args) (c.in_ok-check_node-in-Send.ensures ∙ ap (λ i. checked ks z i (tree_of b)) c.inner-inner.ensures)
-    ∙ ap (λ x. x >> (checked ks z (inner t0) (tree_of b) >> args)) own
-    ∙ sym (ap (λ x. checked ks z t0 x) e)
+    ∙ ap (λ x. x >> (checked ks z (inner t0) (tree_of b) >> args)) c.in_ok-check_here.ensures
+    ∙ sym (of_change ks z t0 c.args.node.now c.in-Update.args ns c.deref-in-Update-2.ensures.value c.in-Update.cell b c.deref-in-Update.ensures c.in-Update.is)
 
 pub check_node-returns-in_err-check_node-in-If-2 : goal.check_node-returns-in_err-check_node-in-If-2
 check_node-returns-in_err-check_node-in-If-2 t c =
