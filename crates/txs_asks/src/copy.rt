@@ -14,9 +14,10 @@ pub fn copy_writes(
 ) -> Result<Listed<(CellId, Value)>, AllocError>
     ensures { IfOk result (λ c. c ≡ writes.now) }
 {
-    let mut copies = Vec::with_capacity(alloc, writes.as_slice().len())?;
-    for write in writes.as_slice() {
-        copies.push((write.0, copy_value(&write.1)?))?;
+    let writes = writes.as_slice();
+    let mut copies = Vec::with_capacity(alloc, writes.len())?;
+    for write in writes {
+        copies.push_reserved((write.0, copy_value(&write.1)?));
     }
     Ok(Listed::from_vec(copies))
 }
@@ -25,18 +26,12 @@ pub fn copy_writes(
 fn copy_actions(alloc: Global, actions: &Listed<Action>) -> Result<Listed<Action>, AllocError>
     ensures { IfOk result (λ c. c ≡ actions.now) }
 {
-    let mut copies = Vec::with_capacity(alloc, actions.as_slice().len())?;
-    for action in actions.as_slice() {
-        copies.push(copy_action(alloc, action)?)?;
+    let actions = actions.as_slice();
+    let mut copies = Vec::with_capacity(alloc, actions.len())?;
+    for action in actions {
+        copies.push_reserved(copy_action(alloc, action)?);
     }
     Ok(Listed::from_vec(copies))
-}
-
-/// The same cells in a list of its own.
-fn copy_cells(alloc: Global, cells: &Listed<CellId>) -> Result<Listed<CellId>, AllocError>
-    ensures { IfOk result (λ c. c ≡ cells.now) }
-{
-    Ok(Listed::from_vec(Vec::from_slice(alloc, cells.as_slice())?))
 }
 
 /// The same new state of an agent, or the same fault.
@@ -60,7 +55,7 @@ pub fn copy_ask(alloc: Global, ask: &Ask) -> Result<Ask, AllocError>
             at: *at,
         }),
         Ask::View { cells } => Ok(Ask::View {
-            cells: copy_cells(alloc, cells)?,
+            cells: Listed::from_vec(Vec::from_slice(alloc, cells.as_slice())?),
         }),
         Ask::Commit {
             at,
@@ -70,14 +65,14 @@ pub fn copy_ask(alloc: Global, ask: &Ask) -> Result<Ask, AllocError>
             commuted,
             sends,
         } => {
+            let ensured = Vec::from_slice(alloc, ensured.as_slice())?;
             let sets = copy_writes(alloc, sets)?;
-            let ensured = copy_cells(alloc, ensured)?;
             let commuted = copy_writes(alloc, commuted)?;
             let sends = copy_actions(alloc, sends)?;
             Ok(Ask::Commit {
                 at: *at,
                 sets,
-                ensured,
+                ensured: Listed::from_vec(ensured),
                 view: *view,
                 commuted,
                 sends,

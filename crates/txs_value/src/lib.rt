@@ -17,7 +17,6 @@ pub mod limits;
 pub mod listed;
 pub mod op;
 pub mod print;
-mod root;
 mod rows;
 pub mod value;
 
