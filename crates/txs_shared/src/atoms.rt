@@ -22,7 +22,7 @@ pub(crate) fn copy_cells(
 {
     let mut copies = Vec::with_capacity(alloc, cells.len())?;
     for cell in cells {
-        copies.push(copy_cell(cell)?)?;
+        copies.push_reserved(copy_cell(cell)?);
     }
     Ok(copies)
 }
@@ -63,12 +63,13 @@ fn open_atom(
     ensures { OnOk result (atoms.new.items ≡ (if opens_atom number cell.now then atoms.old.items ++ new_atom number cell.now ∷ [] else atoms.old.items)) }
 {
     if cell.kind == CellKind::Atom && number < 65_536 {
+        atoms.reserve(1)?;
         let opening = copy_value(&cell.opening)?;
         let id = CellId {
             kind: CellKind::Atom,
             number: number as u16,
         };
-        atoms.push(AtomBook::new(alloc, id, opening))?;
+        atoms.push_reserved(AtomBook::new(alloc, id, opening));
     }
     Ok(())
 }
@@ -80,10 +81,10 @@ pub(crate) fn open_places(alloc: Global, cells: &[CellDefinition]) -> Result<Vec
     let mut places = Vec::with_capacity(alloc, cells.len() + 1)?;
     let mut atoms = 0usize;
     for cell in cells {
-        places.push(atoms)?;
+        places.push_reserved(atoms);
         atoms += atoms_in(cell);
     }
-    places.push(atoms)?;
+    places.push_reserved(atoms);
     Ok(places)
 }
 

@@ -6,7 +6,6 @@ ghost use Rattle.txs_runs.specs.Invariant.{SharedStands};
 ghost use Rattle.txs_runs.specs.Shared.{untouched, has_atom, atom_of, book_for};
 ghost use Rattle.txs_shared.specs.Kept.{atom_named};
 ghost use Rattle.txs_shared.specs.SharedState.{PlainShared, shared_of, numbered_book, book_of, newest_of};
-ghost use Rattle.txs_world.specs.Atom.{LegalAtom};
 ghost use Rattle.txs_world.specs.Book.{has_cell, has_agent, mail_after};
 ghost use Rattle.txs_world.specs.Store.{cells_of};
 
@@ -74,12 +73,12 @@ impl SharedState {
         ensures threads { IfOk result (λ s. s.threads ≡ threads) }
         ensures untouched { IfOk result (λ s. shared_of s ≡ untouched cells.now) }
     {
-        let store = Store::open(alloc, cells, threads)?;
-        let atoms = open_atoms(alloc, cells)?;
         let places = open_places(alloc, cells)?;
-        let cells = copy_cells(alloc, cells)?;
+        let copies = copy_cells(alloc, cells)?;
+        let atoms = open_atoms(alloc, cells)?;
+        let store = Store::open(alloc, cells, threads)?;
         Ok(SharedState {
-            cells,
+            cells: copies,
             store,
             atoms,
             places,
@@ -106,15 +105,6 @@ impl SharedState {
         ensures stands { SharedStands self.now.cells self.now.threads (shared_of self.now) }
     {
         self.store.events()
-    }
-
-    /// The events of an atom's book.
-    pub fn atom_events(&self, cell: CellId) -> &[Event]
-        requires { has_atom self.now.cells cell ≡ true }
-        ensures value { result.now ≡ book_of self.now cell }
-        ensures legal { LegalAtom cell (book_of self.now cell) }
-    {
-        self.atom(cell).events()
     }
 
     /// The events of the book with this number: 0 is the store's, n the n-th atom's. One that isn't there has none.

@@ -95,8 +95,18 @@ impl Store {
         );
         match end {
             End::Reruns(cell) => self.rerun(actor, cell, at),
-            End::Redoes(cell) => self.redo(actor, cell, view),
-            End::Refuses(agent) => self.refuse(actor, at, view, agent),
+            End::Redoes(cell) => {
+                let kind = EventKind::Retry {
+                    since: view,
+                    cell,
+                    commute: true,
+                };
+                self.tell(actor, kind, Reply::Changed(cell))
+            }
+            End::Refuses(agent) => {
+                let kind = EventKind::Refused { at, view, agent };
+                self.tell(actor, kind, Reply::AgentIsFailed(agent))
+            }
             End::Commits => self.done(actor, at, view, sets, commuted, sends),
         }
     }
@@ -208,30 +218,6 @@ impl Store {
             commute: false,
         };
         self.tell(actor, kind, Reply::Retry(cell))
-    }
-
-    /// The commutes have to be made again, since the ref was written after its view.
-    fn redo(&mut self, actor: u16, cell: CellId, view: u32) -> Reply
-        requires thread { nat_lt actor self.old.threads ≡ true }
-        requires legal { LegalKind self.old.cells self.old.book actor (event.Retry view cell true) }
-        ensures { Replies self.old (adds actor (event.Retry view cell true) (reply.Changed cell) self.old.book) result self.new }
-    {
-        let kind = EventKind::Retry {
-            since: view,
-            cell,
-            commute: true,
-        };
-        self.tell(actor, kind, Reply::Changed(cell))
-    }
-
-    /// The transaction holds a send to an agent that has failed.
-    fn refuse(&mut self, actor: u16, at: u32, view: u32, agent: CellId) -> Reply
-        requires thread { nat_lt actor self.old.threads ≡ true }
-        requires legal { LegalKind self.old.cells self.old.book actor (event.Refused at view agent) }
-        ensures { Replies self.old (adds actor (event.Refused at view agent) (reply.AgentIsFailed agent) self.old.book) result self.new }
-    {
-        let kind = EventKind::Refused { at, view, agent };
-        self.tell(actor, kind, Reply::AgentIsFailed(agent))
     }
 
     /// The transaction's writes and sends.

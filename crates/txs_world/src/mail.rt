@@ -1,13 +1,10 @@
 //! Sends outside transactions, and the actions of agents.
 
-ghost use Rattle.std.specs.Prelude.{◌≡◌, ℕ, ◌<◌, ◌==◌, nat_lt, suc, length, true, false, is_some, OnOk};
+ghost use Rattle.std.specs.Prelude.{◌≡◌, ◌==◌, nat_lt, suc, true, false, is_some, OnOk};
 ghost use Rattle.txs_asks.specs.declared.ask.Ask.TheVariants as ask;
-ghost use Rattle.txs_asks.specs.declared.ask.Reply.TheVariants as reply;
-ghost use Rattle.txs_asks.specs.declared.event.EventKind.TheVariants as event;
-ghost use Rattle.txs_value.specs.Limits.{most_events};
-ghost use Rattle.txs_world.specs.Book.{has_agent, actor_of, is_failed, mail_after, state_of, waits, LegalKind};
+ghost use Rattle.txs_world.specs.Book.{has_agent, actor_of, is_failed, mail_after, state_of, waits};
 ghost use Rattle.txs_world.specs.Inboxes.{fault_of};
-ghost use Rattle.txs_world.specs.Store.{adds, is_taken, sends_to, next_action, serve, store_after, Answers, Replies};
+ghost use Rattle.txs_world.specs.Store.{is_taken, sends_to, next_action, serve, store_after, Answers, Replies};
 
 use crate::inbox::{finish_at, put_at, ready_at, take_at};
 use crate::slot::{push_copy, put_all};
@@ -42,7 +39,7 @@ fn fill_state(
 }
 
 impl Store {
-    /// A send outside every transaction: it is refused where the agent has failed.
+    /// A send outside every transaction, whose action enters the inbox of its agent: it is refused where the agent has failed.
     pub(crate) fn send(&mut self, actor: u16, action: Action) -> Reply
         requires thread { nat_lt actor self.old.threads ≡ true }
         requires agent { has_agent self.old.cells action.agent ≡ true }
@@ -62,16 +59,6 @@ impl Store {
             drop(action);
             return Reply::Full;
         }
-        self.put(actor, action)
-    }
-
-    /// Adds a send, for which the book has room, and puts its action into the inbox of its agent.
-    fn put(&mut self, actor: u16, action: Action) -> Reply
-        requires room { length self.old.book < most_events }
-        requires thread { nat_lt actor self.old.threads ≡ true }
-        requires legal { LegalKind self.old.cells self.old.book actor (event.Send action) }
-        ensures { Replies self.old (adds actor (event.Send action) reply.Done self.old.book) result self.new }
-    {
         let copy = match ready_at(self.alloc, &mut self.inboxes, &action) {
             Ok(copy) => copy,
             Err(_) => {
@@ -101,7 +88,22 @@ impl Store {
         if !self.has_next(agent) {
             return Reply::Idle;
         }
-        self.take_first(agent)
+        let number = self.next_number(agent);
+        let state = match self.share_newest(agent) {
+            Ok(state) => state,
+            Err(_) => return Reply::Memory,
+        };
+        match take_at(self.alloc, &mut self.inboxes, agent.number) {
+            Ok(action) => Reply::Action {
+                number,
+                action,
+                state,
+            },
+            Err(_) => {
+                drop(state);
+                Reply::Memory
+            }
+        }
     }
 
     /// Whether the agent has an action to run, and hasn't failed.
@@ -123,32 +125,7 @@ impl Store {
         self.inboxes[usize::from(agent.number)].acts + 1
     }
 
-    /// The agent's first action, which is there and is taken.
-    fn take_first(&mut self, agent: CellId) -> Reply
-        requires agent { has_agent self.old.cells agent ≡ true }
-        requires free { is_taken self.old.taken agent ≡ false }
-        requires some { is_some (next_action self.old.cells self.old.book agent) ≡ true }
-        ensures { (actor : ℕ) → Answers self.old (serve self.old.cells actor (ask.Take agent) self.old.book) (store_after self.old (ask.Take agent) (serve self.old.cells actor (ask.Take agent) self.old.book)) result self.new }
-    {
-        let number = self.next_number(agent);
-        let state = match self.share_newest(agent) {
-            Ok(state) => state,
-            Err(_) => return Reply::Memory,
-        };
-        match take_at(self.alloc, &mut self.inboxes, agent.number) {
-            Ok(action) => Reply::Action {
-                number,
-                action,
-                state,
-            },
-            Err(_) => {
-                drop(state);
-                Reply::Memory
-            }
-        }
-    }
-
-    /// What an agent's action came to: its new state, or a fault.
+    /// What an agent's action came to, which is over: its new state, or a fault.
     pub(crate) fn finish(&mut self, actor: u16, agent: CellId, new: Result<Value, Fault>) -> Reply
         requires own { (actor == actor_of self.old.threads self.old.cells agent) ≡ true }
         requires agent { has_agent self.old.cells agent ≡ true }
@@ -159,31 +136,6 @@ impl Store {
             drop(new);
             return Reply::Full;
         }
-        self.act(actor, agent, new)
-    }
-
-    /// The number of the agent's action that is taken. It is there, and the agent hasn't failed.
-    fn number_taken(&self, agent: CellId) -> u32
-        requires agent { has_agent self.now.cells agent ≡ true }
-        requires taken { is_taken self.now.taken agent ≡ true }
-        ensures number { result ≡ suc (mail_after self.now.cells self.now.book agent.number).acts }
-        ensures runs { is_failed self.now.cells self.now.book agent ≡ false }
-        ensures waits { waits (mail_after self.now.cells self.now.book agent.number).actions ≡ true }
-    {
-        let inbox = &self.inboxes[usize::from(agent.number)];
-        // What is asked is known; a mailbox whose action is taken promises the rest.
-        let _ = inbox.mailbox.is_taken();
-        inbox.acts + 1
-    }
-
-    /// Adds an agent's action, which is over, with what it came to. The book has room for it.
-    fn act(&mut self, actor: u16, agent: CellId, new: Result<Value, Fault>) -> Reply
-        requires room { length self.old.book < most_events }
-        requires own { (actor == actor_of self.old.threads self.old.cells agent) ≡ true }
-        requires agent { has_agent self.old.cells agent ≡ true }
-        requires taken { is_taken self.old.taken agent ≡ true }
-        ensures { Answers self.old (serve self.old.cells actor (ask.Finish agent new) self.old.book) (store_after self.old (ask.Finish agent new) (serve self.old.cells actor (ask.Finish agent new) self.old.book)) result self.new }
-    {
         let number = self.number_taken(agent);
         let fault = fault_of(&new);
         match fill_state(&mut self.spare, agent, &new) {
@@ -204,5 +156,19 @@ impl Store {
             }
             Err(_) => Reply::Memory,
         }
+    }
+
+    /// The number of the agent's action that is taken. It is there, and the agent hasn't failed.
+    fn number_taken(&self, agent: CellId) -> u32
+        requires agent { has_agent self.now.cells agent ≡ true }
+        requires taken { is_taken self.now.taken agent ≡ true }
+        ensures number { result ≡ suc (mail_after self.now.cells self.now.book agent.number).acts }
+        ensures runs { is_failed self.now.cells self.now.book agent ≡ false }
+        ensures waits { waits (mail_after self.now.cells self.now.book agent.number).actions ≡ true }
+    {
+        let inbox = &self.inboxes[usize::from(agent.number)];
+        // What is asked is known; a mailbox whose action is taken promises the rest.
+        let _ = inbox.mailbox.is_taken();
+        inbox.acts + 1
     }
 }

@@ -21,11 +21,11 @@ test-end-requires c =
 pub rerun-requires-clause-legal : goal.rerun-requires-clause-legal
 rerun-requires-clause-legal c = ended_as c.args.self.now c.args.actor c.args.at c.args.view c.args.sets c.as_slice.result.now c.args.commuted.now c.args.ensured.now c.args.sends c.as_slice-2.result.now (Reruns c.in-Reruns.cell) c.requires c.as_slice.ensures c.as_slice-2.ensures c.in-Reruns.ensures
 
-pub redo-requires-clause-legal : goal.redo-requires-clause-legal
-redo-requires-clause-legal c = ended_as c.args.self.now c.args.actor c.args.at c.args.view c.args.sets c.as_slice.result.now c.args.commuted.now c.args.ensured.now c.args.sends c.as_slice-2.result.now (Redoes c.in-Redoes.cell) c.requires c.as_slice.ensures c.as_slice-2.ensures c.in-Redoes.ensures
+pub tell-requires-clause-legal : goal.tell-requires-clause-legal
+tell-requires-clause-legal c = ended_as c.args.self.now c.args.actor c.args.at c.args.view c.args.sets c.as_slice.result.now c.args.commuted.now c.args.ensured.now c.args.sends c.as_slice-2.result.now (Redoes c.in-Redoes.cell) c.requires c.as_slice.ensures c.as_slice-2.ensures c.in-Redoes.ensures
 
-pub refuse-requires-clause-legal : goal.refuse-requires-clause-legal
-refuse-requires-clause-legal c = ended_as c.args.self.now c.args.actor c.args.at c.args.view c.args.sets c.as_slice.result.now c.args.commuted.now c.args.ensured.now c.args.sends c.as_slice-2.result.now (Refuses c.in-Refuses.agent) c.requires c.as_slice.ensures c.as_slice-2.ensures c.in-Refuses.ensures
+pub tell-requires-in-Refuses-clause-legal : goal.tell-requires-in-Refuses-clause-legal
+tell-requires-in-Refuses-clause-legal c = ended_as c.args.self.now c.args.actor c.args.at c.args.view c.args.sets c.as_slice.result.now c.args.commuted.now c.args.ensured.now c.args.sends c.as_slice-2.result.now (Refuses c.in-Refuses.agent) c.requires c.as_slice.ensures c.as_slice-2.ensures c.in-Refuses.ensures
 
 pub done-requires-clause-legal : goal.done-requires-clause-legal
 done-requires-clause-legal c = (ended_as c.args.self.now c.args.actor c.args.at c.args.view c.args.sets c.as_slice.result.now c.args.commuted.now c.args.ensured.now c.args.sends c.as_slice-2.result.now Commits c.requires c.as_slice.ensures c.as_slice-2.ensures c.in-Commits.ensures).0
@@ -45,10 +45,10 @@ pub returns-in-Reruns : goal.returns-in-Reruns
 returns-in-Reruns c = commit_ends c.args.self.now c.rerun.new.self c.rerun.result c.args.actor c.args.at c.args.view c.args.sets c.as_slice.result.now c.args.commuted.now c.args.ensured.now c.args.sends c.as_slice-2.result.now (Reruns c.in-Reruns.cell) c.as_slice.ensures c.as_slice-2.ensures c.in-Reruns.ensures c.rerun.ensures
 
 pub returns-in-Redoes : goal.returns-in-Redoes
-returns-in-Redoes c = commit_ends c.args.self.now c.redo.new.self c.redo.result c.args.actor c.args.at c.args.view c.args.sets c.as_slice.result.now c.args.commuted.now c.args.ensured.now c.args.sends c.as_slice-2.result.now (Redoes c.in-Redoes.cell) c.as_slice.ensures c.as_slice-2.ensures c.in-Redoes.ensures c.redo.ensures
+returns-in-Redoes c = commit_ends c.args.self.now c.tell.new.self c.tell.result c.args.actor c.args.at c.args.view c.args.sets c.as_slice.result.now c.args.commuted.now c.args.ensured.now c.args.sends c.as_slice-2.result.now (Redoes c.in-Redoes.cell) c.as_slice.ensures c.as_slice-2.ensures c.in-Redoes.ensures c.tell.ensures
 
 pub returns-in-Refuses : goal.returns-in-Refuses
-returns-in-Refuses c = commit_ends c.args.self.now c.refuse.new.self c.refuse.result c.args.actor c.args.at c.args.view c.args.sets c.as_slice.result.now c.args.commuted.now c.args.ensured.now c.args.sends c.as_slice-2.result.now (Refuses c.in-Refuses.agent) c.as_slice.ensures c.as_slice-2.ensures c.in-Refuses.ensures c.refuse.ensures
+returns-in-Refuses c = commit_ends c.args.self.now c.tell-in-Refuses.new.self c.tell-in-Refuses.result c.args.actor c.args.at c.args.view c.args.sets c.as_slice.result.now c.args.commuted.now c.args.ensured.now c.args.sends c.as_slice-2.result.now (Refuses c.in-Refuses.agent) c.as_slice.ensures c.as_slice-2.ensures c.in-Refuses.ensures c.tell-in-Refuses.ensures
 
 pub returns-in-Commits : goal.returns-in-Commits
 returns-in-Commits c = commit_ends c.args.self.now c.done.new.self c.done.result c.args.actor c.args.at c.args.view c.args.sets c.as_slice.result.now c.args.commuted.now c.args.ensured.now c.args.sends c.as_slice-2.result.now Commits c.as_slice.ensures c.as_slice-2.ensures c.in-Commits.ensures c.done.ensures
