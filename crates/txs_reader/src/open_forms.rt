@@ -139,14 +139,20 @@ impl OpenForms {
         requires { EndsWithDeref (opens self.old) }
         ensures { IfOk result (λ list. Folds self.old self.new (tree form) (tree list)) }
     {
-        let name = Name::from_bytes(alloc, b"deref")?;
-        let mut parts = Vec::with_capacity(alloc, 2)?;
+        let Ok(name) = Name::from_bytes(alloc, b"deref") else {
+            drop(form);
+            return Err(AllocError);
+        };
+        let Ok(mut parts) = Vec::with_capacity(alloc, 2) else {
+            drop(form);
+            return Err(AllocError);
+        };
         match self.open.pop() {
             Some(OpenForm { from, before, .. }) => {
                 self.start -= before;
                 let to = form.span().to;
-                parts.push(Form::Symbol(name, Span { from, to: from + 1 }))?;
-                parts.push(form)?;
+                parts.push_reserved(Form::Symbol(name, Span { from, to: from + 1 }));
+                parts.push_reserved(form);
                 Ok(Form::Group(Bracket::Round, parts, Span { from, to }))
             }
             None => unreachable!(),

@@ -1,19 +1,12 @@
 //! Texts: what stands between two quotes.
 
-ghost use Rattle.std.specs.Prelude.{◌≡◌, ◌++◌, ◌+◌, ◌^◌, ◌<◌, ◌≤◌, ◌-◌, length, drop, take, slice_index, string_bytes, IfOk, IfErr};
+ghost use Rattle.std.specs.Prelude.{◌≡◌, ◌++◌, ◌+◌, ◌^◌, ◌<◌, ◌≤◌, ◌-◌, [], length, drop, take, slice_index, string_bytes, IfOk, IfErr};
 ghost use Rattle.txs_reader.specs.Escapes.{TextUpTo, IsTextRefusal};
 
 use crate::bytes::{byte_at, plain_len, rest_at, span_of};
 use crate::error::{ReadError, ReadErrorKind};
 use crate::escape::read_escape;
-use std::alloc::{AllocError, Global};
-
-/// What stands between two quotes, its escapes replaced, and where its second quote stands.
-#[derive(Drop)]
-pub struct Quoted {
-    pub text: String,
-    pub end: usize,
-}
+use std::alloc::AllocError;
 
 /// Adds the bytes of a script between two of its ASCII bytes.
 fn push_between(out: &mut String, script: &str, from: usize, to: usize) -> Result<(), AllocError>
@@ -26,15 +19,16 @@ fn push_between(out: &mut String, script: &str, from: usize, to: usize) -> Resul
     out.push_str(&script[from + 1..to])
 }
 
-/// Reads the text whose first quote stands at an offset.
-pub fn read_quoted(alloc: Global, script: &str, at: usize) -> Result<Quoted, ReadError>
+/// Reads the text whose first quote stands at an offset into an empty string, its escapes replaced, and says where its
+/// second quote stands.
+pub fn read_quoted(text: &mut String, script: &str, at: usize) -> Result<usize, ReadError>
+    requires empty { string_bytes text.old ≡ [] }
     requires inside { at < length script.now }
     requires small { length script.now < 2 ^ 32 }
     requires quote { slice_index script.now at ≡ 34 }
-    ensures ok { IfOk result (λ q. TextUpTo script.now at q.end (string_bytes q.text) × (slice_index script.now q.end ≡ 34) × (q.end < length script.now)) }
+    ensures ok { IfOk result (λ end. TextUpTo script.now at end (string_bytes text.new) × (slice_index script.now end ≡ 34) × (end < length script.now)) }
     ensures err { IfErr result (λ e. IsTextRefusal script.now at e) }
 {
-    let mut text = String::new(alloc);
     // The last byte of what has been read, an ASCII one.
     let mut last = at;
     loop {
@@ -48,9 +42,9 @@ pub fn read_quoted(alloc: Global, script: &str, at: usize) -> Result<Quoted, Rea
             }
         };
         let end = last + 1 + len;
-        push_between(&mut text, script, last, end)?;
+        push_between(text, script, last, end)?;
         if byte_at(script, end) == b'"' {
-            return Ok(Quoted { text, end });
+            return Ok(end);
         }
         match read_escape(rest_at(script, end)) {
             Some(escape) => {

@@ -12,7 +12,7 @@ use crate::bytes::{byte_at, is_left_out_byte, is_white, line_len, rest_at, span_
 use crate::error::{ReadError, ReadErrorKind};
 use crate::form::{Bracket, Form};
 use crate::open_forms::OpenForms;
-use crate::quoted::{Quoted, read_quoted};
+use crate::quoted::read_quoted;
 use crate::word::form_of;
 use std::alloc::Global;
 use txs_value::limits::{MOST_NESTING, MOST_SCRIPT, MOST_TEXT};
@@ -102,7 +102,8 @@ fn text(alloc: Global, state: &mut OpenForms, script: &str, at: usize) -> Result
     ensures ok { IfOk result (λ next. Reached script.now state.new next) }
     ensures err { IfErr result (λ e. IsRefusal script.now e) }
 {
-    let Quoted { text, end } = read_quoted(alloc, script, at)?;
+    let mut text = String::new(alloc);
+    let end = read_quoted(&mut text, script, at)?;
     let span = span_of(at, end + 1);
     if text.len() > MOST_TEXT {
         return Err(ReadError {
