@@ -73,11 +73,9 @@ fn viewed(values: &[(CellId, Value)], number: u16) -> Result<Value, AllocError>
 fn with_more(alloc: Global, first: Value, more: &[Value]) -> Result<Vec<Value>, AllocError>
     ensures { IfOk result (λ all. all.items ≡ first ∷ more.now) }
 {
-    let mut all = Vec::new(alloc);
-    all.reserve(1)?;
+    let mut all = Vec::with_capacity(alloc, more.len() + 1)?;
     all.push_reserved(first);
     for value in more {
-        all.reserve(1)?;
         all.push_reserved(copy_value(value)?);
     }
     Ok(all)
@@ -171,9 +169,9 @@ impl Phase {
     pub fn writes(&self) -> Result<Vec<(CellId, Value)>, AllocError>
         ensures { IfOk result (λ ws. ws.items ≡ self.now.values) }
     {
-        let mut writes = Vec::new(self.alloc);
-        for write in &self.values {
-            writes.reserve(1)?;
+        let all = self.values.as_slice();
+        let mut writes = Vec::with_capacity(self.alloc, all.len())?;
+        for write in all {
             writes.push_reserved((write.0, copy_value(&write.1)?));
         }
         Ok(writes)

@@ -1,5 +1,10 @@
-use Rattle.std.proofs.Common.{◌≡◌, take}
+use Rattle.std.proofs.Common.{◌≡◌, length, take, vec_capacity}
 use Rattle.txs_frame.proofs.phase.Phase.writes.Given as goal
 
 abbrev pub invariant-loop-write : goal.invariant-loop-write
-invariant-loop-write l = l.writes.items ≡ take l.write-index l.write-items
+invariant-loop-write l =
+    record {
+      many : length l.writes.items ≡ l.write-index;
+      room : vec_capacity l.writes ≡ length l.all;
+      same : l.writes.items ≡ take l.write-index l.all;
+    }
