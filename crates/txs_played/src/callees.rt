@@ -52,7 +52,8 @@ fn mark_place(marks: &mut Vec<bool>, instrs: &[Instr], places: &[Option<Mark>], 
     requires sends { SendWithin (length marks.old.items) instrs.now }
     ensures { MarksMore (IsSentAt instrs.now places.now at) marks.old.items marks.new.items }
 {
-    if is_marked(places, at) {
+    let marked = is_marked(places, at);
+    if marked {
         mark_sent(marks, instrs[at]);
     }
 }

@@ -336,7 +336,7 @@ impl<'a> Played<'a> {
     }
 
     /// What it kept, without the rest.
-    pub fn into_kept(self) -> KeptEntries
+    pub(crate) fn into_kept(self) -> KeptEntries
         ensures { result ≡ self.entry.kept }
     {
         let Played {

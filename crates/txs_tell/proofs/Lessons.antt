@@ -24,6 +24,10 @@ is_stopped_line (x ∷ xs) why e = cc
 pub line_told : (script : Script) (line : List ℕ) (at : Option Span) (errors advice : List ℕ) → line ≢ [] → errors ≡ line ++ lesson_of script.file script.text at (Some advice) → IsLesson script line at errors
 line_told script line at errors advice there is = record { advice = Some advice; told = (λ none. cc, λ e. absurd (there e)); is = is }
 
+-- the same, where the line was written first
+pub begun_told : (script : Script) (line : List ℕ) (at : Option Span) (begun errors advice : List ℕ) → line ≢ [] → begun ≡ line → errors ≡ begun ++ lesson_of script.file script.text at (Some advice) → IsLesson script line at errors
+begun_told script line at begun errors advice there b is = line_told script line at errors advice there (is ∙ ap (λ (l : List ℕ). l ++ lesson_of script.file script.text at (Some advice)) b)
+
 -- the same behind other lines
 pub told_behind : (script : Script) (line : List ℕ) (at : Option Span) (old new advice : List ℕ) → line ≢ [] → new ≡ (old ++ line) ++ lesson_of script.file script.text at (Some advice)
     → (l : List ℕ) × IsLesson script line at l × (new ≡ old ++ l)

@@ -190,18 +190,6 @@ fn refusal_of(error: &CompileError) -> Option<Refusal>
     }
 }
 
-/// Appends the line of a refusal, and what explains it.
-fn write_refusal(
-    errors: &mut Vec<u8>,
-    script: Script<'_>,
-    refusal: Refusal,
-) -> Result<(), AllocError>
-    ensures { OnOk result (errors.new.items ≡ (errors.old.items ++ refusal_line refusal.number refusal.name.now refusal.at) ++ lesson_of (text_in script.entry.file) script.entry.text.now (Some refusal.at) (Some refusal.advice.now)) }
-{
-    refusal_line(errors, refusal.number, refusal.name, refusal.at)?;
-    explain(errors, script, Some(refusal.at), refusal.advice)
-}
-
 /// What is told of a script that isn't compiled, whatever is wanted of it.
 pub fn refused(alloc: Global, script: Script<'_>, error: &CompileError) -> Result<Told, AllocError>
     requires { IsRefusal script.text.now error.now }
@@ -211,7 +199,8 @@ pub fn refused(alloc: Global, script: Script<'_>, error: &CompileError) -> Resul
         return Err(AllocError);
     };
     let mut errors = Vec::new(alloc);
-    write_refusal(&mut errors, script, refusal)?;
+    refusal_line(&mut errors, refusal.number, refusal.name, refusal.at)?;
+    explain(&mut errors, script, Some(refusal.at), refusal.advice)?;
     Ok(Told {
         output: Vec::new(alloc),
         errors,
@@ -233,19 +222,6 @@ fn list_place(wrong: WrongPlay) -> Option<Span>
     })
 }
 
-/// Appends the line of a list of plays that is wrong there, and what explains it.
-fn write_wrong_list(
-    errors: &mut Vec<u8>,
-    list: Script<'_>,
-    at: Option<Span>,
-    advice: &str,
-) -> Result<(), AllocError>
-    ensures { OnOk result ((line : List ℕ) × IsLesson (script_of list.entry) (codes "wrong list\n") at line × (errors.new.items ≡ errors.old.items ++ line)) }
-{
-    errors.extend_from_slice(b"wrong list\n")?;
-    explain(errors, list, at, advice)
-}
-
 /// What is told of a list of plays that has an item which says none.
 pub fn wrong_list(alloc: Global, list: Script<'_>, wrong: WrongPlay) -> Result<Told, AllocError>
     ensures output { IfOk result (λ t. t.output.items ≡ []) }
@@ -253,7 +229,8 @@ pub fn wrong_list(alloc: Global, list: Script<'_>, wrong: WrongPlay) -> Result<T
     ensures status { IfOk result (λ t. t.status ≡ 2) }
 {
     let mut errors = Vec::new(alloc);
-    write_wrong_list(&mut errors, list, list_place(wrong), OF_LIST)?;
+    errors.extend_from_slice(b"wrong list\n")?;
+    explain(&mut errors, list, list_place(wrong), OF_LIST)?;
     Ok(Told {
         output: Vec::new(alloc),
         errors,

@@ -14,8 +14,8 @@ returns c =
     let r = c.in-Some.refusal in
     let line = refusal_line r.number r.name.now r.at in
     let lesson : List ℕ = lesson_of script.file script.text (Some r.at) (Some r.advice.now) in
-    let errors = c.write_refusal.new.errors.items in
-    let is : errors ≡ line ++ lesson = c.in_ok-write_refusal.ensures ∙ ap (λ (l : List ℕ). (l ++ line) ++ lesson) c.new-errors.ensures.items in
+    let errors = c.explain.new.errors.items in
+    let is : errors ≡ line ++ lesson = c.in_ok-explain.ensures ∙ ap (λ (l : List ℕ). l ++ lesson) (c.in_ok-refusal_line.ensures ∙ ap (λ (l : List ℕ). l ++ line) c.new-errors.ensures.items) in
     let told : IsLesson script (refused_line e) (refused_place e) errors =
     subst₂ (λ (l : List ℕ) (at : Option Span). IsLesson script l at errors) (sym of.line) (sym of.place) (line_told script line (Some r.at) errors r.advice.now (is_refusal_line r.number r.name.now r.at) is)
     in

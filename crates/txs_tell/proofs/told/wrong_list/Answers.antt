@@ -1,13 +1,15 @@
-use Rattle.std.proofs.Common.{◌≡◌, ◌++◌, ◌∙◌, ℕ, List, Option, codes, sym, ap, subst₂}
+use Rattle.std.proofs.Common.{◌≡◌, ◌++◌, ◌∙◌, ℕ, List, Option, codes, ap, subst}
 use Rattle.txs_tell.specs.Lent.{script_of}
 use Rattle.txs_tell.specs.Lines.{IsLesson}
 use Rattle.txs_value.specs.declared.fault.Span.{Span}
+use Rattle.txs_tell.proofs.Lessons.{begun_told}
 use Rattle.txs_tell.proofs.told.wrong_list.Goals as goal
 
 pub returns-clause-errors : goal.returns-clause-errors
 returns-clause-errors c =
     let list = script_of c.args.list in
-    let told = c.in_ok-write_wrong_list.ensures in
-    let errors = c.write_wrong_list.new.errors.items in
-    let all : errors ≡ told.0 = told.2 ∙ ap (λ (l : List ℕ). l ++ told.0) c.new-errors.ensures.items in
-    subst₂ (λ (at : Option Span) (l : List ℕ). IsLesson list (codes "wrong list\n") at l) c.list_place.ensures (sym all) told.1
+    let line = codes "wrong list\n" in
+    let begun = c.extend_from_slice.new.self.items in
+    let errors = c.explain.new.errors.items in
+    let is : begun ≡ line = c.in_ok-extend_from_slice.ensures.items ∙ ap (λ (l : List ℕ). l ++ line) c.new-errors.ensures.items in
+    subst (λ (at : Option Span). IsLesson list line at errors) c.list_place.ensures (begun_told list line c.list_place.result begun errors _ (λ e. cc) is c.in_ok-explain.ensures)
