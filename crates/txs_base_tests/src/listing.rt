@@ -88,7 +88,7 @@ thread 0 locals 0
 
 #[test]
 fn is_written_whole(rt: HostRuntime) {
-    for (form, text) in [(FORM.as_slice(), PRINTS), (OTHER, OTHER_LISTED)] {
+    for (form, text) in [(FORM, PRINTS), (OTHER, OTHER_LISTED)] {
         let whole = (text.as_bytes(), Ok(()));
         for most in [1, 7, 10_000] {
             assert!(rt; is_listed(rt.alloc(), form, most, 10_000, whole), "{text}");

@@ -40,20 +40,19 @@ fn bytes_are_refused(rt: HostRuntime) {
     assert!(rt; all_stop(rt.alloc(), &BYTES));
 }
 
-/// A text, so many times another, and a third one.
-fn made(
-    alloc: Global,
+/// Appends a text, so many times another, and a third one.
+fn make(
+    script: &mut Vec<u8>,
     front: &[u8],
     part: &[u8],
     count: u32,
     back: &[u8],
-) -> Result<Vec<u8>, AllocError> {
-    let mut script = Vec::from_slice(alloc, front)?;
+) -> Result<(), AllocError> {
+    script.extend_from_slice(front)?;
     for _ in 0..count {
         script.extend_from_slice(part)?;
     }
-    script.extend_from_slice(back)?;
-    Ok(script)
+    script.extend_from_slice(back)
 }
 
 /// What stands before, so many times what, and what stands behind; and the refusal.
@@ -68,7 +67,8 @@ type Made = (
 /// The first of these scripts that stops in another way.
 fn first_other(alloc: Global, rows: &[Made]) -> Result<Option<u32>, AllocError> {
     for (front, part, count, back, answer) in rows {
-        let script = made(alloc, front, part, *count, back)?;
+        let mut script = Vec::new(alloc);
+        make(&mut script, front, part, *count, back)?;
         if stop(alloc, script.as_slice()) != *answer {
             return Ok(Some(*count));
         }

@@ -1,280 +1,199 @@
 // The verifier, by `load`: of each refusal code that is damaged so, and code that nearly is.
 use crate::bytes::{FORM, changed};
+use crate::frame::number_of;
 use std::alloc::{AllocError, Global};
-use std::test::Fail;
 use txs_load::error::LoadError;
 use txs_load::load::{load, load_verified};
-use txs_verify::error::BodyName::{Function, Thread};
-use txs_verify::error::{BodyName, VerifyErrorKind};
+use txs_verify::error::{BodyName, VerifyError};
 
-// Instructions, without their spans: a number, a ref, an operation, ..
-const NUMBER: &[u8] = &[0, 0, 0, 0, 0];
-
-const REF: &[u8] = &[0, 0, 0, 0, 1];
-
-const ATOM: &[u8] = &[0, 0, 0, 0, 2];
-
-const LOCAL_0: &[u8] = &[1, 0];
-
-const LOCAL_1: &[u8] = &[1, 1];
-
-const POP: &[u8] = &[3];
-
-const JUMP_2: &[u8] = &[4, 0, 0, 0, 2];
-
-const JUMP_3: &[u8] = &[4, 0, 0, 0, 3];
-
-const JUMP_FALSE_3: &[u8] = &[5, 0, 0, 0, 3];
-
-const INC: &[u8] = &[6, 3, 0, 1];
-
-const INC_OF_TWO: &[u8] = &[6, 3, 0, 2];
-
-const CALL_0: &[u8] = &[7, 0, 0];
-
-const RETURN: &[u8] = &[8];
-
-const PRINT: &[u8] = &[10, 0, 1];
-
-const DEREF: &[u8] = &[11];
-
-const BEGIN: &[u8] = &[12];
-
-const END: &[u8] = &[13];
-
-const ALTER: &[u8] = &[15, 0, 0];
-
-const ALTERED: &[u8] = &[16];
-
-const SWAP_INC: &[u8] = &[20, 0, 0, 3, 0, 0];
-
-const SWAPPED: &[u8] = &[21];
-
-const HALT: &[u8] = &[24];
-
-const SEND_INC: &[u8] = &[23, 0, 0, 3, 0, 0];
+// Instructions by their names, and their bytes without their spans: a number, a ref, an operation, ..
+const INSTRS: &str = "\
+number 0 0 0 0 0
+ref 0 0 0 0 1
+atom 0 0 0 0 2
+local-0 1 0
+local-1 1 1
+pop 3
+jump-2 4 0 0 0 2
+jump-3 4 0 0 0 3
+jump-false-3 5 0 0 0 3
+inc 6 3 0 1
+inc-of-two 6 3 0 2
+call 7 0 0
+return 8
+print 10 0 1
+deref 11
+begin 12
+end 13
+alter 15 0 0
+altered 16
+swap-inc 20 0 0 3 0 0
+swapped 21
+send-inc 23 0 0 3 0 0
+halt 24";
 
 // Code without bodies, of `(def g (agent nil))`.
 const AGENT: &[u8] = b"TXS1\x00\x01\x02\x00\x01g\x00\x00\x00\x00\x00\x00\x00\x00\x00";
-
-// A body: its parameters, its locals, and its instructions.
-type Body<'a> = (u8, u8, &'a [&'a [u8]]);
 
 // A ref and an atom; a number, the ref and the atom as constants.
 const FRONT: &[u8] = b"TXS1\
     \x00\x02\x00\x00\x01r\x00\x01\x00\x01a\x00\
     \x00\x00\x00\x03\x03\x00\x00\x00\x00\x00\x00\x00\x07\x07\x00\x00\x07\x00\x01";
 
-// Appends a body, with spans of nothing.
-fn write_body(form: &mut Vec<u8>, body: Body<'_>) -> Result<(), AllocError> {
-    let count = u8::try_from(body.2.len()).unwrap_or(0);
-    form.extend_from_slice(&[body.0, body.1, 0, 0, 0, count])?;
-    for instr in body.2 {
-        form.extend_from_slice(instr)?;
-        form.extend_from_slice(&[0; 8])?;
+// No cells, and nil as a constant.
+const NIL: &[u8] = b"TXS1\x00\x00\x00\x00\x00\x01\x00";
+
+// Appends the bytes that words tell.
+fn write_bytes(form: &mut Vec<u8>, words: &str) -> Result<(), AllocError> {
+    for word in words.split_whitespace() {
+        form.push(u8::try_from(number_of(word)).unwrap_or(u8::MAX))?;
     }
     Ok(())
 }
 
-// The byte form of code with at most one function, and one thread.
-fn form_of(
-    alloc: Global,
-    function: Option<Body<'_>>,
-    thread: Body<'_>,
-) -> Result<Vec<u8>, AllocError> {
-    let mut form = Vec::from_slice(alloc, FRONT)?;
-    match function {
-        Some(body) => {
-            form.extend_from_slice(&[0, 1])?;
-            write_body(&mut form, body)?;
+// Appends the instruction of this name, with a span of nothing. One that isn't known has no bytes.
+fn write_instr(form: &mut Vec<u8>, name: &str) -> Result<(), AllocError> {
+    for line in INSTRS.lines() {
+        let (first, bytes) = line.split_once(' ').unwrap_or((line, ""));
+        if first == name {
+            write_bytes(form, bytes)?;
         }
-        None => form.extend_from_slice(&[0, 0])?,
+    }
+    form.extend_from_slice(&[0; 8])
+}
+
+// Appends a body: its parameters and its locals, and behind `:` the names of its instructions.
+fn write_body(form: &mut Vec<u8>, body: &str) -> Result<(), AllocError> {
+    let (front, instrs) = body.split_once(':').unwrap_or((body, ""));
+    write_bytes(form, front)?;
+    let count = instrs.split_whitespace().count();
+    form.extend_from_slice(&[0, 0, 0, u8::try_from(count).unwrap_or(u8::MAX)])?;
+    for name in instrs.split_whitespace() {
+        write_instr(form, name)?;
+    }
+    Ok(())
+}
+
+// Appends a front, and the bodies of a thread, or of a function and a thread with `;` between them.
+fn write_form(form: &mut Vec<u8>, front: &[u8], bodies: &str) -> Result<(), AllocError> {
+    form.extend_from_slice(front)?;
+    let (function, thread) = bodies.split_once(';').unwrap_or(("", bodies));
+    if function.is_empty() {
+        form.extend_from_slice(&[0, 0])?;
+    } else {
+        form.extend_from_slice(&[0, 1])?;
+        write_body(form, function)?;
     }
     form.extend_from_slice(&[0, 1])?;
-    write_body(&mut form, thread)?;
-    Ok(form)
+    write_body(form, thread)
 }
 
-// A refusal: the reason, the body, the place.
-type Refusal = (VerifyErrorKind, BodyName, usize);
-
-// Whether the bytes are those of well-typed code, or refused so.
-fn is_judged(alloc: Global, form: &[u8], wanted: Option<Refusal>) -> bool {
-    match (load(alloc, form), wanted) {
-        (Ok(_), None) => true,
-        (Err(LoadError::Code(e)), Some(w)) => e.kind == w.0 && e.body == w.1 && e.at == w.2,
-        _ => false,
-    }
+// Whether a refusal is told so: its reason, the body, and the place.
+fn is_refusal(error: VerifyError, told: &str) -> bool {
+    let mut words = told.split_whitespace();
+    let (body, number) = match error.body {
+        BodyName::Function(number) => ("function", number),
+        BodyName::Thread(number) => ("thread", number),
+    };
+    words.next() == Some(error.kind.name())
+        && words.next() == Some(body)
+        && usize::from(number_of(words.next().unwrap_or(""))) == number
+        && usize::from(number_of(words.next().unwrap_or(""))) == error.at
 }
 
-// The same of code.
-fn is_so(
-    alloc: Global,
-    function: Option<Body<'_>>,
-    thread: Body<'_>,
-    wanted: Option<Refusal>,
-) -> bool {
-    match form_of(alloc, function, thread) {
-        Ok(form) => is_judged(alloc, form.as_slice(), wanted),
+// Whether the bytes are those of well-typed code, or refused as it is told.
+fn is_judged(alloc: Global, form: &[u8], told: &str) -> bool {
+    match load(alloc, form) {
+        Ok(_) => told == "ok",
+        Err(LoadError::Code(error)) => is_refusal(error, told),
         Err(_) => false,
     }
 }
 
-// Threads alone: their locals, their instructions, and what is wrong with them, and where.
-const THREADS: [(u8, &[&[u8]], Option<(VerifyErrorKind, usize)>); 20] = [
-    (0, &[NUMBER, JUMP_2, HALT], None),
-    (
-        0,
-        &[NUMBER, JUMP_3, HALT],
-        Some((VerifyErrorKind::JumpOut, 1)),
-    ),
-    (0, &[NUMBER, PRINT, HALT], None),
-    (0, &[PRINT, HALT], Some((VerifyErrorKind::StackLow, 0))),
-    (0, &[NUMBER, NUMBER, POP, HALT], None),
-    (
-        0,
-        &[NUMBER, NUMBER, HALT],
-        Some((VerifyErrorKind::StackDiffers, 2)),
-    ),
-    (0, &[NUMBER, NUMBER, JUMP_FALSE_3, HALT], None),
-    (
-        0,
-        &[NUMBER, JUMP_FALSE_3, NUMBER, HALT],
-        Some((VerifyErrorKind::StackDiffers, 3)),
-    ),
-    (1, &[LOCAL_0, HALT], None),
-    (1, &[LOCAL_1, HALT], Some((VerifyErrorKind::LocalOut, 0))),
-    (0, &[NUMBER, INC, HALT], None),
-    (
-        0,
-        &[NUMBER, NUMBER, INC_OF_TWO, HALT],
-        Some((VerifyErrorKind::ArityWrong, 2)),
-    ),
-    (0, &[BEGIN, REF, ALTER, INC, ALTERED, END, HALT], None),
-    (
-        0,
-        &[BEGIN, REF, ALTER, INC, POP, END, HALT],
-        Some((VerifyErrorKind::CallOrder, 2)),
-    ),
-    (
-        0,
-        &[REF, ALTER, INC, ALTERED, HALT],
-        Some((VerifyErrorKind::TxNesting, 1)),
-    ),
-    (
-        0,
-        &[NUMBER, END, HALT],
-        Some((VerifyErrorKind::TxNesting, 1)),
-    ),
-    (
-        0,
-        &[BEGIN, NUMBER, PRINT, END, HALT],
-        Some((VerifyErrorKind::TxNesting, 2)),
-    ),
-    (0, &[ATOM, SWAP_INC, INC, SWAPPED, HALT], None),
-    (0, &[NUMBER], Some((VerifyErrorKind::FallsOff, 1))),
-    (0, &[NUMBER, RETURN], Some((VerifyErrorKind::FallsOff, 1))),
-];
+// The same of a row: bodies, and what is told of them.
+fn holds(alloc: Global, row: &str) -> bool {
+    let (bodies, told) = row.split_once(" => ").unwrap_or((row, ""));
+    let mut form = Vec::new(alloc);
+    write_form(&mut form, FRONT, bodies).is_ok() && is_judged(alloc, form.as_slice(), told)
+}
+
+const THREADS: &str = "\
+0 0: number jump-2 halt => ok
+0 0: number jump-3 halt => JumpOut thread 0 1
+0 0: number print halt => ok
+0 0: print halt => StackLow thread 0 0
+0 0: number number pop halt => ok
+0 0: number number halt => StackDiffers thread 0 2
+0 0: number number jump-false-3 halt => ok
+0 0: number jump-false-3 number halt => StackDiffers thread 0 3
+0 1: local-0 halt => ok
+0 1: local-1 halt => LocalOut thread 0 0
+0 0: number inc halt => ok
+0 0: number number inc-of-two halt => ArityWrong thread 0 2
+0 0: begin ref alter inc altered end halt => ok
+0 0: begin ref alter inc pop end halt => CallOrder thread 0 2
+0 0: ref alter inc altered halt => TxNesting thread 0 1
+0 0: number end halt => TxNesting thread 0 1
+0 0: begin number print end halt => TxNesting thread 0 2
+0 0: atom swap-inc inc swapped halt => ok
+0 0: number => FallsOff thread 0 1
+0 0: number return => FallsOff thread 0 1";
 
 #[test]
 fn judges_threads(rt: HostRuntime) {
-    for (locals, instrs, wrong) in THREADS {
-        let wanted = match wrong {
-            Some((kind, at)) => Some((kind, Thread(0), at)),
-            None => None,
-        };
-        assert!(rt;
-            is_so(rt.alloc(), None, (0, locals, instrs), wanted),
-            "{locals}"
-        );
+    for row in THREADS.lines() {
+        assert!(rt; holds(rt.alloc(), row), "{row}");
     }
 }
 
-// A function, the instructions of a thread, and what is wrong.
-const FUNCTIONS: [(Body<'static>, &[&[u8]], Option<Refusal>); 9] = [
-    ((0, 0, &[NUMBER, RETURN]), &[CALL_0, HALT], None),
-    (
-        (0, 0, &[CALL_0, RETURN]),
-        &[NUMBER, HALT],
-        Some((VerifyErrorKind::CallOrder, Function(0), 0)),
-    ),
-    ((1, 1, &[LOCAL_0, RETURN]), &[NUMBER, CALL_0, HALT], None),
-    (
-        (1, 0, &[NUMBER, RETURN]),
-        &[NUMBER, CALL_0, HALT],
-        Some((VerifyErrorKind::LocalOut, Function(0), 0)),
-    ),
-    (
-        (0, 0, &[NUMBER, HALT]),
-        &[NUMBER, HALT],
-        Some((VerifyErrorKind::FallsOff, Function(0), 1)),
-    ),
-    (
-        (0, 0, &[REF, ALTER, INC, ALTERED, RETURN]),
-        &[BEGIN, CALL_0, END, HALT],
-        None,
-    ),
-    (
-        (0, 0, &[REF, ALTER, INC, ALTERED, RETURN]),
-        &[CALL_0, HALT],
-        Some((VerifyErrorKind::TxNesting, Thread(0), 0)),
-    ),
-    (
-        (1, 1, &[LOCAL_0, INC, RETURN]),
-        &[BEGIN, REF, ALTER, CALL_0, ALTERED, END, HALT],
-        None,
-    ),
-    (
-        (1, 1, &[REF, DEREF, RETURN]),
-        &[BEGIN, REF, ALTER, CALL_0, ALTERED, END, HALT],
-        Some((VerifyErrorKind::TxNesting, Thread(0), 2)),
-    ),
-];
+// A function, and a thread.
+const FUNCTIONS: &str = "\
+0 0: number return;0 0: call halt => ok
+0 0: call return;0 0: number halt => CallOrder function 0 0
+1 1: local-0 return;0 0: number call halt => ok
+1 0: number return;0 0: number call halt => LocalOut function 0 0
+0 0: number halt;0 0: number halt => FallsOff function 0 1
+0 0: ref alter inc altered return;0 0: begin call end halt => ok
+0 0: ref alter inc altered return;0 0: call halt => TxNesting thread 0 0
+1 1: local-0 inc return;0 0: begin ref alter call altered end halt => ok
+1 1: ref deref return;0 0: begin ref alter call altered end halt => TxNesting thread 0 2";
 
 #[test]
 fn judges_functions(rt: HostRuntime) {
-    for (function, instrs, wanted) in FUNCTIONS {
-        assert!(rt;
-            is_so(rt.alloc(), Some(function), (0, 0, instrs), wanted),
-            "{}",
-            function.0
-        );
+    for row in FUNCTIONS.lines() {
+        assert!(rt; holds(rt.alloc(), row), "{row}");
     }
+}
+
+// Whether the worked form with other bytes from a place on is judged as it is told.
+fn is_judged_changed(alloc: Global, at: usize, bytes: &[u8], told: &str) -> bool {
+    let form = changed(alloc, at, bytes);
+    is_judged(alloc, form.as_slice(), told)
 }
 
 #[test]
 fn judges_the_worked_form(rt: HostRuntime) {
-    let thread = |kind, at| Some((kind, Thread(0), at));
-    let jump = changed(29, &[4, 0, 0, 0, 9]);
-    let low = changed(29, &[5]);
-    let differs = changed(44, &[0]);
-    assert!(rt; is_judged(rt.alloc(), &FORM, None));
-    assert!(rt; is_judged(rt.alloc(), &jump, thread(VerifyErrorKind::JumpOut, 0)));
-    assert!(rt; is_judged(rt.alloc(), &low, thread(VerifyErrorKind::StackLow, 0)));
+    let alloc = rt.alloc();
+    assert!(rt; is_judged(alloc, FORM, "ok"));
     assert!(rt;
-        is_judged(
-            rt.alloc(),
-            &differs,
-            thread(VerifyErrorKind::StackDiffers, 2)
-        )
+        is_judged_changed(alloc, 29, &[4, 0, 0, 0, 9], "JumpOut thread 0 0")
+            && is_judged_changed(alloc, 29, &[5], "StackLow thread 0 0")
+            && is_judged_changed(alloc, 44, &[0], "StackDiffers thread 0 2")
     );
 }
 
+// Whether code with this front and this thread is given as verified.
+fn is_given(alloc: Global, front: &[u8], thread: &str) -> bool {
+    let mut form = Vec::new(alloc);
+    write_form(&mut form, front, thread).is_ok() && load_verified(alloc, form.as_slice()).is_ok()
+}
+
 #[test]
-fn gives_what_is_verified(rt: HostRuntime) -> Result<(), Fail> {
-    let swaps = form_of(
-        rt.alloc(),
-        None,
-        (0, 0, &[ATOM, SWAP_INC, INC, SWAPPED, HALT]),
-    )?;
-    assert!(rt; load_verified(rt.alloc(), &FORM).is_ok());
-    assert!(rt; load_verified(rt.alloc(), swaps.as_slice()).is_ok());
-    assert!(rt; load_verified(rt.alloc(), AGENT).is_ok());
-    let mut sends = Vec::from_slice(
-        rt.alloc(),
-        b"TXS1\x00\x00\x00\x00\x00\x01\x00\x00\x00\x00\x01",
-    )?;
-    write_body(&mut sends, (0, 0, &[NUMBER, SEND_INC, HALT]))?;
-    assert!(rt; load_verified(rt.alloc(), sends.as_slice()).is_ok());
-    Ok(())
+fn gives_what_is_verified(rt: HostRuntime) {
+    let alloc = rt.alloc();
+    assert!(rt; load_verified(alloc, FORM).is_ok() && load_verified(alloc, AGENT).is_ok());
+    assert!(rt;
+        is_given(alloc, FRONT, "0 0: atom swap-inc inc swapped halt")
+            && is_given(alloc, NIL, "0 0: number send-inc halt")
+    );
 }

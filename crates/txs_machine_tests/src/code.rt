@@ -1,4 +1,5 @@
 // The room that the stacks of small scripts' code need. The code itself stands in the rows of txs_examples (`listing.rows`).
+use crate::events::number_of;
 use std::alloc::Global;
 use txs_compile::compile;
 
@@ -6,7 +7,7 @@ use txs_compile::compile;
 fn is_room(rooms: &[u32], word: &str) -> bool {
     match rooms {
         [] => word == "-",
-        [room] => word.parse::<u32>().ok() == Some(*room),
+        [room] => number_of(word) == i64::from(*room),
         _ => false,
     }
 }

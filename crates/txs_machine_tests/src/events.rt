@@ -4,182 +4,136 @@ ghost use Rattle.txs_tree.specs.Known.{known};
 ghost use Rattle.txs_tree.specs.Sound.{SoundTree, in_dosync};
 ghost use Rattle.txs_tree.specs.View.{functions_of, tree_of};
 
-use std::alloc::{AllocError, Global};
+use std::alloc::Global;
+use std::str::SplitWhitespace;
 use txs_asks::{EventKind, Outcome};
-use txs_check::check;
+use txs_compile::compile;
 use txs_eval::{Needs, RefView, Seen, ThreadMeaning, TxMeaning, eval_thread, eval_tx};
-use txs_reader::read_script;
-use txs_resolve::resolve;
 use txs_tree::{Node, NodeKind, Program};
-use txs_value::{CellId, CellKind, Fault, FaultKind, Listed, Span, Value, write_text};
+use txs_value::{CellId, CellKind, Fault, Listed, Value, write_text};
 
-/// What was done at an event.
-#[derive(Clone, Copy)]
-enum Did {
-    Read,
-    Retry,
-    /// The commutes alone have to run again.
-    Redo,
-    /// The refs that are defined first got these values.
-    Commit(&'static [i64]),
-    Fail,
-    /// By the agent with this number.
-    Refused(u16),
-    Swap(i64),
-    Broke,
-    SendRefused,
+/// A word of digits as a number.
+pub fn number_of(word: &str) -> i64 {
+    let mut number = 0i64;
+    for byte in word.as_bytes() {
+        let digit = i64::from(byte.wrapping_sub(b'0'));
+        number = number.wrapping_mul(10).wrapping_add(digit);
+    }
+    number
 }
 
-/// An event: what was done, where it began, where it viewed last, and where it stands. It is of the cell that is defined first, unless it
-/// says of which.
-type Told = (Did, u32, u32, u32);
+/// The next word as a place.
+fn next_place(words: &mut SplitWhitespace<'_>) -> u32 {
+    u32::try_from(number_of(words.next().unwrap_or(""))).unwrap_or(u32::MAX)
+}
 
-/// The program of a script, of which all forms may be.
-fn program_of(alloc: Global, script: &str) -> Option<Program> {
-    let forms = read_script(alloc, script.as_bytes()).ok()?;
-    let raw = resolve(alloc, forms.as_slice()).ok()?;
-    check(alloc, raw).ok()
+/// The values of one cell, one for each place.
+fn history(alloc: Global, values: &str) -> Listed<(u32, Value)> {
+    let mut placed = Vec::new(alloc);
+    let mut place = 0u32;
+    for word in values.split_whitespace() {
+        if placed.push((place, Value::Int(number_of(word)))).is_err() {
+            break;
+        }
+        place = place.wrapping_add(1);
+    }
+    Listed::from_vec(placed)
+}
+
+/// The values of cells, with `;` between one cell and the next.
+fn histories(alloc: Global, values: &str) -> Vec<Listed<(u32, Value)>> {
+    let mut cells = Vec::new(alloc);
+    for one in values.split(';') {
+        if cells.push(history(alloc, one)).is_err() {
+            break;
+        }
+    }
+    cells
 }
 
 /// These values, written to the refs that are defined first.
-fn writes_of(alloc: Global, values: &[i64]) -> Result<Listed<(CellId, Value)>, AllocError> {
-    let mut writes = Vec::with_capacity(alloc, values.len())?;
-    for (number, value) in (0u16..).zip(values) {
+fn writes_of(alloc: Global, values: &str) -> Listed<(CellId, Value)> {
+    let mut writes = Vec::new(alloc);
+    let mut number = 0u16;
+    for word in values.split_whitespace() {
         let cell = CellId {
             kind: CellKind::Ref,
             number,
         };
-        writes.push((cell, Value::Int(*value)))?;
+        if writes.push((cell, Value::Int(number_of(word)))).is_err() {
+            break;
+        }
+        number = number.wrapping_add(1);
     }
-    Ok(Listed::from_vec(writes))
+    Listed::from_vec(writes)
 }
 
-/// The kind of a retry that found the cell written since this place, of a whole transaction or of its commutes alone.
-fn retry_of(cell: CellId, since: u32, commute: bool) -> EventKind {
-    EventKind::Retry {
-        since,
-        cell,
-        commute,
-    }
+/// Where an event began, where it viewed last, and where it stands.
+fn next_places(words: &mut SplitWhitespace<'_>) -> (u32, u32, u32) {
+    let at = next_place(words);
+    let view = next_place(words);
+    (at, view, next_place(words))
 }
 
-/// The agent with this number.
-fn agent(number: u16) -> CellId {
-    CellId {
-        kind: CellKind::Agent,
-        number,
-    }
-}
-
-/// The kind of an event at which this was done, to the cell unless it says to which.
-fn kind_of(alloc: Global, cell: CellId, told: Told) -> Result<EventKind, AllocError> {
-    let (did, at, view, _) = told;
-    Ok(match did {
-        Did::Read => EventKind::Read { cell },
-        Did::Retry => retry_of(cell, at, false),
-        Did::Redo => retry_of(cell, view, true),
-        Did::Commit(values) => EventKind::Commit {
+/// The kind of an event by its name, the places where it began and viewed last, and what stands behind `=`: the values of a commit or a
+/// swap, or the number of the agent that refused. It is of this cell, which is defined first, unless it says of which; where it is a `redo`,
+/// the commutes alone have to run again.
+fn kind_of(alloc: Global, cell: CellId, event: &str) -> EventKind {
+    let (told, new) = event.split_once(" = ").unwrap_or((event, ""));
+    let mut words = told.split_whitespace();
+    let name = words.next().unwrap_or("");
+    let (at, view, _) = next_places(&mut words);
+    match name {
+        "read" => EventKind::Read { cell },
+        "retry" | "redo" => {
+            let commute = name == "redo";
+            EventKind::Retry {
+                since: if commute { view } else { at },
+                cell,
+                commute,
+            }
+        }
+        "commit" => EventKind::Commit {
             at,
             view,
-            writes: writes_of(alloc, values)?,
+            writes: writes_of(alloc, new),
             sends: Listed::from_vec(Vec::new(alloc)),
         },
-        Did::Fail => EventKind::Fail { at, view },
-        Did::Refused(number) => EventKind::Refused {
+        "fail" => EventKind::Fail { at, view },
+        "refused" => EventKind::Refused {
             at,
             view,
-            agent: agent(number),
+            agent: CellId {
+                kind: CellKind::Agent,
+                number: u16::try_from(number_of(new)).unwrap_or(u16::MAX),
+            },
         },
-        Did::Swap(new) => EventKind::Swap {
-            new: Value::Int(new),
+        "swap" => EventKind::Swap {
+            new: Value::Int(number_of(new)),
         },
-        Did::Broke => EventKind::Broke { at },
-        Did::SendRefused => EventKind::SendRefused { agent: cell },
-    })
-}
-
-/// The events at which this was done, to the cell unless they say to which.
-fn kinds_of(alloc: Global, cell: CellId, did: &[Told]) -> Result<Vec<EventKind>, AllocError> {
-    let mut kinds = Vec::with_capacity(alloc, did.len())?;
-    for told in did {
-        kinds.push(kind_of(alloc, cell, *told)?)?;
+        "broke" => EventKind::Broke { at },
+        _ => EventKind::SendRefused { agent: cell },
     }
-    Ok(kinds)
 }
 
-/// The values of one cell, one for each place.
-fn history(alloc: Global, values: &[i64]) -> Result<Listed<(u32, Value)>, AllocError> {
-    let mut placed = Vec::with_capacity(alloc, values.len())?;
-    for (place, value) in (0u32..).zip(values) {
-        placed.push((place, Value::Int(*value)))?;
+/// The kinds of events, with `;` between one event and the next.
+fn kinds_of(alloc: Global, cell: CellId, events: &str) -> Vec<EventKind> {
+    let mut kinds = Vec::new(alloc);
+    for event in events.split(';') {
+        if kinds.push(kind_of(alloc, cell, event)).is_err() {
+            break;
+        }
     }
-    Ok(Listed::from_vec(placed))
+    kinds
 }
 
-/// The values of cells, of each one for each place.
-fn histories(alloc: Global, cells: &[&[i64]]) -> Result<Vec<Listed<(u32, Value)>>, AllocError> {
-    let mut all = Vec::with_capacity(alloc, cells.len())?;
-    for values in cells {
-        all.push(history(alloc, values)?)?;
-    }
-    Ok(all)
-}
-
-/// The events of such a cell, with the cells' values.
-fn all_seen<'a>(
-    alloc: Global,
-    cell: CellKind,
-    kinds: &'a [EventKind],
-    cells: &'a [Listed<(u32, Value)>],
-    did: &[Told],
-) -> Result<Vec<Seen<'a>>, AllocError> {
-    let mut events = Vec::new(alloc);
-    for (kind, told) in kinds.iter().zip(did) {
-        events.push(seen(cell, kind, cells, *told))?;
-    }
-    Ok(events)
-}
-
-/// The meaning of the program's first thread on these events of such a cell.
-fn meaning_on(
-    alloc: Global,
-    program: &Program,
-    cell: CellKind,
-    kinds: &[EventKind],
-    cells: &[Listed<(u32, Value)>],
-    did: &[Told],
-) -> Option<ThreadMeaning> {
-    if program.threads().is_empty() {
-        return None;
-    }
-    let events = all_seen(alloc, cell, kinds, cells, did).ok()?;
-    eval_thread(alloc, program, 0, events.as_slice(), 100).ok()
-}
-
-/// The meaning of the program's first thread on these events, where its cells have these values, one for each place.
-fn meaning(
-    alloc: Global,
-    program: &Program,
-    values: &[&[i64]],
-    did: &[Told],
-) -> Option<ThreadMeaning> {
-    let kind = program.cells().first()?.kind;
-    let cells = histories(alloc, values).ok()?;
-    let kinds = kinds_of(alloc, CellId { kind, number: 0 }, did).ok()?;
-    meaning_on(
-        alloc,
-        program,
-        kind,
-        kinds.as_slice(),
-        cells.as_slice(),
-        did,
-    )
-}
-
-/// The book of what was done to such a cell: an atom's swaps and reads stand in its own, the first behind the store's.
-fn book_of(cell: CellKind, did: Did) -> usize {
-    match (cell, did) {
-        (CellKind::Atom, Did::Read | Did::Swap(_) | Did::Broke) => 1,
+/// The book of an event of such a cell: an atom's swaps and reads stand in its own, the first behind the store's.
+fn book_of(cell: CellKind, kind: &EventKind) -> usize {
+    match (cell, kind) {
+        (
+            CellKind::Atom,
+            EventKind::Read { .. } | EventKind::Swap { .. } | EventKind::Broke { .. },
+        ) => 1,
         _ => 0,
     }
 }
@@ -189,11 +143,13 @@ fn seen<'a>(
     cell: CellKind,
     kind: &'a EventKind,
     cells: &'a [Listed<(u32, Value)>],
-    told: Told,
+    event: &str,
 ) -> Seen<'a> {
-    let (did, at, view, place) = told;
+    let mut words = event.split_whitespace();
+    words.next();
+    let (at, view, place) = next_places(&mut words);
     Seen {
-        book: book_of(cell, did),
+        book: book_of(cell, kind),
         kind,
         start: RefView { cells, place: at },
         view: RefView { cells, place: view },
@@ -201,316 +157,284 @@ fn seen<'a>(
     }
 }
 
-/// What a thread prints, how many of the events it eats, what it needs then, and how it ends.
-type Wanted = (&'static str, usize, Needs, Option<Outcome>);
-
-/// Whether a thread means this.
-fn is_meant(meaning: &ThreadMeaning, wanted: Wanted) -> bool {
-    meaning.printed.as_slice() == wanted.0.as_bytes()
-        && meaning.eaten == wanted.1
-        && meaning.needs == wanted.2
-        && meaning.outcome == wanted.3
+/// The events of such a cell, with the cells' values.
+fn all_seen<'a>(
+    alloc: Global,
+    cell: CellKind,
+    kinds: &'a [EventKind],
+    cells: &'a [Listed<(u32, Value)>],
+    events: &str,
+) -> Vec<Seen<'a>> {
+    let mut all = Vec::new(alloc);
+    let mut told = events.split(';');
+    for kind in kinds {
+        let event = told.next().unwrap_or("");
+        if all.push(seen(cell, kind, cells, event)).is_err() {
+            break;
+        }
+    }
+    all
 }
 
-/// Whether the script's first thread means this on these events.
-fn means(alloc: Global, script: &str, values: &[&[i64]], did: &[Told], wanted: Wanted) -> bool {
-    let Some(program) = program_of(alloc, script) else {
-        return false;
-    };
-    match meaning(alloc, &program, values, did) {
-        Some(meaning) => is_meant(&meaning, wanted),
-        None => false,
+/// Whether a fault is told so: its name, and its place.
+fn is_fault(fault: Fault, text: &str) -> bool {
+    let (name, place) = text.split_once(' ').unwrap_or((text, ""));
+    let (from, to) = place.split_once("..").unwrap_or((place, ""));
+    name == fault.kind.name()
+        && number_of(from) == i64::from(fault.span.from)
+        && number_of(to) == i64::from(fault.span.to)
+}
+
+/// Whether a thread's end is told so: `done`, a fault, `event` where it needs one more, or `wrong` where the events aren't its own.
+fn ends_so(meaning: &ThreadMeaning, text: &str) -> bool {
+    match (meaning.needs, meaning.outcome) {
+        (Needs::Nothing, Some(Outcome::Done)) => text == "done",
+        (Needs::Nothing, Some(Outcome::Failed(fault))) => is_fault(fault, text),
+        (Needs::Event, None) => text == "event",
+        (Needs::Wrong, None) => text == "wrong",
+        _ => false,
     }
 }
 
-const DONE: Option<Outcome> = Some(Outcome::Done);
+/// Whether a thread means this: how many of the events it eats, or `-` where that isn't asked, its end, and in the lines below what it prints.
+fn is_meant(meaning: &ThreadMeaning, wanted: &str) -> bool {
+    let (first, printed) = wanted.split_once('\n').unwrap_or((wanted, ""));
+    let (eaten, end) = first.split_once(' ').unwrap_or((first, ""));
+    ends_so(meaning, end)
+        && (eaten == "-"
+            || (usize::try_from(number_of(eaten)).unwrap_or(0) == meaning.eaten
+                && meaning.printed.as_slice() == printed.as_bytes()))
+}
 
-const SET_AFTER_COMMUTE: Option<Outcome> = Some(Outcome::Failed(Fault {
-    kind: FaultKind::SetAfterCommute,
-    span: Span { from: 48, to: 61 },
-}));
+/// Whether the program's first thread means this on these events, where its cells have these values.
+fn means_on(
+    alloc: Global,
+    program: &Program,
+    kinds: &[EventKind],
+    cells: &[Listed<(u32, Value)>],
+    events: &str,
+    wanted: &str,
+) -> bool {
+    let Some(first) = program.cells().first() else {
+        return false;
+    };
+    if program.threads().is_empty() {
+        return false;
+    }
+    let seen = all_seen(alloc, first.kind, kinds, cells, events);
+    match eval_thread(alloc, program, 0, seen.as_slice(), 100) {
+        Ok(meaning) => is_meant(&meaning, wanted),
+        Err(_) => false,
+    }
+}
 
-const OUTSIDE_ONLY: Option<Outcome> = Some(Outcome::Failed(Fault {
-    kind: FaultKind::OutsideOnly,
-    span: Span { from: 29, to: 31 },
-}));
+/// The same of a row without its script: the values of its cells, the events, and what is wanted.
+fn means(alloc: Global, program: &Program, row: &str) -> bool {
+    let Some(first) = program.cells().first() else {
+        return false;
+    };
+    let (values, rest) = row.split_once('\n').unwrap_or((row, ""));
+    let (events, wanted) = rest.split_once('\n').unwrap_or((rest, ""));
+    let cell = CellId {
+        kind: first.kind,
+        number: 0,
+    };
+    let cells = histories(alloc, values);
+    let kinds = kinds_of(alloc, cell, events);
+    means_on(
+        alloc,
+        program,
+        kinds.as_slice(),
+        cells.as_slice(),
+        events,
+        wanted,
+    )
+}
 
-const DIVIDE_BY_ZERO: Option<Outcome> = Some(Outcome::Failed(Fault {
-    kind: FaultKind::DivideByZero,
-    span: Span { from: 36, to: 52 },
-}));
+/// Whether a row holds: a script, the values of its cells, one for each place, the events of its first thread, each with its places, and
+/// what that means.
+fn holds(alloc: Global, row: &str) -> bool {
+    let (script, rest) = row.split_once('\n').unwrap_or((row, ""));
+    match compile(alloc, script.as_bytes()) {
+        Ok((program, _)) => means(alloc, &program, rest),
+        Err(_) => false,
+    }
+}
 
-const AGENT_FAILED: Option<Outcome> = Some(Outcome::Failed(Fault {
-    kind: FaultKind::AgentFailed,
-    span: Span { from: 39, to: 54 },
-}));
-
-const OVERFLOW: Option<Outcome> = Some(Outcome::Failed(Fault {
-    kind: FaultKind::Overflow,
-    span: Span { from: 68, to: 110 },
-}));
-
-const SHARE_BY_ZERO: Option<Outcome> = Some(Outcome::Failed(Fault {
-    kind: FaultKind::DivideByZero,
-    span: Span { from: 48, to: 58 },
-}));
-
-const REFUSED: Option<Outcome> = Some(Outcome::Failed(Fault {
-    kind: FaultKind::AgentFailed,
-    span: Span { from: 39, to: 63 },
-}));
-
-const REFUSED_LATER: Option<Outcome> = Some(Outcome::Failed(Fault {
-    kind: FaultKind::AgentFailed,
-    span: Span { from: 55, to: 95 },
-}));
-
-const RETRY_LIMIT: Option<Outcome> = Some(Outcome::Failed(Fault {
-    kind: FaultKind::RetryLimit,
-    span: Span { from: 24, to: 46 },
-}));
-
-const ADDS: &str = "(def r (ref 0)) (future (println (dosync (alter r inc))))";
-
-const SWAPS: &str = "(def a (atom 1)) (future (println (swap! a + 1 2)) (println @a))";
-
-const COMMUTES: &str = "(def c (ref 0)) (future (println (dosync (commute c inc))))";
-
-const OF_THREE: &str = "(def a (ref 1)) (def b (ref 10)) (def c (ref 100))
-(future (println (dosync (commute c + 1) (alter b inc) (commute a + 2) (commute b * 3) (commute c * 2))))";
-
-const SHARES: &str =
-    "(def a (ref 0)) (def b (ref 1)) (defn share [v] (quot 6 v)) (future (dosync (commute b share) (commute a inc)))";
-
-/// Scripts, each with the values of its cells, and its events.
-type Row = (
-    &'static str,
-    &'static [&'static [i64]],
-    &'static [Told],
-    Wanted,
-);
+/// The first row that doesn't hold, or nothing.
+fn first_wrong<'a>(alloc: Global, rows: &'a str) -> &'a str {
+    for row in rows.split("# ") {
+        if !holds(alloc, row) {
+            return row;
+        }
+    }
+    ""
+}
 
 /// Transactions.
-const OF_REFS: [Row; 6] = [
-    (
-        ADDS,
-        &[&[0]],
-        &[(Did::Commit(&[1]), 0, 0, 0)],
-        ("1\n", 1, Needs::Nothing, DONE),
-    ),
-    (
-        ADDS,
-        &[&[0, 5]],
-        &[(Did::Retry, 0, 0, 1), (Did::Commit(&[6]), 1, 1, 1)],
-        ("6\n", 2, Needs::Nothing, DONE),
-    ),
-    (
-        ADDS,
-        &[&[0, 5]],
-        &[(Did::Retry, 0, 0, 1)],
-        ("", 1, Needs::Event, None),
-    ),
-    (
-        "(def r (ref 1)) (future (dosync (alter r + 10) (commute r * 2)))",
-        &[&[1]],
-        &[(Did::Commit(&[22]), 0, 0, 0)],
-        ("", 1, Needs::Nothing, DONE),
-    ),
-    (
-        "(def r (ref 1)) (future (dosync (commute r inc) (alter r inc)))",
-        &[&[1]],
-        &[(Did::Fail, 0, 0, 0)],
-        ("", 1, Needs::Nothing, SET_AFTER_COMMUTE),
-    ),
-    (
-        "(def a (atom 0)) (defn f [x] @x) (future (dosync (f a)))",
-        &[&[0]],
-        &[(Did::Fail, 0, 0, 0)],
-        ("", 1, Needs::Nothing, OUTSIDE_ONLY),
-    ),
-];
+const OF_REFS: &str = "\
+(def r (ref 0)) (future (println (dosync (alter r inc))))
+0
+commit 0 0 0 = 1
+1 done
+1
+# (def r (ref 0)) (future (println (dosync (alter r inc))))
+0 5
+retry 0 0 1;commit 1 1 1 = 6
+2 done
+6
+# (def r (ref 0)) (future (println (dosync (alter r inc))))
+0 5
+retry 0 0 1
+1 event
+# (def r (ref 1)) (future (dosync (alter r + 10) (commute r * 2)))
+1
+commit 0 0 0 = 22
+1 done
+# (def r (ref 1)) (future (dosync (commute r inc) (alter r inc)))
+1
+fail 0 0 0
+1 SetAfterCommute 48..61
+# (def a (atom 0)) (defn f [x] @x) (future (dosync (f a)))
+0
+fail 0 0 0
+1 OutsideOnly 29..31
+";
 
-/// Transactions that commute, and give what they computed where they began.
-const OF_COMMUTES: [Row; 6] = [
-    // a commute is made again on the newest value
-    (
-        COMMUTES,
-        &[&[0, 1]],
-        &[(Did::Commit(&[2]), 0, 1, 1)],
-        ("1\n", 1, Needs::Nothing, DONE),
-    ),
-    // another commits between view and commit: the commute alone runs again
-    (
-        COMMUTES,
-        &[&[0, 1, 1]],
-        &[(Did::Redo, 0, 0, 1), (Did::Commit(&[2]), 0, 2, 2)],
-        ("1\n", 2, Needs::Nothing, DONE),
-    ),
-    (
-        COMMUTES,
-        &[&[0, 1]],
-        &[(Did::Redo, 0, 0, 1)],
-        ("", 1, Needs::Event, None),
-    ),
-    // each on the newest value of its ref, but what is set keeps its own
-    (
-        OF_THREE,
-        &[&[1, 5], &[10, 10], &[100, 200]],
-        &[(Did::Commit(&[7, 33, 402]), 0, 1, 1)],
-        ("202\n", 1, Needs::Nothing, DONE),
-    ),
-    // the first fault is that of the ref that is defined first
-    (
-        SHARES,
-        &[&[0, 9223372036854775807], &[1, 0]],
-        &[(Did::Fail, 0, 1, 1)],
-        ("", 1, Needs::Nothing, OVERFLOW),
-    ),
-    // on the values that were viewed
-    (
-        SHARES,
-        &[&[0, 3, 3], &[1, 0, 1]],
-        &[(Did::Fail, 0, 1, 2)],
-        ("", 1, Needs::Nothing, SHARE_BY_ZERO),
-    ),
-];
+/// Transactions that commute, and give what they computed where they began: a commute is made again on the newest value; another commits
+/// between view and commit, and the commute alone runs again; each is made on the newest value of its ref, but what is set keeps its own;
+/// the first fault is that of the ref that is defined first, and on the values that were viewed.
+const OF_COMMUTES: &str = "\
+(def c (ref 0)) (future (println (dosync (commute c inc))))
+0 1
+commit 0 1 1 = 2
+1 done
+1
+# (def c (ref 0)) (future (println (dosync (commute c inc))))
+0 1 1
+redo 0 0 1;commit 0 2 2 = 2
+2 done
+1
+# (def c (ref 0)) (future (println (dosync (commute c inc))))
+0 1
+redo 0 0 1
+1 event
+# (def a (ref 1)) (def b (ref 10)) (def c (ref 100)) (future (println (dosync (commute c + 1) (alter b inc) (commute a + 2) (commute b * 3) (commute c * 2))))
+1 5;10 10;100 200
+commit 0 1 1 = 7 33 402
+1 done
+202
+# (def a (ref 0)) (def b (ref 1)) (defn share [v] (quot 6 v)) (future (dosync (commute b share) (commute a inc)))
+0 9223372036854775807;1 0
+fail 0 1 1
+1 Overflow 68..110
+# (def a (ref 0)) (def b (ref 1)) (defn share [v] (quot 6 v)) (future (dosync (commute b share) (commute a inc)))
+0 3 3;1 0 1
+fail 0 1 2
+1 DivideByZero 48..58
+";
 
-/// Swaps and sends.
-const OF_OTHERS: [Row; 6] = [
-    (
-        SWAPS,
-        &[&[1, 4]],
-        &[(Did::Swap(4), 0, 0, 0), (Did::Read, 1, 1, 1)],
-        ("4\n4\n", 2, Needs::Nothing, DONE),
-    ),
-    (
-        SWAPS,
-        &[&[1, 4]],
-        &[(Did::Swap(4), 0, 0, 0)],
-        ("4\n", 1, Needs::Event, None),
-    ),
-    (
-        "(def a (atom 1)) (future (println 7 (swap! a quot 0)))",
-        &[&[1]],
-        &[(Did::Broke, 0, 0, 0)],
-        ("", 1, Needs::Nothing, DIVIDE_BY_ZERO),
-    ),
-    (
-        "(def g (agent 10)) (future (println 7) (send g quot 0))",
-        &[&[10]],
-        &[(Did::SendRefused, 0, 0, 0)],
-        ("7\n", 1, Needs::Nothing, AGENT_FAILED),
-    ),
-    // a transaction holds a send to an agent that has failed
-    (
-        "(def g (agent 10)) (future (println 7) (dosync (send g quot 0)) (println 8))",
-        &[&[10]],
-        &[(Did::Refused(0), 0, 0, 0)],
-        ("7\n", 1, Needs::Nothing, REFUSED),
-    ),
-    (
-        "(def c (ref 0)) (def g (agent 10)) (future (println 7) (dosync (commute c inc) (send g quot 0)))",
-        &[&[0, 5, 5, 5], &[10]],
-        &[(Did::Redo, 0, 0, 1), (Did::Refused(1), 0, 2, 3)],
-        ("7\n", 2, Needs::Nothing, REFUSED_LATER),
-    ),
-];
+/// Swaps and sends. A transaction that holds a send to an agent that has failed is refused, also where its commutes ran again.
+const OF_OTHERS: &str = "\
+(def a (atom 1)) (future (println (swap! a + 1 2)) (println @a))
+1 4
+swap 0 0 0 = 4;read 1 1 1
+2 done
+4
+4
+# (def a (atom 1)) (future (println (swap! a + 1 2)) (println @a))
+1 4
+swap 0 0 0 = 4
+1 event
+4
+# (def a (atom 1)) (future (println 7 (swap! a quot 0)))
+1
+broke 0 0 0
+1 DivideByZero 36..52
+# (def g (agent 10)) (future (println 7) (send g quot 0))
+10
+send-refused 0 0 0
+1 AgentFailed 39..54
+7
+# (def g (agent 10)) (future (println 7) (dosync (send g quot 0)) (println 8))
+10
+refused 0 0 0 = 0
+1 AgentFailed 39..63
+7
+# (def c (ref 0)) (def g (agent 10)) (future (println 7) (dosync (commute c inc) (send g quot 0)))
+0 5 5 5;10
+redo 0 0 1;refused 0 2 3 = 1
+2 AgentFailed 55..95
+7
+";
+
+/// Events that aren't those of the script's first thread: a commuted ref gets what was computed where the transaction began; a ref that was
+/// set is commuted again; a ref that was commuted isn't written; a transaction is refused whose commute faults on what was viewed.
+const STRANGE: &str = "\
+(def c (ref 0)) (future (println (dosync (commute c inc))))
+0 1 1
+redo 0 0 1;commit 0 2 2 = 1
+- wrong
+# (def a (ref 1)) (def b (ref 10)) (def c (ref 100)) (future (println (dosync (commute c + 1) (alter b inc) (commute a + 2) (commute b * 3) (commute c * 2))))
+1 5;10 10;100 200
+commit 0 1 1 = 7 99 402
+- wrong
+# (def a (ref 1)) (def b (ref 10)) (def c (ref 100)) (future (println (dosync (commute c + 1) (alter b inc) (commute a + 2) (commute b * 3) (commute c * 2))))
+1 5;10 10;100 200
+commit 0 1 1 = 7 33
+- wrong
+# (def r (ref 1)) (def g (agent 10)) (defn share [v] (quot 6 v)) (future (dosync (commute r share) (send g quot 0)))
+1 0;10
+refused 0 1 1 = 1
+- wrong
+";
 
 #[test]
 fn transactions_on_events(rt: HostRuntime) {
-    for (script, values, did, wanted) in OF_REFS {
-        assert!(rt; means(rt.alloc(), script, values, did, wanted), "{script}");
-    }
+    let wrong = first_wrong(rt.alloc(), OF_REFS);
+    assert!(rt; wrong.is_empty(), "{wrong}");
 }
 
 #[test]
 fn commutes_on_events(rt: HostRuntime) {
-    for (script, values, did, wanted) in OF_COMMUTES {
-        assert!(rt; means(rt.alloc(), script, values, did, wanted), "{script}");
-    }
+    let wrong = first_wrong(rt.alloc(), OF_COMMUTES);
+    assert!(rt; wrong.is_empty(), "{wrong}");
 }
 
 #[test]
 fn swaps_and_sends_on_events(rt: HostRuntime) {
-    for (script, values, did, wanted) in OF_OTHERS {
-        assert!(rt; means(rt.alloc(), script, values, did, wanted), "{script}");
-    }
-}
-
-/// Events that aren't those of the script's first thread, with the values of its cells.
-type Strange = (&'static str, &'static [&'static [i64]], &'static [Told]);
-
-const STRANGE: [Strange; 4] = [
-    // a commuted ref gets what was computed where the transaction began
-    (
-        COMMUTES,
-        &[&[0, 1, 1]],
-        &[(Did::Redo, 0, 0, 1), (Did::Commit(&[1]), 0, 2, 2)],
-    ),
-    // a ref that was set is commuted again
-    (
-        OF_THREE,
-        &[&[1, 5], &[10, 10], &[100, 200]],
-        &[(Did::Commit(&[7, 99, 402]), 0, 1, 1)],
-    ),
-    // a ref that was commuted isn't written
-    (
-        OF_THREE,
-        &[&[1, 5], &[10, 10], &[100, 200]],
-        &[(Did::Commit(&[7, 33]), 0, 1, 1)],
-    ),
-    // a transaction is refused whose commute faults on what was viewed
-    (
-        "(def r (ref 1)) (def g (agent 10)) (defn share [v] (quot 6 v)) (future (dosync (commute r share) (send g quot 0)))",
-        &[&[1, 0], &[10]],
-        &[(Did::Refused(1), 0, 1, 1)],
-    ),
-];
-
-/// Whether these events aren't those of the script's first thread.
-fn is_wrong(alloc: Global, script: &str, values: &[&[i64]], did: &[Told]) -> bool {
-    let Some(program) = program_of(alloc, script) else {
-        return false;
-    };
-    match meaning(alloc, &program, values, did) {
-        Some(meaning) => meaning.needs == Needs::Wrong && meaning.outcome.is_none(),
-        None => false,
-    }
+    let wrong = first_wrong(rt.alloc(), OF_OTHERS);
+    assert!(rt; wrong.is_empty(), "{wrong}");
 }
 
 #[test]
 fn events_of_no_such_thread(rt: HostRuntime) {
-    for (script, values, did) in STRANGE {
-        assert!(rt; is_wrong(rt.alloc(), script, values, did), "{script}");
-    }
+    let wrong = first_wrong(rt.alloc(), STRANGE);
+    assert!(rt; wrong.is_empty(), "{wrong}");
 }
 
-/// So many times this.
-fn repeated(alloc: Global, told: &[Told], count: usize) -> Result<Vec<Told>, AllocError> {
-    let mut did = Vec::new(alloc);
+/// Whether a row holds that has these events so many times between its front and its back.
+fn holds_with(alloc: Global, front: &str, events: &str, count: u32, back: &str) -> bool {
+    let mut row = String::new(alloc);
+    let mut made = row.push_str(front).is_ok();
     for _ in 0..count {
-        did.extend_from_slice(told)?;
+        made = row.push_str(events).is_ok() && made;
     }
-    Ok(did)
+    row.push_str(back).is_ok() && made && holds(alloc, row.as_str())
 }
 
 #[test]
-fn the_last_retry_on_events(rt: HostRuntime) -> Result<(), AllocError> {
-    let script = "(def r (ref 0)) (future (dosync (alter r inc)))";
-    let did = repeated(rt.alloc(), &[(Did::Retry, 0, 0, 0)], 10_000)?;
-    let wanted = ("", 10_000, Needs::Nothing, RETRY_LIMIT);
-    assert!(rt; means(rt.alloc(), script, &[&[0]], did.as_slice(), wanted));
-    Ok(())
+fn the_last_retry_on_events(rt: HostRuntime) {
+    let front = "(def r (ref 0)) (future (dosync (alter r inc)))\n0\n";
+    let back = "retry 0 0 0\n10000 RetryLimit 24..46\n";
+    assert!(rt; holds_with(rt.alloc(), front, "retry 0 0 0;", 9_999, back));
 }
 
 #[test]
-fn the_last_redo_on_events(rt: HostRuntime) -> Result<(), AllocError> {
-    let script = "(def r (ref 0)) (future (dosync (commute r -)))";
-    let both = [(Did::Retry, 0, 0, 0), (Did::Redo, 0, 0, 0)];
-    let did = repeated(rt.alloc(), &both, 5_000)?;
-    let wanted = ("", 10_000, Needs::Nothing, RETRY_LIMIT);
-    assert!(rt; means(rt.alloc(), script, &[&[0]], did.as_slice(), wanted));
-    Ok(())
+fn the_last_redo_on_events(rt: HostRuntime) {
+    let front = "(def r (ref 0)) (future (dosync (commute r -)))\n0\n";
+    let back = "retry 0 0 0;redo 0 0 0\n10000 RetryLimit 24..46\n";
+    assert!(rt; holds_with(rt.alloc(), front, "retry 0 0 0;redo 0 0 0;", 4_999, back));
 }
 
 /// The body of the first thread, where that is a transaction.
@@ -524,92 +448,71 @@ fn transaction_of(program: &Program) -> Option<&Node>
     }
 }
 
-/// Cells that hold these values.
-fn cells_of(alloc: Global, values: &[i64]) -> Result<Vec<Listed<(u32, Value)>>, AllocError> {
-    let mut cells = Vec::new(alloc);
-    for value in values {
-        let history = vec![in alloc; (0, Value::Int(*value))]?;
-        cells.push(Listed::from_vec(history))?;
-    }
-    Ok(cells)
-}
-
-/// What the program's transaction means where its cells hold these values.
-fn transacted(alloc: Global, program: &Program, values: &[i64]) -> Option<TxMeaning> {
-    let body = transaction_of(program)?;
-    let cells = cells_of(alloc, values).ok()?;
-    let world = RefView {
-        cells: cells.as_slice(),
-        place: 0,
+/// Whether the transaction gives this text.
+fn gives(alloc: Global, meaning: &TxMeaning, text: &[u8]) -> bool {
+    let Ok(value) = &meaning.result else {
+        return false;
     };
-    eval_tx(alloc, program, body, &[], world, 100).ok()
-}
-
-/// Appends the values that are written, each behind a space.
-fn write_values(out: &mut Vec<u8>, writes: &[(CellId, Value)]) -> Result<(), AllocError> {
-    for write in writes {
-        out.push(b' ')?;
-        write_text(&write.1, out)?;
-    }
-    Ok(())
-}
-
-/// The value of a transaction, and behind it what it wrote.
-fn told(alloc: Global, meaning: &TxMeaning) -> Result<Vec<u8>, AllocError> {
     let mut out = Vec::new(alloc);
-    if let Ok(value) = &meaning.result {
-        write_text(value, &mut out)?;
-    }
-    let writes = meaning.done.writes()?;
-    write_values(&mut out, writes.as_slice())?;
-    Ok(out)
+    write_text(value, &mut out).is_ok() && out.as_slice() == text
 }
 
-/// Whether the cells have these numbers.
-fn are_numbered(cells: &[CellId], numbers: &[u16]) -> bool {
-    for (cell, number) in cells.iter().zip(numbers) {
-        if cell.number != *number {
-            return false;
+/// Whether it writes this value alone, to the ref with number 0.
+fn writes_alone(meaning: &TxMeaning, value: i64) -> bool {
+    match meaning.done.writes() {
+        Ok(writes) => {
+            matches!(writes.as_slice(), [(cell, Value::Int(new))] if cell.number == 0 && *new == value)
         }
+        Err(_) => false,
     }
-    cells.len() == numbers.len()
 }
 
 /// Whether the transaction ensured the ref with number 3, commuted that with 1, read those with 2 and 3, holds one send, and used the
 /// commute.
-fn names_its_cells(meaning: &TxMeaning) -> Result<bool, AllocError> {
-    let commuted = meaning.done.commuted()?;
-    Ok(
-        are_numbered(meaning.done.ensured(), &[3])
-            && are_numbered(commuted.as_slice(), &[1])
-            && are_numbered(meaning.reads.as_slice(), &[2, 3])
-            && meaning.done.sends().len() == 1
-            && meaning.used,
-    )
+fn names_its_cells(meaning: &TxMeaning) -> bool {
+    let Ok(commuted) = meaning.done.commuted() else {
+        return false;
+    };
+    matches!(meaning.done.ensured(), [d] if d.number == 3)
+        && matches!(commuted.as_slice(), [b] if b.number == 1)
+        && matches!(meaning.reads.as_slice(), [c, d] if c.number == 2 && d.number == 3)
+        && meaning.done.sends().len() == 1
+        && meaning.used
 }
 
-/// Whether the transaction means what it should.
-fn is_transacted(alloc: Global, meaning: &TxMeaning) -> Result<bool, AllocError> {
-    let told = told(alloc, meaning)?;
-    Ok(told.as_slice() == b"[12 11] 12".as_slice() && names_its_cells(meaning)?)
+/// Whether the program's transaction means what it should where its cells hold these values.
+fn transacts(alloc: Global, program: &Program, values: &str) -> bool {
+    let Some(body) = transaction_of(program) else {
+        return false;
+    };
+    let cells = histories(alloc, values);
+    let world = RefView {
+        cells: cells.as_slice(),
+        place: 0,
+    };
+    match eval_tx(alloc, program, body, &[], world, 100) {
+        Ok(meaning) => {
+            gives(alloc, &meaning, b"[12 11]")
+                && writes_alone(&meaning, 12)
+                && names_its_cells(&meaning)
+        }
+        Err(_) => false,
+    }
 }
 
 const TRANSACTION: &str =
     "(def a (ref 0)) (def b (ref 0)) (def c (ref 0)) (def d (ref 0)) (def g (agent 0))
 (future (dosync (ref-set a 7) (alter a + @c) (commute b + 1) (ensure d) (send g + 2) [@a @b]))";
 
-/// Whether the script's transaction means what it should where its cells hold these values.
-fn holds(alloc: Global, script: &str, values: &[i64]) -> bool {
-    let Some(program) = program_of(alloc, script) else {
-        return false;
-    };
-    match transacted(alloc, &program, values) {
-        Some(meaning) => matches!(is_transacted(alloc, &meaning), Ok(true)),
-        None => false,
+/// The same of the script's transaction.
+fn is_transacted(alloc: Global, values: &str) -> bool {
+    match compile(alloc, TRANSACTION.as_bytes()) {
+        Ok((program, _)) => transacts(alloc, &program, values),
+        Err(_) => false,
     }
 }
 
 #[test]
 fn a_transaction_on_a_world(rt: HostRuntime) {
-    assert!(rt; holds(rt.alloc(), TRANSACTION, &[1, 10, 5, 3]));
+    assert!(rt; is_transacted(rt.alloc(), "1;10;5;3"));
 }

@@ -5,7 +5,7 @@ use txs_check::is_pure_callee;
 use txs_compile::compile;
 use txs_eval::{EvalStop, Needs, eval_pure, eval_thread};
 use txs_tree::Program;
-use txs_value::{Callee, Fault, FaultKind, Op, Span, Value, same};
+use txs_value::{Callee, Op, Span, Value, write_text};
 
 const SCRIPT: &[u8] =
     b"(defn swapped [a b] [b a]) (defn spin [] (recur)) (future (println (swapped 1 2)))";
@@ -31,49 +31,54 @@ fn means(
     }
 }
 
-// What a callee gives on these values within so many turns; nothing where it isn't pure on so many values.
-fn given(
+const NOWHERE: Span = Span { from: 0, to: 0 };
+
+// Whether evaluating gives this: the text of a value, the name of a fault at no place, or `endless`.
+fn is_given(alloc: Global, given: &Result<Value, EvalStop>, wanted: &str) -> bool {
+    match given {
+        Ok(value) => {
+            let mut text = Vec::new(alloc);
+            write_text(value, &mut text).is_ok() && text.as_slice() == wanted.as_bytes()
+        }
+        Err(EvalStop::Fault(fault)) => fault.kind.name() == wanted && fault.span == NOWHERE,
+        Err(EvalStop::Turns) => wanted == "endless",
+        Err(_) => false,
+    }
+}
+
+// Whether a callee is pure on so many values, and gives this on them within so many turns.
+fn gives(
     alloc: Global,
     program: &Program,
     callee: Callee,
     values: &[Value],
     turns: u32,
-) -> Option<Result<Value, EvalStop>> {
+    wanted: &str,
+) -> bool {
     match is_pure_callee(alloc, program, callee, values.len()) {
-        Ok(true) => Some(eval_pure(alloc, program, callee, values, turns)),
-        _ => None,
-    }
-}
-
-// Whether `swapped` gives a vector of the second and the first of two numbers.
-fn swaps(alloc: Global, program: &Program) -> bool {
-    let values = [Value::Int(1), Value::Int(2)];
-    match &given(alloc, program, Callee::Function(0), &values, 1) {
-        Some(Ok(Value::Vector(pair))) => {
-            pair.len() == 2 && same(pair.get(0), &values[1]) && same(pair.get(1), &values[0])
-        }
+        Ok(true) => is_given(
+            alloc,
+            &eval_pure(alloc, program, callee, values, turns),
+            wanted,
+        ),
         _ => false,
     }
 }
 
-const NOWHERE: Fault = Fault {
-    kind: FaultKind::DivideByZero,
-    span: Span { from: 0, to: 0 },
-};
-
-// Whether an operation gives a value, one a fault at no place, and `spin` no end.
-fn gives(alloc: Global, program: &Program) -> bool {
+// Whether `swapped` and two operations give what they should, and `spin` has no end.
+fn all_give(alloc: Global, program: &Program) -> bool {
     let values = [Value::Int(1), Value::Int(0)];
-    let difference = given(alloc, program, Callee::Core(Op::Subtract), &values, 0);
-    let quotient = given(alloc, program, Callee::Core(Op::Quot), &values, 0);
-    let endless = given(alloc, program, Callee::Function(1), &[], 1_000);
-    let is = matches!(&difference, Some(Ok(Value::Int(1))))
-        && matches!(&quotient, Some(Err(EvalStop::Fault(fault))) if *fault == NOWHERE)
-        && matches!(&endless, Some(Err(EvalStop::Turns)));
-    drop(difference);
-    drop(quotient);
-    drop(endless);
-    is
+    gives(alloc, program, Callee::Function(0), &values, 1, "[0 1]")
+        && gives(alloc, program, Callee::Core(Op::Subtract), &values, 0, "1")
+        && gives(
+            alloc,
+            program,
+            Callee::Core(Op::Quot),
+            &values,
+            0,
+            "DivideByZero",
+        )
+        && gives(alloc, program, Callee::Function(1), &[], 1_000, "endless")
 }
 
 // Whether all of this holds of the script's program.
@@ -83,8 +88,7 @@ fn is_evaluated(alloc: Global) -> bool {
             let done = (Needs::Nothing, Some(Outcome::Done));
             means(alloc, &program, 1, b"[2 1]\n", done)
                 && means(alloc, &program, 0, b"", (Needs::Turns, None))
-                && swaps(alloc, &program)
-                && gives(alloc, &program)
+                && all_give(alloc, &program)
         }
         Err(_) => false,
     }
