@@ -5,7 +5,7 @@ use Rattle.txs_asks.specs.Ask.{Writes, same_writes, same_actions}
 use Rattle.txs_asks.specs.SeenEvent.{SeenEvent}
 use Rattle.txs_asks.specs.declared.event.EventKind.{EventKind}
 use Rattle.txs_asks.specs.declared.event.EventKind.TheVariants.{Read, Commit, Retry, Fail, Refused, Send as Sent, SendRefused, Act as Acted, Swap as Swapped, Broke}
-use Rattle.txs_evaluate.specs.Evaluated.{Yields, Ate, EatsNone, BodyStops, Runs, SoundCommutes, forms_on, calls_on, around_it, means, final_means, transacting, at_end, eat_means, carried_on, ended, end_view, Closes, closes, closing, commit_closes, refuse_closes, end_stop, ends_as, run_as, body_means, dosync_means, part, is_on, thread_state, tx_run}
+use Rattle.txs_evaluate.specs.Evaluated.{Yields, Ate, EatsNone, BodyStops, Runs, SoundCommutes, forms_on, calls_on, around_it, means, final_means, transacting, at_end, eat_means, carried_on, ended, end_view, Closes, closes, closing, commit_closes, refuse_closes, end_stop, ends_as, body_means, dosync_means, part, is_on, thread_state, tx_run}
 use Rattle.txs_eval_work.specs.Worked.{Stops, Gives, Told, ToldOf, tx_state}
 use Rattle.txs_evaluate.specs.Events.{seen_event}
 use Rattle.txs_tree.specs.Meaning.{Completion, Completes, Recurs, Faults, Retries, Waits, OutOfTurns, Invalid, bind, closed, Applies, apply, eval}
@@ -69,26 +69,6 @@ module _ (x inner : Setting) (w : PlainView) (same : inner ≡ on_view x w) (bod
   pub body_keeps : (sound : SoundFunctions [] (functions_of x.functions)) (d : ℕ) (v : Value) (out : State) → SoundTree (callable x) in_dosync d None body → Yields inner (Ok v) out (means inner body env start)
       → SoundCommutes (callable x) (tx_state out.tx).done.commutes
   body_keeps sound d v out h is = keeps_sound x w sound body d env tx_start (tx_state out.tx) v h tt (body_told (Ok v) out is)
-
-  -- what ran, where the body gave this
-  module _ (m : Mark) (f : Value → Transacted) (out : State) (as_given : (v : Value) → (f v).result ≡ v) (worked : (v : Value) → (f v).work ≡ out.tx)
-      (made : (v : Value) → tx_run (f v) ≡ record { body = body; locals = env; wanted = m.wanted; result = (f v).result; state = tx_state (f v).work }) where
-    runs_as : (g : Result Value ThreadStop) → Yields inner g out (means inner body env start) → Runs (run_as f g) m body env (body_means x body env w)
-    runs_as (Ok v) h =
-        (body_done v out h ∙ ap (λ u. Completes u (tx_state out.tx)) (sym (as_given v)) ∙ ap (λ k. Completes (f v).result (tx_state k)) (sym (worked v)), made v)
-    runs_as (Err y) h = body_stop y out h
-
-    pub ran_given : (g : Result Value ThreadStop) (res : Result Transacted ThreadStop) → res ≡ run_as f g → Yields inner g out (means inner body env start) → Runs res m body env (body_means x body env w)
-    ran_given g res is h = subst (λ p. Runs p m body env (body_means x body env w)) (sym is) (runs_as g h)
-
-    sound_as : (sound : SoundFunctions [] (functions_of x.functions)) (d : ℕ) → SoundTree (callable x) in_dosync d None body → (g : Result Value ThreadStop) → Yields inner g out (means inner body env start)
-        → IfOk (run_as f g) (λ q. SoundCommutes (callable x) q.work.done.commutes)
-    sound_as sound d fits (Ok v) h = subst (λ k. SoundCommutes (callable x) k.done.commutes) (sym (worked v)) (body_keeps sound d v out fits h)
-    sound_as sound d fits (Err y) h = tt
-
-    pub ran_sound : (sound : SoundFunctions [] (functions_of x.functions)) (d : ℕ) → SoundTree (callable x) in_dosync d None body → (g : Result Value ThreadStop) (res : Result Transacted ThreadStop) → res ≡ run_as f g → Yields inner g out (means inner body env start)
-        → IfOk res (λ q. SoundCommutes (callable x) q.work.done.commutes)
-    ran_sound sound d fits g res is h = subst (λ p. IfOk p (λ q. SoundCommutes (callable x) q.work.done.commutes)) (sym is) (sound_as sound d fits g h)
 
 -- ---- its end
 

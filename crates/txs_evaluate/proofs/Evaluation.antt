@@ -97,7 +97,16 @@ module _ {S : Type 0} (fx : Effects S) (call : Bool → ℕ → List Value → S
   then_last none last env s = eval fx call n inside last env s
   then_last (more e rest) last env s = bind (eval fx call n inside e env s) (λ v s1. then_last rest last env s1)
 
-  pub do-then_last : (ns : List Node) (x : Node) (env : List Value) (s : S) → eval_do fx call n inside (trees_of (ns ++ x ∷ [])) env s ≡ then_last (trees_of ns) (tree_of x) env s
+  -- all but the last as values that nothing uses
+  last_after : (es : Trees) (last : Tree) (env : List Value) (s : S) → then_last es last env s ≡ bind (eval_all fx call n inside es env s) (λ vs s1. eval fx call n inside last env s1)
+  last_after none last env s = refl
+  last_after (more e rest) last env s =
+      let go : Value → S → Completion S (List Value) = λ v s1. bind (eval_all fx call n inside rest env s1) (λ ws s2. Completes (v ∷ ws) s2) in
+      let end : List Value → S → Completion S Value = λ vs s1. eval fx call n inside last env s1 in
+      let each : (v : Value) (s1 : S) → then_last rest last env s1 ≡ bind (go v s1) end = λ v s1. last_after rest last env s1 ∙ sym (bind-bind (eval_all fx call n inside rest env s1) (λ ws s2. Completes (v ∷ ws) s2) end) in
+      (λ i. bind (eval fx call n inside e env s) (λ v s1. each v s1 i)) ∙ sym (bind-bind (eval fx call n inside e env s) go end)
+
+  do-then_last : (ns : List Node) (x : Node) (env : List Value) (s : S) → eval_do fx call n inside (trees_of (ns ++ x ∷ [])) env s ≡ then_last (trees_of ns) (tree_of x) env s
   do-then_last [] x env s = refl
   do-then_last (m ∷ []) x env s = refl
   do-then_last (m ∷ k ∷ ns) x env s = λ i. bind (eval fx call n inside (tree_of m) env s) (λ v s1. do-then_last (k ∷ ns) x env s1 i)
@@ -153,10 +162,6 @@ module _ (setting : Setting) where
 
   abbrev call : Bool → ℕ → List Value → S → Completion S Value
   call = calls_in setting
-
-  -- nodes for their effects, and then a last one
-  abbrev pub do_then : Trees → Tree → List Value → State → Completion S Value
-  do_then es last env out = then_last fx call setting.turns on es last env (st out)
 
   module _ (e : Tree) (m : Mark) (env : List Value) (out : State) where
     pub const_done : (v w : Value) → e ≡ Const v m → w ≡ v → means setting e env out ≡ Completes w (st out)
@@ -250,16 +255,6 @@ module _ (setting : Setting) where
     all_stop vs y h =
         stops_whole on y (st out1) (collects fx call setting.turns on vs (trees_of (drop i ns)) env (st out)) (means setting (tree_of x) env out) (λ v s1. collects fx call setting.turns on (vs ++ v ∷ []) (trees_of (drop (i + 1) ns)) env s1) (all_next vs) (stops_here y h)
 
-    do_next : (last : Tree) → do_then (trees_of (drop i ns)) last env out ≡ bind (means setting (tree_of x) env out) (λ v s1. then_last fx call setting.turns on (trees_of (drop (i + 1) ns)) last env s1)
-    do_next last = ap (λ es. do_then es last env out) (trees_from ns i x lt is)
-
-    pub do_more : (last : Tree) (v : Value) → means setting (tree_of x) now out ≡ Completes v (st out1) → do_then (trees_of (drop i ns)) last env out ≡ do_then (trees_of (drop (i + 1) ns)) last env out1
-    do_more last v h = do_next last ∙ here (λ w s1. then_last fx call setting.turns on (trees_of (drop (i + 1) ns)) last env s1) v h
-
-    pub do_stop : (last : Tree) (y : ThreadStop) → Stops on y (st out1) (means setting (tree_of x) now out) → Stops on y (st out1) (do_then (trees_of (drop i ns)) last env out)
-    do_stop last y h =
-        stops_whole on y (st out1) (do_then (trees_of (drop i ns)) last env out) (means setting (tree_of x) env out) (λ v s1. then_last fx call setting.turns on (trees_of (drop (i + 1) ns)) last env s1) (do_next last) (stops_here y h)
-
     locals_next : locals_mean setting (trees_of (drop i ns)) env out ≡ bind (means setting (tree_of x) env out) (λ v s1. locals_after fx call setting.turns on (trees_of (drop (i + 1) ns)) (env ++ v ∷ []) s1)
     locals_next = ap (λ es. locals_mean setting es env out) (trees_from ns i x lt is) ∙ locals_after-more fx call setting.turns on (tree_of x) (trees_of (drop (i + 1) ns)) env (st out)
 
@@ -273,8 +268,19 @@ module _ (setting : Setting) where
     locals_stop y h =
         stops_whole on y (st out1) (locals_mean setting (trees_of (drop i ns)) env out) (means setting (tree_of x) env out) (λ v s1. locals_after fx call setting.turns on (trees_of (drop (i + 1) ns)) (env ++ v ∷ []) s1) locals_next (stops_here y h)
 
-  pub do_start : (before ns : List Node) (last : Node) (env : List Value) (out : State) → ns ≡ before ++ last ∷ [] → do_means setting (trees_of ns) env out ≡ do_then (trees_of before) (tree_of last) env out
-  do_start before ns last env out is = ap (λ l. do_means setting (trees_of l) env out) is ∙ do-then_last fx call setting.turns on before last env (st out)
+  -- the nodes before the last one, and then that
+  module _ (before ns : List Node) (last : Node) (env : List Value) (out : State) (is : ns ≡ before ++ last ∷ []) where
+    do_is : do_means setting (trees_of ns) env out ≡ bind (all_mean setting (trees_of before) env out) (λ vs s1. eval fx call setting.turns on (tree_of last) env s1)
+    do_is = ap (λ l. do_means setting (trees_of l) env out) is ∙ do-then_last fx call setting.turns on before last env (st out) ∙ last_after fx call setting.turns on (trees_of before) (tree_of last) env (st out)
+
+    pub do_stop : {V : Type 0} (f : V → List Value) (y : ThreadStop) (out1 : State) → GivesAll setting f (Err y) out1 (all_mean setting (trees_of before) env out) → Stops on y (st out1) (do_means setting (trees_of ns) env out)
+    do_stop f y out1 h = stops_whole on y (st out1) (do_means setting (trees_of ns) env out) (all_mean setting (trees_of before) env out) (λ vs s1. eval fx call setting.turns on (tree_of last) env s1) do_is h
+
+    pub do_done : (vs : List Value) (out1 : State) → all_mean setting (trees_of before) env out ≡ Completes vs (st out1) → (later : List Value) → later ≡ env → (r : Result Step ThreadStop) (out2 : State) → Steps setting r out2 (means setting (tree_of last) later out1)
+        → Steps setting r out2 (do_means setting (trees_of ns) env out)
+    do_done vs out1 h later same r out2 g =
+        let whole : do_means setting (trees_of ns) env out ≡ means setting (tree_of last) env out1 = do_is ∙ ap (λ c. bind c (λ us s1. eval fx call setting.turns on (tree_of last) env s1)) h in
+        subst (λ c. Steps setting r out2 c) (sym whole) (subst (λ l. Steps setting r out2 (means setting (tree_of last) l out1)) same g)
 
   -- a body after its new locals
   module _ (es : Trees) (body : Tree) (env : List Value) (out : State) where

@@ -1,8 +1,9 @@
 -- Forms on cells, one after the other: what the parts give is what the form means.
 use Rattle.std.proofs.Common.{◌≡◌, ℕ, suc, Bool, true, false, if◌then◌else◌, List, [], ◌∷◌, ◌++◌, length, Option, Some, None, Result, Ok, Err, MatchResult, refl, sym, ap, ◌∙◌, subst, arith}
 use Rattle.std.proofs.lemmas.Bool.{false≢true}
+use Rattle.std.proofs.lemmas.List.{length_push}
 use Rattle.txs_asks.specs.Ask.{same_cell, same_value, same_action}
-use Rattle.txs_asks.specs.SeenEvent.{SeenEvent, home}
+use Rattle.txs_asks.specs.SeenEvent.{SeenEvent, atoms_below, home}
 use Rattle.txs_asks.specs.declared.event.EventKind.{EventKind}
 use Rattle.txs_asks.specs.declared.event.EventKind.TheVariants.{Read, Commit, Retry, Fail, Refused, Send as Sent, SendRefused, Act as Acted, Swap as Swapped, Broke}
 use Rattle.txs_frame.specs.Frame.{set_ref, hold_send}
@@ -398,18 +399,61 @@ module _ (a : Action) (span : Span) (t : ThreadState) where
   sends_as (Swapped w) = refl
   sends_as (Broke at) = refl
 
--- the same of an event that was eaten
-module _ (book : ℕ) (e : Seen) (t u : ThreadState) (eaten : Ate book e t u) where
-  pub ate_read : (c : CellId) (b : Bool) → b ≡ is_read_of c e.kind.now → eats book (λ a s. reads c a.kind a.C s) t.todo t ≡ meant b (world_of (plain_view e.here) c.number) u
-  ate_read c b is =
-      let w = world_of (plain_view e.here) in
-      ate book (λ a s. reads c a.kind a.C s) e t u eaten ∙ reads_as c e.kind.now w u ∙ ap (λ k. meant k (w c.number) u) (sym is)
+-- the same by what was found out of the event
+pub read_as : (c : CellId) (b : Bool) (k : EventKind) (C : World) (t : ThreadState) → b ≡ is_read_of c k → reads c k C t ≡ meant b (C c.number) t
+read_as c b k C t is = reads_as c k C t ∙ ap (λ q. meant q (C c.number) t) (sym is)
 
-  pub ate_reset : (v : Value) (b : Bool) → b ≡ is_swap_to v e.kind.now → eats book (λ a s. resets v a.kind s) t.todo t ≡ meant b v u
-  ate_reset v b is = ate book (λ a s. resets v a.kind s) e t u eaten ∙ resets_as v e.kind.now u ∙ ap (λ k. meant k v u) (sym is)
+-- the last of the arguments is all, where they are one
+pub only_one : (us vs : List Value) (v : Value) → vs ≡ us ++ v ∷ [] → length vs ≡ 1 → vs ≡ v ∷ []
+only_one [] vs v is one = is
+only_one (u ∷ us) vs v is one = absurd (omega (arith, ap length is, one, length_push us v))
 
-  pub ate_send : (a : Action) (span : Span) (q : Sending) → q ≡ sending a e.kind.now → eats book (λ b s. sends a span b.kind s) t.todo t ≡ sent_as a span u q
-  ate_send a span q is = ate book (λ b s. sends a span b.kind s) e t u eaten ∙ sends_as a span u e.kind.now ∙ ap (λ k. sent_as a span u k) (sym is)
+pub reset_as : (v : Value) (b : Bool) (k : EventKind) (t : ThreadState) (vs : List Value) → vs ≡ v ∷ [] → b ≡ is_swap_to v k → of_one (λ w. resets w k t) vs ≡ meant b v t
+reset_as v b k t vs one is = ap (λ l. of_one (λ w. resets w k t) l) one ∙ resets_as v k t ∙ ap (λ q. meant q v t) (sym is)
+
+pub send_as : (a : Action) (span : Span) (t : ThreadState) (k : EventKind) (q : Sending) → q ≡ sending a k → sends a span k t ≡ sent_as a span t q
+send_as a span t k q is = sends_as a span t k ∙ ap (λ p. sent_as a span t p) (sym is)
+
+-- what is given at the event that was eaten is given of the thread
+pub gives_at : {A : Type 0} (book b : ℕ) → book ≡ b → (go : SeenEvent → ThreadState → Completion ThreadState A) (e : Seen) (t u : ThreadState) → Ate book e t u → (r : Result A ThreadStop) → Gives false r u (go (seen_event e) u) → Gives false r u (eats b go t.todo t)
+gives_at book b is go e t u eaten r h = subst (λ k. Gives false r u (eats k go t.todo t)) is (subst (λ q. Gives false r u q) (sym (ate book go e t u eaten)) h)
+
+pub reset_eaten : (book b : ℕ) → book ≡ b → (e : Seen) (t u : ThreadState) → Ate book e t u → (r : Result Value ThreadStop) (vs : List Value) → Gives false r u (of_one (λ w. resets w e.kind.now u) vs)
+    → Gives false r u (of_one (λ w. eats b (λ a s. resets w a.kind s) t.todo t) vs)
+reset_eaten book b is e t u eaten r [] h = h
+reset_eaten book b is e t u eaten r (w ∷ ws) h = gives_at book b is (λ a s. resets w a.kind s) e t u eaten r h
+
+-- an agent is of the store's book
+module _ (span : Span) (fault : FaultKind) (d : CellId) where
+  agent_took : (k : CellKind) (c : CellId) → c.kind ≡ k → Told (Ok d) (result_of (cell_if (same_kind k Agent) fault c) span tt) → d.kind ≡ Agent
+  agent_took Agent c is h = sym (ap (λ a. a.kind) (send_took true fault span c d h)) ∙ is
+  agent_took Ref c is h = absurd (subst Whole (sym h) tt)
+  agent_took Atom c is h = absurd (subst Whole (sym h) tt)
+
+agent_of : (v : Value) (span : Span) (d : CellId) → Told (Ok d) (result_of (cell_of (rule form_of.Send) false v) span tt) → d.kind ≡ Agent
+agent_of (Cell c) span d h = agent_took span NotAnAgent d c.kind c refl h
+agent_of Nil span d h = absurd (subst Whole (sym h) tt)
+agent_of (Truth b) span d h = absurd (subst Whole (sym h) tt)
+agent_of (Int z) span d h = absurd (subst Whole (sym h) tt)
+agent_of (Key bs) span d h = absurd (subst Whole (sym h) tt)
+agent_of (Text bs) span d h = absurd (subst Whole (sym h) tt)
+agent_of (Vector ds) span d h = absurd (subst Whole (sym h) tt)
+
+pub send_home : (x : Setting) (v : Value) (span : Span) (d : CellId) → Told (Ok d) (result_of (cell_of (rule form_of.Send) false v) span tt) → home x.cells d ≡ 0
+send_home x v span d told = ap (λ k. if same_kind k Atom then suc (atoms_below x.cells d.number) else 0) (agent_of v span d told)
+
+-- where there was no such event
+pub uneaten_outside : (x : Setting) (m : Mark) (v : Value) (t : ThreadState) (cell : CellId) (t1 : ThreadState) (act : Act) (vs : List Value) (y : ThreadStop) (book : ℕ) → book ≡ home x.cells cell → ReadyIn (callable x) in_thread act (length vs)
+    → Told (Ok cell) (result_of (cell_of (rule (form_of_act act)) false v) m.span tt) → EatsNone book y t t1 → Stops false y t1 (outside_means x act m v vs t)
+uneaten_outside x m v t cell t1 (a_look form) vs y book is ready told none = look_outside x m v t cell (Err y) t1 form vs ready told (subst (λ b. Stops false y t1 (eats b (λ e s. reads cell e.kind e.C s) t.todo t)) is (ate_none book (λ e s. reads cell e.kind e.C s) y t t1 none))
+uneaten_outside x m v t cell t1 (a_put form) [] y book is ready told none = absurd (omega (arith, ready.1))
+uneaten_outside x m v t cell t1 (a_put form) (w ∷ ws) y book is ready told none = put_outside x m v t cell (Err y) t1 form (w ∷ ws) ready told (subst (λ b. Stops false y t1 (eats b (λ e s. resets w e.kind s) t.todo t)) is (ate_none book (λ e s. resets w e.kind s) y t t1 none))
+uneaten_outside x m v t cell t1 (an_update form callee) vs y book is ready told none =
+    let go : SeenEvent → ThreadState → Completion ThreadState Value = λ e s. swaps cell (λ u s1. apply (calls_on None x false) m.span callee (u ∷ vs) s1) e.kind e.R e.C s in
+    update_outside x m v t cell (Err y) t1 form callee vs ready told (subst (λ b. Stops false y t1 (eats b go t.todo t)) is (ate_none book go y t t1 none))
+uneaten_outside x m v t cell t1 (a_send callee) vs y book is ready told none =
+    let go : SeenEvent → ThreadState → Completion ThreadState Value = λ e s. sends (record { agent = cell; callee = callee; args = vs; span = m.span }) m.span e.kind s in
+    send_outside x m v t cell (Err y) t1 callee vs told (subst (λ b. Stops false y t1 (eats b go t.todo t)) (is ∙ send_home x v m.span cell told) (ate_none book go y t t1 none))
 
 -- the event of a swap
 module _ (book : ℕ) (e : Seen) (t u : ThreadState) (eaten : Ate book e t u) (c : CellId) (g : Value → ThreadState → Completion ThreadState Value) where

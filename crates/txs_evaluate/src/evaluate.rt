@@ -1,15 +1,17 @@
 //! The meaning of nodes, by plain recursion: outside every transaction on a thread's events, and in one on one world.
 
-ghost use Rattle.std.specs.Prelude.{true, false, ◌≡◌, ◌≤◌, ◌-◌, ◌+◌, ◌++◌, ◌∷◌, [], suc, Bool, length, take, drop, None, Some, IsTrue, IfOk, OnOk, MatchResult};
+ghost use Rattle.std.specs.Prelude.{true, false, ℕ, ◌≡◌, ◌≤◌, ◌-◌, ◌+◌, ◌++◌, ◌∷◌, [], suc, Bool, length, take, drop, None, Some, IsTrue, IfOk, OnOk, MatchResult};
 ghost use Rattle.txs_frame.specs.Frame.{commuted, phase_work, set_writes};
+ghost use Rattle.txs_asks.specs.SeenEvent.{home};
 ghost use Rattle.txs_operations.specs.Core.{core, takes, vector_of, is_false as is_false_value};
-ghost use Rattle.txs_evaluate.specs.Evaluated.{Steps, Yields, GivesAll, Ready, ReadyIn, Finishes, Runs, SoundCommutes, means, all_mean, do_means, if_means, let_means, locals_mean, loop_means, turns_mean, call_means, finish_means, strict_means, form_means, act_means, inside_means, outside_means, update_means, swap_means, applied, dosync_means, eat_means, body_means, final_means, redone_means, step_of, run_as, thread_state, tx_run};
+ghost use Rattle.txs_evaluate.specs.Evaluated.{Ate, Steps, Yields, GivesAll, Ready, ReadyIn, Finishes, Runs, SoundCommutes, means, all_mean, do_means, if_means, let_means, locals_mean, loop_means, turns_mean, call_means, finish_means, strict_means, form_means, inside_means, outside_means, update_means, swap_means, applied, dosync_means, eat_means, body_means, final_means, redone_means, step_of, thread_state};
 ghost use Rattle.txs_eval_work.specs.Worked.{Told, ToldOf, Gives, RefCell, UpdatesRef, tx_state};
 ghost use Rattle.txs_evaluate.specs.declared.evaluate.Step.TheVariants.{Value as AValue};
 ghost use Rattle.txs_eval_work.specs.declared.stop.ThreadStop.TheVariants.{Memory};
 ghost use Rattle.txs_tree.specs.Meaning.{result_of};
 ghost use Rattle.txs_evaluate.specs.Setting.{callable, zone_in};
 ghost use Rattle.txs_tree.specs.Sound.{InSomeTail, SoundCall, SoundCallee, SoundTree, SoundAll, SoundDo, SoundLet, in_thread, in_dosync};
+ghost use Rattle.txs_tree.specs.Thread.{ThreadState};
 ghost use Rattle.txs_tree.specs.Transaction.{valued as first_values, merged};
 ghost use Rattle.txs_tree.specs.Tree.{count};
 ghost use Rattle.txs_tree.specs.View.{tree_of, trees_of, mark_of};
@@ -20,9 +22,10 @@ ghost use Rattle.txs_value.specs.declared.value.Value.TheVariants.{Nil};
 
 use crate::closing::{close, end_stop, end_view};
 use crate::context::Context;
+use crate::seen::Seen;
 use crate::shape::{Act, Shape, Strict, shape_of};
 use crate::state::{Progress, State, Transacted};
-use crate::thread::end_swap;
+use crate::thread::{end_swap, read_at, reset_at, send_at, swap_at};
 use std::alloc::{AllocError, Global};
 use txs_eval_work::{RefView, ThreadStop, TxWork, merge, put_write, take_cell, value_in, valued};
 use txs_frame::{Commute, TxFrame};
@@ -135,30 +138,9 @@ fn with_first(alloc: Global, first: Value, others: &[Value]) -> Result<Vec<Value
 pub fn copy_locals(alloc: Global, values: &[Value]) -> Result<Vec<Value>, AllocError>
     ensures { IfOk result (λ copies. copies.items ≡ values.now) }
 {
-    let mut copies = Vec::with_capacity(alloc, values.len())?;
+    let mut copies = Vec::new(alloc);
     push_copies(&mut copies, values)?;
     Ok(copies)
-}
-
-/// A transaction whose body gave this with these locals, where it did this work.
-fn ran<'a>(
-    dosync: Dosync<'a>,
-    locals: Vec<Value>,
-    given: Result<Value, ThreadStop>,
-    work: TxWork,
-) -> Result<Transacted<'a>, ThreadStop>
-    ensures { result ≡ run_as (λ v. record { body = dosync.entry.body; locals = locals.items; wanted = dosync.entry.wanted; result = v; work = work }) given }
-{
-    match given {
-        Ok(value) => Ok(Transacted {
-            body: dosync.body,
-            locals: Listed::from_vec(locals),
-            wanted: dosync.wanted,
-            result: value,
-            work,
-        }),
-        Err(stop) => Err(stop),
-    }
 }
 
 /// The values that the commuted refs have in the world.
@@ -346,13 +328,11 @@ fn evaluate_do<'a>(
     let Some((last, before)) = nodes.split_last() else {
         unreachable!()
     };
-    for node in before {
-        drop(evaluate(alloc, context, node, locals, state)?);
-    }
+    drop(evaluate_all(alloc, context, before, locals, state)?);
     evaluate_tail(alloc, context, last, locals, state)
 }
 
-/// A form on a cell: the cell, the arguments, and then what the form does.
+/// A form on a cell: the cell, the arguments, and then what the form does, in a transaction or outside.
 #[cycle(evaluate)]
 fn evaluate_form<'a>(
     alloc: Global,
@@ -374,31 +354,15 @@ fn evaluate_form<'a>(
 {
     let cell = evaluate(alloc, context, cell, locals, state)?;
     let args = evaluate_all(alloc, context, args, locals, state)?;
-    as_step(do_act(alloc, context, act, &cell, args, span, wanted, state))
-}
-
-/// What a form on a cell does, in a transaction or outside.
-#[cycle(evaluate)]
-fn do_act<'a>(
-    alloc: Global,
-    context: &Context<'a>,
-    act: Act,
-    value: &Value,
-    args: Vec<Value>,
-    span: Span,
-    wanted: bool,
-    state: &mut State<'a>,
-) -> Result<Value, ThreadStop>
-    requires { Ready context.now act (length args.items) }
-    ensures { Yields context.now result state.new
-        (act_means context.now act (mark_of span wanted) value.now args.items state.old) }
-{
     match context.world() {
         Some(world) => {
             let tx = &mut state.tx;
-            act_inside(alloc, context, world, act, value, args, span, wanted, tx)
+            as_step(act_inside(alloc, context, world, act, &cell, args, span, wanted, tx))
         }
-        None => act_outside(alloc, context, act, value, args, span, &mut state.thread),
+        None => {
+            let thread = &mut state.thread;
+            as_step(act_outside(alloc, context, act, &cell, args, span, thread))
+        }
     }
 }
 
@@ -472,17 +436,18 @@ fn act_outside<'a>(
         (outside_means context.now act (mark_of span wanted) value.now args.items (thread_state thread.old)) }
 {
     let cell = take_cell(act.form(), false, value, span)?;
+    let event = thread.eat(context.home(cell))?;
     match act {
-        Act::Look(_) => thread.read(context.home(cell), cell),
-        Act::Put(_) => thread.put(context.home(cell), args),
+        Act::Look(_) => read_at(event, cell),
+        Act::Put(_) => reset_at(event, args),
         Act::Update(_, callee) => {
-            swap(alloc, context, callee, cell, args.as_slice(), span, thread)
+            swap(alloc, context, callee, cell, args.as_slice(), span, event)
         }
-        Act::Send(callee) => thread.send_to(cell, callee, args, span),
+        Act::Send(callee) => send_at(event, cell, callee, args, span),
     }
 }
 
-/// `swap!` eats a swap to what the callee makes of the atom's value, or a broken one and faults as the callee does.
+/// `swap!` at its event, a swap to what the callee makes of the atom's value, or a broken one, where it faults as the callee does.
 #[cycle(evaluate)]
 fn swap<'a>(
     alloc: Global,
@@ -491,14 +456,14 @@ fn swap<'a>(
     cell: CellId,
     args: &[Value],
     span: Span,
-    thread: &mut Progress<'a>,
+    event: &Seen<'a>,
 ) -> Result<Value, ThreadStop>
     requires { SoundCallee (callable context.now) callee (suc (length args.now)) }
-    ensures { Gives false result (thread_state thread.new)
-        (swap_means context.now callee cell args.now span (thread_state thread.old)) }
+    ensures { (book : ℕ) (t u : ThreadState) → Ate book event.now t u → book ≡ home context.now.cells cell
+        → Gives false result u (swap_means context.now callee cell args.now span t) }
 {
     context.is_sound();
-    let (world, new) = thread.swap(context.home(cell))?;
+    let (world, new) = swap_at(event)?;
     let value = world.read(cell.number)?;
     end_swap(apply_on(alloc, context, callee, value, args, span), new)
 }
@@ -614,8 +579,14 @@ fn run_body<'a>(
     let inner = context.on(world);
     let copies = copy_locals(alloc, locals.as_slice())?;
     let mut state = State::new(alloc, &[]);
-    let given = evaluate(alloc, &inner, dosync.body, locals, &mut state);
-    ran(dosync, copies, given, state.into_tx())
+    let result = evaluate(alloc, &inner, dosync.body, locals, &mut state)?;
+    Ok(Transacted {
+        body: dosync.body,
+        locals: Listed::from_vec(copies),
+        wanted: dosync.wanted,
+        result,
+        work: state.into_tx(),
+    })
 }
 
 /// The final writes: each ref that was set has its value, each other commuted ref what its commutes make of the world.

@@ -101,15 +101,16 @@ impl<'a> Progress<'a> {
     pub(crate) fn note(&mut self, run: Transacted<'a>) -> Result<Value, ThreadStop>
         ensures { MatchResult result (λ v. (v ≡ run.entry.result) × (thread_state self.new ≡ with_tx (tx_run run.entry) (thread_state self.old))) (λ y. y ≡ Memory) }
     {
-        let place = self.txs.len();
+        let value = copy_value(&run.result)?;
         self.txs.push(run)?;
-        Ok(copy_value(&self.txs[place].result)?)
+        Ok(value)
     }
+
     /// The same where it was refused.
     pub(crate) fn refuse(&mut self, run: Transacted<'a>, span: Span) -> Result<Value, ThreadStop>
         ensures { Gives false result (thread_state self.new) (Faults (fault_at AgentFailed span) (with_tx (tx_run run.entry) (thread_state self.old))) }
     {
-        drop(self.note(run)?);
+        self.txs.push(run)?;
         Err(ThreadStop::Fault(Fault {
             kind: FaultKind::AgentFailed,
             span,

@@ -1,10 +1,10 @@
-//! What the forms on cells do outside every transaction, on the thread's events, but for applying callees.
+//! What the forms on cells do outside every transaction, at the events that they eat, but for applying callees.
 
-ghost use Rattle.std.specs.Prelude.{false, ◌≡◌, length, option_copied, MatchResult};
-ghost use Rattle.txs_evaluate.specs.Evaluated.{EndAte, EndsNone, SwapAte, SwapsNone, thread_state, is_read_of, is_swap_to, names, sending, swap_of, swap_stop, is_broke, swap_gives};
-ghost use Rattle.txs_eval_work.specs.Worked.{Gives, GivesOf, of_one};
-ghost use Rattle.txs_eval_work.specs.Views.{plain_view};
-ghost use Rattle.txs_tree.specs.Thread.{eats, reads, resets, sends, is_retry};
+ghost use Rattle.std.specs.Prelude.{false, ◌≡◌, ℕ, length, option_copied, MatchResult};
+ghost use Rattle.txs_evaluate.specs.Evaluated.{Ate, EndAte, EndsNone, SwapAte, SwapsNone, thread_state, is_read_of, is_swap_to, sending, swap_of, is_broke, swap_gives};
+ghost use Rattle.txs_eval_work.specs.Worked.{Gives, of_one};
+ghost use Rattle.txs_eval_work.specs.Views.{plain_view, world_of};
+ghost use Rattle.txs_tree.specs.Thread.{ThreadState, reads, resets, sends, is_retry};
 
 use crate::seen::Seen;
 use crate::state::Progress;
@@ -87,41 +87,32 @@ fn sent_as(kind: &EventKind, action: &Action) -> Sending
     }
 }
 
-/// Whether the value is the one that a swap names, none where it is broken.
-fn names(new: Option<&Value>, value: &Value) -> bool
-    ensures { result ≡ names (option_copied new.entry) value.now }
-{
-    match new {
-        Some(new) => same_value(value, new),
-        None => false,
-    }
-}
-
-/// Why a swap gives no value: a broken one alone may fault.
-fn swap_stop(new: Option<&Value>, stop: ThreadStop) -> ThreadStop
-    ensures { result ≡ swap_stop (option_copied new.entry) stop }
-{
-    match new {
-        Some(_) => stop.without_fault(),
-        None => stop,
-    }
-}
-
-/// What a swap gives at its event, where the callee gave this: the value that the event names, none at a broken swap.
+/// What a swap gives at its event, where the callee gave this: the value that the event names, none at a broken swap, which
+/// alone may fault.
 pub(crate) fn end_swap(
     given: Result<Value, ThreadStop>,
     new: Option<&Value>,
 ) -> Result<Value, ThreadStop>
     ensures { result ≡ swap_gives given (option_copied new.entry) }
 {
-    let value = match given {
-        Ok(value) => value,
-        Err(stop) => return Err(swap_stop(new, stop)),
-    };
-    if !names(new, &value) {
-        return Err(ThreadStop::Wrong);
+    match new {
+        Some(new) => match given {
+            Ok(value) => {
+                if !same_value(&value, new) {
+                    return Err(ThreadStop::Wrong);
+                }
+                Ok(value)
+            }
+            Err(stop) => Err(stop.without_fault()),
+        },
+        None => match given {
+            Ok(value) => {
+                drop(value);
+                Err(ThreadStop::Wrong)
+            }
+            Err(stop) => Err(stop),
+        },
     }
-    Ok(value)
 }
 
 impl<'a> Progress<'a> {
@@ -140,96 +131,77 @@ impl<'a> Progress<'a> {
             span,
         }))
     }
+}
 
-    /// `swap!` eats a swap, or a broken one: the world that has its atom's value, and the value that a swap names.
-    pub(crate) fn swap(
-        &mut self,
-        book: usize,
-    ) -> Result<(RefView<'a>, Option<&'a Value>), ThreadStop>
-        ensures { MatchResult result (λ s. SwapAte book (plain_view s.0) (option_copied s.1) (thread_state self.old) (thread_state self.new)) (λ y. SwapsNone book y (thread_state self.old) (thread_state self.new)) }
-    {
-        let event = self.eat(book)?;
-        if let Some(new) = swap_of(event.kind) {
-            return Ok((event.here, Some(new)));
-        }
-        if !is_broke(event.kind) {
-            return Err(ThreadStop::Wrong);
-        }
-        Ok((event.start, None))
+/// `swap!` at its event, a swap or a broken one: the world that has its atom's value, and the value that a swap names.
+pub(crate) fn swap_at<'a>(event: &Seen<'a>) -> Result<(RefView<'a>, Option<&'a Value>), ThreadStop>
+    ensures { MatchResult result
+        (λ s. (book : ℕ) (t u : ThreadState) → Ate book event.now t u → SwapAte book (plain_view s.0) (option_copied s.1) t u)
+        (λ y. (book : ℕ) (t u : ThreadState) → Ate book event.now t u → SwapsNone book y t u) }
+{
+    if let Some(new) = swap_of(event.kind) {
+        return Ok((event.here, Some(new)));
     }
-
-    /// A read eats a read of the cell, and gives the value at that event's place.
-    pub(crate) fn read(&mut self, book: usize, cell: CellId) -> Result<Value, ThreadStop>
-        ensures { Gives false result (thread_state self.new)
-            (eats book (λ e t. reads cell e.kind e.C t) (thread_state self.old).todo (thread_state self.old)) }
-    {
-        let event = self.eat(book)?;
-        if !is_read_of(event.kind, cell) {
-            return Err(ThreadStop::Wrong);
-        }
-        Ok(event.here.read(cell.number)?)
+    if !is_broke(event.kind) {
+        return Err(ThreadStop::Wrong);
     }
+    Ok((event.start, None))
+}
 
-    /// `reset!` eats a swap to its value.
-    fn reset(&mut self, book: usize, value: &Value) -> Result<(), ThreadStop>
-        ensures { GivesOf (λ _. value.now) false result (thread_state self.new)
-            (eats book (λ e t. resets value.now e.kind t) (thread_state self.old).todo (thread_state self.old)) }
-    {
-        let event = self.eat(book)?;
-        if !is_swap_to(event.kind, value) {
-            return Err(ThreadStop::Wrong);
-        }
-        Ok(())
+/// A read at its event, which is one of the cell: the value at that event's place.
+pub(crate) fn read_at(event: &Seen<'_>, cell: CellId) -> Result<Value, ThreadStop>
+    ensures { (t : ThreadState) → Gives false result t (reads cell event.now.kind.now (world_of (plain_view event.now.here)) t) }
+{
+    if !is_read_of(event.kind, cell) {
+        return Err(ThreadStop::Wrong);
     }
+    Ok(event.here.read(cell.number)?)
+}
 
-    /// The same of the one value among the arguments, which is given.
-    pub(crate) fn put(&mut self, book: usize, mut args: Vec<Value>) -> Result<Value, ThreadStop>
-        requires { length args.items ≡ 1 }
-        ensures { Gives false result (thread_state self.new)
-            (of_one (λ v. eats book (λ e t. resets v e.kind t) (thread_state self.old).todo (thread_state self.old)) args.items) }
-    {
-        match args.pop() {
-            Some(value) => {
-                self.reset(book, &value)?;
-                Ok(value)
+/// `reset!` at its event, which is a swap to the one value among the arguments: that value.
+pub(crate) fn reset_at(event: &Seen<'_>, mut args: Vec<Value>) -> Result<Value, ThreadStop>
+    requires { length args.items ≡ 1 }
+    ensures { (t : ThreadState) → Gives false result t (of_one (λ v. resets v event.now.kind.now t) args.items) }
+{
+    match args.pop() {
+        Some(value) => {
+            if !is_swap_to(event.kind, &value) {
+                return Err(ThreadStop::Wrong);
             }
-            None => unreachable!(),
+            Ok(value)
         }
+        None => unreachable!(),
     }
+}
 
-    /// `send` of this callee with these arguments to the agent.
-    pub(crate) fn send_to(
-        &mut self,
-        agent: CellId,
-        callee: Callee,
-        args: Vec<Value>,
-        span: Span,
-    ) -> Result<Value, ThreadStop>
-        ensures { Gives false result (thread_state self.new)
-            (eats 0 (λ e t. sends (record { agent = agent; callee = callee; args = args.items; span = span }) span e.kind t) (thread_state self.old).todo (thread_state self.old)) }
-    {
-        let args = Listed::from_vec(args);
-        self.send(&Action {
+/// `send` of this callee with these arguments at its event: a send of that action gives the agent, a refusal by the agent
+/// faults.
+pub(crate) fn send_at(
+    event: &Seen<'_>,
+    agent: CellId,
+    callee: Callee,
+    args: Vec<Value>,
+    span: Span,
+) -> Result<Value, ThreadStop>
+    ensures { (t : ThreadState) → Gives false result t
+        (sends (record { agent = agent; callee = callee; args = args.items; span = span }) span event.now.kind.now t) }
+{
+    let args = Listed::from_vec(args);
+    let sending = sent_as(
+        event.kind,
+        &Action {
             agent,
             callee,
             args,
             span,
-        })
-    }
-
-    /// `send` eats a send of its action and gives the agent, or a refusal by the agent and faults.
-    pub(crate) fn send(&mut self, action: &Action) -> Result<Value, ThreadStop>
-        ensures { Gives false result (thread_state self.new)
-            (eats 0 (λ e t. sends action.now action.now.span e.kind t) (thread_state self.old).todo (thread_state self.old)) }
-    {
-        let event = self.eat(0)?;
-        match sent_as(event.kind, action) {
-            Sending::Sent => Ok(Value::Cell(action.agent)),
-            Sending::Refused => Err(ThreadStop::Fault(Fault {
-                kind: FaultKind::AgentFailed,
-                span: action.span,
-            })),
-            Sending::Other => Err(ThreadStop::Wrong),
-        }
+        },
+    );
+    match sending {
+        Sending::Sent => Ok(Value::Cell(agent)),
+        Sending::Refused => Err(ThreadStop::Fault(Fault {
+            kind: FaultKind::AgentFailed,
+            span,
+        })),
+        Sending::Other => Err(ThreadStop::Wrong),
     }
 }

@@ -1,6 +1,7 @@
 use Rattle.std.proofs.Common.{rules, suc, ◌≡◌, ◌+◌, ◌-◌, ◌*◌, ◌<◌, ◌≤◌, true, false, [], ◌∷◌, ◌++◌, length, take, drop, Ok, Err, None, Some, OnOk, MatchResult, is_some, option_copied, Vec, Global, zero-add, sym, ap, ◌∙◌, subst, subst₂, refl, arith}
 use Rattle.std.proofs.lemmas.List.{drop_all, length_push, length-drop}
 use Rattle.txs_asks.specs.Ask.{Writes}
+use Rattle.txs_asks.specs.SeenEvent.{home}
 use Rattle.txs_frame.specs.Frame.{phase_work, set_writes}
 use Rattle.txs_operations.specs.Core.{is_false}
 use Rattle.txs_value.specs.Forms.{rule, cell_of}
@@ -8,12 +9,12 @@ use Rattle.txs_value.specs.Limits.{reruns}
 use Rattle.txs_value.specs.Places.{nth}
 use Rattle.txs_value.specs.declared.value.CellId.{CellId}
 use Rattle.txs_value.specs.declared.value.Value.{Value}
-use Rattle.txs_evaluate.specs.Evaluated.{ReadyIn, part, is_on, forms_in, calls_in, Yields, GivesAll, Steps, means, all_mean, do_means, let_means, locals_mean, loop_means, turns_mean, form_means, inside_means, outside_means, update_means, swap_means, applied, redone_means, final_means, dosync_means, transacting, at_end, eat_means, ended, end_stop, thread_state}
-use Rattle.txs_eval_work.specs.Worked.{of_one, Stops, Gives, Told, tx_state}
-use Rattle.txs_tree.specs.Meaning.{result_of}
-use Rattle.txs_evaluate.specs.Setting.{callable, zone_in, on_view}
+use Rattle.txs_evaluate.specs.Evaluated.{ReadyIn, Runs, SoundCommutes, body_means, part, is_on, forms_in, calls_in, Yields, GivesAll, Steps, means, all_mean, do_means, let_means, locals_mean, loop_means, turns_mean, form_means, inside_means, outside_means, update_means, swap_means, applied, redone_means, final_means, dosync_means, transacting, at_end, eat_means, ended, end_stop, thread_state}
+use Rattle.txs_eval_work.specs.Worked.{Stops, Gives, Told, tx_state}
+use Rattle.txs_tree.specs.Meaning.{Completes, result_of}
+use Rattle.txs_evaluate.specs.Setting.{callable, zone_in, zone_on, on_view}
 use Rattle.txs_tree.specs.Sound.{SoundCall, SoundCallee, SoundTree, SoundDo, SoundLet, nodes, nodes_in, in_thread, in_dosync}
-use Rattle.txs_tree.specs.Thread.{eats, reads, resets}
+use Rattle.txs_tree.specs.Thread.{reads, sends}
 use Rattle.txs_tree.specs.Transaction.{merged}
 use Rattle.txs_tree.specs.Tree.{count}
 use Rattle.txs_tree.specs.View.{tree_of, trees_of, mark_of, function_of, functions_of}
@@ -21,9 +22,9 @@ use Rattle.txs_eval_work.specs.Views.{PlainView, plain_view, plain_world}
 use Rattle.txs_evaluate.proofs.Acting.{acted_inside, acted_outside, sound_at, redone_stop, redone_more, phase_sound, finals_stop, finals_done}
 use Rattle.txs_evaluate.proofs.Called.{in_room, room, room-deeper, room_on, depth_left, is_function, as_many, called_body, pure_here}
 use Rattle.txs_evaluate.proofs.Counting.{item_smaller, nodes-some, nodes-last}
-use Rattle.txs_evaluate.proofs.Ending.{ran_given, ran_sound, ended_unrun, ended_closed, ends_viewed, ends_unviewed, end_stops, running, joined, begun}
-use Rattle.txs_evaluate.proofs.Evaluation.{StopsAt, collects-start, do_then, rebound, stops_steps, stops_gives, local_done, all_more, all_stop, do_more, do_stop, do_start, locals_more, locals_stop, let_stop, let_done, loop_stop, loop_done, turn_value, turn_stop, turn_recur, take_kept, called, if_goes, args_stop, acted, const_done}
-use Rattle.txs_evaluate.proofs.Forms.{untaken_inside, untaken_outside, updates_ref, update_takes, update_unbegun, update_stop, update_done, update_inside, called_alone, core_done, vector_done, call_done, print_done, swap_stop, swap_done, put_inside, send_inside, put_outside, update_outside, put_takes, look_inside, look_outside, send_outside}
+use Rattle.txs_evaluate.proofs.Ending.{body_stop, body_done, body_keeps, ended_unrun, ended_closed, ends_viewed, ends_unviewed, end_stops, running, joined, begun}
+use Rattle.txs_evaluate.proofs.Evaluation.{StopsAt, collects-start, rebound, stops_steps, stops_gives, local_done, all_more, all_stop, do_stop, do_done, locals_more, locals_stop, let_stop, let_done, loop_stop, loop_done, turn_value, turn_stop, turn_recur, take_kept, called, if_goes, args_stop, acted, const_done}
+use Rattle.txs_evaluate.proofs.Forms.{untaken_inside, untaken_outside, uneaten_outside, gives_at, reset_eaten, send_home, updates_ref, update_takes, update_unbegun, update_stop, update_done, update_inside, called_alone, core_done, vector_done, call_done, print_done, swap_stop, swap_done, put_inside, send_inside, put_outside, update_outside, put_takes, look_inside, look_outside, send_outside}
 use Rattle.txs_evaluate.proofs.Recurs.{recurs_many, never_recurs}
 use Rattle.txs_tree.proofs.Soundness.{SoundAll-from, SoundLet-from, SoundDo-parts, count-from}
 use Rattle.txs_evaluate.proofs.Shaping.{copied, stepped, strict_sound, strict_smaller, strict_finishes, strict_whole, form_sound, form_smaller, form_whole}
@@ -116,36 +117,26 @@ evaluate_all-returns-clause-count t c =
     let end = ap (λ ns. count (trees_of ns)) (drop_all c.loop-node.node-index c.args.nodes.now c.loop-node-test.false) in
     omega (arith, end, c.loop-node.invariant.1)
 
-pub evaluate_do-loop-node-init : goal.evaluate_do-loop-node-init
-evaluate_do-loop-node-init t c =
+pub evaluate_do-evaluate_all-requires : goal.evaluate_do-evaluate_all-requires
+evaluate_do-evaluate_all-requires t c =
     let ns = c.args.nodes.now in
     let before = c.in-Some.before.now in
     let last = c.in-Some.last.now in
     let whole : ns ≡ before ++ last ∷ [] = c.in-Some.ensures.cases.0 in
     let sound = SoundDo-parts (callable c.args.context.now) (zone_in c.args.context.now) (length c.args.locals.now.items) c.requires.tail before last (subst (λ l. SoundDo (callable c.args.context.now) (zone_in c.args.context.now) (length c.args.locals.now.items) c.requires.tail (trees_of l)) whole c.requires.sound) in
-    (refl, sound.0, do_start c.args.context.now before ns last c.args.locals.now.items c.args.state.now whole)
+    let smaller : 16 * nodes_in (trees_of before) + 2 < 16 * nodes_in (trees_of ns) + 3 = omega (arith, nodes-last ns before last whole) in
+    (search (rules, in_room c.args.context.now _ _ smaller), sound.0)
 
-pub evaluate_do-evaluate-requires : goal.evaluate_do-evaluate-requires
-evaluate_do-evaluate-requires t c =
-    let ns = c.args.nodes.now in
-    let before = c.in-Some.before.now in
-    let last = c.in-Some.last.now in
-    let whole : ns ≡ before ++ last ∷ [] = c.in-Some.ensures.cases.0 in
-    let i = c.loop-node.node-index in
-    let x = c.node-item.result in
-    let fewer = item_smaller before i x c.loop-node-test.true c.node-item.is in
-    let smaller : 16 * nodes (tree_of x) + 1 < 16 * nodes_in (trees_of ns) + 2 = omega (arith, fewer, nodes-last ns before last whole) in
-    let sound = (SoundAll-from before i x c.loop-node-test.true c.node-item.is (callable c.args.context.now) (zone_in c.args.context.now) (length c.args.locals.now.items) c.loop-node.invariant.1).0 in
-    (search (rules, in_room c.args.context.now _ _ smaller), subst (λ l. SoundTree (callable c.args.context.now) (zone_in c.args.context.now) (length l) None (tree_of x)) (sym c.loop-node.invariant.0) sound)
-
-pub evaluate_do-returns-in_err-evaluate-clause-value : goal.evaluate_do-returns-in_err-evaluate-clause-value
-evaluate_do-returns-in_err-evaluate-clause-value t c =
+pub evaluate_do-returns-in_err-evaluate_all-clause-value : goal.evaluate_do-returns-in_err-evaluate_all-clause-value
+evaluate_do-returns-in_err-evaluate_all-clause-value t c =
     let n = c.args.context.now in
-    let out = c.evaluate.new.state in
-    let y = c.in_err-evaluate.field-0.0 in
-    let rest = do_stop n c.in-Some.before.now c.loop-node.node-index c.node-item.result c.loop-node-test.true c.node-item.is c.args.locals.now.items c.loop-node.locals.items c.loop-node.state out c.loop-node.invariant.0 (tree_of c.in-Some.last.now) y c.in_err-evaluate.ensures.value in
-    let whole = subst (λ m. StopsAt n y out m) (sym c.loop-node.invariant.2) rest in
-    stops_steps (is_on n.world) c.from_residual.result y (part n.world out) (do_means n (trees_of c.args.nodes.now) c.args.locals.now.items c.args.state.now) (search rules) whole
+    let env = c.args.locals.now.items in
+    let out = c.evaluate_all.new.state in
+    let y = c.in_err-evaluate_all.field-0.0 in
+    let whole : c.args.nodes.now ≡ c.in-Some.before.now ++ c.in-Some.last.now ∷ [] = c.in-Some.ensures.cases.0 in
+    let stopped : c.from_residual.result ≡ Err y = search rules in
+    stops_steps (is_on n.world) c.from_residual.result y (part n.world out) (do_means n (trees_of c.args.nodes.now) env c.args.state.now) stopped
+    (do_stop n c.in-Some.before.now c.args.nodes.now c.in-Some.last.now env c.args.state.now whole (λ (vs : Vec Value Global). vs.items) y out c.in_err-evaluate_all.ensures.value)
 
 pub evaluate_do-evaluate_tail-requires : goal.evaluate_do-evaluate_tail-requires
 evaluate_do-evaluate_tail-requires t c =
@@ -154,8 +145,18 @@ evaluate_do-evaluate_tail-requires t c =
     let last = c.in-Some.last.now in
     let whole : ns ≡ before ++ last ∷ [] = c.in-Some.ensures.cases.0 in
     let sound = SoundDo-parts (callable c.args.context.now) (zone_in c.args.context.now) (length c.args.locals.now.items) c.requires.tail before last (subst (λ l. SoundDo (callable c.args.context.now) (zone_in c.args.context.now) (length c.args.locals.now.items) c.requires.tail (trees_of l)) whole c.requires.sound) in
-    let smaller : 16 * nodes (tree_of last) < 16 * nodes_in (trees_of ns) + 2 = omega (arith, nodes-last ns before last whole) in
-    (search (rules, in_room c.args.context.now _ _ smaller), record { tail = c.requires.tail; sound = subst (λ l. SoundTree (callable c.args.context.now) (zone_in c.args.context.now) (length l) c.requires.tail (tree_of last)) (sym c.loop-node.invariant.0) sound.1 })
+    let smaller : 16 * nodes (tree_of last) < 16 * nodes_in (trees_of ns) + 3 = omega (arith, nodes-last ns before last whole) in
+    (search (rules, in_room c.args.context.now _ _ smaller), record { tail = c.requires.tail; sound = subst (λ l. SoundTree (callable c.args.context.now) (zone_in c.args.context.now) (length l) c.requires.tail (tree_of last)) (sym c.in_ok-evaluate_all.ensures.kept) sound.1 })
+
+pub evaluate_do-returns-clause-value : goal.evaluate_do-returns-clause-value
+evaluate_do-returns-clause-value t c =
+    let n = c.args.context.now in
+    let whole : c.args.nodes.now ≡ c.in-Some.before.now ++ c.in-Some.last.now ∷ [] = c.in-Some.ensures.cases.0 in
+    do_done n c.in-Some.before.now c.args.nodes.now c.in-Some.last.now c.args.locals.now.items c.args.state.now whole c.in_ok-evaluate_all.field-0.items c.evaluate_all.new.state c.in_ok-evaluate_all.ensures.value c.evaluate_all.new.locals.items c.in_ok-evaluate_all.ensures.kept c.evaluate_tail.result c.evaluate_tail.new.state c.evaluate_tail.ensures.value
+
+pub evaluate_do-returns-clause-kept : goal.evaluate_do-returns-clause-kept
+evaluate_do-returns-clause-kept t c =
+    subst (λ l. OnOk c.evaluate_tail.result (c.evaluate_tail.new.locals.items ≡ l)) c.in_ok-evaluate_all.ensures.kept c.evaluate_tail.ensures.kept
 
 pub evaluate_let-bind_locals-requires : goal.evaluate_let-bind_locals-requires
 evaluate_let-bind_locals-requires t c =
@@ -293,33 +294,6 @@ bind_locals-loop-node-preserved t c =
       c.loop-node.invariant.3 ∙ locals_more n ns i x lt is now now c.loop-node.state c.evaluate.new.state refl v c.push.new.self.items c.in_ok-value.ensures.value pushed,
     )
 
-pub evaluate_do-loop-node-preserved : goal.evaluate_do-loop-node-preserved
-evaluate_do-loop-node-preserved t c =
-    let n = c.args.context.now in
-    let before = c.in-Some.before.now in
-    let i = c.loop-node.node-index in
-    let lt = c.loop-node-test.true in
-    let is = c.node-item.is in (
-      c.in_ok-evaluate.ensures.kept ∙ c.loop-node.invariant.0,
-      (SoundAll-from before i c.node-item.result lt is (callable c.args.context.now) (zone_in c.args.context.now) (length c.args.locals.now.items) c.loop-node.invariant.1).1,
-      c.loop-node.invariant.2 ∙ do_more n before i c.node-item.result lt is c.args.locals.now.items c.loop-node.locals.items c.loop-node.state c.evaluate.new.state c.loop-node.invariant.0 (tree_of c.in-Some.last.now) c.in_ok-evaluate.field-0 c.in_ok-evaluate.ensures.value,
-    )
-
-pub evaluate_do-returns-clause-value : goal.evaluate_do-returns-clause-value
-evaluate_do-returns-clause-value t c =
-    let n = c.args.context.now in
-    let last = tree_of c.in-Some.last.now in
-    let env = c.args.locals.now.items in
-    let r = c.evaluate_tail.result in
-    let out = c.evaluate_tail.new.state in
-    let end = drop_all c.loop-node.node-index c.in-Some.before.now c.loop-node-test.false in
-    let whole : do_means n (trees_of c.args.nodes.now) env c.args.state.now ≡ means n last env c.loop-node.state = c.loop-node.invariant.2 ∙ ap (λ l. do_then n (trees_of l) last env c.loop-node.state) end in
-    subst (λ m. Steps n r out m) (sym whole) (subst (λ l. Steps n r out (means n last l c.loop-node.state)) c.loop-node.invariant.0 c.evaluate_tail.ensures.value)
-
-pub evaluate_do-returns-clause-kept : goal.evaluate_do-returns-clause-kept
-evaluate_do-returns-clause-kept t c =
-    subst (λ l. OnOk c.evaluate_tail.result (c.evaluate_tail.new.locals.items ≡ l)) c.loop-node.invariant.0 c.evaluate_tail.ensures.kept
-
 pub evaluate_let-returns-in_err-bind_locals-clause-value : goal.evaluate_let-returns-in_err-bind_locals-clause-value
 evaluate_let-returns-in_err-bind_locals-clause-value t c =
     let y = c.in_err-bind_locals.field-0.0 in
@@ -367,6 +341,17 @@ act_outside-returns-in_err-cell t c =
     λ wanted. stops_gives (λ v. v) false c.from_residual.result y before (outside_means x c.args.act (mark_of c.args.span wanted) c.args.value.now c.args.args.items before) (search rules)
     (untaken_outside x (mark_of c.args.span wanted) c.args.value.now before c.args.act c.args.args.items y c.requires told)
 
+pub act_outside-returns-in_err-event : goal.act_outside-returns-in_err-event
+act_outside-returns-in_err-event t c =
+    let x = c.args.context.now in
+    let y = c.in_err-event.field-0.0 in
+    let before = thread_state c.args.thread.now in
+    let after = thread_state c.eat.new.self in
+    let told = subst (λ f. Told (Ok c.in_ok-cell.cell) (result_of (cell_of (rule f) false c.args.value.now) c.args.span tt)) c.form.ensures c.in_ok-cell.ensures in
+    let stopped : c.from_residual-in_err-event.result ≡ Err y = search rules in
+    λ wanted. stops_gives (λ v. v) false c.from_residual-in_err-event.result y after (outside_means x c.args.act (mark_of c.args.span wanted) c.args.value.now c.args.args.items before) stopped
+    (uneaten_outside x (mark_of c.args.span wanted) c.args.value.now before c.in_ok-cell.cell after c.args.act c.args.args.items y c.home.result c.home.ensures c.requires told c.in_err-event.ensures)
+
 pub apply_callee-call-given-requires : goal.apply_callee-call-given-requires
 apply_callee-call-given-requires t c =
     let x = c.args.context.now in
@@ -381,18 +366,6 @@ apply_callee-returns-in-Function t c =
     let x = c.args.context.now in
     let fits = subst (λ f. SoundCallee (callable x) f (length c.args.values.items)) c.in-Function.is c.requires in
     called_alone x c.on-inner.result _ c.on-inner.ensures c.is_sound.ensures c.args.span c.args.callee c.in-Function.number c.args.values.items c.in-Function.is fits c.call-given.result c.new-state.result c.call-given.new.state c.call-given.ensures
-
-pub do_act-returns-in-Some : goal.do_act-returns-in-Some
-do_act-returns-in-Some t c =
-    let x = c.args.context.now in
-    let is = sym c.world.ensures ∙ ap plain_world c.in-Some.is in
-    acted_inside x c.args.act (mark_of c.args.span c.args.wanted) c.args.value.now c.args.args.items c.act_inside.result c.args.state.now (record c.args.state.now { tx = c.act_inside.new.tx }) (plain_view c.in-Some.world) is c.act_inside.ensures
-
-pub do_act-returns-in-None : goal.do_act-returns-in-None
-do_act-returns-in-None t c =
-    let x = c.args.context.now in
-    let is = sym c.world.ensures ∙ ap plain_world c.in-None.is in
-    acted_outside x c.args.act (mark_of c.args.span c.args.wanted) c.args.value.now c.args.args.items c.act_outside.result c.args.state.now (record c.args.state.now { thread = c.act_outside.new.thread }) is (c.act_outside.ensures c.args.wanted)
 
 pub evaluate_form-returns-in_err-args-clause-value : goal.evaluate_form-returns-in_err-args-clause-value
 evaluate_form-returns-in_err-args-clause-value t c =
@@ -415,8 +388,8 @@ evaluate_if-returns-clause-value t c =
     let other : false ≡ is_false c.in_ok-value.value = search rules in
     if_goes x (tree_of c.args.test.now) (tree_of c.args.yes.now) (tree_of c.args.no.now) c.args.locals.now.items c.args.state.now c.in_ok-value.value false c.evaluate.new.locals.items c.evaluate.new.state c.evaluate_tail-2.new.state c.evaluate_tail-2.result c.in_ok-value.ensures.value other c.in_ok-value.ensures.kept c.evaluate_tail-2.ensures.value
 
-pub run_body-evaluate-given-requires : goal.run_body-evaluate-given-requires
-run_body-evaluate-given-requires t c =
+pub run_body-evaluate-requires : goal.run_body-evaluate-requires
+run_body-evaluate-requires t c =
     let x = c.args.context.now in
     let m = mark_of c.args.dosync.span c.args.dosync.wanted in
     let body = tree_of c.args.dosync.body.now in
@@ -431,7 +404,7 @@ evaluate_tail-evaluate_do-requires t c =
     let n = c.args.node.now in
     let is = subst (λ s. IsShape s (mark_of n.span n.wanted) (tree_of n)) c.in-Do.is c.shape_of.ensures in
     let sound = subst (λ e. SoundTree (callable c.args.context.now) (zone_in c.args.context.now) (length c.args.locals.now.items) c.requires.tail e) is c.requires.sound in
-    let smaller : 16 * nodes_in (trees_of c.in-Do.items.now) + 2 < 16 * nodes (tree_of n) = omega (arith, ap nodes is) in
+    let smaller : 16 * nodes_in (trees_of c.in-Do.items.now) + 3 < 16 * nodes (tree_of n) = omega (arith, ap nodes is) in
     (search (rules, in_room c.args.context.now _ _ smaller), record { tail = c.requires.tail; sound = sound })
 
 pub evaluate_tail-evaluate_let-requires : goal.evaluate_tail-evaluate_let-requires
@@ -541,6 +514,42 @@ evaluate_tail-returns-in-Local-clause-value t c =
     let means_it = local_done x (tree_of n) (mark_of n.span n.wanted) env c.args.state.now c.in-Local.place c.from.result v v is (search rules) bound (search rules) refl in
     copied x c.copy_step-in-Local.result v c.args.state.now (means x (tree_of n) env c.args.state.now) means_it c.copy_step-in-Local.ensures
 
+pub evaluate_form-act_inside-requires : goal.evaluate_form-act_inside-requires
+evaluate_form-act_inside-requires t c =
+    let x = c.args.context.now in
+    let k = 16 * (nodes (tree_of c.args.cell.now) + nodes_in (trees_of c.args.args.now)) in
+    let is = sym c.world.ensures ∙ ap plain_world c.in-Some.is in
+    let smaller : room x + 5 < room x + (k + 10) = omega arith in
+    let ready = subst (λ n. ReadyIn (callable x) (zone_in x) c.args.act n) (sym c.in_ok-args.ensures.count) c.requires.ready in
+    (search (rules, smaller), subst (λ o. ReadyIn (callable x) (zone_on o) c.args.act (length c.in_ok-args.args.items)) is ready)
+
+pub evaluate_form-act_outside-requires : goal.evaluate_form-act_outside-requires
+evaluate_form-act_outside-requires t c =
+    let x = c.args.context.now in
+    let k = 16 * (nodes (tree_of c.args.cell.now) + nodes_in (trees_of c.args.args.now)) in
+    let is = sym c.world.ensures ∙ ap plain_world c.in-None.is in
+    let smaller : room x + 5 < room x + (k + 10) = omega arith in
+    let ready = subst (λ n. ReadyIn (callable x) (zone_in x) c.args.act n) (sym c.in_ok-args.ensures.count) c.requires.ready in
+    (search (rules, smaller), subst (λ o. ReadyIn (callable x) (zone_on o) c.args.act (length c.in_ok-args.args.items)) is ready)
+
+pub evaluate_form-returns-in-Some-clause-value : goal.evaluate_form-returns-in-Some-clause-value
+evaluate_form-returns-in-Some-clause-value t c =
+    let x = c.args.context.now in
+    let m = mark_of c.args.span c.args.wanted in
+    let cell = tree_of c.args.cell.now in
+    let args = trees_of c.args.args.now in
+    let env = c.args.locals.now.items in
+    let out = c.args.state.now in
+    let v = c.in_ok-cell.cell in
+    let vs = c.in_ok-args.args.items in
+    let r = c.act_inside.result in
+    let before = c.evaluate_all.new.state in
+    let after = record before { tx = c.act_inside.new.tx } in
+    let is = sym c.world.ensures ∙ ap plain_world c.in-Some.is in
+    let whole = acted x c.args.act m cell args env out v c.evaluate.new.state c.in_ok-cell.ensures.value c.evaluate.new.locals.items c.in_ok-cell.ensures.kept vs before c.in_ok-args.ensures.value in
+    let given = acted_inside x c.args.act m v vs r before after (plain_view c.in-Some.world) is c.act_inside.ensures in
+    stepped x r c.as_step.result after (form_means x c.args.act m cell args env out) c.as_step.ensures (subst (λ q. Yields x r after q) (sym whole) given)
+
 pub evaluate_form-returns-clause-value : goal.evaluate_form-returns-clause-value
 evaluate_form-returns-clause-value t c =
     let x = c.args.context.now in
@@ -550,8 +559,14 @@ evaluate_form-returns-clause-value t c =
     let env = c.args.locals.now.items in
     let out = c.args.state.now in
     let v = c.in_ok-cell.cell in
-    let whole = acted x c.args.act m cell args env out v c.evaluate.new.state c.in_ok-cell.ensures.value c.evaluate.new.locals.items c.in_ok-cell.ensures.kept c.in_ok-args.args.items c.evaluate_all.new.state c.in_ok-args.ensures.value in
-    stepped x c.do_act.result c.as_step.result c.do_act.new.state (form_means x c.args.act m cell args env out) c.as_step.ensures (subst (λ q. Yields x c.do_act.result c.do_act.new.state q) (sym whole) c.do_act.ensures)
+    let vs = c.in_ok-args.args.items in
+    let r = c.act_outside.result in
+    let before = c.evaluate_all.new.state in
+    let after = record before { thread = c.act_outside.new.thread } in
+    let is = sym c.world.ensures ∙ ap plain_world c.in-None.is in
+    let whole = acted x c.args.act m cell args env out v c.evaluate.new.state c.in_ok-cell.ensures.value c.evaluate.new.locals.items c.in_ok-cell.ensures.kept vs before c.in_ok-args.ensures.value in
+    let given = acted_outside x c.args.act m v vs r before after is (c.act_outside.ensures c.args.wanted) in
+    stepped x r c.as_step-in-None.result after (form_means x c.args.act m cell args env out) c.as_step-in-None.ensures (subst (λ q. Yields x r after q) (sym whole) given)
 
 pub act_inside-returns-in-Put : goal.act_inside-returns-in-Put
 act_inside-returns-in-Put t c =
@@ -579,12 +594,13 @@ act_outside-returns-in-Put t c =
     let form = c.in-Put.field-0 in
     let cell = c.in_ok-cell.cell in
     let before = thread_state c.args.thread.now in
-    let after = thread_state c.put.new.self in
+    let after = thread_state c.eat.new.self in
     let ready = subst (λ a. ReadyIn (callable x) in_thread a (length c.args.args.items)) c.in-Put.is c.requires in
     let told = subst (λ f. Told (Ok cell) (result_of (cell_of (rule f) false c.args.value.now) c.args.span tt)) (c.form.ensures ∙ ap form_of_act c.in-Put.is) c.in_ok-cell.ensures in
-    let given = subst (λ b. Gives false c.put.result after (of_one (λ w. eats b (λ e s. resets w e.kind s) before.todo before) c.args.args.items)) c.home-in-Put.ensures c.put.ensures in
-    λ wanted. subst (λ a. Gives false c.put.result after (outside_means x a (mark_of c.args.span wanted) c.args.value.now c.args.args.items before)) (sym c.in-Put.is)
-    (put_outside x (mark_of c.args.span wanted) c.args.value.now before cell c.put.result after form c.args.args.items ready told given)
+    let r = c.reset_at.result in
+    let given = reset_eaten c.home.result (home x.cells cell) c.home.ensures c.in_ok-event.event.now before after c.in_ok-event.ensures r c.args.args.items (c.reset_at.ensures after) in
+    λ wanted. subst (λ a. Gives false r after (outside_means x a (mark_of c.args.span wanted) c.args.value.now c.args.args.items before)) (sym c.in-Put.is)
+    (put_outside x (mark_of c.args.span wanted) c.args.value.now before cell r after form c.args.args.items ready told given)
 
 pub evaluate_let-returns-clause-value : goal.evaluate_let-returns-clause-value
 evaluate_let-returns-clause-value t c =
@@ -644,29 +660,39 @@ finish-returns-in-Println t c =
     let after = record before { thread = record before.thread { printed = c.print_line.new.printed } } in
     print_done c.args.context.now c.args.strict c.args.span c.args.values.items before c.print_line.result c.as_step-in-Println.result c.as_step-in-Println.ensures c.print_line.new.printed.items c.in-Println.is c.requires after refl c.print_line.ensures
 
+pub run_body-returns-in_err-result-clause-value : goal.run_body-returns-in_err-result-clause-value
+run_body-returns-in_err-result-clause-value t c =
+    let x = c.args.context.now in
+    let body = tree_of c.args.dosync.body.now in
+    let env = c.args.locals.now.items in
+    let w = plain_view c.args.world in
+    let y = c.in_err-result.field-0.0 in
+    let stopped : c.from_residual-in_err-result.result ≡ Err y = search rules in
+    let stops = body_stop x c.on-inner.result w c.on-inner.ensures body env c.new-state.result c.new-state.ensures.tx y c.evaluate.new.state c.in_err-result.ensures.value in
+    subst (λ q. Runs q (mark_of c.args.dosync.span c.args.dosync.wanted) body env (body_means x body env w)) (sym stopped) stops
+
 pub run_body-returns-clause-value : goal.run_body-returns-clause-value
 run_body-returns-clause-value t c =
     let x = c.args.context.now in
     let m = mark_of c.args.dosync.span c.args.dosync.wanted in
     let body = tree_of c.args.dosync.body.now in
     let env = c.args.locals.now.items in
-    let inner = c.on-inner.result in
     let w = plain_view c.args.world in
-    let copied : c.in_ok-copies.copies.items ≡ env = search rules in
-    ran_given x inner w c.on-inner.ensures body env c.new-state.result c.new-state.ensures.tx m _ c.evaluate-given.new.state (λ v. refl) (λ v. c.into_tx.ensures)
-    (λ v. ap (λ l. record { body = body; locals = l; wanted = m.wanted; result = v; state = tx_state c.into_tx.result }) copied) c.evaluate-given.result c.ran.result c.ran.ensures c.evaluate-given.ensures.value
+    let v = c.in_ok-result.result in
+    let copied : c.from_vec.result ≡ env = search rules in (
+      body_done x c.on-inner.result w c.on-inner.ensures body env c.new-state.result c.new-state.ensures.tx v c.evaluate.new.state c.in_ok-result.ensures.value ∙ ap (λ k. Completes v (tx_state k)) (sym c.into_tx.ensures),
+      ap (λ l. record { body = body; locals = l; wanted = m.wanted; result = v; state = tx_state c.into_tx.result }) copied,
+    )
 
 pub run_body-returns-clause-sound : goal.run_body-returns-clause-sound
 run_body-returns-clause-sound t c =
     let x = c.args.context.now in
-    let m = mark_of c.args.dosync.span c.args.dosync.wanted in
     let body = tree_of c.args.dosync.body.now in
     let env = c.args.locals.now.items in
-    let inner = c.on-inner.result in
     let w = plain_view c.args.world in
-    let copied : c.in_ok-copies.copies.items ≡ env = search rules in
-    ran_sound x inner w c.on-inner.ensures body env c.new-state.result c.new-state.ensures.tx m _ c.evaluate-given.new.state (λ v. refl) (λ v. c.into_tx.ensures)
-    (λ v. ap (λ l. record { body = body; locals = l; wanted = m.wanted; result = v; state = tx_state c.into_tx.result }) copied) c.is_sound.ensures (length env) c.requires c.evaluate-given.result c.ran.result c.ran.ensures c.evaluate-given.ensures.value
+    let v = c.in_ok-result.result in
+    let keeps = body_keeps x c.on-inner.result w c.on-inner.ensures body env c.new-state.result c.new-state.ensures.tx c.is_sound.ensures (length env) v c.evaluate.new.state c.requires c.in_ok-result.ensures.value in
+    subst (λ k. SoundCommutes (callable x) k.done.commutes) (sym c.into_tx.ensures) keeps
 
 pub eat_dosync-returns-in-None-clause-value : goal.eat_dosync-returns-in-None-clause-value
 eat_dosync-returns-in-None-clause-value t c =
@@ -765,15 +791,19 @@ pub swap-returns-in_err-world : goal.swap-returns-in_err-world
 swap-returns-in_err-world t c =
     let x = c.args.context.now in
     let y = c.in_err-world.field-0.0 in
-    let before = thread_state c.args.thread.now in
-    let after = thread_state c.swap.new.self in
-    stops_gives (λ v. v) false c.from_residual.result y after (swap_means x c.args.callee c.args.cell c.args.args.now c.args.span before) (search rules)
-    (swap_stop x c.is_sound.ensures c.args.callee c.args.cell c.args.args.now c.args.span before after c.home.result y c.home.ensures c.in_err-world.ensures)
+    let stopped : c.from_residual.result ≡ Err y = search rules in
+    λ book before after eaten is. stops_gives (λ v. v) false c.from_residual.result y after (swap_means x c.args.callee c.args.cell c.args.args.now c.args.span before) stopped
+    (swap_stop x c.is_sound.ensures c.args.callee c.args.cell c.args.args.now c.args.span before after book y is (c.in_err-world.ensures book before after eaten))
+
+pub swap-returns-in_err-value : goal.swap-returns-in_err-value
+swap-returns-in_err-value t c =
+    let stopped : c.from_residual-in_err-value.result ≡ Err Memory = search rules in
+    λ book before after eaten is. stops_gives (λ v. v) false c.from_residual-in_err-value.result Memory after (swap_means c.args.context.now c.args.callee c.args.cell c.args.args.now c.args.span before) stopped tt
 
 pub swap-returns : goal.swap-returns
 swap-returns t c =
-    swap_done c.args.context.now c.is_sound.ensures c.args.callee c.args.cell c.args.args.now c.args.span (thread_state c.args.thread.now) (thread_state c.swap.new.self) c.home.result (plain_view c.in_ok-world.world) (option_copied c.in_ok-world.new) c.in_ok-value.value
-    c.apply_on.result c.end_swap.result c.home.ensures c.in_ok-world.ensures c.in_ok-value.ensures c.requires c.apply_on.ensures c.end_swap.ensures
+    λ book before after eaten is. swap_done c.args.context.now c.is_sound.ensures c.args.callee c.args.cell c.args.args.now c.args.span before after book (plain_view c.in_ok-world.world) (option_copied c.in_ok-world.new) c.in_ok-value.value
+    c.apply_on.result c.end_swap.result is (c.in_ok-world.ensures book before after eaten) c.in_ok-value.ensures c.requires c.apply_on.ensures c.end_swap.ensures
 
 pub act_outside-swap-requires : goal.act_outside-swap-requires
 act_outside-swap-requires t c =
@@ -789,10 +819,10 @@ act_outside-returns-in-Update t c =
     let callee = c.in-Update.callee in
     let cell = c.in_ok-cell.cell in
     let before = thread_state c.args.thread.now in
-    let after = thread_state c.swap.new.thread in
+    let after = thread_state c.eat.new.self in
     let ready = subst (λ a. ReadyIn (callable x) in_thread a (length c.args.args.items)) c.in-Update.is c.requires in
     let told = subst (λ f. Told (Ok cell) (result_of (cell_of (rule f) false c.args.value.now) c.args.span tt)) (c.form.ensures ∙ ap form_of_act c.in-Update.is) c.in_ok-cell.ensures in
-    let given = subst (λ l. Gives false c.swap.result after (swap_means x callee cell l c.args.span before)) c.as_slice.ensures.value c.swap.ensures in
+    let given = subst (λ l. Gives false c.swap.result after (swap_means x callee cell l c.args.span before)) c.as_slice.ensures.value (c.swap.ensures c.home.result before after c.in_ok-event.ensures c.home.ensures) in
     λ wanted. subst (λ a. Gives false c.swap.result after (outside_means x a (mark_of c.args.span wanted) c.args.value.now c.args.args.items before)) (sym c.in-Update.is)
     (update_outside x (mark_of c.args.span wanted) c.args.value.now before cell c.swap.result after form callee c.args.args.items ready told given)
 
@@ -885,19 +915,25 @@ act_outside-returns-in-Look t c =
     let form = c.in-Look.field-0 in
     let cell = c.in_ok-cell.cell in
     let before = thread_state c.args.thread.now in
-    let after = thread_state c.read.new.self in
+    let after = thread_state c.eat.new.self in
     let ready = subst (λ a. ReadyIn (callable x) in_thread a (length c.args.args.items)) c.in-Look.is c.requires in
     let told = subst (λ f. Told (Ok cell) (result_of (cell_of (rule f) false c.args.value.now) c.args.span tt)) (c.form.ensures ∙ ap form_of_act c.in-Look.is) c.in_ok-cell.ensures in
-    let given = subst (λ b. Gives false c.read.result after (eats b (λ e s. reads cell e.kind e.C s) before.todo before)) c.home.ensures c.read.ensures in
-    λ wanted. subst (λ a. Gives false c.read.result after (outside_means x a (mark_of c.args.span wanted) c.args.value.now c.args.args.items before)) (sym c.in-Look.is)
-    (look_outside x (mark_of c.args.span wanted) c.args.value.now before cell c.read.result after form c.args.args.items ready told given)
+    let r = c.read_at.result in
+    let given = gives_at c.home.result (home x.cells cell) c.home.ensures (λ e s. reads cell e.kind e.C s) c.in_ok-event.event.now before after c.in_ok-event.ensures r (c.read_at.ensures after) in
+    λ wanted. subst (λ a. Gives false r after (outside_means x a (mark_of c.args.span wanted) c.args.value.now c.args.args.items before)) (sym c.in-Look.is)
+    (look_outside x (mark_of c.args.span wanted) c.args.value.now before cell r after form c.args.args.items ready told given)
 
 pub act_outside-returns-in-Send : goal.act_outside-returns-in-Send
 act_outside-returns-in-Send t c =
     let x = c.args.context.now in
     let cell = c.in_ok-cell.cell in
     let before = thread_state c.args.thread.now in
-    let after = thread_state c.send_to.new.self in
+    let after = thread_state c.eat.new.self in
+    let callee = c.in-Send.callee in
+    let vs = c.args.args.items in
     let told = subst (λ f. Told (Ok cell) (result_of (cell_of (rule f) false c.args.value.now) c.args.span tt)) (c.form.ensures ∙ ap form_of_act c.in-Send.is) c.in_ok-cell.ensures in
-    λ wanted. subst (λ a. Gives false c.send_to.result after (outside_means x a (mark_of c.args.span wanted) c.args.value.now c.args.args.items before)) (sym c.in-Send.is)
-    (send_outside x (mark_of c.args.span wanted) c.args.value.now before cell c.send_to.result after c.in-Send.callee c.args.args.items told c.send_to.ensures)
+    let r = c.send_at.result in
+    let given = gives_at c.home.result 0 (c.home.ensures ∙ send_home x c.args.value.now c.args.span cell told) (λ e s. sends (record { agent = cell; callee = callee; args = vs; span = c.args.span }) c.args.span e.kind s) c.in_ok-event.event.now before after c.in_ok-event.ensures r
+    (c.send_at.ensures after) in
+    λ wanted. subst (λ a. Gives false r after (outside_means x a (mark_of c.args.span wanted) c.args.value.now vs before)) (sym c.in-Send.is)
+    (send_outside x (mark_of c.args.span wanted) c.args.value.now before cell r after callee vs told given)

@@ -1,12 +1,12 @@
 use Rattle.std.proofs.Common.{◌≡◌, ◌+◌, ◌-◌, ◌*◌, length, take, drop}
-use Rattle.txs_evaluate.specs.Evaluated.{part, is_on, forms_in, calls_in, all_mean, do_means, locals_mean, turns_mean, redone_means}
+use Rattle.txs_evaluate.specs.Evaluated.{part, is_on, forms_in, calls_in, all_mean, locals_mean, turns_mean, redone_means}
 use Rattle.txs_evaluate.specs.Setting.{callable, zone_in}
 use Rattle.txs_frame.specs.Frame.{phase_work}
 use Rattle.txs_tree.specs.Sound.{SoundAll, SoundLet, nodes, nodes_in}
 use Rattle.txs_tree.specs.Tree.{count}
 use Rattle.txs_tree.specs.View.{tree_of, trees_of}
 use Rattle.txs_evaluate.proofs.Called.{room}
-use Rattle.txs_evaluate.proofs.Evaluation.{collects, do_then}
+use Rattle.txs_evaluate.proofs.Evaluation.{collects}
 use Rattle.txs_evaluate.proofs.evaluate.+evaluate.Given as goal
 
 abbrev pub decreases-evaluate : goal.decreases-evaluate
@@ -28,13 +28,10 @@ abbrev pub decreases-evaluate_all : goal.decreases-evaluate_all
 decreases-evaluate_all l = room l.context.now + (16 * nodes_in (trees_of l.nodes.now) + 2)
 
 abbrev pub decreases-evaluate_do : goal.decreases-evaluate_do
-decreases-evaluate_do l = room l.context.now + (16 * nodes_in (trees_of l.nodes.now) + 2)
+decreases-evaluate_do l = room l.context.now + (16 * nodes_in (trees_of l.nodes.now) + 3)
 
 abbrev pub decreases-evaluate_form : goal.decreases-evaluate_form
 decreases-evaluate_form l = room l.context.now + (16 * (nodes (tree_of l.cell.now) + nodes_in (trees_of l.args.now)) + 10)
-
-abbrev pub decreases-do_act : goal.decreases-do_act
-decreases-do_act l = room l.context.now + 6
 
 abbrev pub decreases-act_inside : goal.decreases-act_inside
 decreases-act_inside l = room l.context.now + 5
@@ -95,13 +92,6 @@ invariant-evaluate_all-loop-node l =
     × SoundAll (callable l.context) (zone_in l.context) (length l.fn.locals.items) (trees_of (drop l.node-index l.nodes))
     × (all_mean l.context (trees_of l.nodes) l.fn.locals.items l.fn.state
     ≡ collects (forms_in l.context) (calls_in l.context) l.context.turns (is_on l.context.world) l.values.items (trees_of (drop l.node-index l.nodes)) l.fn.locals.items (part l.context.world l.state))
-
-abbrev pub invariant-evaluate_do-loop-node : goal.invariant-evaluate_do-loop-node
-invariant-evaluate_do-loop-node l =
-    (l.locals.items ≡ l.fn.locals.items)
-    × SoundAll (callable l.context) (zone_in l.context) (length l.fn.locals.items) (trees_of (drop l.node-index l.before))
-    × (do_means l.context (trees_of l.nodes) l.fn.locals.items l.fn.state
-    ≡ do_then l.context (trees_of (drop l.node-index l.before)) (tree_of l.last) l.fn.locals.items l.state)
 
 -- the locals so far
 abbrev pub invariant-bind_locals-loop-node : goal.invariant-bind_locals-loop-node
