@@ -40,9 +40,10 @@ pub(crate) fn put_in(
 
 impl Share for Branch {
     fn share(&self) -> Result<Branch, AllocError> {
-        Ok(Branch {
-            shared: Arc::try_clone(&self.shared)?,
-        })
+        let Ok(shared) = Arc::try_clone(&self.shared) else {
+            return Err(AllocError);
+        };
+        Ok(Branch { shared })
     }
 }
 
