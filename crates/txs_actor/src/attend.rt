@@ -2,7 +2,7 @@
 
 ghost use Rattle.std.specs.Prelude.{◌≡◌, None};
 ghost use Rattle.txs_actor.specs.PlainActor.{Lives, unanswered};
-ghost use Rattle.txs_actor.specs.Turns.{Turns, IsAttending, taken, call_of, CanApplyFor, AppliesFor, CanAttend, AttendsSo};
+ghost use Rattle.txs_actor.specs.Turns.{Turns, IsAttending, CanAttend, AttendsSo};
 ghost use Rattle.txs_actor.specs.declared.outcome.Turn.TheVariants as turned;
 
 use crate::actor::{Actor, tell};
@@ -13,26 +13,8 @@ use txs_transaction::Pending;
 use txs_value::Callee;
 
 impl Actor {
-    /// The action that was taken is run: an operation at once, a function in turns of its own.
-    fn run_action(&mut self, code: &Verified, turn: &mut Turn)
-        requires can { CanApplyFor code.now self.old (call_of (taken self.old.tx)) }
-        requires went { turn.old ≡ turned.Went }
-        ensures { AppliesFor code.now self.old (call_of (taken self.old.tx)) turn.new self.new }
-    {
-        let Some(action) = self.action() else {
-            unreachable!();
-        };
-        let (callee, span) = (action.callee, action.span);
-        match callee {
-            Callee::Core(op) => self.run_operation(op, span, turn),
-            Callee::Function(f) => match self.action_stack(code, f) {
-                Ok(stack) => self.begin_acting(stack),
-                Err(_) => self.end(Outcome::Memory, turn),
-            },
-        }
-    }
-
-    /// An instruction of the agent's own body.
+    /// An instruction of the agent's own body: the action that was taken is run, an operation at once, a function in turns of
+    /// its own.
     fn attend_at(&mut self, code: &Verified, turn: &mut Turn)
         requires can { CanAttend code.now self.old self.old.place }
         requires went { turn.old ≡ turned.Went }
@@ -47,7 +29,17 @@ impl Actor {
             return;
         }
         if at == 1 {
-            self.run_action(code, turn);
+            let Some(action) = self.action() else {
+                unreachable!();
+            };
+            let (callee, span) = (action.callee, action.span);
+            match callee {
+                Callee::Core(op) => self.run_operation(op, span, turn),
+                Callee::Function(f) => match self.action_stack(code, f) {
+                    Ok(stack) => self.begin_acting(stack),
+                    Err(_) => self.end(Outcome::Memory, turn),
+                },
+            }
             return;
         }
         self.give(turn);
