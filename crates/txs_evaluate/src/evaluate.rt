@@ -3,7 +3,7 @@
 ghost use Rattle.std.specs.Prelude.{true, false, ℕ, ◌≡◌, ◌≤◌, ◌-◌, ◌+◌, ◌++◌, ◌∷◌, [], suc, Bool, length, take, drop, None, Some, IsTrue, IfOk, OnOk, MatchResult};
 ghost use Rattle.txs_frame.specs.Frame.{commuted, phase_work, set_writes};
 ghost use Rattle.txs_asks.specs.SeenEvent.{home};
-ghost use Rattle.txs_operations.specs.Core.{core, takes, vector_of, is_false as is_false_value};
+ghost use Rattle.txs_operations.specs.Core.{core, takes, vector_of};
 ghost use Rattle.txs_evaluate.specs.Evaluated.{Ate, Steps, Yields, GivesAll, Ready, ReadyIn, Finishes, Runs, SoundCommutes, means, all_mean, do_means, if_means, let_means, locals_mean, loop_means, turns_mean, call_means, finish_means, strict_means, form_means, inside_means, outside_means, update_means, swap_means, applied, dosync_means, eat_means, body_means, final_means, redone_means, step_of, thread_state};
 ghost use Rattle.txs_eval_work.specs.Worked.{Told, ToldOf, Gives, RefCell, UpdatesRef, tx_state};
 ghost use Rattle.txs_evaluate.specs.declared.evaluate.Step.TheVariants.{Value as AValue};
@@ -66,13 +66,6 @@ fn as_step(given: Result<Value, ThreadStop>) -> Result<Step, ThreadStop>
         Ok(value) => Ok(Step::Value(value)),
         Err(stop) => Err(stop),
     }
-}
-
-/// Whether the value of a test chooses the second branch.
-fn is_other(value: Value) -> bool
-    ensures { result ≡ is_false_value value }
-{
-    is_false(&value)
 }
 
 /// The operation on its arguments; a fault has the span.
@@ -239,7 +232,9 @@ fn evaluate_if<'a>(
     ensures kept { OnOk result (locals.new.items ≡ locals.old.items) }
 {
     let value = evaluate(alloc, context, test, locals, state)?;
-    if is_other(value) {
+    let other = is_false(&value);
+    drop(value);
+    if other {
         return evaluate_tail(alloc, context, no, locals, state);
     }
     evaluate_tail(alloc, context, yes, locals, state)
@@ -303,7 +298,7 @@ fn evaluate_all<'a>(
     ensures count { IfOk result (λ v. length v.items ≡ count (trees_of nodes.now)) }
     ensures kept { OnOk result (locals.new.items ≡ locals.old.items) }
 {
-    let mut values = Vec::with_capacity(alloc, nodes.len())?;
+    let mut values = Vec::new(alloc);
     for node in nodes {
         let value = evaluate(alloc, context, node, locals, state)?;
         values.push(value)?;

@@ -16,7 +16,7 @@ use std::alloc::Global;
 use txs_eval_work::{ThreadStop, TxWork};
 use txs_frame::TxFrame;
 use txs_tree::Node;
-use txs_value::{CellId, Fault, FaultKind, Listed, Span, Value, copy_value};
+use txs_value::{Fault, FaultKind, Listed, Span, Value, copy_value};
 
 /// A transaction that came to its end: its body with its locals, whether its result is wanted, its result, and what it did.
 #[derive(Drop)]

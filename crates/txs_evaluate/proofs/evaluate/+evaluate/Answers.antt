@@ -72,11 +72,11 @@ call-returns t c =
 pub evaluate_all-loop-node-init : goal.evaluate_all-loop-node-init
 evaluate_all-loop-node-init t c =
     let n = c.args.context.now in
-    let empty : c.in_ok-values.values.items ≡ [] = c.in_ok-values.ensures.items in (
+    let empty : c.new-values.result.items ≡ [] = search rules in (
       refl,
       ap (λ vs. length vs + count (trees_of c.args.nodes.now)) empty ∙ zero-add (count (trees_of c.args.nodes.now)),
       c.requires,
-      collects-start (forms_in n) (calls_in n) n.turns (is_on n.world) c.in_ok-values.values.items (trees_of c.args.nodes.now) c.args.locals.now.items (part n.world c.args.state.now) empty,
+      collects-start (forms_in n) (calls_in n) n.turns (is_on n.world) c.new-values.result.items (trees_of c.args.nodes.now) c.args.locals.now.items (part n.world c.args.state.now) empty,
     )
 
 pub evaluate_all-evaluate-requires : goal.evaluate_all-evaluate-requires
@@ -93,7 +93,7 @@ evaluate_all-returns-in_err-value-clause-value t c =
     let y = c.in_err-value.field-0.0 in
     let rest = all_stop n c.args.nodes.now c.loop-node.node-index c.node-item.result c.loop-node-test.true c.node-item.is c.args.locals.now.items c.loop-node.locals.items c.loop-node.state out c.loop-node.invariant.0 c.loop-node.values.items y c.in_err-value.ensures.value in
     let whole = subst (λ m. StopsAt n y out m) (sym c.loop-node.invariant.3) rest in
-    let err : c.from_residual-in_err-value.result ≡ Err y = search rules in
+    let err : c.from_residual.result ≡ Err y = search rules in
     subst (λ r. GivesAll n (λ (v : Vec Value Global). v.items) r out (all_mean n (trees_of c.args.nodes.now) c.args.locals.now.items c.args.state.now)) (sym err) whole
 
 pub evaluate_all-loop-node-preserved : goal.evaluate_all-loop-node-preserved
