@@ -14,19 +14,32 @@ pub fn next_word<'a>(words: &mut SplitWhitespace<'a>) -> &'a str {
     words.next().unwrap_or("")
 }
 
+/// A word of digits as a number; no word is one that stands in no row.
+pub fn number_of(word: &str) -> i64 {
+    if word.is_empty() {
+        return -1;
+    }
+    let mut number = 0i64;
+    for byte in word.as_bytes() {
+        let digit = i64::from(byte.wrapping_sub(b'0'));
+        number = number.wrapping_mul(10).wrapping_add(digit);
+    }
+    number
+}
+
 /// The next word as a number, or one that stands in no row.
 pub fn next_number(words: &mut SplitWhitespace<'_>) -> u32 {
-    next_word(words).parse::<u32>().unwrap_or(u32::MAX)
+    u32::try_from(number_of(next_word(words))).unwrap_or(u32::MAX)
 }
 
 /// The next word as the number of an actor or a cell, or one that stands in no row.
 pub fn next_actor(words: &mut SplitWhitespace<'_>) -> u16 {
-    next_word(words).parse::<u16>().unwrap_or(u16::MAX)
+    u16::try_from(number_of(next_word(words))).unwrap_or(u16::MAX)
 }
 
 /// A word as a value, or one that stands in no row.
 pub fn value_of(word: &str) -> Value {
-    Value::Int(word.parse::<i64>().unwrap_or(i64::MIN))
+    Value::Int(number_of(word))
 }
 
 /// A list of one value.
@@ -44,7 +57,10 @@ fn cell_of(word: &str) -> CellId {
         "a" => (CellKind::Atom, 1),
         "b" => (CellKind::Atom, 3),
         "other" => (CellKind::Agent, 0),
-        _ => (CellKind::Ref, word.parse::<u16>().unwrap_or(u16::MAX)),
+        _ => {
+            let number = u16::try_from(number_of(word)).unwrap_or(u16::MAX);
+            (CellKind::Ref, number)
+        }
     };
     CellId { kind, number }
 }
@@ -125,7 +141,7 @@ fn state_of(word: &str) -> Result<Value, Fault> {
 fn closing(cell: CellId, words: &mut SplitWhitespace<'_>) -> Ask {
     let new = value_of(next_word(words));
     let at = match words.next() {
-        Some(word) => word.parse::<u32>().ok(),
+        Some(word) => u32::try_from(number_of(word)).ok(),
         None => None,
     };
     Ask::CloseAt { cell, at, new }
@@ -148,17 +164,15 @@ fn ask_of_cell(name: &str, cell: CellId, words: &mut SplitWhitespace<'_>) -> Ask
     }
 }
 
-// An ask that ends a transaction with a fault.
-fn failing(at: u32) -> Ask {
-    Ask::Fail { at, view: at }
-}
-
 /// An ask by its words, of which the first is its name.
 pub fn ask_of(alloc: Global, words: &mut SplitWhitespace<'_>) -> Ask {
     match next_word(words) {
         "begin" => Ask::Begin,
         "take" => Ask::Take { agent: AGENT },
-        "fail" => failing(next_number(words)),
+        "fail" => {
+            let at = next_number(words);
+            Ask::Fail { at, view: at }
+        }
         "commit" => commit_of(alloc, words),
         "view" => Ask::View {
             cells: cells_of(alloc, next_word(words)),

@@ -1,4 +1,5 @@
 // Replies and events, beside the words of a row.
+use crate::asks::number_of;
 use std::str::SplitWhitespace;
 use txs_asks::{Event, EventKind, Reply};
 use txs_value::Value;
@@ -6,7 +7,7 @@ use txs_value::Value;
 /// Whether the next word is this number.
 pub fn tells(words: &mut SplitWhitespace<'_>, number: i64) -> bool {
     match words.next() {
-        Some(word) => word.parse::<i64>().ok() == Some(number),
+        Some(word) => number_of(word) == number,
         None => false,
     }
 }
@@ -14,7 +15,7 @@ pub fn tells(words: &mut SplitWhitespace<'_>, number: i64) -> bool {
 // Whether a word is this value, which is a number.
 fn is_value(word: Option<&str>, value: &Value) -> bool {
     match (word, value) {
-        (Some(word), Value::Int(n)) => word.parse::<i64>().ok() == Some(*n),
+        (Some(word), Value::Int(n)) => number_of(word) == *n,
         _ => false,
     }
 }
