@@ -1,30 +1,11 @@
--- What is counted and known of a form, over the rows of its parts.
-use Rattle.std.proofs.Common.{arith, ◌≡◌, suc, ◌+◌, Bool, true, false, ◌&&◌, ◌||◌, List, refl, ap, ◌∙◌}
+-- What a form is, over the rows of its parts.
+use Rattle.std.proofs.Common.{◌≡◌, Bool, true, false, ◌&&◌, ◌||◌, List, refl, ap, ◌∙◌}
 use Rattle.txs_value.specs.Places.{nth}
 use Rattle.txs_tree.specs.Known.{Known}
-use Rattle.txs_tree.specs.Sound.{nodes, nodes_in}
 use Rattle.txs_tree.specs.Tree.{Tree, Const, Local, If, Do, Let, Loop, Recur, Core, Call, VectorOf, Println, Dosync, Look, Put, Update, Send, Trees, none}
 use Rattle.txs_check.specs.declared.class.Class.{Class}
 use Rattle.txs_check.specs.Rows.{alone, rows_of}
 use Rattle.txs_check.specs.Signatures.{joined, class_above, class_in, class_in_all, class_known}
-
-pub nodes_rows : (e : Tree) → nodes e ≡ suc (nodes_in (rows_of e).one + (nodes_in (rows_of e).two + nodes_in (rows_of e).three))
-nodes_rows (Const v m) = omega arith
-nodes_rows (Local i m) = omega arith
-nodes_rows (If c a b m) = omega arith
-nodes_rows (Do items m) = omega arith
-nodes_rows (Let values body m) = omega arith
-nodes_rows (Loop values body m) = omega arith
-nodes_rows (Recur values m) = omega arith
-nodes_rows (Core op args m) = omega arith
-nodes_rows (Call f args m) = omega arith
-nodes_rows (VectorOf items m) = omega arith
-nodes_rows (Println args m) = omega arith
-nodes_rows (Dosync body m) = omega arith
-nodes_rows (Look form cell m) = omega arith
-nodes_rows (Put form cell value m) = omega arith
-nodes_rows (Update form cell callee args m) = omega arith
-nodes_rows (Send cell callee args m) = omega arith
 
 or_false : (b : Bool) → b || false ≡ b
 or_false true = refl

@@ -5,7 +5,7 @@ ghost use Rattle.txs_tree.specs.Known.{known};
 ghost use Rattle.txs_value.specs.Forms.{rule};
 ghost use Rattle.txs_value.specs.Places.{nth};
 ghost use Rattle.txs_tree.specs.View.{tree_of, trees_of, function_of, functions_of};
-ghost use Rattle.txs_check.specs.Signatures.{joined, class_above, class_in, class_in_all, class_known, class_standing, bare, known_as, known_if};
+ghost use Rattle.txs_check.specs.Signatures.{joined, class_above, class_in, class_in_all, class_standing, bare, known_as, known_if};
 
 use crate::parts::parts;
 use std::alloc::{AllocError, Global};
@@ -66,17 +66,6 @@ impl Class {
             pure: self.pure && other.pure,
         }
     }
-
-    /// What a transaction is whose body is this.
-    fn in_transaction(self) -> Class
-        ensures { result ≡ record { inside = false; outside = self.outside; pure = false } }
-    {
-        Class {
-            inside: false,
-            outside: self.outside,
-            pure: false,
-        }
-    }
 }
 
 /// What is known of the function of this number, if there is one.
@@ -88,16 +77,6 @@ pub fn signature_of(signatures: &[Signature], number: u16) -> Option<Signature>
         Some(signatures[number])
     } else {
         None
-    }
-}
-
-/// What a call of the function of this number is.
-fn class_of_function(signatures: &[Signature], number: u16) -> Class
-    ensures { result ≡ class_known (nth (known_as signatures.now) number) }
-{
-    match signature_of(signatures, number) {
-        None => IMPURE,
-        Some(signature) => signature.class,
     }
 }
 
@@ -117,12 +96,25 @@ fn class_above(signatures: &[Signature], node: &Node, parts: Class) -> Class
     ensures { result ≡ class_above (known_as signatures.now) (tree_of node.now) parts }
 {
     match &node.kind {
-        NodeKind::Const(_) | NodeKind::Local(_) | NodeKind::If(_, _, _) => parts,
-        NodeKind::Do(_) | NodeKind::Let(_, _) | NodeKind::Loop(_, _) => parts,
-        NodeKind::Recur(_) | NodeKind::Core(_, _) | NodeKind::Vector(_) => parts,
-        NodeKind::Call(number, _) => class_of_function(signatures, *number).join(parts),
+        NodeKind::Const(_)
+        | NodeKind::Local(_)
+        | NodeKind::If(_, _, _)
+        | NodeKind::Do(_)
+        | NodeKind::Let(_, _)
+        | NodeKind::Loop(_, _)
+        | NodeKind::Recur(_)
+        | NodeKind::Core(_, _)
+        | NodeKind::Vector(_) => parts,
+        NodeKind::Call(number, _) => match signature_of(signatures, *number) {
+            None => IMPURE.join(parts),
+            Some(signature) => signature.class.join(parts),
+        },
         NodeKind::Println(_) => OUTSIDE.join(parts),
-        NodeKind::Dosync(_) => parts.in_transaction(),
+        NodeKind::Dosync(_) => Class {
+            inside: false,
+            outside: parts.outside,
+            pure: false,
+        },
         NodeKind::Look(form, _) => class_of_form(CellForm::Look(*form)).join(parts),
         NodeKind::Put(form, _, _) => class_of_form(CellForm::Put(*form)).join(parts),
         NodeKind::Update(form, _, _, _) => class_of_form(CellForm::Update(*form)).join(parts),

@@ -120,14 +120,19 @@ fn check_here(
     ensures { result ≡ here (known_as signatures.now) zone target (tree_of node.now) }
 {
     match &node.kind {
-        NodeKind::Const(_) | NodeKind::Local(_) | NodeKind::If(_, _, _) => Ok(()),
-        NodeKind::Do(_) | NodeKind::Let(_, _) | NodeKind::Loop(_, _) => Ok(()),
+        NodeKind::Const(_)
+        | NodeKind::Local(_)
+        | NodeKind::If(_, _, _)
+        | NodeKind::Do(_)
+        | NodeKind::Let(_, _)
+        | NodeKind::Loop(_, _)
+        | NodeKind::Vector(_)
+        | NodeKind::Dosync(_) => Ok(()),
         NodeKind::Recur(values) => target.check_recur(values.len(), node.span),
         NodeKind::Core(op, args) => check_operation(*op, args.len(), node.span),
         NodeKind::Call(number, args) => {
             check_call(signatures, zone, *number, args.len(), node.span)
         }
-        NodeKind::Vector(_) | NodeKind::Dosync(_) => Ok(()),
         NodeKind::Println(_) => zone.check_standing(Standing::Outside, node.span),
         NodeKind::Look(form, _) => check_form(zone, CellForm::Look(*form), node.span),
         NodeKind::Put(form, _, _) => check_form(zone, CellForm::Put(*form), node.span),

@@ -292,7 +292,7 @@ fn look_alone_at(functions: &[Body], callable: usize, body: &Body, at: usize) ->
 
 /// Looks at the instructions of a body, each alone, where the body may call the first so many functions: all are right, or the first
 /// that isn't is told.
-pub fn look_alone(functions: &[Body], callable: usize, body: &Body) -> Result<(), Refusal>
+pub(crate) fn look_alone(functions: &[Body], callable: usize, body: &Body) -> Result<(), Refusal>
     requires { length body.now.instrs < 4294967295 }
     ensures right { OnOk result (IsRightBody callable (parameters_of functions.now) body.now) }
     ensures wrong { IfErr result (λ r. IsWrongAlone callable (parameters_of functions.now) body.now r.kind r.at) }

@@ -19,7 +19,7 @@ fn parameters(functions: &[Body], f: u16) -> usize
 }
 
 /// How many values an instruction finds on the stack at least.
-pub fn wants(functions: &[Body], instr: Instr) -> usize
+pub(crate) fn wants(functions: &[Body], instr: Instr) -> usize
     ensures { result ≡ wants (parameters_of functions.now) instr }
 {
     match instr {
@@ -39,7 +39,7 @@ pub fn wants(functions: &[Body], instr: Instr) -> usize
 }
 
 /// How many values stand there behind an instruction.
-pub fn depth_behind(functions: &[Body], instr: Instr, depth: usize) -> usize
+pub(crate) fn depth_behind(functions: &[Body], instr: Instr, depth: usize) -> usize
     requires enough { wants (parameters_of functions.now) instr ≤ depth }
     requires low { depth < 4294967295 }
     ensures { result ≡ depth_behind (parameters_of functions.now) instr depth }
@@ -62,7 +62,7 @@ pub fn depth_behind(functions: &[Body], instr: Instr, depth: usize) -> usize
 }
 
 /// How many transactions are open behind an instruction.
-pub fn txs_behind(instr: Instr, txs: usize) -> usize
+pub(crate) fn txs_behind(instr: Instr, txs: usize) -> usize
     requires end { MayEnd instr txs }
     requires low { txs < 4294967295 }
     ensures { result ≡ txs_behind instr txs }

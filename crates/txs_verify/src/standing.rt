@@ -266,7 +266,7 @@ fn judge(
 }
 
 /// Looks at the marked places of a body: what the body is for, or what is wrong with one of them.
-pub fn look_over(
+pub(crate) fn look_over(
     kinds: &[Kind],
     thread: bool,
     instrs: &[Instr],

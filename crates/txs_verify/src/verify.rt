@@ -108,7 +108,8 @@ fn higher(room: u32, here: Option<Mark>) -> u32
     match here {
         Some(mark) => {
             let depth = mark.depth as u32;
-            if room < depth { depth } else { room }
+            let is_more = room < depth;
+            if is_more { depth } else { room }
         }
         None => room,
     }
