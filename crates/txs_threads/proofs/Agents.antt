@@ -1,6 +1,5 @@
 -- The agents of a code, in the order of its cells, and what the workers left of them.
-use Rattle.std.proofs.Common.{◌≡◌, ◌≤◌, ◌<◌, ◌+◌, ℕ, zero, suc, true, List, [], ◌∷◌, ◌++◌, length, drop, get_or, Option, Some, None, refl, sym, ap, subst, ◌∙◌, arith}
-use Rattle.std.proofs.lemmas.List.{append_assoc, append-nil, drop_more}
+use Rattle.std.proofs.Common.{◌≡◌, ◌≤◌, ◌<◌, ◌+◌, ℕ, zero, suc, true, List, [], ◌∷◌, length, get_or, Option, Some, None, sym, ap, subst, ◌∙◌, arith}
 use Rattle.txs_value.specs.Places.{nth}
 use Rattle.txs_value.specs.declared.cell.CellDefinition.{CellDefinition}
 use Rattle.txs_value.specs.declared.value.CellId.{CellId}
@@ -8,8 +7,8 @@ use Rattle.txs_value.specs.declared.value.CellKind.{CellKind}
 use Rattle.txs_value.specs.declared.value.CellKind.TheVariants.{Ref, Atom, Agent}
 use Rattle.txs_code.specs.PlainCode.{PlainCode}
 use Rattle.txs_actor.specs.PlainActor.{IsActorOf, agents_from, with_agent}
-use Rattle.txs_world.specs.Book.{has_agent, is_failed, mail_after}
-use Rattle.txs_world.specs.Store.{cells_of, first_action, next_action}
+use Rattle.txs_world.specs.Book.{has_agent}
+use Rattle.txs_world.specs.Store.{cells_of, next_action}
 use Rattle.txs_shared.specs.SharedState.{PlainShared, shared_of}
 use Rattle.txs_machine.specs.Agents.{agents_of, AreDrained}
 use Rattle.txs_machine.specs.RunOver.{IsStateOf}
@@ -39,21 +38,6 @@ pub agents_few : (n : ℕ) (ds : List CellDefinition) → length (agents_from n 
 agents_few n [] = omega arith
 agents_few n (d ∷ ds) = with_few d.kind n (length ds) (agents_from (suc n) ds) (agents_few (suc n) ds)
 
-with_before : (k : CellKind) (n : ℕ) (gs hs : List CellId) → (gs ++ with_agent k n []) ++ hs ≡ gs ++ with_agent k n hs
-with_before Ref n gs hs = ap (λ l. l ++ hs) (append-nil gs)
-with_before Atom n gs hs = ap (λ l. l ++ hs) (append-nil gs)
-with_before Agent n gs hs = append_assoc gs (record { kind = Agent; number = n } ∷ []) hs
-
--- with one more cell looked at
-pub agents_more : (ds : List CellDefinition) (n : ℕ) (d : CellDefinition) (gs later : List CellId) → n < length ds → d ≡ get_or ds n d → later ≡ gs ++ with_agent d.kind n [] → gs ++ agents_from n (drop n ds) ≡ agents_from 0 ds
-    → later ++ agents_from (n + 1) (drop (n + 1) ds) ≡ agents_from 0 ds
-agents_more ds n d gs later below read pushed h =
-    let rest = drop (n + 1) ds in
-    let next : n + 1 ≡ suc n = omega arith in
-    let dropped : drop n ds ≡ d ∷ rest = drop_more ds n d below ∙ ap (λ x. x ∷ rest) (sym read) in
-    ap (λ l. l ++ agents_from (n + 1) rest) pushed ∙ with_before d.kind n gs (agents_from (n + 1) rest) ∙ ap (λ m. gs ++ with_agent d.kind n (agents_from m rest)) next
-    ∙ ap (λ l. gs ++ agents_from n l) (sym dropped) ∙ h
-
 pub nth_at : (gs : List CellId) (i : ℕ) (g : CellId) → i < length gs → g ≡ get_or gs i g → nth gs i ≡ Some g
 nth_at [] i g l e = absurd (omega (arith, l))
 nth_at (x ∷ gs) zero g l e = ap Some (sym e)
@@ -78,14 +62,6 @@ are_agents code s gs of all i g e =
     subst (λ cs. has_agent (cells_of cs) g ≡ true) (sym of.cells) (agent_at code i g (subst (λ l. nth l i ≡ Some g) all e)).has
 
 -- ---- what is left of them
-
--- of those from here on, where it is so of those behind the first
-pub drained_more : (s : PlainShared) (gs : List CellId) (rs : List ThreadReport) (i : ℕ) (g : CellId) (r : ThreadReport) → i < length gs → i < length rs → g ≡ get_or gs i g → r ≡ get_or rs i r → IsDrained s g r
-    → (AllDrained s (drop i gs) (drop i rs) → AllDrained s gs rs) → AllDrained s (drop (i + 1) gs) (drop (i + 1) rs) → AllDrained s gs rs
-drained_more s gs rs i g r in_gs in_rs at_gs at_rs drained so rest =
-    let first : drop i gs ≡ g ∷ drop (i + 1) gs = drop_more gs i g in_gs ∙ ap (λ x. x ∷ drop (i + 1) gs) (sym at_gs) in
-    let second : drop i rs ≡ r ∷ drop (i + 1) rs = drop_more rs i r in_rs ∙ ap (λ x. x ∷ drop (i + 1) rs) (sym at_rs) in
-    so (subst (λ l. AllDrained s l (drop i rs)) (sym first) (subst (AllDrained s (g ∷ drop (i + 1) gs)) (sym second) (drained, rest)))
 
 drained_at : (s : PlainShared) (gs : List CellId) (rs : List ThreadReport) (i : ℕ) (g : CellId) (r : ThreadReport) → AllDrained s gs rs → nth gs i ≡ Some g → nth rs i ≡ Some r → IsDrained s g r
 drained_at s [] rs i g r h e f = absurd (subst is_some (sym e) tt)

@@ -85,15 +85,6 @@ pub(crate) fn agent_at(agents: &[CellId], threads: u16, number: u16) -> CellId
     agents[usize::from(number - threads)]
 }
 
-/// Adds so many places at which no actor is parked.
-fn add_places<P: Player>(parked: &mut Vec<Option<P>>, cells: usize) -> Result<(), AllocError> {
-    parked.reserve(cells)?;
-    for _ in 0..cells {
-        let _ = parked.push(None);
-    }
-    Ok(())
-}
-
 impl<P: Player> Actors<P> {
     /// Makes room for so many actors, all of them live, and places for those of the agents among so many cells.
     pub fn make_room(&mut self, actors: usize, cells: usize) -> Result<(), AllocError>
@@ -102,7 +93,10 @@ impl<P: Player> Actors<P> {
     {
         self.ready.reserve(actors)?;
         self.down.reserve(actors)?;
-        add_places(&mut self.parked, cells)?;
+        self.parked.reserve(cells)?;
+        for _ in 0..cells {
+            let _ = self.parked.push(None);
+        }
         self.live = actors;
         Ok(())
     }

@@ -118,7 +118,7 @@ fn is_whole(gathered: &Gathered, agents: &[CellId]) -> bool
 }
 
 /// Plays in rounds what the workers left unended, and compares the actors, in the order of their numbers, with what they share; each may make so many steps.
-pub fn gather_left(
+pub(crate) fn gather_left(
     alloc: Global,
     code: &Verified,
     agents: &[CellId],
