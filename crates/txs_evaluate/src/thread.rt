@@ -1,7 +1,7 @@
 //! What the forms on cells do outside every transaction, at the events that they eat, but for applying callees.
 
 ghost use Rattle.std.specs.Prelude.{false, ◌≡◌, ℕ, length, option_copied, MatchResult};
-ghost use Rattle.txs_evaluate.specs.Evaluated.{Ate, EndAte, EndsNone, SwapAte, SwapsNone, thread_state, is_read_of, is_swap_to, sending, swap_of, is_broke, swap_gives};
+ghost use Rattle.txs_evaluate.specs.Evaluated.{Ate, EndAte, EndsNone, SwapAte, SwapsNone, thread_state, is_swap_to, sending, swap_gives};
 ghost use Rattle.txs_eval_work.specs.Worked.{Gives, of_one};
 ghost use Rattle.txs_eval_work.specs.Views.{plain_view, world_of};
 ghost use Rattle.txs_tree.specs.Thread.{ThreadState, reads, resets, sends, is_retry};
@@ -15,42 +15,12 @@ use txs_value::{Action, Callee, CellId, Fault, FaultKind, Listed, Span, Value};
 /// How often a transaction is tried.
 const TRIES: u16 = 10_000;
 
-/// The value that an event gave an atom, if it is a swap.
-fn swap_of(kind: &EventKind) -> Option<&Value>
-    ensures { option_copied result ≡ swap_of kind.now }
-{
-    match kind {
-        EventKind::Swap { new } => Some(new),
-        _ => None,
-    }
-}
-
-/// Whether an event is a broken swap.
-fn is_broke(kind: &EventKind) -> bool
-    ensures { result ≡ is_broke kind.now }
-{
-    match kind {
-        EventKind::Broke { .. } => true,
-        _ => false,
-    }
-}
-
 /// Whether an event says that a transaction had to run again.
 fn is_retry(kind: &EventKind) -> bool
     ensures { result ≡ is_retry kind.now }
 {
     match kind {
         EventKind::Retry { .. } => true,
-        _ => false,
-    }
-}
-
-/// Whether an event is a read of the cell.
-fn is_read_of(kind: &EventKind, cell: CellId) -> bool
-    ensures { result ≡ is_read_of cell kind.now }
-{
-    match kind {
-        EventKind::Read { cell: other } => same_cell(cell, *other),
         _ => false,
     }
 }
@@ -139,23 +109,26 @@ pub(crate) fn swap_at<'a>(event: &Seen<'a>) -> Result<(RefView<'a>, Option<&'a V
         (λ s. (book : ℕ) (t u : ThreadState) → Ate book event.now t u → SwapAte book (plain_view s.0) (option_copied s.1) t u)
         (λ y. (book : ℕ) (t u : ThreadState) → Ate book event.now t u → SwapsNone book y t u) }
 {
-    if let Some(new) = swap_of(event.kind) {
-        return Ok((event.here, Some(new)));
+    match event.kind {
+        EventKind::Swap { new } => Ok((event.here, Some(new))),
+        EventKind::Broke { .. } => Ok((event.start, None)),
+        _ => Err(ThreadStop::Wrong),
     }
-    if !is_broke(event.kind) {
-        return Err(ThreadStop::Wrong);
-    }
-    Ok((event.start, None))
 }
 
 /// A read at its event, which is one of the cell: the value at that event's place.
 pub(crate) fn read_at(event: &Seen<'_>, cell: CellId) -> Result<Value, ThreadStop>
     ensures { (t : ThreadState) → Gives false result t (reads cell event.now.kind.now (world_of (plain_view event.now.here)) t) }
 {
-    if !is_read_of(event.kind, cell) {
-        return Err(ThreadStop::Wrong);
+    match event.kind {
+        EventKind::Read { cell: other } => {
+            if !same_cell(cell, *other) {
+                return Err(ThreadStop::Wrong);
+            }
+            Ok(event.here.read(cell.number)?)
+        }
+        _ => Err(ThreadStop::Wrong),
     }
-    Ok(event.here.read(cell.number)?)
 }
 
 /// `reset!` at its event, which is a swap to the one value among the arguments: that value.

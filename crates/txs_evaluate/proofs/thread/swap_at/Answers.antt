@@ -3,21 +3,21 @@ use Rattle.txs_evaluate.specs.Evaluated.{swap_of, is_broke}
 use Rattle.txs_evaluate.proofs.Forms.{ate_swap, ate_broken, ate_other}
 use Rattle.txs_evaluate.proofs.thread.swap_at.Goals as goal
 
-pub returns-in-Some : goal.returns-in-Some
-returns-in-Some c =
+pub returns-in-Swap : goal.returns-in-Swap
+returns-in-Swap c =
     let e = c.args.event.now in
-    let to : swap_of e.kind.now ≡ Some c.in-Some.new.now = search rules in
-    λ book t u eaten k g. ate_swap book e t u eaten k g c.in-Some.new.now to
+    let to : swap_of e.kind.now ≡ Some c.in-Swap.new = search rules in
+    λ book t u eaten k g. ate_swap book e t u eaten k g c.in-Swap.new to
 
-pub returns-then-not-is_broke : goal.returns-then-not-is_broke
-returns-then-not-is_broke c =
+pub returns-in-Broke : goal.returns-in-Broke
+returns-in-Broke c =
+    let e = c.args.event.now in
+    let broken : is_broke e.kind.now ≡ true = search rules in
+    λ book t u eaten k g. ate_broken book e t u eaten k g broken
+
+pub returns-in_default : goal.returns-in_default
+returns-in_default c =
     let e = c.args.event.now in
     let other : swap_of e.kind.now ≡ None = search rules in
     let whole : is_broke e.kind.now ≡ false = search rules in
     λ book t u eaten k g. (refl, ate_other book e t u eaten k g other whole)
-
-pub returns : goal.returns
-returns c =
-    let e = c.args.event.now in
-    let broken : is_broke e.kind.now ≡ true = search rules in
-    λ book t u eaten k g. ate_broken book e t u eaten k g broken
