@@ -1,43 +1,45 @@
 //! What is said of the byte form of a script's code.
 
-use crate::written::{words_in, written_of};
+use crate::written::{Written, written_by};
 use std::alloc::{AllocError, Global};
 use std::io;
 
 /// Whether a script that compiles has code with a byte form, and one that doesn't is refused alike by `build` and by
 /// `check`.
-fn builds(alloc: Global, script: &[u8]) -> Result<bool, AllocError> {
-    let check = words_in(alloc, "check")?;
-    let build = words_in(alloc, "build --out F")?;
-    let checked = written_of(alloc, check.as_slice(), script);
-    let built = written_of(alloc, build.as_slice(), script);
-    let same = checked.status == built.status && checked.errors == built.errors;
-    Ok(same && checked.output.is_empty() == built.output.is_empty())
+fn builds(alloc: Global, script: &[u8], built: &Written) -> Result<bool, AllocError> {
+    let checked = written_by(alloc, "check", script)?;
+    Ok(
+        checked.status == built.status
+            && checked.errors == built.errors
+            && checked.output.is_empty() == built.output.is_empty(),
+    )
 }
 
 /// Whether the code that `build` gives of a script is read again as it was: whether both have one listing.
-fn reads(alloc: Global, script: &[u8]) -> Result<bool, AllocError> {
-    let build = words_in(alloc, "build --out F")?;
-    let built = written_of(alloc, build.as_slice(), script);
+fn reads(alloc: Global, script: &[u8], built: &Written) -> Result<bool, AllocError> {
     if built.status != 0 {
         return Ok(true);
     }
-    let listing = words_in(alloc, "dis")?;
-    let listed = written_of(alloc, listing.as_slice(), script);
-    let again = words_in(alloc, "dis --code")?;
-    let read = written_of(alloc, again.as_slice(), built.output.as_slice());
+    let listed = written_by(alloc, "dis", script)?;
+    let read = written_by(alloc, "dis --code", built.output.as_slice())?;
     Ok(read.status == 0 && read.output == listed.output)
 }
 
 /// Whether both hold, with a line where one doesn't.
-pub fn is_built(rt: &HostRuntime, name: &str, script: &[u8]) -> io::Result<bool> {
-    if !builds(rt.alloc(), script)? {
+fn is_known(rt: &HostRuntime, name: &str, script: &[u8], built: &Written) -> io::Result<bool> {
+    if !builds(rt.alloc(), script, built)? {
         println!(rt; "{name}: build and check don't agree")?;
         return Ok(false);
     }
-    if !reads(rt.alloc(), script)? {
+    if !reads(rt.alloc(), script, built)? {
         println!(rt; "{name}: what is built isn't read as it was")?;
         return Ok(false);
     }
     Ok(true)
+}
+
+/// The same of what `build` gives of a script.
+pub fn is_built(rt: &HostRuntime, name: &str, script: &[u8]) -> io::Result<bool> {
+    let built = written_by(rt.alloc(), "build --out F", script)?;
+    is_known(rt, name, script, &built)
 }

@@ -20,13 +20,6 @@ fn words_of(rt: &HostRuntime, name: &str) -> io::Result<Vec<String>> {
     Ok(words)
 }
 
-/// What the program writes for an example. Its status needs no look: each but 0 comes with a line on the
-/// standard error.
-fn run(rt: &HostRuntime, name: &str, script: &[u8]) -> io::Result<Written> {
-    let words = words_of(rt, name)?;
-    Ok(written_of(rt.alloc(), words.as_slice(), script))
-}
-
 /// Whether what was written is what the file NAME.KIND says; one that isn't there says nothing.
 fn agrees_with(rt: &HostRuntime, name: &str, kind: &str, got: &[u8]) -> io::Result<bool> {
     let file = format!(in rt.alloc(); "{name}.{kind}")?;
@@ -38,17 +31,36 @@ fn agrees_with(rt: &HostRuntime, name: &str, kind: &str, got: &[u8]) -> io::Resu
     agrees(rt, name, kind, got, wanted.as_slice())
 }
 
+/// Whether what was written is what both files say.
+fn is_written_so(rt: &HostRuntime, name: &str, written: &Written) -> io::Result<bool> {
+    let first = agrees_with(rt, name, "out", written.output.as_slice())?;
+    let second = agrees_with(rt, name, "err", written.errors.as_slice())?;
+    Ok(first && second)
+}
+
+/// The same of what the program writes for an example. Its status needs no look: each but 0 comes with a line on the
+/// standard error.
+fn runs_so(rt: &HostRuntime, name: &str, script: &[u8]) -> io::Result<bool> {
+    let words = words_of(rt, name)?;
+    let written = written_of(rt.alloc(), words.as_slice(), script);
+    drop(words);
+    is_written_so(rt, name, &written)
+}
+
+/// Whether a script is run as its files say, and its code has a byte form.
+fn is_right(rt: &HostRuntime, name: &str, script: &[u8]) -> io::Result<bool> {
+    let first = runs_so(rt, name, script)?;
+    Ok(is_built(rt, name, script)? && first)
+}
+
 /// Runs an example, and prints whether all is as expected: NAME.out holds the standard output, and
 /// NAME.err the standard error; a file that isn't there stands for nothing written. Its code has a byte form.
 pub fn is_as_expected(rt: &HostRuntime, name: &str) -> io::Result<bool> {
     let file = format!(in rt.alloc(); "{name}.clj")?;
     let script = fs::read(rt, file.as_str())?;
-    let written = run(rt, name, script.as_slice())?;
-    let first = agrees_with(rt, name, "out", written.output.as_slice())?;
-    let second = agrees_with(rt, name, "err", written.errors.as_slice())?;
-    let third = is_built(rt, name, script.as_slice())?;
-    if first && second && third {
+    let right = is_right(rt, name, script.as_slice())?;
+    if right {
         println!(rt; "{name}: as expected")?;
     }
-    Ok(first && second && third)
+    Ok(right)
 }

@@ -6,7 +6,7 @@ use crate::layers::checked_code;
 use crate::marks::{
     CODE, ERRORS, OUTPUT, STATUS, WORDS, all_behind, code_in, first_behind, unmarked,
 };
-use crate::written::{Written, words_in, written_of};
+use crate::written::{Written, written_by};
 use std::alloc::{AllocError, Global};
 use std::{fs, io};
 
@@ -31,8 +31,7 @@ fn run(alloc: Global, words: &str, script: &[u8]) -> Result<Written, AllocError>
     if words == "check-code" {
         return checked_code(alloc, script);
     }
-    let words = words_in(alloc, words)?;
-    Ok(written_of(alloc, words.as_slice(), script))
+    written_by(alloc, words, script)
 }
 
 /// Whether what was written to a stream is what stands behind the row's marks.
@@ -57,24 +56,39 @@ fn ended_so(rt: &HostRuntime, name: &str, got: u8, wanted: &str) -> io::Result<b
     Ok(false)
 }
 
-/// Runs a row by the words and the status of its own, or else of the file's head. Whether all is as it says, and the code of
-/// its script has a byte form.
-fn is_as_expected(rt: &HostRuntime, name: &str, head: &str, row: &str) -> io::Result<bool> {
+/// Whether all that was written for a row is as it says.
+fn is_written_so(
+    rt: &HostRuntime,
+    name: &str,
+    row: &str,
+    status: &str,
+    written: &Written,
+) -> io::Result<bool> {
+    let output = (OUTPUT, "the standard output");
+    let errors = (ERRORS, "the standard error");
+    let first = agrees_with(rt, name, output, row, written.output.as_slice())?;
+    let second = agrees_with(rt, name, errors, row, written.errors.as_slice())?;
+    let third = ended_so(rt, name, written.status, status)?;
+    Ok(first && second && third)
+}
+
+/// Runs a row by the words and the status of its own, or else of the file's head. Whether all is as it says.
+fn runs_so(rt: &HostRuntime, name: &str, head: &str, row: &str, script: &[u8]) -> io::Result<bool> {
     let words = first_behind(row, WORDS)
         .or(first_behind(head, WORDS))
         .unwrap_or("run");
     let status = first_behind(row, STATUS)
         .or(first_behind(head, STATUS))
         .unwrap_or("0");
+    let written = run(rt.alloc(), words, script)?;
+    is_written_so(rt, name, row, status, &written)
+}
+
+/// The same, and whether the code of its script has a byte form.
+fn is_as_expected(rt: &HostRuntime, name: &str, head: &str, row: &str) -> io::Result<bool> {
     let script = bytes_of(rt.alloc(), row)?;
-    let written = run(rt.alloc(), words, script.as_slice())?;
-    let output = (OUTPUT, "the standard output");
-    let errors = (ERRORS, "the standard error");
-    let first = agrees_with(rt, name, output, row, written.output.as_slice())?;
-    let second = agrees_with(rt, name, errors, row, written.errors.as_slice())?;
-    let third = ended_so(rt, name, written.status, status)?;
-    let fourth = is_built(rt, name, script.as_slice())?;
-    Ok(first && second && third && fourth)
+    let first = runs_so(rt, name, head, row, script.as_slice())?;
+    Ok(is_built(rt, name, script.as_slice())? && first)
 }
 
 /// Runs a row, with its title in its first line, and counts it.

@@ -11,19 +11,14 @@ pub struct Written {
     pub status: u8,
 }
 
-/// Nothing written so far.
-pub fn nothing(alloc: Global) -> Written {
-    Written {
-        output: Vec::new(alloc),
-        errors: Vec::new(alloc),
-        status: 0,
-    }
-}
-
 /// What the program writes for these words, of this script.
 pub fn written_of(alloc: Global, words: &[String], script: &[u8]) -> Written {
     let mut reader = script;
-    let mut written = nothing(alloc);
+    let mut written = Written {
+        output: Vec::new(alloc),
+        errors: Vec::new(alloc),
+        status: 0,
+    };
     written.status = play(
         alloc,
         words,
@@ -41,4 +36,10 @@ pub fn words_in(alloc: Global, text: &str) -> Result<Vec<String>, AllocError> {
         words.push(String::from_str(alloc, word)?)?;
     }
     Ok(words)
+}
+
+/// The same for the words of a text.
+pub fn written_by(alloc: Global, words: &str, script: &[u8]) -> Result<Written, AllocError> {
+    let words = words_in(alloc, words)?;
+    Ok(written_of(alloc, words.as_slice(), script))
 }
