@@ -1,6 +1,5 @@
 //! Copies of asks, replies and events, each equal to what it was made of. Their values are shared, and
-//! their lists are not. Where a copy fails while others are held, that is a `let .. else`: in a proof it is
-//! a call less than a `?`.
+//! their lists are not.
 ghost use Rattle.std.specs.Prelude.{◌≡◌, IfOk};
 
 use crate::ask::{Ask, Reply};
@@ -18,10 +17,7 @@ pub fn copy_writes(
     let writes = writes.as_slice();
     let mut copies = Vec::with_capacity(alloc, writes.len())?;
     for write in writes {
-        let Ok(value) = copy_value(&write.1) else {
-            return Err(AllocError);
-        };
-        copies.push_reserved((write.0, value));
+        copies.push_reserved((write.0, copy_value(&write.1)?));
     }
     Ok(Listed::from_vec(copies))
 }
@@ -33,10 +29,7 @@ fn copy_actions(alloc: Global, actions: &Listed<Action>) -> Result<Listed<Action
     let actions = actions.as_slice();
     let mut copies = Vec::with_capacity(alloc, actions.len())?;
     for action in actions {
-        let Ok(copy) = copy_action(alloc, action) else {
-            return Err(AllocError);
-        };
-        copies.push_reserved(copy);
+        copies.push_reserved(copy_action(alloc, action)?);
     }
     Ok(Listed::from_vec(copies))
 }
@@ -72,18 +65,10 @@ pub fn copy_ask(alloc: Global, ask: &Ask) -> Result<Ask, AllocError>
             commuted,
             sends,
         } => {
-            let Ok(ensured) = Vec::from_slice(alloc, ensured.as_slice()) else {
-                return Err(AllocError);
-            };
-            let Ok(sets) = copy_writes(alloc, sets) else {
-                return Err(AllocError);
-            };
-            let Ok(commuted) = copy_writes(alloc, commuted) else {
-                return Err(AllocError);
-            };
-            let Ok(sends) = copy_actions(alloc, sends) else {
-                return Err(AllocError);
-            };
+            let ensured = Vec::from_slice(alloc, ensured.as_slice())?;
+            let sets = copy_writes(alloc, sets)?;
+            let commuted = copy_writes(alloc, commuted)?;
+            let sends = copy_actions(alloc, sends)?;
             Ok(Ask::Commit {
                 at: *at,
                 sets,
@@ -136,12 +121,8 @@ pub fn copy_reply(alloc: Global, reply: &Reply) -> Result<Reply, AllocError>
             action,
             state,
         } => {
-            let Ok(action) = copy_action(alloc, action) else {
-                return Err(AllocError);
-            };
-            let Ok(state) = copy_value(state) else {
-                return Err(AllocError);
-            };
+            let action = copy_action(alloc, action)?;
+            let state = copy_value(state)?;
             Ok(Reply::Action {
                 number: *number,
                 action,
@@ -166,12 +147,8 @@ fn copy_kind(alloc: Global, kind: &EventKind) -> Result<EventKind, AllocError>
             writes,
             sends,
         } => {
-            let Ok(writes) = copy_writes(alloc, writes) else {
-                return Err(AllocError);
-            };
-            let Ok(sends) = copy_actions(alloc, sends) else {
-                return Err(AllocError);
-            };
+            let writes = copy_writes(alloc, writes)?;
+            let sends = copy_actions(alloc, sends)?;
             Ok(EventKind::Commit {
                 at: *at,
                 view: *view,
