@@ -40,10 +40,9 @@ pub(crate) fn put_in(
 
 impl Share for Branch {
     fn share(&self) -> Result<Branch, AllocError> {
-        let Ok(shared) = Arc::try_clone(&self.shared) else {
-            return Err(AllocError);
-        };
-        Ok(Branch { shared })
+        Ok(Branch {
+            shared: Arc::try_clone(&self.shared)?,
+        })
     }
 }
 
