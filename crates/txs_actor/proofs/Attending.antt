@@ -10,6 +10,7 @@ use Rattle.txs_asks.specs.declared.ask.Reply.TheVariants as reply
 use Rattle.txs_asks.specs.declared.event.Outcome.{Outcome}
 use Rattle.txs_asks.specs.declared.event.Outcome.TheVariants as outcome
 use Rattle.txs_frame.specs.Frame.{Work, no_work}
+use Rattle.txs_calls.specs.Travels.{Needs}
 use Rattle.txs_code.specs.Opening.{given, opening}
 use Rattle.txs_frame.specs.declared.frame.Commute.{Commute}
 use Rattle.txs_operations.specs.Core.{Answer, core}
@@ -34,7 +35,7 @@ use Rattle.txs_stack.proofs.Lists.{length_nils}
 use Rattle.txs_actor.specs.Paces.{MayStep, IsOver}
 use Rattle.txs_actor.specs.PlainActor.{PlainActor, state_of, configuration_of, code_of, IsActorOf, attending, ask_for, applied_in, asked_for, unanswered, MayAnswerIf, stops_as, stands_at, answered, answered_if, answered_for, attends_anew, kind_or_pure, owner_of, functions_of, setting_of, CalledIn, IsPureBody, BeganBy, CanApply, AllApply, OpenApplies, ActsFor, AsksWell, GoesOn, CanGoOn, Runs, attending_at, MayRun, HandsOut, MayBreak, BreaksAt, AttendsAt, waits, has_taken, has_value, AttendsFor, AttendsOn, Attends, Lives, Awaits}
 use Rattle.txs_transaction.specs.Transaction.{is_running, IsSwapping}
-use Rattle.txs_actor.specs.Turns.{IsNew, OneStep, Answers, Moves, TurnsFrom, Turns, AsksFor, Needs, TakesAnswer, IsAttending, OperatedAs, Operates, begins_acting, BeginsActing, CanApplyFor, AppliesFor, CanAttend, AttendsSo}
+use Rattle.txs_actor.specs.Turns.{IsNew, OneStep, Answers, Moves, TurnsFrom, Turns, AsksFor, TakesAnswer, IsAttending, OperatedAs, Operates, begins_acting, BeginsActing, CanApplyFor, AppliesFor, CanAttend, AttendsSo}
 use Rattle.txs_actor.specs.declared.outcome.Turn.{Turn}
 use Rattle.txs_actor.specs.declared.outcome.Turn.TheVariants as turned
 use Rattle.txs_transaction.specs.declared.state.Pending.{Pending}

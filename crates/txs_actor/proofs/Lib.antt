@@ -11,4 +11,5 @@ pub mod Openings
 pub mod Replies
 pub mod Saying
 pub mod Striding
+pub mod Travelling
 pub mod Turning

@@ -1,0 +1,2 @@
+pub mod Looking
+mod Ways
