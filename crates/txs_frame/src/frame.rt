@@ -110,6 +110,7 @@ impl TxFrame {
 
     /// Sets a ref. It is refused where the transaction commuted the ref. After an error the frame is as
     /// before, and the value is gone.
+    #[inline(always)]
     pub fn set(&mut self, cell: CellId, value: Value) -> Result<(), SetError>
         requires { cell.kind ≡ a_ref }
         ensures { SetAnswers (set_ref cell value self.old) self.old result self.new }
@@ -205,6 +206,7 @@ impl TxFrame {
     }
 
     /// The refs that were commuted and not set, by ascending number.
+    #[inline(always)]
     pub fn commuted(&self) -> Result<Vec<CellId>, AllocError>
         ensures { IfOk result (λ cells. cells.items ≡ commuted self.now) }
     {

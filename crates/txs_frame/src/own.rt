@@ -44,6 +44,7 @@ pub(crate) fn how_at(own: &[Own], place: Result<usize, usize>) -> Option<How>
 }
 
 /// Puts an own value at its place.
+#[inline(always)]
 pub(crate) fn put(
     own: &mut Vec<Own>,
     place: Result<usize, usize>,

@@ -95,7 +95,9 @@ pub(crate) fn go_on(
     requires may { MayGoOn code.now shared.old budget player.old.actor }
     ensures { HasGoneOn code.now budget shared.old player.old.actor player.old.trace.items result shared.new player.new.actor player.new.trace.items }
 {
-    match player.actor.run(code, budget) {
+    let mut turn = Turn::Went;
+    player.actor.run(code, budget, &mut turn);
+    match turn {
         Turn::Ended(outcome) => Some(outcome),
         Turn::Went => None,
         Turn::Asks(ask) => {

@@ -190,7 +190,8 @@ impl<'a> Played<'a> {
         if self.lost {
             return Turn::Ended(Outcome::Memory);
         }
-        let turn = self.actor.run(self.code, budget);
+        let mut turn = Turn::Went;
+        self.actor.run(self.code, budget, &mut turn);
         if note_ask(self.alloc, &mut self.kept, &mut self.asked, &turn) {
             return turn;
         }

@@ -18,7 +18,8 @@ use crate::left::gather_left;
 use crate::player::{Next, Player};
 use crossbeam_channel::{Receiver, Sender};
 use std::alloc::{AllocError, Global};
-use std::sync::{Mutex, Wait};
+use std::hint::spin_loop;
+use std::sync::{Mutex, MutexGuard, Wait};
 use std::thread;
 use std::thread::Threads;
 use txs_actor::Turn;
@@ -32,6 +33,9 @@ use txs_value::CellId;
 /// After so many asks an actor is handed on, so that others have their turns.
 const ASKS: u32 = 64;
 
+/// How often a worker that finds the lock held looks again before it sleeps.
+const LOOKS: u32 = 200;
+
 /// How it stands with an actor that was run for a while.
 #[derive(Clone, Copy)]
 enum Standing {
@@ -39,6 +43,33 @@ enum Standing {
     GoesOn,
     /// It is this agent's, and nothing waits for it; or nobody's, and it is turned no more: it has ended, or met what agrees with no run.
     Rests(Option<CellId>),
+}
+
+/// Whether it is an ask for an atom's book.
+fn is_of_atom(ask: &Ask) -> bool {
+    matches!(
+        ask,
+        Ask::OpenAt { .. } | Ask::CloseAt { .. } | Ask::Broke { .. }
+    )
+}
+
+/// What lies under the lock, to serve an ask. The lock is held for less than a microsecond, so a worker that finds it held looks again for a while before
+/// it sleeps. One that swaps an atom sleeps at once: the more of them are about, the more swaps meet an atom that has changed, and are made again.
+fn lock_for<'a, R: Wait, P: Player>(
+    rt: &R,
+    desk: &'a Mutex<Desk<P>>,
+    ask: &Ask,
+) -> MutexGuard<'a, Desk<P>> {
+    if is_of_atom(ask) {
+        return desk.lock(rt);
+    }
+    for _ in 0..LOOKS {
+        if let Some(guard) = desk.try_lock() {
+            return guard;
+        }
+        spin_loop();
+    }
+    desk.lock(rt)
 }
 
 /// Sends the word that no actor is live.
@@ -114,7 +145,7 @@ fn serve_ask<R: Wait, P: Player, G: Gate>(
     let actor = played.place();
     let kind = kind_of(&ask);
     let agent = taker(&ask);
-    let Step { served, woke } = desk.lock(rt).serve(actor, ask);
+    let Step { served, woke } = lock_for(rt, desk, &ask).serve(actor, ask);
     if woke {
         hand_on_ready(rt, desk, to);
     }

@@ -33,6 +33,7 @@ impl Journal {
     }
 
     /// Adds an event, and answers how many there are with it.
+    #[inline(always)]
     pub(crate) fn add(&mut self, actor: u16, kind: EventKind) -> Result<u32, AllocError>
         requires { length self.old.book.items < most_events }
         ensures added { OnOk result (self.new.book.items ≡ self.old.book.items ++ event_of actor kind ∷ []) }

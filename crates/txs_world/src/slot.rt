@@ -42,6 +42,7 @@ fn put(slots: &mut Vec<Slot>, number: u16, value: Value, events: u32)
 }
 
 /// Puts what an event wrote into the slots. The event is the last of so many.
+#[inline(always)]
 pub(crate) fn put_all(slots: &mut Vec<Slot>, writes: &mut Vec<(CellId, Value)>, events: u32)
     requires { all_below (length slots.old.items) writes.old.items ≡ true }
     ensures { slots.new.items ≡ put_all events slots.old.items writes.old.items }
@@ -65,6 +66,7 @@ pub(crate) fn append(
 }
 
 /// Adds a write of the same value.
+#[inline(always)]
 pub(crate) fn push_copy(
     copies: &mut Vec<(CellId, Value)>,
     cell: CellId,

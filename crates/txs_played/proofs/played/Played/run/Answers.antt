@@ -11,8 +11,8 @@ pub invariant_of-self : goal.invariant_of-self
 invariant_of-self c =
     let code = c.self.inside.code.now in
     let a = c.self.inside.actor in
-    let b = c.run-turn.new.self in
-    let t = c.run-turn.result in
+    let b = c.run.new.self in
+    let t = c.run.new.turn in
     let kept = c.self.inside.kept in
     let at = c.self.inside.stopped in
     let before : PlainPlayed = record { code = code; actor = a; kept = kept; stopped = at; lost = c.self.inside.lost } in
@@ -20,23 +20,23 @@ invariant_of-self c =
     let lost : c.self.inside.lost ≡ false = search rules in
     let free : unanswered a ≡ None = search rules in
     let was = subst (λ l. IsPlayed l before c.self.inside.asked) lost c.self.invariant.0.1 in
-    let is = turns_played c.actors_run.ensures code (map entry_of kept) at c.args.budget a b t free c.run-turn.ensures.turns was.1 in
+    let is = turns_played c.actors_run.ensures code (map entry_of kept) at c.args.budget a b t free c.run.ensures.turns was.1 in
     let noted : c.note_ask.result ≡ true = search rules in
-    let asked = c.note_ask.ensures.noted noted ∙ noted_so code t b c.self.inside.asked (was.0 ∙ free) c.run-turn.ensures.lives c.run-turn.ensures.says in (
+    let asked = c.note_ask.ensures.noted noted ∙ noted_so code t b c.self.inside.asked (was.0 ∙ free) c.run.ensures.lives c.run.ensures.says in (
       (
-        c.run-turn.ensures.lives,
+        c.run.ensures.lives,
         subst (λ l. IsPlayed l after c.note_ask.new.asked) (sym lost) (asked, subst (λ ks. HasPlayed code (map entry_of ks) at b) (sym c.note_ask.ensures.same) is.1),
       ),
       c.self.invariant.1,
-      turns_limit code (map entry_of kept) at c.args.budget a b t c.run-turn.ensures.turns was.1 ∙ c.self.invariant.2,
+      turns_limit code (map entry_of kept) at c.args.budget a b t c.run.ensures.turns was.1 ∙ c.self.invariant.2,
     )
 
 pub invariant_of-self-2 : goal.invariant_of-self-2
 invariant_of-self-2 c =
     let code = c.self.inside.code.now in
     let a = c.self.inside.actor in
-    let b = c.run-turn.new.self in
-    let t = c.run-turn.result in
+    let b = c.run.new.self in
+    let t = c.run.new.turn in
     let kept = c.self.inside.kept in
     let at = c.self.inside.stopped in
     let before : PlainPlayed = record { code = code; actor = a; kept = kept; stopped = at; lost = c.self.inside.lost } in
@@ -44,38 +44,38 @@ invariant_of-self-2 c =
     let free : unanswered a ≡ None = search rules in
     let was = subst (λ l. IsPlayed l before c.self.inside.asked) lost c.self.invariant.0.1 in
     let none : c.note_ask.result ≡ false = search rules in (
-      (c.run-turn.ensures.lives, c.note_ask.ensures.lost none ∙ was.0 ∙ free),
+      (c.run.ensures.lives, c.note_ask.ensures.lost none ∙ was.0 ∙ free),
       c.self.invariant.1,
-      turns_limit code (map entry_of kept) at c.args.budget a b t c.run-turn.ensures.turns was.1 ∙ c.self.invariant.2,
+      turns_limit code (map entry_of kept) at c.args.budget a b t c.run.ensures.turns was.1 ∙ c.self.invariant.2,
     )
 
 pub returns-then-note_ask-clause-turned : goal.returns-then-note_ask-clause-turned
 returns-then-note_ask-clause-turned c =
-    let turns : TurnsOf c.self.inside.code.now c.args.budget c.self.inside.actor c.run-turn.result c.run-turn.new.self = c.run-turn.ensures.turns in
+    let turns : TurnsOf c.self.inside.code.now c.args.budget c.self.inside.actor c.run.new.turn c.run.new.self = c.run.ensures.turns in
     search rules
 
 pub returns-then-note_ask-clause-went : goal.returns-then-note_ask-clause-went
 returns-then-note_ask-clause-went c =
     let lost : c.self.inside.lost ≡ false = search rules in
-    λ e. (lost, says_went c.run-turn.result c.run-turn.new.self c.run-turn.ensures.says e)
+    λ e. (lost, says_went c.run.new.turn c.run.new.self c.run.ensures.says e)
 
 pub returns-then-note_ask-clause-asks : goal.returns-then-note_ask-clause-asks
 returns-then-note_ask-clause-asks c =
     let lost : c.self.inside.lost ≡ false = search rules in
-    λ q e. (lost, says_asks c.run-turn.result c.run-turn.new.self q c.run-turn.ensures.says e)
+    λ q e. (lost, says_asks c.run.new.turn c.run.new.self q c.run.ensures.says e)
 
 pub returns-then-note_ask-clause-ended : goal.returns-then-note_ask-clause-ended
-returns-then-note_ask-clause-ended c = λ o e w. says_ended c.run-turn.result c.run-turn.new.self o c.run-turn.ensures.says e
+returns-then-note_ask-clause-ended c = λ o e w. says_ended c.run.new.turn c.run.new.self o c.run.ensures.says e
 
 pub returns-then-note_ask-clause-number : goal.returns-then-note_ask-clause-number
 returns-then-note_ask-clause-number c =
     let same : c.self.inside.actor.number ≡ c.args.self.now.actor.number = search rules in
-    turns_number c.self.inside.code.now _ c.self.inside.actor c.run-turn.new.self c.run-turn.result c.run-turn.ensures.turns ∙ same
+    turns_number c.self.inside.code.now _ c.self.inside.actor c.run.new.self c.run.new.turn c.run.ensures.turns ∙ same
 
 pub returns-clause-number : goal.returns-clause-number
 returns-clause-number c =
     let same : c.self.inside.actor.number ≡ c.args.self.now.actor.number = search rules in
-    turns_number c.self.inside.code.now _ c.self.inside.actor c.run-turn.new.self c.run-turn.result c.run-turn.ensures.turns ∙ same
+    turns_number c.self.inside.code.now _ c.self.inside.actor c.run.new.self c.run.new.turn c.run.ensures.turns ∙ same
 
 pub returns-clause-turned : goal.returns-clause-turned
 returns-clause-turned c = λ l. cc
