@@ -9,7 +9,8 @@ ghost use Rattle.txs_machine.specs.Lawfully.{RunLawfully};
 ghost use Rattle.txs_machine.specs.Plays.{IsRanBy};
 ghost use Rattle.txs_machine.specs.RunOver.{IsStateOf, AreOwn, books_of, IsExplained, IsLimited, HasEnded};
 ghost use Rattle.txs_machine.specs.Serving.{may_add, with_place, IsNext, IsServed};
-ghost use Rattle.txs_machine.specs.Turning.{MayGoOn, HasGoneOn};
+ghost use Rattle.txs_machine.specs.Turning.{MayAsk, MayGoOn, HasGoneOn};
+ghost use Rattle.txs_machine.specs.Running.{IsAnswered};
 
 use crate::player::{Place, Player};
 use crate::schedule::{ThreadReport, report_of};
@@ -81,6 +82,67 @@ fn serve_noted(trace: &mut Vec<Place>, shared: &mut SharedState, actor: u16, ask
     reply
 }
 
+/// An actor's ask is served, and the actor goes on with the answer.
+#[inline(always)]
+fn take_ask(player: &mut Player, code: &Verified, shared: &mut SharedState, ask: Ask)
+    requires lives { Lives code.now player.old.actor }
+    requires asks { unanswered player.old.actor ≡ Some ask }
+    requires may { MayAsk code.now shared.old player.old.actor ask }
+    ensures answered { IsAnswered player.old.actor.number shared.old player.old.actor player.old.trace.items ask shared.new player.new.actor player.new.trace.items }
+    ensures lives { Lives code.now player.new.actor }
+{
+    let number = player.actor.number();
+    let reply = serve_noted(&mut player.trace, shared, number, ask);
+    player.actor.answer(code, reply);
+}
+
+/// The same, whatever is asked.
+#[cold]
+#[inline(never)]
+fn take_any_ask(player: &mut Player, code: &Verified, shared: &mut SharedState, ask: Ask)
+    requires lives { Lives code.now player.old.actor }
+    requires asks { unanswered player.old.actor ≡ Some ask }
+    requires may { MayAsk code.now shared.old player.old.actor ask }
+    ensures answered { IsAnswered player.old.actor.number shared.old player.old.actor player.old.trace.items ask shared.new player.new.actor player.new.trace.items }
+    ensures lives { Lives code.now player.new.actor }
+{
+    take_ask(player, code, shared, ask);
+}
+
+/// The same. What transactions ask is told apart first, so that only what serves such an ask is left where the call is inlined.
+#[inline(always)]
+fn meet(player: &mut Player, code: &Verified, shared: &mut SharedState, ask: Ask)
+    requires lives { Lives code.now player.old.actor }
+    requires asks { unanswered player.old.actor ≡ Some ask }
+    requires may { MayAsk code.now shared.old player.old.actor ask }
+    ensures answered { IsAnswered player.old.actor.number shared.old player.old.actor player.old.trace.items ask shared.new player.new.actor player.new.trace.items }
+    ensures lives { Lives code.now player.new.actor }
+{
+    match ask {
+        Ask::Begin => take_ask(player, code, shared, Ask::Begin),
+        Ask::Look { cell, at } => take_ask(player, code, shared, Ask::Look { cell, at }),
+        Ask::Commit {
+            at,
+            sets,
+            ensured,
+            view,
+            commuted,
+            sends,
+        } => {
+            let commit = Ask::Commit {
+                at,
+                sets,
+                ensured,
+                view,
+                commuted,
+                sends,
+            };
+            take_ask(player, code, shared, commit);
+        }
+        other => take_any_ask(player, code, shared, other),
+    }
+}
+
 /// So many turns of an actor, or those up to its end, which is the answer, or up to an ask, which is
 /// served. All that it may come to ask it may ask.
 #[inline(always)]
@@ -101,9 +163,7 @@ pub(crate) fn go_on(
         Turn::Ended(outcome) => Some(outcome),
         Turn::Went => None,
         Turn::Asks(ask) => {
-            let number = player.actor.number();
-            let reply = serve_noted(&mut player.trace, shared, number, ask);
-            player.actor.answer(code, reply);
+            meet(player, code, shared, ask);
             None
         }
     }
