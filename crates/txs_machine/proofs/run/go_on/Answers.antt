@@ -45,3 +45,16 @@ returns-in-Asks c =
     let says = subst (λ (t : Turn). Says t a) c.in-Asks.is c.run.ensures.says in
     let turns = subst (λ (t : Turn). TurnsOf c.args.code.now c.args.budget c.args.player.now.actor t a) c.in-Asks.is c.run.ensures.turns in
     record { turn = Asks q; at = a; turns = turns; says = says; reached = c.run.ensures.lives; lives = c.meet.ensures.lives; led = (c.meet.ensures.answered, refl) }
+
+pub take_brief-requires-clause-asks : goal.take_brief-requires-clause-asks
+take_brief-requires-clause-asks c =
+    let is = c.in-Some.ensures in
+    (subst (λ (t : Turn). Says t c.run.new.self) is c.run.ensures.says).1
+
+pub take_brief-requires-clause-may : goal.take_brief-requires-clause-may
+take_brief-requires-clause-may c =
+    let a = c.run.new.self in
+    let is = c.in-Some.ensures in
+    let says = subst (λ (t : Turn). Says t a) is c.run.ensures.says in
+    let turns = subst (λ (t : Turn). TurnsOf c.args.code.now c.args.budget c.args.player.now.actor t a) is c.run.ensures.turns in
+    c.requires.may a _ turns c.run.ensures.lives says.0 says.1
