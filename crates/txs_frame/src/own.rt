@@ -51,7 +51,8 @@ fn insert_at(own: &mut Vec<Own>, i: usize, item: Own) -> Result<(), AllocError>
     ensures kept { OnErr result (own.new.items ≡ own.old.items) }
 {
     if i == own.len() {
-        own.push(item)?;
+        own.reserve(1)?;
+        own.push_reserved(item);
     } else {
         own.insert(i, item)?;
     }
