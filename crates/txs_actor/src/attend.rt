@@ -46,6 +46,7 @@ impl Actor {
     }
 
     /// A turn in the agent's own body.
+    #[inline(never)]
     pub(crate) fn attend(&mut self, code: &Verified, turn: &mut Turn)
         requires lives { Lives code.now self.old }
         requires attending { IsAttending self.old.tx }

@@ -240,7 +240,7 @@ impl TxFrame {
     pub fn writes(&self) -> Result<Vec<(CellId, Value)>, AllocError>
         ensures { IfOk result (λ writes. writes.items ≡ set_writes self.now) }
     {
-        let mut writes = Vec::new(self.alloc);
+        let mut writes = Vec::with_capacity(self.alloc, self.own.len())?;
         for own in &self.own {
             push_set(&mut writes, own)?;
         }

@@ -1,3 +1,4 @@
+pub mod Briefs
 pub mod Agents
 pub mod Followed
 pub mod Lawfully

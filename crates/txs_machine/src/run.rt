@@ -1,6 +1,6 @@
 //! A thread's run over what actors share.
 
-ghost use Rattle.std.specs.Prelude.{◌≡◌, ◌≤◌, ◌<◌, length, nat_lt, true, vec_capacity, vec_len, IfOk, Some, None};
+ghost use Rattle.std.specs.Prelude.{◌≡◌, ◌≤◌, ◌<◌, length, nat_lt, true, vec_capacity, vec_len, IfOk, IfSome, Some, None};
 ghost use Rattle.txs_actor.specs.PlainActor.{Lives, unanswered};
 ghost use Rattle.txs_runs.specs.Shared.{untouched, book_for};
 ghost use Rattle.txs_shared.specs.SharedState.{shared_of, numbered_book, is_lawful};
@@ -9,15 +9,20 @@ ghost use Rattle.txs_machine.specs.Lawfully.{RunLawfully};
 ghost use Rattle.txs_machine.specs.Plays.{IsRanBy};
 ghost use Rattle.txs_machine.specs.RunOver.{IsStateOf, AreOwn, books_of, IsExplained, IsLimited, HasEnded};
 ghost use Rattle.txs_machine.specs.Serving.{may_add, with_place, IsNext, IsServed};
-ghost use Rattle.txs_machine.specs.Turning.{MayGoOn, HasGoneOn};
+ghost use Rattle.txs_actor.specs.declared.outcome.Turn.TheVariants.{Asks};
+ghost use Rattle.txs_machine.specs.Briefs.{ask_of};
+ghost use Rattle.txs_machine.specs.Turning.{MayAsk, MayGoOn, HasGoneOn};
+ghost use Rattle.txs_machine.specs.Running.{IsAnswered};
 
 use crate::player::{Place, Player};
 use crate::schedule::{ThreadReport, report_of};
 use std::alloc::{AllocError, Global};
+use std::mem;
 use txs_actor::{Actor, Turn};
 use txs_asks::{Ask, Outcome, Reply};
 use txs_code::Verified;
 use txs_shared::SharedState;
+use txs_value::CellId;
 
 /// What a thread has printed, how it ended, the places of its events in the order in which it added them, and how many steps it made.
 #[derive(Drop)]
@@ -26,6 +31,27 @@ pub struct Ran {
     pub outcome: Outcome,
     pub trace: Vec<Place>,
     pub steps: u64,
+}
+
+/// What a transaction asks before its end, in few words: an ask is large to move.
+#[derive(Clone, Copy)]
+pub(crate) enum Brief {
+    /// Its read point.
+    Begin,
+    /// The value of a ref at the read point.
+    Look(CellId, u32),
+}
+
+/// The ask in few words that a turn came to, if it is such a one.
+#[inline(always)]
+fn brief_ask(turn: &Turn) -> Option<Brief>
+    ensures { IfSome result (λ s. turn.now ≡ Asks (ask_of s)) }
+{
+    match turn {
+        Turn::Asks(Ask::Begin) => Some(Brief::Begin),
+        Turn::Asks(Ask::Look { cell, at }) => Some(Brief::Look(*cell, *at)),
+        _ => None,
+    }
 }
 
 /// Whether an ask may add an event to its book.
@@ -81,6 +107,80 @@ fn serve_noted(trace: &mut Vec<Place>, shared: &mut SharedState, actor: u16, ask
     reply
 }
 
+/// An actor's ask is served, and the actor goes on with the answer.
+#[inline(always)]
+fn take_ask(player: &mut Player, code: &Verified, shared: &mut SharedState, ask: Ask)
+    requires lives { Lives code.now player.old.actor }
+    requires asks { unanswered player.old.actor ≡ Some ask }
+    requires may { MayAsk code.now shared.old player.old.actor ask }
+    ensures answered { IsAnswered player.old.actor.number shared.old player.old.actor player.old.trace.items ask shared.new player.new.actor player.new.trace.items }
+    ensures lives { Lives code.now player.new.actor }
+{
+    let number = player.actor.number();
+    let reply = serve_noted(&mut player.trace, shared, number, ask);
+    player.actor.answer(code, reply);
+}
+
+/// The same, whatever is asked.
+#[cold]
+#[inline(never)]
+fn take_any_ask(player: &mut Player, code: &Verified, shared: &mut SharedState, ask: Ask)
+    requires lives { Lives code.now player.old.actor }
+    requires asks { unanswered player.old.actor ≡ Some ask }
+    requires may { MayAsk code.now shared.old player.old.actor ask }
+    ensures answered { IsAnswered player.old.actor.number shared.old player.old.actor player.old.trace.items ask shared.new player.new.actor player.new.trace.items }
+    ensures lives { Lives code.now player.new.actor }
+{
+    take_ask(player, code, shared, ask);
+}
+
+/// The same of an ask in few words, each told apart, so that only what serves it is left where the call is inlined.
+#[inline(always)]
+fn take_brief(player: &mut Player, code: &Verified, shared: &mut SharedState, brief: Brief)
+    requires lives { Lives code.now player.old.actor }
+    requires asks { unanswered player.old.actor ≡ Some (ask_of brief) }
+    requires may { MayAsk code.now shared.old player.old.actor (ask_of brief) }
+    ensures answered { IsAnswered player.old.actor.number shared.old player.old.actor player.old.trace.items (ask_of brief) shared.new player.new.actor player.new.trace.items }
+    ensures lives { Lives code.now player.new.actor }
+{
+    match brief {
+        Brief::Begin => take_ask(player, code, shared, Ask::Begin),
+        Brief::Look(cell, at) => take_ask(player, code, shared, Ask::Look { cell, at }),
+    }
+}
+
+/// The same of a whole ask, where a commit is told apart.
+#[inline(always)]
+fn meet(player: &mut Player, code: &Verified, shared: &mut SharedState, ask: Ask)
+    requires lives { Lives code.now player.old.actor }
+    requires asks { unanswered player.old.actor ≡ Some ask }
+    requires may { MayAsk code.now shared.old player.old.actor ask }
+    ensures answered { IsAnswered player.old.actor.number shared.old player.old.actor player.old.trace.items ask shared.new player.new.actor player.new.trace.items }
+    ensures lives { Lives code.now player.new.actor }
+{
+    match ask {
+        Ask::Commit {
+            at,
+            sets,
+            ensured,
+            view,
+            commuted,
+            sends,
+        } => {
+            let commit = Ask::Commit {
+                at,
+                sets,
+                ensured,
+                view,
+                commuted,
+                sends,
+            };
+            take_ask(player, code, shared, commit);
+        }
+        other => take_any_ask(player, code, shared, other),
+    }
+}
+
 /// So many turns of an actor, or those up to its end, which is the answer, or up to an ask, which is
 /// served. All that it may come to ask it may ask.
 #[inline(always)]
@@ -97,13 +197,17 @@ pub(crate) fn go_on(
 {
     let mut turn = Turn::Went;
     player.actor.run(code, budget, &mut turn);
+    if let Some(brief) = brief_ask(&turn) {
+        // It keeps nothing that would have to be dropped.
+        mem::forget(turn);
+        take_brief(player, code, shared, brief);
+        return None;
+    }
     match turn {
         Turn::Ended(outcome) => Some(outcome),
         Turn::Went => None,
         Turn::Asks(ask) => {
-            let number = player.actor.number();
-            let reply = serve_noted(&mut player.trace, shared, number, ask);
-            player.actor.answer(code, reply);
+            meet(player, code, shared, ask);
             None
         }
     }

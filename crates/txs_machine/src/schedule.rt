@@ -173,6 +173,7 @@ fn play_actor(
 }
 
 /// A play of an agent's actor, in the same way. One for which nothing waits isn't asked, unless it has no step left.
+#[inline(never)]
 fn play_agent(
     agent: &mut AgentPlayer,
     code: &Verified,

@@ -7,7 +7,7 @@ use Rattle.txs_transaction.specs.declared.state.Pending.TheVariants.{Begin, Read
 use Rattle.txs_value.specs.declared.value.CellId.{CellId}
 use Rattle.txs_actor.specs.PlainActor.{PlainActor, answered, answered_if, run_again, stops_as}
 use Rattle.txs_actor.specs.Turns.{TakesAnswer}
-use Rattle.txs_actor.proofs.actor.Actor.take_answer.Goals as goal
+use Rattle.txs_actor.proofs.actor.Actor.take_any_answer.Goals as goal
 
 -- a full book ends the actor
 full : (a : PlainActor) (many : ℕ) (o : Option Pending) → TakesAnswer a many o reply.Full → stops_as a outcome.JournalFull ≡ answered_if a o reply.Full

@@ -4,7 +4,7 @@ use Rattle.txs_transaction.specs.declared.state.Pending.{Pending}
 use Rattle.txs_transaction.specs.declared.state.Pending.TheVariants.{Begin, Read, Ensure, Open, View, Reset, Send, Swap, Close, Commit, Fail, Broke, Take, Finish}
 use Rattle.txs_actor.specs.PlainActor.{PlainActor, answered, answered_if}
 use Rattle.txs_actor.specs.Turns.{TakesAnswer}
-use Rattle.txs_actor.proofs.actor.Actor.take_done.Goals as goal
+use Rattle.txs_actor.proofs.actor.Actor.take_whole_done.Goals as goal
 
 -- what was asked for may be taken out first
 taken_out : (a : PlainActor) (many : ℕ) (o : Option Pending) → TakesAnswer a many o reply.Done → answered_if (record a { pending = None }) o reply.Done ≡ answered_if a o reply.Done
