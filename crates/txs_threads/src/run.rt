@@ -53,7 +53,7 @@ fn is_of_atom(ask: &Ask) -> bool {
     )
 }
 
-/// What lies under the lock, to serve an ask. The lock is held for less than a microsecond, so a worker that finds it held looks again for a while before
+/// What lies under the lock, to serve an ask. Most asks are short, so a worker that finds the lock held looks again for a while before
 /// it sleeps. One that swaps an atom sleeps at once: the more of them are about, the more swaps meet an atom that has changed, and are made again.
 fn lock_for<'a, R: Wait, P: Player>(
     rt: &R,
