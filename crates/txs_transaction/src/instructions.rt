@@ -17,7 +17,7 @@ ghost use Rattle.txs_transaction.specs.declared.state.Origin.{Origin as AnOrigin
 ghost use Rattle.txs_transaction.specs.declared.state.Transaction.{Transaction as ATransaction};
 ghost use Rattle.txs_transaction.specs.Transaction.{is_running, depth_in, IsUnapplied, IsSwapping};
 ghost use Rattle.txs_stack.specs.PlainFrame.{PlainStack};
-ghost use Rattle.txs_stack.specs.Values.{below, topmost};
+ghost use Rattle.txs_body.specs.Values.{below, topmost};
 
 use crate::kept::{Ending, KeptTransaction};
 use crate::moved::{Moved, Quick};

@@ -1,5 +1,5 @@
 use Rattle.std.proofs.Common.{◌≡◌, ◌≤◌, ◌+◌, ◌∙◌, ℕ, ap, rules}
-use Rattle.txs_stack.specs.Values.{topmost}
+use Rattle.txs_body.specs.Values.{topmost}
 use Rattle.txs_transaction.proofs.Keeping.{copied_more, copied_all}
 use Rattle.txs_transaction.proofs.instructions.copy_topmost.Goals as goal
 

@@ -1,5 +1,5 @@
 use Rattle.std.proofs.Common.{◌≡◌, take, vec_len, vec_capacity}
-use Rattle.txs_stack.specs.Values.{topmost}
+use Rattle.txs_body.specs.Values.{topmost}
 use Rattle.txs_transaction.proofs.instructions.copy_topmost.Given as goal
 
 -- those so far stand in the copy, which has room for all

@@ -1,8 +1,8 @@
 use Rattle.std.proofs.Common.{◌≡◌, ◌+◌, ◌-◌, ◌++◌, ◌∷◌, [], ℕ, List, length, ap, ◌∙◌, arith, rules}
 use Rattle.txs_stack.specs.PlainFrame.{PlainStack}
 use Rattle.txs_value.specs.declared.value.Value.{Value}
-use Rattle.txs_stack.specs.Values.{below, but_last}
-use Rattle.txs_stack.proofs.Lists.{length_below}
+use Rattle.txs_body.specs.Values.{below, but_last}
+use Rattle.txs_body.proofs.Lists.{length_below}
 use Rattle.txs_transaction.proofs.Keeping.{but_one_more}
 use Rattle.txs_transaction.proofs.instructions.replace_over.Goals as goal
 

@@ -1,5 +1,5 @@
 use Rattle.std.proofs.Common.{◌≡◌}
-use Rattle.txs_stack.specs.Values.{below}
+use Rattle.txs_body.specs.Values.{below}
 use Rattle.txs_transaction.proofs.instructions.replace_over.Given as goal
 
 -- so many of the last values have gone
