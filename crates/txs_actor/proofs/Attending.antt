@@ -33,7 +33,8 @@ use Rattle.txs_body.specs.Ready.{Ready}
 use Rattle.txs_body.specs.Values.{stack_in}
 use Rattle.txs_body.proofs.Lists.{length_nils}
 use Rattle.txs_actor.specs.Paces.{MayStep, IsOver}
-use Rattle.txs_actor.specs.PlainActor.{PlainActor, state_of, configuration_of, code_of, IsActorOf, attending, ask_for, applied_in, asked_for, unanswered, MayAnswerIf, stops_as, stands_at, answered, answered_if, answered_for, attends_anew, kind_or_pure, owner_of, functions_of, setting_of, CalledIn, IsPureBody, BeganBy, CanApply, AllApply, OpenApplies, ActsFor, AsksWell, GoesOn, CanGoOn, Runs, attending_at, MayRun, HandsOut, MayBreak, BreaksAt, AttendsAt, waits, has_taken, has_value, AttendsFor, AttendsOn, Attends, Lives, Awaits}
+use Rattle.txs_actor.specs.PlainActor.{PlainActor, state_of, configuration_of, code_of, IsActorOf, attending, asked_for, unanswered, MayAnswerIf, stops_as, stands_at, answered, answered_if, answered_for, attends_anew, kind_or_pure, owner_of, functions_of, setting_of, CalledIn, IsPureBody, BeganBy, CanApply, AllApply, OpenApplies, ActsFor, AsksWell, GoesOn, CanGoOn, Runs, attending_at, MayRun, HandsOut, MayBreak, BreaksAt, AttendsAt, waits, has_taken, has_value, AttendsFor, AttendsOn, Attends, Lives, Awaits}
+use Rattle.txs_transaction.specs.Asks.{ask_for, applied_in}
 use Rattle.txs_transaction.specs.Transaction.{is_running, IsSwapping}
 use Rattle.txs_actor.specs.Turns.{IsNew, OneStep, Answers, Moves, TurnsFrom, Turns, AsksFor, TakesAnswer, IsAttending, OperatedAs, Operates, begins_acting, BeginsActing, CanApplyFor, AppliesFor, CanAttend, AttendsSo}
 use Rattle.txs_actor.specs.declared.outcome.Turn.{Turn}

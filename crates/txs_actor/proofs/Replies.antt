@@ -11,7 +11,8 @@ use Rattle.txs_value.specs.declared.action.Action.{Action as AnAction}
 use Rattle.txs_value.specs.declared.fault.Fault.{Fault}
 use Rattle.txs_value.specs.declared.value.CellId.{CellId}
 use Rattle.txs_value.specs.declared.value.Value.{Value}
-use Rattle.txs_actor.specs.PlainActor.{ask_for, MayAnswer}
+use Rattle.txs_actor.specs.PlainActor.{MayAnswer}
+use Rattle.txs_transaction.specs.Asks.{ask_for}
 use Rattle.txs_transaction.specs.declared.state.Origin.{Origin}
 use Rattle.txs_transaction.specs.declared.state.Pending.{Pending}
 use Rattle.txs_transaction.specs.declared.state.Pending.TheVariants as pending

@@ -7,7 +7,8 @@ use Rattle.txs_asks.specs.declared.event.Outcome.{Outcome}
 use Rattle.txs_asks.specs.declared.event.Outcome.TheVariants as outcome
 use Rattle.txs_frame.specs.Phase.{PlainPhase}
 use Rattle.txs_value.specs.declared.value.Value.{Value}
-use Rattle.txs_actor.specs.PlainActor.{PlainActor, MayAnswer, Stops, answered, answered_for, answered_if, asked_for, applied_in, state_of, run_again, end_again, refuse, views, attends_anew, unanswered}
+use Rattle.txs_actor.specs.PlainActor.{PlainActor, MayAnswer, Stops, answered, answered_for, answered_if, asked_for, state_of, run_again, end_again, refuse, views, attends_anew, unanswered}
+use Rattle.txs_transaction.specs.Asks.{applied_in}
 use Rattle.txs_transaction.specs.Transaction.{is_running}
 use Rattle.txs_transaction.specs.declared.state.Pending.{Pending}
 use Rattle.txs_transaction.specs.declared.state.Pending.TheVariants.{Begin, Read, Ensure, Open, View, Reset, Send, Swap, Close, Commit, Fail, Broke, Take, Finish}

@@ -23,7 +23,8 @@ use Rattle.txs_calls.specs.Travels.{body_at}
 use Rattle.txs_code.specs.Machine.{PlainInstr, TakeOf, PlainBody, ThreadCode, agent_code, Activity, Outside, Configuration, Turned, Asking, Unfinished, turn}
 use Rattle.txs_code.specs.PlainCode.{CodeBody, PlainCode, function_codes}
 use Rattle.txs_code.specs.WellTyped.{FunctionKind, IsImpure}
-use Rattle.txs_actor.specs.PlainActor.{PlainActor, IsActorOf, Lives, Runs, AttendsAt, waits, has_taken, has_value, AttendsFor, AttendsOn, MayAnswer, MayRun, HandsOut, answered, answered_for, answered_if, asked_for, ask_for, attends_anew, applied_in, unanswered, activity_of, configuration_of, state_of, code_of, Callers, IsFirst, first_in, BeganBy, IsPureBody, AppliesWell, NoneAside, ActsFor, open_of, GoesOn, AsksWell, CanGoOn, owner_of, setting_of, Awaits}
+use Rattle.txs_actor.specs.PlainActor.{PlainActor, IsActorOf, Lives, Runs, AttendsAt, waits, has_taken, has_value, AttendsFor, AttendsOn, MayAnswer, MayRun, HandsOut, answered, answered_for, answered_if, asked_for, attends_anew, unanswered, activity_of, configuration_of, state_of, code_of, Callers, IsFirst, first_in, BeganBy, IsPureBody, AppliesWell, NoneAside, ActsFor, open_of, GoesOn, AsksWell, CanGoOn, owner_of, setting_of, Awaits}
+use Rattle.txs_transaction.specs.Asks.{ask_for, applied_in}
 use Rattle.txs_transaction.specs.Transaction.{is_running, IsSwapping}
 use Rattle.txs_actor.specs.Turns.{Answers, Moves, TurnsFrom, GoesOnAfter, TurnsOf, IsActing}
 use Rattle.txs_actor.specs.declared.outcome.Turn.{Turn}

@@ -9,7 +9,8 @@ use Rattle.txs_code.specs.Opening.{opening}
 use Rattle.txs_code.specs.PlainCode.{PlainCode}
 use Rattle.txs_code.specs.WellTyped.{WellTyped}
 use Rattle.txs_actor.specs.Laws.{ActorsRun}
-use Rattle.txs_actor.specs.PlainActor.{PlainActor, CanGoOn, AttendsOn, Lives, MayAnswer, Stops, answered, unanswered, asked_for, applied_in, configuration_of, code_of, HasRun, HasCome}
+use Rattle.txs_actor.specs.PlainActor.{PlainActor, CanGoOn, AttendsOn, Lives, MayAnswer, Stops, answered, unanswered, asked_for, configuration_of, code_of, HasRun, HasCome}
+use Rattle.txs_transaction.specs.Asks.{applied_in}
 use Rattle.txs_transaction.specs.Transaction.{is_running}
 use Rattle.txs_actor.specs.Turns.{IsNew, TurnsFrom, Turns, GoesOnAfter, TurnsOf}
 use Rattle.txs_actor.specs.declared.outcome.Turn.{Turn}

@@ -1,3 +1,4 @@
+pub mod Asks
 pub mod Effect
 pub mod Kept
 pub mod Transaction

@@ -134,6 +134,12 @@ impl KeptTransaction {
         }
     }
 
+    /// Where what it asks for is allocated.
+    #[inline(always)]
+    pub(crate) fn alloc(&self) -> Global {
+        self.alloc
+    }
+
     /// The transaction, where it is kept whole: else one runs that isn't at its end.
     #[inline(always)]
     pub fn whole(&self) -> Option<&Transaction>

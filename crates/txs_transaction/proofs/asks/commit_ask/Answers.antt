@@ -4,7 +4,7 @@ use Rattle.txs_asks.specs.declared.ask.Ask.TheVariants.{Commit}
 use Rattle.txs_frame.specs.Frame.{set_writes}
 use Rattle.txs_value.specs.declared.action.Action.{Action}
 use Rattle.txs_value.specs.declared.value.CellId.{CellId}
-use Rattle.txs_actor.proofs.actor.commit_ask.Goals as goal
+use Rattle.txs_transaction.proofs.asks.commit_ask.Goals as goal
 
 -- with equal parts it is the same ask
 same_parts : (at view : ℕ) (ws vs commuted : Writes) (es cs : List CellId) (xs ys : List Action) → ws ≡ vs → es ≡ cs → xs ≡ ys → Commit at ws es view commuted xs ≡ Commit at vs cs view commuted ys

@@ -1,5 +1,5 @@
 use Rattle.std.proofs.Common.{◌≡◌, length, take, vec_len, vec_capacity}
-use Rattle.txs_actor.proofs.actor.copy_actions.Given as goal
+use Rattle.txs_transaction.proofs.asks.copy_actions.Given as goal
 
 -- those so far stand in the copy, which has room for all
 abbrev pub invariant-loop-send : goal.invariant-loop-send

@@ -1,7 +1,7 @@
 use Rattle.std.proofs.Common.{◌≡◌, ◌<◌, ◌+◌, ◌∙◌, ◌∷◌, ◌++◌, [], ℕ, List, length, take, get_or, ap, sym, arith}
 use Rattle.std.proofs.lemmas.List.{take_more}
 use Rattle.txs_value.specs.declared.action.Action.{Action}
-use Rattle.txs_actor.proofs.actor.copy_actions.Goals as goal
+use Rattle.txs_transaction.proofs.asks.copy_actions.Goals as goal
 
 -- one more is copied
 one_more : (sends before after : List Action) (i : ℕ) (x copy : Action) → after ≡ before ++ copy ∷ [] → before ≡ take i sends → copy ≡ x → x ≡ get_or sends i x → i < length sends → after ≡ take (i + 1) sends
