@@ -1,11 +1,1 @@
-pub mod CellLemmas
-pub mod CodeExact
-pub mod Decoded
-pub mod Exact
-pub mod FormLemmas
-pub mod Lists
-pub mod Many
-pub mod TextLemmas
-pub mod ValueExact
-pub mod ValueLemmas
 pub mod WrittenLemmas

@@ -8,10 +8,10 @@ use Rattle.std.proofs.lemmas.List.Concat.{flat_map-cons}
 use Rattle.txs_value.specs.PlainValue.{PlainValue, vector, plain_row, plain_size, row_size}
 use Rattle.txs_value.specs.declared.fault.Span.{Span}
 use Rattle.txs_code.specs.declared.instr.Instr.{Instr}
-use Rattle.txs_bytes.specs.CodeForm.{paired}
-use Rattle.txs_bytes.specs.InstrForm.{placed_bytes}
-use Rattle.txs_bytes.specs.ValueForm.{value_bytes, row_bytes, IsWritable, AreWritable}
-use Rattle.txs_bytes.proofs.ValueExact.{plain_row_again}
+use Rattle.txs_decode.specs.CodeForm.{paired}
+use Rattle.txs_decode.specs.InstrForm.{placed_bytes}
+use Rattle.txs_decode.specs.ValueForm.{value_bytes, row_bytes, IsWritable, AreWritable}
+use Rattle.txs_decode.proofs.ValueExact.{plain_row_again}
 
 some_same : {A : Type 0} (x y : A) → Some x ≡ Some y → x ≡ y
 some_same x y e = cc

@@ -4,18 +4,17 @@ ghost use Rattle.std.specs.Option.{option_map};
 ghost use Rattle.std.specs.Prelude.{◌≡◌, ◌<◌, ◌^◌, ◌++◌, length, slice_index_or, OnOk, IfOk, IsTrue, false};
 ghost use Rattle.std.specs.Int.{w16, w32};
 ghost use Rattle.txs_code.specs.declared.instr.Instr.TheVariants as instr;
-ghost use Rattle.txs_bytes.specs.CellForm.{cell_bytes, constant_bytes, kind_byte, mode_byte};
-ghost use Rattle.txs_bytes.specs.CodeForm.{AreBodies, AreCells, AreConstants, FormOf, HasForm, IsSmall, body_bytes, counted_bytes, form};
-ghost use Rattle.txs_bytes.specs.ValueForm.{IsWritable};
+ghost use Rattle.txs_decode.specs.CellForm.{cell_bytes, constant_bytes, kind_byte, mode_byte};
+ghost use Rattle.txs_decode.specs.CodeForm.{AreBodies, AreCells, AreConstants, FormOf, HasForm, IsSmall, body_bytes, counted_bytes, form};
+ghost use Rattle.txs_decode.specs.ValueForm.{IsWritable};
 ghost use Rattle.txs_value.specs.View.{plain_of};
 
-use crate::decoding::decode;
-use crate::error::CodeErrorKind;
 use crate::same::same_code;
 use crate::small::is_small;
 use crate::written::{put_behind, put_name, put_placed, put_value};
 use std::alloc::{AllocError, Global};
 use txs_code::{Body, Code, Instr};
+use txs_decode::{CodeErrorKind, decode};
 use txs_value::{CellDefinition, CellKind, ErrorMode, Span, Value};
 
 /// The byte of a kind of cells.

@@ -3,8 +3,8 @@
 ghost use Rattle.std.specs.Prelude.{◌↔◌, ◌<◌, ◌^◌, IsTrue, length};
 ghost use Rattle.txs_value.specs.PlainValue.{plain_row};
 ghost use Rattle.txs_value.specs.View.{plain_of};
-ghost use Rattle.txs_bytes.specs.CodeForm.{AreBodies, AreCells, AreConstants, IsSmall};
-ghost use Rattle.txs_bytes.specs.ValueForm.{AreWritable, IsWritable};
+ghost use Rattle.txs_decode.specs.CodeForm.{AreBodies, AreCells, AreConstants, IsSmall};
+ghost use Rattle.txs_decode.specs.ValueForm.{AreWritable, IsWritable};
 
 use txs_code::{Body, Code};
 use txs_value::{CellDefinition, Items, Value};

@@ -3,12 +3,12 @@
 ghost use Rattle.std.specs.Prelude.{◌≡◌, ◌++◌, ◌∷◌, OnOk};
 ghost use Rattle.txs_value.specs.PlainValue.{plain_row};
 ghost use Rattle.txs_value.specs.View.{plain_of};
-ghost use Rattle.txs_bytes.specs.InstrForm.{callee_bytes, instr_bytes, opcode_byte, opcode_of, operand_bytes, placed_bytes, span_bytes};
-ghost use Rattle.txs_bytes.specs.ValueForm.{AreWritable, IsWritable, name_bytes, row_bytes, value_bytes};
+ghost use Rattle.txs_decode.specs.InstrForm.{callee_bytes, instr_bytes, opcode_byte, opcode_of, operand_bytes, placed_bytes, span_bytes};
+ghost use Rattle.txs_decode.specs.ValueForm.{AreWritable, IsWritable, name_bytes, row_bytes, value_bytes};
 
-use crate::opcode::Opcode;
 use std::alloc::AllocError;
 use txs_code::{Instr, OpenForm};
+use txs_decode::Opcode;
 use txs_value::{Callee, Items, Name, Span, Value};
 
 /// Appends a byte, and bytes behind it.

@@ -1,7 +1,7 @@
 //! From the bytes of a script to its program and code.
 
 ghost use Rattle.std.specs.Prelude.{◌≡◌, IfOk, IfErr};
-ghost use Rattle.txs_bytes.specs.CodeForm.{HasForm};
+ghost use Rattle.txs_decode.specs.CodeForm.{HasForm};
 ghost use Rattle.txs_check.specs.Refused.{CheckStops};
 ghost use Rattle.txs_code.specs.OwnCells.{NamesOwnCells};
 ghost use Rattle.txs_code.specs.PlainCode.{function_codes};

@@ -17,11 +17,11 @@ use Rattle.txs_code.specs.Spans.{AreOrdered}
 use Rattle.txs_code.specs.WellTyped.{FunctionKind, Functions, IsLawful, Owner, WellTypedBody, WellTypedFunctions, WellTypedThreads}
 use Rattle.txs_gen.specs.Generated.{constants_of_functions, constants_of_threads, AreFunctionsOf, AreBodiesOf}
 use Rattle.txs_gen.proofs.Segments.{plain_length}
-use Rattle.txs_bytes.specs.declared.error.CodeErrorKind.TheVariants.{BadOperand, TooLarge}
-use Rattle.txs_bytes.specs.CellForm.{cell_format, constant_format, kinds_of}
-use Rattle.txs_bytes.specs.CodeForm.{paired, body_of, body_parts, body_format, instructions, all_instructions, magic, magic_format, cells_format, constants_format, functions_format, threads_format, program_format, code_format, HasForm}
-use Rattle.txs_bytes.specs.Format.{SharingFits}
-use Rattle.txs_bytes.specs.ValueForm.{must}
+use Rattle.txs_decode.specs.declared.error.CodeErrorKind.TheVariants.{BadOperand, TooLarge}
+use Rattle.txs_decode.specs.CellForm.{cell_format, constant_format, kinds_of}
+use Rattle.txs_decode.specs.CodeForm.{paired, body_of, body_parts, body_format, instructions, all_instructions, magic, magic_format, cells_format, constants_format, functions_format, threads_format, program_format, code_format, HasForm}
+use Rattle.txs_decode.specs.Format.{SharingFits}
+use Rattle.txs_decode.specs.ValueForm.{must}
 use Rattle.txs_formed.specs.ReadProgram.{IsLiteral, CellIsRead, FunctionIsRead, ThreadIsRead}
 use Rattle.txs_formed.specs.Law.{ScriptsHaveForms}
 use Rattle.txs_formed.proofs.Counts.{AreFew, body_short}

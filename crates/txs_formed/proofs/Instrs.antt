@@ -20,9 +20,9 @@ use Rattle.txs_code.specs.declared.instr.OpenForm.TheVariants as open_form
 use Rattle.txs_code.specs.PlainCode.{CodeBody, plain_instr, plain_instrs}
 use Rattle.txs_code.specs.Spans.{IsOrdered, AreOrdered}
 use Rattle.txs_code.specs.WellTyped.{CalleeTakes, IsLawful}
-use Rattle.txs_bytes.specs.declared.error.CodeErrorKind.TheVariants.{BadOperand}
-use Rattle.txs_bytes.specs.CodeForm.{paired}
-use Rattle.txs_bytes.specs.InstrForm.{operations, op_format, callee_format, opcode_format, instr_format, span_format, placed_format}
+use Rattle.txs_decode.specs.declared.error.CodeErrorKind.TheVariants.{BadOperand}
+use Rattle.txs_decode.specs.CodeForm.{paired}
+use Rattle.txs_decode.specs.InstrForm.{operations, op_format, callee_format, opcode_format, instr_format, span_format, placed_format}
 use Rattle.txs_formed.proofs.Counts.{IsFew, AreFew}
 use Rattle.txs_formed.proofs.Values.{must_true, is_below, is_within}
 

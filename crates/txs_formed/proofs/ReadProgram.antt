@@ -44,7 +44,7 @@ use Rattle.txs_expand.specs.Expressions.{Answer, Bound, Special, row, one_part, 
 use Rattle.txs_expression.specs.Literals.{is_literal, literal, literals}
 use Rattle.txs_resolve.specs.Names.{State, nothing, program, new_name, Defining, only_literal, mode_behind, opened, cell_of, kind_at, defining_of, new_cell, with_definition, defined_as_one, NamedForm, named_form, defined_at, parameters, Written, written_behind, untold, written, are_symbols, with_function, function, with_thread, future, top_level, step, steps, is_namespace, behind_namespace, Resolves}
 use Rattle.txs_resolve.proofs.Scoping.{Every, then_every, one_every, two_every, three_every, if_every}
-use Rattle.txs_bytes.proofs.ValueExact.{plain_row_again}
+use Rattle.txs_decode.proofs.ValueExact.{plain_row_again}
 use Rattle.txs_formed.specs.ReadForms.{IsSymbol, LeafIsRead, IsRead, AreRead}
 use Rattle.txs_formed.specs.ReadProgram.{IsLiteralIn, AreLiteralsIn, IsLiteral, HasMode, CellIsRead, TreeIsRead, TreesAreRead, FunctionIsRead, ThreadIsRead, ProgramIsRead}
 

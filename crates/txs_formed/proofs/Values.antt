@@ -23,13 +23,13 @@ use Rattle.txs_value.specs.declared.value.Value.{Value}
 use Rattle.txs_reader.specs.Bytes.{is_i64, is_symbol, is_numeric, is_sign, IsOther}
 use Rattle.txs_reader.proofs.Numbers.{fits_from_i64}
 use Rattle.txs_code.specs.OwnCells.{kind_at, IsDefined, HoldsDefined, RowHoldsDefined, NameDefined, OpeningsNameNone}
-use Rattle.txs_bytes.specs.declared.error.CodeErrorKind.{CodeErrorKind}
-use Rattle.txs_bytes.specs.declared.error.CodeErrorKind.TheVariants.{BadOperand}
-use Rattle.txs_bytes.specs.CellForm.{kind_format, mode_format, cell_format, constant_format, kinds_of}
-use Rattle.txs_bytes.specs.Format.{Format, never}
-use Rattle.txs_bytes.specs.Names.{begins_number, begins_foreign, is_literal_word, names_keyword, names_cell}
-use Rattle.txs_bytes.specs.ValueForm.{must, name_over, keyword_format, cell_name_format, text_format, tag_format, value_over, value_format}
-use Rattle.txs_bytes.proofs.ValueExact.{value_again, plain_list_again}
+use Rattle.txs_decode.specs.declared.error.CodeErrorKind.{CodeErrorKind}
+use Rattle.txs_decode.specs.declared.error.CodeErrorKind.TheVariants.{BadOperand}
+use Rattle.txs_decode.specs.CellForm.{kind_format, mode_format, cell_format, constant_format, kinds_of}
+use Rattle.txs_decode.specs.Format.{Format, never}
+use Rattle.txs_decode.specs.Names.{begins_number, begins_foreign, is_literal_word, names_keyword, names_cell}
+use Rattle.txs_decode.specs.ValueForm.{must, name_over, keyword_format, cell_name_format, text_format, tag_format, value_over, value_format}
+use Rattle.txs_decode.proofs.ValueExact.{value_again, plain_list_again}
 use Rattle.txs_formed.specs.ReadForms.{IsSymbol}
 use Rattle.txs_formed.specs.ReadProgram.{IsLiteralIn, AreLiteralsIn, IsLiteral, HasMode, CellIsRead}
 

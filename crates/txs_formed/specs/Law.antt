@@ -9,7 +9,7 @@ use Rattle.txs_code.specs.OwnCells.{NamesOwnCells}
 use Rattle.txs_code.specs.PlainCode.{PlainCode}
 use Rattle.txs_code.specs.WellTyped.{WellTyped}
 use Rattle.txs_gen.specs.Generated.{IsCodeOf}
-use Rattle.txs_bytes.specs.CodeForm.{HasForm}
+use Rattle.txs_decode.specs.CodeForm.{HasForm}
 
 -- Code that is that of the sound program of a script's forms, that is well typed, and that names its own cells alone, has a byte form.
 abbrev pub ScriptsHaveForms : Type 0

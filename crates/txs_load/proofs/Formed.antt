@@ -15,13 +15,13 @@ use Rattle.txs_code.specs.OwnCells.{kind_at, IsDefined, HoldsDefined, RowHoldsDe
 use Rattle.txs_code.specs.PlainCode.{CodeBody, PlainCode}
 use Rattle.txs_code.specs.declared.instr.Instr.{Instr}
 use Rattle.txs_code.specs.declared.instr.Instr.TheVariants as instr
-use Rattle.txs_bytes.specs.declared.error.CodeErrorKind.{CodeErrorKind}
-use Rattle.txs_bytes.specs.declared.error.CodeErrorKind.TheVariants.{BadOperand, TooLarge}
-use Rattle.txs_bytes.specs.CellForm.{cell_format, constant_format, kinds_of}
-use Rattle.txs_bytes.specs.CodeForm.{paired, body_format, instructions, all_instructions, most_instructions, cells_format, constants_format, functions_format, threads_format, program_format, code_format, HasForm}
-use Rattle.txs_bytes.specs.Format.{SharingFits}
-use Rattle.txs_bytes.specs.InstrForm.{instr_format, placed_format}
-use Rattle.txs_bytes.specs.ValueForm.{must, tag_format, value_format}
+use Rattle.txs_decode.specs.declared.error.CodeErrorKind.{CodeErrorKind}
+use Rattle.txs_decode.specs.declared.error.CodeErrorKind.TheVariants.{BadOperand, TooLarge}
+use Rattle.txs_decode.specs.CellForm.{cell_format, constant_format, kinds_of}
+use Rattle.txs_decode.specs.CodeForm.{paired, body_format, instructions, all_instructions, most_instructions, cells_format, constants_format, functions_format, threads_format, program_format, code_format, HasForm}
+use Rattle.txs_decode.specs.Format.{SharingFits}
+use Rattle.txs_decode.specs.InstrForm.{instr_format, placed_format}
+use Rattle.txs_decode.specs.ValueForm.{must, tag_format, value_format}
 use Rattle.txs_verify.specs.Alone.{HasConstant}
 use Rattle.txs_verify.specs.Verdict.{BodyInForm, IsInForm}
 

@@ -1,9 +1,9 @@
 -- Code that bytes are the form of, and why bytes aren't taken as code.
 use Rattle.std.specs.Prelude.{◌≡◌, ℕ, List, Err}
-use Rattle.txs_bytes.specs.CodeForm.{HasForm, decoded, form}
-use Rattle.txs_bytes.specs.declared.error.CodeError.{CodeError}
-use Rattle.txs_bytes.specs.declared.error.CodeErrorKind.{CodeErrorKind}
-use Rattle.txs_bytes.specs.declared.error.CodeErrorKind.TheVariants as bytes_kind
+use Rattle.txs_decode.specs.CodeForm.{HasForm, decoded, form}
+use Rattle.txs_decode.specs.declared.error.CodeError.{CodeError}
+use Rattle.txs_decode.specs.declared.error.CodeErrorKind.{CodeErrorKind}
+use Rattle.txs_decode.specs.declared.error.CodeErrorKind.TheVariants as bytes_kind
 use Rattle.txs_code.specs.PlainCode.{PlainCode}
 use Rattle.txs_load.specs.declared.error.LoadError.{LoadError}
 use Rattle.txs_load.specs.declared.error.LoadError.TheVariants as load

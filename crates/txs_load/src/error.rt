@@ -1,6 +1,6 @@
 //! Why bytes aren't taken as code.
 
-use txs_bytes::CodeError;
+use txs_decode::CodeError;
 use txs_verify::error::VerifyError;
 
 /// Why bytes aren't taken as code.

@@ -1,7 +1,7 @@
 //! What all code has that has a byte form.
 
 ghost use Rattle.std.specs.Prelude.{◌≤◌, length};
-ghost use Rattle.txs_bytes.specs.CodeForm.{HasForm};
+ghost use Rattle.txs_decode.specs.CodeForm.{HasForm};
 ghost use Rattle.txs_code.specs.OwnCells.{NamesOwnCells};
 ghost use Rattle.txs_verify.specs.Verdict.{IsInForm};
 

@@ -1,7 +1,7 @@
 //! Code, read and verified.
 
 ghost use Rattle.std.specs.Prelude.{◌≡◌, IfOk, IfErr};
-ghost use Rattle.txs_bytes.specs.CodeForm.{HasForm};
+ghost use Rattle.txs_decode.specs.CodeForm.{HasForm};
 ghost use Rattle.txs_code.specs.OwnCells.{NamesOwnCells};
 ghost use Rattle.txs_code.specs.WellTyped.{WellTyped};
 ghost use Rattle.txs_load.specs.Load.{IsFormOf, IsRefusal, IsWrongCode, bytes_error, code_error};
@@ -10,8 +10,8 @@ ghost use Rattle.txs_verify.specs.Verdict.{AreLeastRooms};
 use crate::error::LoadError;
 use crate::law::form_is_taken;
 use std::alloc::Global;
-use txs_bytes::{CodeError, CodeErrorKind, decode};
 use txs_code::{Code, Verified};
+use txs_decode::{CodeError, CodeErrorKind, decode};
 use txs_verify::error::{VerifyError, VerifyErrorKind};
 use txs_verify::verify::{Rooms, verify};
 

@@ -1,7 +1,7 @@
 -- What the program tells of code in its byte form: on its standard output, on its standard error, and by its status.
 use Rattle.std.specs.Prelude.{◌≡◌, ◌≢◌, ℕ, Bool, true, false, List, [], ◌++◌, codes, decimal, None}
 use Rattle.std.specs.declared.result.Result.TheVariants.{Ok}
-use Rattle.txs_bytes.specs.Errors.{code_error_number, code_error_name}
+use Rattle.txs_decode.specs.Errors.{code_error_number, code_error_name}
 use Rattle.txs_code.specs.PlainCode.{PlainCode}
 use Rattle.txs_code.specs.WellTyped.{WellTyped}
 use Rattle.txs_disasm.specs.Listing.{listing}

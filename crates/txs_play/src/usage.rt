@@ -1,7 +1,7 @@
 //! What is done with code in its byte form: it is listed, or run.
 
 ghost use Rattle.std.specs.Prelude.{◌≡◌, ℕ, List, [], IfOk};
-ghost use Rattle.txs_bytes.specs.CodeForm.{HasForm};
+ghost use Rattle.txs_decode.specs.CodeForm.{HasForm};
 ghost use Rattle.txs_disasm.specs.Listing.{listing};
 ghost use Rattle.txs_load.specs.Load.{IsFormOf};
 ghost use Rattle.txs_play.specs.CodeTold.{CodeTells, Listed, Ran, no_script};

@@ -7,7 +7,7 @@ use Rattle.txs_code.specs.PlainCode.{PlainCode, function_codes}
 use Rattle.txs_compile.specs.Compiled.{IsProgramOf, IsRefusal, codes_of}
 use Rattle.txs_compile.specs.declared.compile_error.CompileError.{CompileError}
 use Rattle.txs_compile.specs.declared.compile_error.CompileError.TheVariants.{Memory as NoMemory}
-use Rattle.txs_bytes.specs.CodeForm.{HasForm, form}
+use Rattle.txs_decode.specs.CodeForm.{HasForm, form}
 use Rattle.txs_disasm.specs.Listing.{listing}
 use Rattle.txs_disasm.specs.Sent.{Sent}
 use Rattle.txs_follows.specs.FollowsAgent.{FollowsAgents}

@@ -2,7 +2,7 @@
 
 ghost use Rattle.std.specs.Option.{option_map};
 ghost use Rattle.std.specs.Prelude.{◌≡◌, ◌++◌, ◌≤◌, length, [], codes, IfOk, OnErr, OnOk};
-ghost use Rattle.txs_bytes.specs.CodeForm.{HasForm};
+ghost use Rattle.txs_decode.specs.CodeForm.{HasForm};
 ghost use Rattle.txs_disasm.specs.Listing.{listing};
 ghost use Rattle.txs_machine.specs.RunOver.{IsStateOf};
 ghost use Rattle.txs_runs.specs.Shared.{untouched};

@@ -1,5 +1,5 @@
 use Rattle.std.proofs.Common.{rules}
-use Rattle.txs_bytes.proofs.FormLemmas.{code_small}
+use Rattle.txs_decode.proofs.FormLemmas.{code_small}
 use Rattle.txs_bytes.proofs.encoding.bytes_of.Goals as goal
 
 pub returns-then-not-is_small : goal.returns-then-not-is_small

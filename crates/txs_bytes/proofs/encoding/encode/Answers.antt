@@ -1,4 +1,4 @@
-use Rattle.txs_bytes.proofs.FormLemmas.{code_small}
+use Rattle.txs_decode.proofs.FormLemmas.{code_small}
 use Rattle.txs_bytes.proofs.encoding.encode.Goals as goal
 
 pub written-requires : goal.written-requires

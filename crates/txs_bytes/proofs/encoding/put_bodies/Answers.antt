@@ -1,7 +1,7 @@
 use Rattle.std.specs.Int.{w16, to_be_bytes}
 use Rattle.std.proofs.Common.{◌<◌, ◌^◌, length}
-use Rattle.txs_bytes.specs.CodeForm.{body_bytes}
-use Rattle.txs_bytes.proofs.FormLemmas.{all_at}
+use Rattle.txs_decode.specs.CodeForm.{body_bytes}
+use Rattle.txs_decode.proofs.FormLemmas.{all_at}
 use Rattle.txs_bytes.proofs.WrittenLemmas.{flat_done, flat_next}
 use Rattle.txs_bytes.proofs.encoding.put_bodies.Goals as goal
 

@@ -1,7 +1,7 @@
 use Rattle.std.proofs.Common.{◌≡◌, ◌++◌, length, take}
 use Rattle.std.specs.Int.{w16, to_be_bytes}
 use Rattle.std.specs.List.{flat_map}
-use Rattle.txs_bytes.specs.CodeForm.{body_bytes}
+use Rattle.txs_decode.specs.CodeForm.{body_bytes}
 use Rattle.txs_bytes.proofs.encoding.put_bodies.Given as goal
 
 abbrev pub invariant-loop-body : goal.invariant-loop-body

@@ -1,8 +1,8 @@
 use Rattle.std.proofs.Common.{◌≡◌, ◌++◌, ◌∷◌, length, take}
 use Rattle.std.specs.Int.{w32, to_be_bytes}
 use Rattle.std.specs.List.{flat_map}
-use Rattle.txs_bytes.specs.CodeForm.{paired}
-use Rattle.txs_bytes.specs.InstrForm.{placed_bytes}
+use Rattle.txs_decode.specs.CodeForm.{paired}
+use Rattle.txs_decode.specs.InstrForm.{placed_bytes}
 use Rattle.txs_bytes.proofs.encoding.put_body.Given as goal
 
 abbrev pub invariant-loop-i : goal.invariant-loop-i

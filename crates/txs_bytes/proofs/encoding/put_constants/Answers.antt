@@ -1,9 +1,9 @@
 use Rattle.std.proofs.Common.{length}
 use Rattle.std.specs.Int.{w32, to_be_bytes}
 use Rattle.txs_value.specs.View.{plain_of}
-use Rattle.txs_bytes.specs.ValueForm.{IsWritable}
-use Rattle.txs_bytes.specs.CellForm.{constant_bytes}
-use Rattle.txs_bytes.proofs.FormLemmas.{all_at}
+use Rattle.txs_decode.specs.ValueForm.{IsWritable}
+use Rattle.txs_decode.specs.CellForm.{constant_bytes}
+use Rattle.txs_decode.proofs.FormLemmas.{all_at}
 use Rattle.txs_bytes.proofs.WrittenLemmas.{flat_done, flat_next}
 use Rattle.txs_bytes.proofs.encoding.put_constants.Goals as goal
 

@@ -1,7 +1,7 @@
 use Rattle.std.proofs.Common.{◌≡◌, ◌++◌, length, take}
 use Rattle.std.specs.Int.{w32, to_be_bytes}
 use Rattle.std.specs.List.{flat_map}
-use Rattle.txs_bytes.specs.CellForm.{constant_bytes}
+use Rattle.txs_decode.specs.CellForm.{constant_bytes}
 use Rattle.txs_bytes.proofs.encoding.put_constants.Given as goal
 
 abbrev pub invariant-loop-constant : goal.invariant-loop-constant

@@ -1,5 +1,5 @@
 use Rattle.std.proofs.Common.{◌≡◌, rules}
-use Rattle.txs_bytes.proofs.FormLemmas.{code_put}
+use Rattle.txs_decode.proofs.FormLemmas.{code_put}
 use Rattle.txs_bytes.proofs.encoding.written.Goals as goal
 
 pub put_cells-requires-clause-few : goal.put_cells-requires-clause-few

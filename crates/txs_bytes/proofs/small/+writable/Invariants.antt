@@ -1,7 +1,7 @@
 use Rattle.std.proofs.Common.{take}
 use Rattle.txs_value.specs.PlainValue.{plain_row, plain_size, row_size}
 use Rattle.txs_value.specs.View.{plain_of}
-use Rattle.txs_bytes.specs.ValueForm.{AreWritable}
+use Rattle.txs_decode.specs.ValueForm.{AreWritable}
 use Rattle.txs_bytes.proofs.small.+writable.Given as goal
 
 abbrev pub decreases-are_writable : goal.decreases-are_writable

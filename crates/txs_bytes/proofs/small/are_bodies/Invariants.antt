@@ -1,5 +1,5 @@
 use Rattle.std.proofs.Common.{take}
-use Rattle.txs_bytes.specs.CodeForm.{AreBodies}
+use Rattle.txs_decode.specs.CodeForm.{AreBodies}
 use Rattle.txs_bytes.proofs.small.are_bodies.Given as goal
 
 abbrev pub invariant-loop-body : goal.invariant-loop-body

@@ -1,5 +1,5 @@
 use Rattle.std.proofs.Common.{take}
-use Rattle.txs_bytes.specs.CodeForm.{AreConstants}
+use Rattle.txs_decode.specs.CodeForm.{AreConstants}
 use Rattle.txs_bytes.proofs.small.are_constants.Given as goal
 
 abbrev pub invariant-loop-value : goal.invariant-loop-value

@@ -1,7 +1,7 @@
 use Rattle.std.proofs.Common.{◌≡◌, ◌++◌, take}
 use Rattle.txs_value.specs.PlainValue.{plain_row, plain_size, row_size}
 use Rattle.txs_value.specs.View.{plain_of}
-use Rattle.txs_bytes.specs.ValueForm.{row_bytes}
+use Rattle.txs_decode.specs.ValueForm.{row_bytes}
 use Rattle.txs_bytes.proofs.written.+put.Given as goal
 
 abbrev pub decreases-put_items : goal.decreases-put_items

@@ -1,7 +1,0 @@
-use Rattle.std.proofs.Common.{sym, arith}
-use Rattle.txs_bytes.specs.InstrForm.{opcodes}
-use Rattle.txs_bytes.proofs.Lists.{nth_past}
-use Rattle.txs_bytes.proofs.opcode.Opcode.from_byte.Goals as goal
-
-pub returns-else-byte-lt25 : goal.returns-else-byte-lt25
-returns-else-byte-lt25 c = sym (nth_past opcodes c.args.byte (omega arith))
