@@ -9,7 +9,7 @@ import compiling
 PARTS = {
     "compile": ["txs_compile::script::compile"],
     "encode": ["txs_bytes::encoding::put_bodies", "txs_bytes::written::put_value"],
-    "decode": ["txs_decode::decoding::decode"],
+    "decode": ["txs_decode::bodies::bodies_at", "txs_decode::values::values_at"],
     "load": ["txs_load::load::load"],
     "seal": ["txs_code::verified::Verified::seal"],
 }
