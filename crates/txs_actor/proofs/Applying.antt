@@ -5,11 +5,11 @@ use Rattle.txs_frame.specs.Frame.{Work, commutes_of, by_ref}
 use Rattle.txs_frame.specs.Phase.{blank, given, next_arguments, next_callee}
 use Rattle.txs_frame.specs.declared.frame.Commute.{Commute}
 use Rattle.txs_operations.specs.Core.{core, takes}
-use Rattle.txs_value.specs.Places.{nth, fault_at}
-use Rattle.txs_value.specs.declared.fault.FaultKind.{FaultKind}
-use Rattle.txs_value.specs.declared.op.Callee.{Callee}
-use Rattle.txs_value.specs.declared.op.Callee.TheVariants as callee
-use Rattle.txs_value.specs.declared.op.Op.{Op}
+use Rattle.txs_terms.specs.Places.{nth, fault_at}
+use Rattle.txs_terms.specs.declared.fault.FaultKind.{FaultKind}
+use Rattle.txs_terms.specs.declared.op.Callee.{Callee}
+use Rattle.txs_terms.specs.declared.op.Callee.TheVariants as callee
+use Rattle.txs_terms.specs.declared.op.Op.{Op}
 use Rattle.txs_value.specs.declared.value.CellId.{CellId}
 use Rattle.txs_value.specs.declared.value.Value.{Value}
 use Rattle.txs_code.specs.PlainCode.{PlainCode, CodeBody}

@@ -14,12 +14,12 @@ use Rattle.txs_calls.specs.Travels.{Needs}
 use Rattle.txs_code.specs.Opening.{given, opening}
 use Rattle.txs_frame.specs.declared.frame.Commute.{Commute}
 use Rattle.txs_operations.specs.Core.{Answer, core}
-use Rattle.txs_value.specs.Places.{nth, fault_at}
-use Rattle.txs_value.specs.declared.action.Action.{Action}
-use Rattle.txs_value.specs.declared.fault.Fault.{Fault}
-use Rattle.txs_value.specs.declared.op.Callee.{Callee}
-use Rattle.txs_value.specs.declared.op.Callee.TheVariants as callee
-use Rattle.txs_value.specs.declared.op.Op.{Op}
+use Rattle.txs_terms.specs.Places.{nth, fault_at}
+use Rattle.txs_cells.specs.declared.action.Action.{Action}
+use Rattle.txs_terms.specs.declared.fault.Fault.{Fault}
+use Rattle.txs_terms.specs.declared.op.Callee.{Callee}
+use Rattle.txs_terms.specs.declared.op.Callee.TheVariants as callee
+use Rattle.txs_terms.specs.declared.op.Op.{Op}
 use Rattle.txs_value.specs.declared.value.CellId.{CellId}
 use Rattle.txs_value.specs.declared.value.Value.{Value}
 use Rattle.txs_code.specs.ActorState.{StepResult, step_of, Taken, finish}

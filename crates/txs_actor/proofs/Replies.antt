@@ -7,8 +7,8 @@ use Rattle.txs_asks.specs.declared.ask.Reply.TheVariants.{At, Is, Views, Done, R
 use Rattle.txs_frame.specs.Frame.{Work, commuted, set_writes}
 use Rattle.txs_frame.specs.Phase.{PlainPhase}
 use Rattle.txs_frame.specs.declared.frame.Commute.{Commute}
-use Rattle.txs_value.specs.declared.action.Action.{Action as AnAction}
-use Rattle.txs_value.specs.declared.fault.Fault.{Fault}
+use Rattle.txs_cells.specs.declared.action.Action.{Action as AnAction}
+use Rattle.txs_terms.specs.declared.fault.Fault.{Fault}
 use Rattle.txs_value.specs.declared.value.CellId.{CellId}
 use Rattle.txs_value.specs.declared.value.Value.{Value}
 use Rattle.txs_actor.specs.PlainActor.{MayAnswer}

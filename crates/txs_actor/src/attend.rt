@@ -9,8 +9,8 @@ use crate::actor::{Actor, tell};
 use crate::outcome::Turn;
 use txs_asks::Outcome;
 use txs_code::Verified;
+use txs_terms::Callee;
 use txs_transaction::Pending;
-use txs_value::Callee;
 
 impl Actor {
     /// An instruction of the agent's own body: the action that was taken is run, an operation at once, a function in turns of

@@ -2,21 +2,21 @@
 use Rattle.std.proofs.Common.{◌≡◌, ℕ, Bool, true, List, [], ◌∷◌, get_or, Option, Some, None, Result, Ok, Err, refl, sym, ap, ◌∙◌, ◌&&◌, ◌==◌}
 use Rattle.std.proofs.lemmas.Bool.{false≢true}
 use Rattle.txs_asks.specs.Ask.{Writes, same_value, same_cell, same_writes, same_place, same_cells, same_values, same_span, same_callee, same_action, same_actions, same_fault, same_new, same_ask}
-use Rattle.txs_value.specs.Faults.{fault_number}
-use Rattle.txs_value.specs.Operations.{op_number}
+use Rattle.txs_terms.specs.Faults.{fault_number}
+use Rattle.txs_terms.specs.Operations.{op_number}
 use Rattle.txs_value.specs.View.{plain_of}
 use Rattle.txs_value.proofs.ItemsLemmas.{plain_of-one}
-use Rattle.txs_value.proofs.OperationsLemmas.{operations, operations-at_number}
+use Rattle.txs_terms.proofs.OperationsLemmas.{operations, operations-at_number}
 use Rattle.txs_value.proofs.SameLemmas.{same_plain-sound, same_plain-itself, and_both, numbers, number-itself, cells, same_cell-itself}
-use Rattle.txs_value.specs.declared.action.Action.{Action}
-use Rattle.txs_value.specs.declared.fault.Fault.{Fault}
-use Rattle.txs_value.specs.declared.fault.FaultKind.{FaultKind}
-use Rattle.txs_value.specs.declared.fault.FaultKind.TheVariants.{Overflow, DivideByZero, NotANumber, NotAVector, IndexOut, PopEmpty, NotACell, NotARef, NotAnAtom, NotAnAgent, OutsideOnly, SetAfterCommute, RetryLimit, AgentFailed, InvalidState, TooDeep, TooLong}
-use Rattle.txs_value.specs.declared.fault.Span.{Span}
-use Rattle.txs_value.specs.declared.op.Callee.{Callee}
-use Rattle.txs_value.specs.declared.op.Callee.TheVariants.{Core, Function}
-use Rattle.txs_value.specs.declared.op.Op.{Op}
-use Rattle.txs_value.specs.declared.op.Op.TheVariants.{Add}
+use Rattle.txs_cells.specs.declared.action.Action.{Action}
+use Rattle.txs_terms.specs.declared.fault.Fault.{Fault}
+use Rattle.txs_terms.specs.declared.fault.FaultKind.{FaultKind}
+use Rattle.txs_terms.specs.declared.fault.FaultKind.TheVariants.{Overflow, DivideByZero, NotANumber, NotAVector, IndexOut, PopEmpty, NotACell, NotARef, NotAnAtom, NotAnAgent, OutsideOnly, SetAfterCommute, RetryLimit, AgentFailed, InvalidState, TooDeep, TooLong}
+use Rattle.txs_terms.specs.declared.fault.Span.{Span}
+use Rattle.txs_terms.specs.declared.op.Callee.{Callee}
+use Rattle.txs_terms.specs.declared.op.Callee.TheVariants.{Core, Function}
+use Rattle.txs_terms.specs.declared.op.Op.{Op}
+use Rattle.txs_terms.specs.declared.op.Op.TheVariants.{Add}
 use Rattle.txs_value.specs.declared.value.CellId.{CellId}
 use Rattle.txs_value.specs.declared.value.Value.{Value}
 use Rattle.txs_asks.specs.declared.ask.Ask.{Ask}

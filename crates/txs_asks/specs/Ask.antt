@@ -1,15 +1,15 @@
 -- Asks with their replies, and when two asks are the same.
 use Rattle.std.specs.Prelude.{ℕ, Bool, true, false, ◌&&◌, ◌==◌, nat_lt, List, [], ◌∷◌, Option, Some, None, Result, Ok, Err, if◌then◌else◌}
-use Rattle.txs_value.specs.Faults.{fault_number}
-use Rattle.txs_value.specs.Operations.{op_number}
+use Rattle.txs_terms.specs.Faults.{fault_number}
+use Rattle.txs_terms.specs.Operations.{op_number}
 use Rattle.txs_value.specs.PlainValue.{kind_out}
 use Rattle.txs_value.specs.Same.{same_plain}
 use Rattle.txs_value.specs.View.{plain_of}
-use Rattle.txs_value.specs.declared.action.Action.{Action}
-use Rattle.txs_value.specs.declared.fault.Fault.{Fault}
-use Rattle.txs_value.specs.declared.fault.Span.{Span}
-use Rattle.txs_value.specs.declared.op.Callee.{Callee}
-use Rattle.txs_value.specs.declared.op.Callee.TheVariants.{Core, Function}
+use Rattle.txs_cells.specs.declared.action.Action.{Action}
+use Rattle.txs_terms.specs.declared.fault.Fault.{Fault}
+use Rattle.txs_terms.specs.declared.fault.Span.{Span}
+use Rattle.txs_terms.specs.declared.op.Callee.{Callee}
+use Rattle.txs_terms.specs.declared.op.Callee.TheVariants.{Core, Function}
 use Rattle.txs_value.specs.declared.value.CellId.{CellId}
 use Rattle.txs_value.specs.declared.value.Value.{Value}
 use Rattle.txs_asks.specs.declared.ask.Ask.{Ask}

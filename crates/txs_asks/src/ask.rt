@@ -4,7 +4,9 @@ ghost use Rattle.std.specs.Prelude.{◌≡◌, ◌↔◌, IsTrue};
 ghost use Rattle.txs_asks.specs.Ask.{same_ask};
 ghost use Rattle.txs_asks.specs.declared.ask.Ask.{Ask as AnAsk};
 
-use txs_value::{Action, CellId, Fault, Listed, Value};
+use txs_cells::Action;
+use txs_terms::Fault;
+use txs_value::{CellId, Listed, Value};
 
 /// One request of an actor to the shared state. Each place is a number of events of a book: `at` is the read point of the
 /// transaction that asks, `view` the place of its last view, which is the read point where it has none. Refs stand in ascending

@@ -5,7 +5,9 @@ ghost use Rattle.std.specs.Prelude.{◌≡◌, IfOk};
 use crate::ask::{Ask, Reply};
 use crate::event::{Event, EventKind};
 use std::alloc::{AllocError, Global};
-use txs_value::{Action, CellId, Fault, Listed, Value, copy_action, copy_value, copy_values};
+use txs_cells::{Action, copy_action};
+use txs_terms::Fault;
+use txs_value::{CellId, Listed, Value, copy_value, copy_values};
 
 /// The same cells with the same values in a list of its own.
 pub fn copy_writes(

@@ -1,6 +1,8 @@
 //! The events that books keep, and how an actor ends.
 
-use txs_value::{Action, CellId, Fault, Listed, Value};
+use txs_cells::Action;
+use txs_terms::Fault;
+use txs_value::{CellId, Listed, Value};
 
 /// What an actor did to the shared state. Places are numbers of events of the same book. Swaps and broken swaps stand in the book
 /// of their atom, and so do its reads; all else stands in the store's.

@@ -5,8 +5,10 @@ ghost use Rattle.txs_value.specs.declared.value.CellKind.TheVariants.{Ref as a_r
 
 use std::alloc::{AllocError, Global};
 use std::str::SplitWhitespace;
+use txs_cells::Action;
 use txs_frame::{SetError, TxFrame};
-use txs_value::{Action, Callee, CellId, CellKind, Listed, Op, Span, Value, write_text};
+use txs_terms::{Callee, Op, Span};
+use txs_value::{CellId, CellKind, Listed, Value, write_text};
 
 // A word of digits as a number.
 pub fn number_of(word: &str) -> u16 {

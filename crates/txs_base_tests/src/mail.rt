@@ -1,7 +1,9 @@
 // What no clause says: that the calls succeed with ample memory, and that puts and takes cost the same however many wait.
 use std::alloc::{AllocError, Global};
+use txs_cells::Action;
 use txs_mail::Mailbox;
-use txs_value::{Action, Callee, CellId, CellKind, Listed, Op, Span};
+use txs_terms::{Callee, Op, Span};
+use txs_value::{CellId, CellKind, Listed};
 
 // `(send g inc)`, which stands at this place.
 fn action(alloc: Global, at: u32) -> Action {

@@ -4,7 +4,8 @@ use std::alloc::Global;
 use std::test::Fail;
 use txs_bytes::decode;
 use txs_operations::{apply, apply_owned, make_vector, takes};
-use txs_value::{CellId, CellKind, Listed, Op, Value, copy_value, copy_values, same, write_line};
+use txs_terms::Op;
+use txs_value::{CellId, CellKind, Listed, Value, copy_value, copy_values, same, write_line};
 
 // Code without threads, with an agent and the constants `nil true -7 :key "text" [1 [2]]`, the agent and false.
 const CODE: &[u8] =

@@ -6,7 +6,7 @@ use Rattle.std.specs.Prelude.{OnOk, slice_index_or}
 use Rattle.std.proofs.lemmas.List.{append-nil, take_all}
 use Rattle.std.proofs.lemmas.List.Concat.{flat_map-cons}
 use Rattle.txs_value.specs.PlainValue.{PlainValue, vector, plain_row, plain_size, row_size}
-use Rattle.txs_value.specs.declared.fault.Span.{Span}
+use Rattle.txs_terms.specs.declared.fault.Span.{Span}
 use Rattle.txs_code.specs.declared.instr.Instr.{Instr}
 use Rattle.txs_decode.specs.CodeForm.{paired}
 use Rattle.txs_decode.specs.InstrForm.{placed_bytes}

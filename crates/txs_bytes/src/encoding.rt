@@ -13,9 +13,11 @@ use crate::same::same_code;
 use crate::small::is_small;
 use crate::written::{put_behind, put_name, put_placed, put_value};
 use std::alloc::{AllocError, Global};
+use txs_cells::{CellDefinition, ErrorMode};
 use txs_code::{Body, Code, Instr};
 use txs_decode::{CodeErrorKind, decode};
-use txs_value::{CellDefinition, CellKind, ErrorMode, Span, Value};
+use txs_terms::Span;
+use txs_value::{CellKind, Value};
 
 /// The byte of a kind of cells.
 fn kind_byte(kind: CellKind) -> u8

@@ -2,8 +2,10 @@
 
 ghost use Rattle.std.specs.Prelude.{◌≡◌, ◌↔◌, IsTrue};
 
+use txs_cells::CellDefinition;
 use txs_code::{Body, Code, Instr, OpenForm};
-use txs_value::{CellDefinition, Span, Value, same};
+use txs_terms::Span;
+use txs_value::{Value, same};
 
 /// Whether two opens begin the same, with the same callee.
 fn same_open(a: OpenForm, b: OpenForm) -> bool

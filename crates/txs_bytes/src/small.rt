@@ -6,8 +6,9 @@ ghost use Rattle.txs_value.specs.View.{plain_of};
 ghost use Rattle.txs_decode.specs.CodeForm.{AreBodies, AreCells, AreConstants, IsSmall};
 ghost use Rattle.txs_decode.specs.ValueForm.{AreWritable, IsWritable};
 
+use txs_cells::CellDefinition;
 use txs_code::{Body, Code};
-use txs_value::{CellDefinition, Items, Value};
+use txs_value::{Items, Value};
 
 /// Whether each text of the value is so short that its length has two bytes.
 #[cycle(writable)]

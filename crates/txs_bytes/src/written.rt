@@ -9,7 +9,8 @@ ghost use Rattle.txs_decode.specs.ValueForm.{AreWritable, IsWritable, name_bytes
 use std::alloc::AllocError;
 use txs_code::{Instr, OpenForm};
 use txs_decode::Opcode;
-use txs_value::{Callee, Items, Name, Span, Value};
+use txs_terms::{Callee, Span};
+use txs_value::{Items, Name, Value};
 
 /// Appends a byte, and bytes behind it.
 pub(crate) fn put_behind(byte: u8, bytes: &[u8], out: &mut Vec<u8>) -> Result<(), AllocError>

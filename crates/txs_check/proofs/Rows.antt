@@ -1,6 +1,6 @@
 -- What a form is, over the rows of its parts.
 use Rattle.std.proofs.Common.{◌≡◌, Bool, true, false, ◌&&◌, ◌||◌, List, refl, ap, ◌∙◌}
-use Rattle.txs_value.specs.Places.{nth}
+use Rattle.txs_terms.specs.Places.{nth}
 use Rattle.txs_tree.specs.Known.{Known}
 use Rattle.txs_tree.specs.Tree.{Tree, Const, Local, If, Do, Let, Loop, Recur, Core, Call, VectorOf, Println, Dosync, Look, Put, Update, Send, Trees, none}
 use Rattle.txs_check.specs.declared.class.Class.{Class}

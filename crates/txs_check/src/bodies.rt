@@ -10,8 +10,8 @@ use crate::error::{CheckError, CheckErrorKind};
 use crate::place::{Target, Zone};
 use crate::size::nodes_left;
 use crate::walk::check_node;
+use txs_terms::Span;
 use txs_tree::{Function, Node, Thread};
-use txs_value::Span;
 
 /// How many of the first threads stand before this place of the script.
 fn count_before(from: u32, threads: &[Thread]) -> usize

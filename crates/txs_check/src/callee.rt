@@ -9,8 +9,8 @@ ghost use Rattle.txs_check.specs.Signatures.{is_pure_call, known_as};
 use crate::class::{Signature, signature_of, signatures_of};
 use std::alloc::{AllocError, Global};
 use txs_operations::takes;
+use txs_terms::Callee;
 use txs_tree::Program;
-use txs_value::Callee;
 
 /// Whether the function of this number is pure and takes so many values.
 fn is_pure_function(signatures: &[Signature], number: u16, count: usize) -> bool

@@ -2,15 +2,15 @@
 
 ghost use Rattle.std.specs.Prelude.{◌≡◌, false, IfOk};
 ghost use Rattle.txs_tree.specs.Known.{known};
-ghost use Rattle.txs_value.specs.Forms.{rule};
-ghost use Rattle.txs_value.specs.Places.{nth};
+ghost use Rattle.txs_cells.specs.Forms.{rule};
+ghost use Rattle.txs_terms.specs.Places.{nth};
 ghost use Rattle.txs_tree.specs.View.{tree_of, trees_of, function_of, functions_of};
 ghost use Rattle.txs_check.specs.Signatures.{joined, class_above, class_in, class_in_all, class_standing, bare, known_as, known_if};
 
 use crate::parts::parts;
 use std::alloc::{AllocError, Global};
+use txs_cells::{CellForm, Standing};
 use txs_tree::{Function, Node, NodeKind};
-use txs_value::{CellForm, Standing};
 
 /// What a body is: for transactions alone, for outside alone, or pure.
 #[derive(Clone, Copy)]

@@ -4,7 +4,8 @@ ghost use Rattle.std.specs.Prelude.{◌≡◌};
 ghost use Rattle.txs_check.specs.Refused.{inner, across, only, recurs, placed};
 
 use crate::error::{CheckError, CheckErrorKind};
-use txs_value::{Span, Standing};
+use txs_cells::Standing;
+use txs_terms::Span;
 
 /// Where a node stands: in a function outside every transaction of it, in a future outside every transaction,
 /// or in a transaction.

@@ -9,9 +9,10 @@ ghost use Rattle.txs_check.specs.Signatures.{known_as, known_if};
 use crate::class::{Signature, signature_of};
 use crate::error::{CheckError, CheckErrorKind};
 use crate::place::{Target, Zone, only};
+use txs_cells::{CellForm, Standing};
 use txs_operations::takes;
+use txs_terms::{Callee, Op, Span};
 use txs_tree::{Node, NodeKind};
-use txs_value::{Callee, CellForm, Op, Span, Standing};
 
 /// Whether the operation takes so many arguments.
 fn check_operation(op: Op, count: usize, at: Span) -> Result<(), CheckError>

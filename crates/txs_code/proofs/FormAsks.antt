@@ -6,19 +6,19 @@ use Rattle.txs_asks.specs.declared.ask.Ask.TheVariants as ask
 use Rattle.txs_asks.specs.declared.ask.Reply.{Reply}
 use Rattle.txs_frame.specs.Frame.{set_ref}
 use Rattle.txs_frame.specs.declared.frame.Commute.{Commute}
-use Rattle.txs_value.specs.Forms.{rule, cell_of, cell_of_kind, cell_if, same_kind}
-use Rattle.txs_value.specs.declared.action.Action.{Action}
-use Rattle.txs_value.specs.declared.fault.FaultKind.{FaultKind}
-use Rattle.txs_value.specs.declared.fault.Span.{Span}
-use Rattle.txs_value.specs.declared.form.CellForm.TheVariants as form
-use Rattle.txs_value.specs.declared.form.FormAsk.{FormAsk}
-use Rattle.txs_value.specs.declared.form.FormAsk.TheVariants.{Nothing, ItsValue, Replacing, Swapping, Sending}
-use Rattle.txs_value.specs.declared.form.FormRule.{FormRule}
-use Rattle.txs_value.specs.declared.form.LookForm.{LookForm}
-use Rattle.txs_value.specs.declared.form.LookForm.TheVariants.{Deref, Ensure}
-use Rattle.txs_value.specs.declared.form.PutForm.{PutForm}
-use Rattle.txs_value.specs.declared.form.PutForm.TheVariants.{RefSet, Reset}
-use Rattle.txs_value.specs.declared.form.UpdateForm.TheVariants as update
+use Rattle.txs_cells.specs.Forms.{rule, cell_of, cell_of_kind, cell_if, same_kind}
+use Rattle.txs_cells.specs.declared.action.Action.{Action}
+use Rattle.txs_terms.specs.declared.fault.FaultKind.{FaultKind}
+use Rattle.txs_terms.specs.declared.fault.Span.{Span}
+use Rattle.txs_cells.specs.declared.form.CellForm.TheVariants as form
+use Rattle.txs_cells.specs.declared.form.FormAsk.{FormAsk}
+use Rattle.txs_cells.specs.declared.form.FormAsk.TheVariants.{Nothing, ItsValue, Replacing, Swapping, Sending}
+use Rattle.txs_cells.specs.declared.form.FormRule.{FormRule}
+use Rattle.txs_cells.specs.declared.form.LookForm.{LookForm}
+use Rattle.txs_cells.specs.declared.form.LookForm.TheVariants.{Deref, Ensure}
+use Rattle.txs_cells.specs.declared.form.PutForm.{PutForm}
+use Rattle.txs_cells.specs.declared.form.PutForm.TheVariants.{RefSet, Reset}
+use Rattle.txs_cells.specs.declared.form.UpdateForm.TheVariants as update
 use Rattle.txs_value.specs.declared.value.CellId.{CellId}
 use Rattle.txs_value.specs.declared.value.CellKind.{CellKind}
 use Rattle.txs_value.specs.declared.value.Value.{Value}

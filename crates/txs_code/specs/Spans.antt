@@ -1,7 +1,7 @@
 -- Code whose instructions have spans of a script.
 use Rattle.std.specs.Prelude.{◌≤◌, List, [], ◌∷◌}
 use Rattle.txs_value.specs.Limits.{most_script}
-use Rattle.txs_value.specs.declared.fault.Span.{Span}
+use Rattle.txs_terms.specs.declared.fault.Span.{Span}
 use Rattle.txs_code.specs.PlainCode.{CodeBody, PlainCode}
 
 -- a span ends where it begins or behind that, and within the longest script

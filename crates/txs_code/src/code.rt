@@ -5,7 +5,9 @@ ghost use Rattle.txs_code.specs.PlainCode.{PlainCode, CodeBody};
 
 use crate::instr::Instr;
 use std::marker::Model;
-use txs_value::{CellDefinition, Span, Value};
+use txs_cells::CellDefinition;
+use txs_terms::Span;
+use txs_value::Value;
 
 /// The code of a body: how many parameters it has, which are the first of its locals; how many locals in all; and its
 /// instructions, each with the span of what it was made for. A thread's body has no parameters.

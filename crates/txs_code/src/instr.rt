@@ -1,6 +1,7 @@
 //! Instructions.
 
-use txs_value::{Callee, LookForm, Op, PutForm, UpdateForm};
+use txs_cells::{LookForm, PutForm, UpdateForm};
+use txs_terms::{Callee, Op};
 
 /// What an open begins, with the callee that it names; that of `alter` names none.
 #[derive(Clone, Copy)]

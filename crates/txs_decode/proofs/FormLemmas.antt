@@ -6,13 +6,13 @@ use Rattle.std.specs.Int.{Width, w16, w32, to_be_bytes}
 use Rattle.std.proofs.lemmas.List.Concat.{flat_map-cons}
 use Rattle.txs_value.specs.PlainValue.{PlainValue, PlainValues, nil, truth, int, key, text, vector, cell, end, more, plain_row, plain_list}
 use Rattle.txs_value.specs.View.{plain_of}
-use Rattle.txs_value.specs.declared.cell.CellDefinition.{CellDefinition}
-use Rattle.txs_value.specs.declared.fault.Span.{Span}
-use Rattle.txs_value.specs.declared.form.LookForm.TheVariants.{Deref, Ensure}
-use Rattle.txs_value.specs.declared.form.PutForm.TheVariants.{RefSet, Reset}
-use Rattle.txs_value.specs.declared.form.UpdateForm.TheVariants as update
-use Rattle.txs_value.specs.declared.op.Callee.{Callee}
-use Rattle.txs_value.specs.declared.op.Callee.TheVariants as callee
+use Rattle.txs_cells.specs.declared.cell.CellDefinition.{CellDefinition}
+use Rattle.txs_terms.specs.declared.fault.Span.{Span}
+use Rattle.txs_cells.specs.declared.form.LookForm.TheVariants.{Deref, Ensure}
+use Rattle.txs_cells.specs.declared.form.PutForm.TheVariants.{RefSet, Reset}
+use Rattle.txs_cells.specs.declared.form.UpdateForm.TheVariants as update
+use Rattle.txs_terms.specs.declared.op.Callee.{Callee}
+use Rattle.txs_terms.specs.declared.op.Callee.TheVariants as callee
 use Rattle.txs_value.specs.declared.value.CellKind.{CellKind}
 use Rattle.txs_value.specs.declared.value.Value.{Value}
 use Rattle.txs_code.specs.PlainCode.{CodeBody, PlainCode}

@@ -2,11 +2,11 @@
 use Rattle.std.proofs.Common.{◌≡◌, ◌≢◌, ℕ, zero, suc, ◌+◌, ◌<◌, ◌≤◌, List, [], ◌∷◌, ◌++◌, length, map, get_or, take, add-one, Bool, Ok, Option, Some, None, refl, sym, ap, ◌∙◌, arith, inl, inr}
 use Rattle.std.specs.Prelude.{MatchOption}
 use Rattle.std.proofs.lemmas.Bool.{cases_lt}
-use Rattle.txs_value.specs.Operations.{op_number}
-use Rattle.txs_value.specs.Places.{nth}
-use Rattle.txs_value.specs.declared.fault.Span.{Span}
-use Rattle.txs_value.specs.declared.op.Op.{Op}
-use Rattle.txs_value.specs.declared.op.Op.TheVariants as ops
+use Rattle.txs_terms.specs.Operations.{op_number}
+use Rattle.txs_terms.specs.Places.{nth}
+use Rattle.txs_terms.specs.declared.fault.Span.{Span}
+use Rattle.txs_terms.specs.declared.op.Op.{Op}
+use Rattle.txs_terms.specs.declared.op.Op.TheVariants as ops
 use Rattle.txs_code.specs.declared.instr.Instr.{Instr}
 use Rattle.std.specs.Int.{w32}
 use Rattle.txs_code.specs.PlainCode.{CodeBody}

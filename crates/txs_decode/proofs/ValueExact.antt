@@ -5,7 +5,7 @@ use Rattle.std.proofs.lemmas.Int.{of_z-to_z}
 use mir.Val.{to_z, of_z}
 use Rattle.txs_value.specs.PlainValue.{PlainValue, PlainValues, nil, truth, int, key, text, vector, cell, end, more, plain_row, plain_list}
 use Rattle.txs_value.specs.View.{plain_of, value_of}
-use Rattle.txs_value.specs.declared.cell.ErrorMode.TheVariants.{Fail, Continue}
+use Rattle.txs_cells.specs.declared.cell.ErrorMode.TheVariants.{Fail, Continue}
 use Rattle.txs_value.specs.declared.value.CellKind.{CellKind}
 use Rattle.txs_value.specs.declared.value.CellKind.TheVariants.{Ref, Atom, Agent}
 use Rattle.txs_value.specs.declared.value.Value.{Value}

@@ -4,8 +4,8 @@ use Rattle.std.specs.List.{flat_map, AllByRecursion}
 use Rattle.std.specs.Int.{Width, w16, w32, to_be_bytes}
 use Rattle.txs_value.specs.Limits.{most_definitions, most_threads}
 use Rattle.txs_value.specs.View.{plain_of}
-use Rattle.txs_value.specs.declared.cell.CellDefinition.{CellDefinition}
-use Rattle.txs_value.specs.declared.fault.Span.{Span}
+use Rattle.txs_cells.specs.declared.cell.CellDefinition.{CellDefinition}
+use Rattle.txs_terms.specs.declared.fault.Span.{Span}
 use Rattle.txs_value.specs.declared.value.CellKind.{CellKind}
 use Rattle.txs_value.specs.declared.value.Value.{Value}
 use Rattle.txs_code.specs.declared.instr.Instr.{Instr}

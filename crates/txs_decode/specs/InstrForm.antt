@@ -1,15 +1,15 @@
 -- The byte form of instructions.
 use Rattle.std.specs.Prelude.{◌≡◌, ℕ, zero, suc, Bool, true, false, nat_le, List, [], ◌∷◌, ◌++◌, length, Option, Some, None}
 use Rattle.std.specs.Int.{w16, w32, to_be_bytes}
-use Rattle.txs_value.specs.Operations.{op_number}
-use Rattle.txs_value.specs.declared.fault.Span.{Span}
-use Rattle.txs_value.specs.declared.form.LookForm.TheVariants.{Deref, Ensure}
-use Rattle.txs_value.specs.declared.form.PutForm.TheVariants.{RefSet, Reset}
-use Rattle.txs_value.specs.declared.form.UpdateForm.TheVariants as update
-use Rattle.txs_value.specs.declared.op.Callee.{Callee}
-use Rattle.txs_value.specs.declared.op.Callee.TheVariants as callee
-use Rattle.txs_value.specs.declared.op.Op.{Op}
-use Rattle.txs_value.specs.declared.op.Op.TheVariants as ops
+use Rattle.txs_terms.specs.Operations.{op_number}
+use Rattle.txs_terms.specs.declared.fault.Span.{Span}
+use Rattle.txs_cells.specs.declared.form.LookForm.TheVariants.{Deref, Ensure}
+use Rattle.txs_cells.specs.declared.form.PutForm.TheVariants.{RefSet, Reset}
+use Rattle.txs_cells.specs.declared.form.UpdateForm.TheVariants as update
+use Rattle.txs_terms.specs.declared.op.Callee.{Callee}
+use Rattle.txs_terms.specs.declared.op.Callee.TheVariants as callee
+use Rattle.txs_terms.specs.declared.op.Op.{Op}
+use Rattle.txs_terms.specs.declared.op.Op.TheVariants as ops
 use Rattle.txs_code.specs.declared.instr.Instr.{Instr}
 use Rattle.txs_code.specs.declared.instr.Instr.TheVariants as instr
 use Rattle.txs_code.specs.declared.instr.OpenForm.TheVariants as open_form

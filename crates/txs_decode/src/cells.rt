@@ -1,7 +1,7 @@
 //! Cells and constants, read.
 
 ghost use Rattle.std.specs.Prelude.{◌≡◌, true};
-ghost use Rattle.txs_value.specs.Places.{nth};
+ghost use Rattle.txs_terms.specs.Places.{nth};
 ghost use Rattle.txs_decode.specs.Format.{Gives, many_at};
 ghost use Rattle.txs_decode.specs.CellForm.{kinds, kinds_of, kind_format, modes, mode_format, constant_format, cell_format};
 
@@ -9,7 +9,8 @@ use crate::error::{CodeErrorKind, Stop, refused};
 use crate::fields::{name_at, room_for, u8_at};
 use crate::values::value_at;
 use std::alloc::Global;
-use txs_value::{CellDefinition, CellKind, ErrorMode, Value};
+use txs_cells::{CellDefinition, ErrorMode};
+use txs_value::{CellKind, Value};
 
 /// The kind of this byte, if one has it.
 fn kind_of(byte: u8) -> Option<CellKind>

@@ -12,8 +12,9 @@ use crate::error::{CodeError, CodeErrorKind, Stop, refused};
 use crate::fields::{u16_at, u32_at};
 use crate::values::values_at;
 use std::alloc::Global;
+use txs_cells::CellDefinition;
 use txs_code::Code;
-use txs_value::{CellDefinition, Value};
+use txs_value::Value;
 
 /// `TXS1` as a number.
 const MAGIC: u32 = 0x5458_5331;

@@ -10,8 +10,9 @@ use crate::fields::{room_for, u8_at, u32_at};
 use crate::opcode::Opcode;
 use crate::operands::{Called, Numbered, call_at, called_at, const_at, core_at, number_at};
 use std::alloc::Global;
+use txs_cells::{LookForm, PutForm, UpdateForm};
 use txs_code::Instr;
-use txs_value::{LookForm, PutForm, Span, UpdateForm};
+use txs_terms::Span;
 
 /// The instruction of this byte whose operands stand here, where there are so many constants and functions.
 fn operands_at(

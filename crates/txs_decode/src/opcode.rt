@@ -1,11 +1,11 @@
 //! Instructions by the byte that tells which they are.
 
 ghost use Rattle.std.specs.Prelude.{◌≡◌};
-ghost use Rattle.txs_value.specs.Places.{nth};
+ghost use Rattle.txs_terms.specs.Places.{nth};
 ghost use Rattle.txs_decode.specs.InstrForm.{opcode_byte, opcode_of, opcodes};
 
+use txs_cells::{LookForm, PutForm, UpdateForm};
 use txs_code::{Instr, OpenForm};
-use txs_value::{LookForm, PutForm, UpdateForm};
 
 /// Which instruction it is, in the order of their bytes from 0.
 #[derive(Clone, Copy)]

@@ -2,8 +2,8 @@
 
 ghost use Rattle.std.specs.Prelude.{◌≡◌};
 ghost use Rattle.std.specs.Int.{w16};
-ghost use Rattle.txs_value.specs.Places.{nth};
-ghost use Rattle.txs_value.specs.Operations.{op_number};
+ghost use Rattle.txs_terms.specs.Places.{nth};
+ghost use Rattle.txs_terms.specs.Operations.{op_number};
 ghost use Rattle.txs_decode.specs.declared.error.CodeErrorKind.TheVariants.{BadOperand};
 ghost use Rattle.txs_decode.specs.declared.opcode.Opcode.TheVariants as opcode;
 ghost use Rattle.txs_decode.specs.Format.{Gives, number, one_of, tested};
@@ -14,7 +14,7 @@ use crate::error::{CodeErrorKind, Stop, refused};
 use crate::fields::{u8_at, u16_at, u32_at};
 use crate::tag::CalleeTag;
 use txs_code::{Instr, OpenForm};
-use txs_value::{Callee, Op};
+use txs_terms::{Callee, Op};
 
 /// The operation of this number, if there is one.
 fn op_of(number: u16) -> Option<Op>

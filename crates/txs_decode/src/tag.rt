@@ -1,7 +1,7 @@
 //! The bytes that tell what stands behind them.
 
 ghost use Rattle.std.specs.Prelude.{◌≡◌};
-ghost use Rattle.txs_value.specs.Places.{nth};
+ghost use Rattle.txs_terms.specs.Places.{nth};
 ghost use Rattle.txs_decode.specs.InstrForm.{callee_tags};
 ghost use Rattle.txs_decode.specs.ValueForm.{tags};
 

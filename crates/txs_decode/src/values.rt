@@ -12,7 +12,8 @@ use crate::error::{CodeErrorKind, Stop, refused};
 use crate::fields::{keyword_at, room_for, text_at, u8_at, u16_at, u64_at};
 use crate::tag::Tag;
 use std::alloc::Global;
-use txs_value::{CellDefinition, CellId, Items, Value};
+use txs_cells::CellDefinition;
+use txs_value::{CellId, Items, Value};
 
 /// Whether a value of this tag may stand where cells may or not, with room for so many levels of vectors.
 fn may_stand(cells: bool, room: usize, tag: Tag) -> bool

@@ -2,7 +2,7 @@
 use Rattle.std.proofs.Common.{◌≡◌, ℕ, zero, suc, ◌<◌, ◌+◌, List, [], ◌∷◌, ◌++◌, length, drop, get_or, refl, sym, ap, ◌∙◌, append_assoc, length-append, add-one, arith, subst}
 use Rattle.std.specs.Prelude.{Option, slice_index_or}
 use Rattle.std.proofs.Math.Seq.{drop-cons}
-use Rattle.txs_value.specs.declared.fault.Span.{Span}
+use Rattle.txs_terms.specs.declared.fault.Span.{Span}
 use Rattle.txs_code.specs.PlainCode.{CodeBody}
 use Rattle.txs_code.specs.declared.instr.Instr.{Instr}
 use Rattle.txs_disasm.specs.declared.lines.BodyKind.{BodyKind}

@@ -11,8 +11,10 @@ use crate::lines::{BodyKind, put_body, put_cell, put_constant, put_instr};
 use crate::output::Page;
 use std::alloc::Global;
 use std::io::Write;
+use txs_cells::CellDefinition;
 use txs_code::{Body, Code, Instr};
-use txs_value::{CellDefinition, Span, Value};
+use txs_terms::Span;
+use txs_value::Value;
 
 /// Writes the lines of cells.
 fn list_cells<W: Write>(

@@ -8,8 +8,10 @@ ghost use Rattle.txs_disasm.specs.Listing.{at_span, body_head, body_line, callee
 use crate::names::{instr_name, kind_name, mode_words};
 use itoa::Buffer;
 use std::alloc::AllocError;
+use txs_cells::CellDefinition;
 use txs_code::{Body, Instr, OpenForm};
-use txs_value::{Callee, CellDefinition, Span, Value, write_text};
+use txs_terms::{Callee, Span};
+use txs_value::{Value, write_text};
 
 /// What a body is of.
 #[derive(Clone, Copy)]

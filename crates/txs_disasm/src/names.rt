@@ -3,8 +3,9 @@
 ghost use Rattle.std.specs.Prelude.{◌≡◌};
 ghost use Rattle.txs_disasm.specs.Listing.{instr_name, kind_name, mode_words};
 
+use txs_cells::{ErrorMode, LookForm, PutForm, UpdateForm};
 use txs_code::{Instr, OpenForm};
-use txs_value::{CellKind, ErrorMode, LookForm, PutForm, UpdateForm};
+use txs_value::CellKind;
 
 /// The name of a kind of cells.
 pub(crate) fn kind_name(kind: CellKind) -> &'static [u8]

@@ -1,8 +1,8 @@
 -- What a thread means, by what its body means.
 use Rattle.std.proofs.Common.{◌≡◌, ℕ, zero, suc, ◌<◌, true, false, List, [], ◌∷◌, length, get_or, Option, Some, None, Result, Ok, Err, IfOk, IfSome, sym, ap, ◌∙◌, subst, subst₂, arith}
 use Rattle.std.proofs.lemmas.Bool.{false≢true}
-use Rattle.txs_value.specs.Places.{nth}
-use Rattle.txs_value.specs.declared.cell.CellDefinition.{CellDefinition}
+use Rattle.txs_terms.specs.Places.{nth}
+use Rattle.txs_cells.specs.declared.cell.CellDefinition.{CellDefinition}
 use Rattle.txs_value.specs.declared.value.Value.{Value}
 use Rattle.txs_asks.specs.SeenEvent.{SeenEvent}
 use Rattle.txs_asks.specs.declared.event.Outcome.{Outcome}
@@ -28,7 +28,7 @@ use Rattle.txs_eval_work.specs.declared.work.TxWork.{TxWork}
 use Rattle.txs_eval_work.specs.declared.stop.ThreadStop.{ThreadStop}
 use Rattle.txs_eval_work.specs.declared.stop.ThreadStop.TheVariants.{Fault, Event, Wrong, Turns, Memory}
 use Rattle.txs_eval.specs.declared.transaction.TxMeaning.{TxMeaning}
-use Rattle.txs_value.specs.declared.fault.Fault as fault
+use Rattle.txs_terms.specs.declared.fault.Fault as fault
 use Rattle.txs_evaluate.proofs.Called.{sound_everywhere}
 use Rattle.txs_tree.proofs.Callable.{length-functions_of}
 use Rattle.txs_evaluate.proofs.Ending.{closed_gives}

@@ -1,7 +1,7 @@
 -- What a pure function means, by what is told where it is applied.
 use Rattle.std.proofs.Common.{◌≡◌, ℕ, false, List, length, None, Result, sym, subst, subst₂}
-use Rattle.txs_value.specs.declared.cell.CellDefinition.{CellDefinition}
-use Rattle.txs_value.specs.declared.op.Callee.TheVariants.{Function}
+use Rattle.txs_cells.specs.declared.cell.CellDefinition.{CellDefinition}
+use Rattle.txs_terms.specs.declared.op.Callee.TheVariants.{Function}
 use Rattle.txs_value.specs.declared.value.Value.{Value}
 use Rattle.txs_evaluate.specs.Evaluated.{applied}
 use Rattle.txs_eval_work.specs.Worked.{Told}

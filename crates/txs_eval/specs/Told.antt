@@ -15,7 +15,7 @@ use Rattle.txs_evaluate.specs.declared.state.Transacted.{Transacted}
 use Rattle.txs_eval_work.specs.declared.stop.ThreadStop.{ThreadStop}
 use Rattle.txs_eval_work.specs.declared.stop.ThreadStop.TheVariants.{Fault, Event as NoEvent, Wrong as OtherEvent, Turns as NoTurns, Memory}
 use Rattle.txs_eval.specs.declared.transaction.TxMeaning.{TxMeaning}
-use Rattle.txs_value.specs.Places.{nth}
+use Rattle.txs_terms.specs.Places.{nth}
 use Rattle.txs_value.specs.declared.value.Value.{Value}
 
 -- the source of a thread of the program, if there is one

@@ -9,10 +9,10 @@ ghost use Rattle.txs_tree.specs.Pure.{PureCallee, Lasts, pure_meaning, nowhere};
 ghost use Rattle.txs_tree.specs.Sound.{PureCall};
 ghost use Rattle.txs_tree.specs.Tree.{PlainFunction};
 ghost use Rattle.txs_tree.specs.View.{functions_of};
-ghost use Rattle.txs_value.specs.declared.op.Callee.{Callee as AnyCallee};
+ghost use Rattle.txs_terms.specs.declared.op.Callee.{Callee as AnyCallee};
 ghost use Rattle.txs_value.specs.declared.value.Value.{Value as AnyValue};
 ghost use Rattle.txs_operations.specs.Core.{core, takes};
-ghost use Rattle.txs_value.specs.declared.op.Callee.TheVariants.{Function};
+ghost use Rattle.txs_terms.specs.declared.op.Callee.TheVariants.{Function};
 ghost use Rattle.txs_eval.specs.declared.pure_call.EvalStop.TheVariants.{Memory};
 
 use std::alloc::{AllocError, AllocFailed, Global};
@@ -20,8 +20,9 @@ use txs_eval_work::ThreadStop;
 use txs_evaluate::Context;
 use txs_evaluate::evaluate::{apply_callee, copy_locals};
 use txs_operations::apply;
+use txs_terms::{Callee, Fault, Op, Span, Stop};
 use txs_tree::Program;
-use txs_value::{Callee, Fault, Op, Span, Stop, Value};
+use txs_value::Value;
 
 /// Why an evaluation gives no value.
 #[derive(Drop)]

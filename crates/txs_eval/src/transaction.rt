@@ -17,8 +17,9 @@ use txs_eval_work::{RefView, ThreadStop, TxWork};
 use txs_evaluate::evaluate::{copy_locals, evaluate};
 use txs_evaluate::{Context, State};
 use txs_frame::TxFrame;
+use txs_terms::Fault;
 use txs_tree::{Node, Program};
-use txs_value::{CellId, Fault, Listed, Value};
+use txs_value::{CellId, Listed, Value};
 
 /// What a transaction means: its value or fault, and until then its values, sets, ensures, commutes and sends, the refs that
 /// it read of the world, by ascending number, and whether the result of a commute was used.

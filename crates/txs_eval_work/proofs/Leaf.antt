@@ -8,7 +8,7 @@ use Rattle.txs_asks.specs.Ask.{Writes, with_write, same_cell, same_value, same_v
 use Rattle.txs_frame.specs.Frame.{with_cell}
 use Rattle.txs_tree.specs.Transaction.{merged}
 use Rattle.txs_eval_work.specs.Worked.{Finds}
-use Rattle.txs_value.specs.declared.action.Action.{Action}
+use Rattle.txs_cells.specs.declared.action.Action.{Action}
 use Rattle.txs_value.specs.declared.value.CellId.{CellId}
 use Rattle.txs_value.specs.declared.value.Value.{Value}
 

@@ -1,8 +1,8 @@
 -- The values of cells at a place of a book.
 use Rattle.std.specs.Prelude.{ℕ, nat_lt, List, [], ◌∷◌, Option, Some, None, if◌then◌else◌}
 use Rattle.txs_eval_work.specs.declared.view.RefView.{RefView}
-use Rattle.txs_value.specs.Cells.{World}
-use Rattle.txs_value.specs.Places.{nth}
+use Rattle.txs_cells.specs.Cells.{World}
+use Rattle.txs_terms.specs.Places.{nth}
 use Rattle.txs_value.specs.declared.value.Value.{Value}
 use Rattle.txs_value.specs.declared.value.Value.TheVariants.{Nil}
 

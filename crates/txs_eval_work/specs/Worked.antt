@@ -4,10 +4,10 @@ use Rattle.txs_frame.specs.Frame.{Work, set_ref, commute_ref}
 use Rattle.txs_tree.specs.Meaning.{Completion, Completes, Faults, Waits, OutOfTurns, Invalid}
 use Rattle.txs_tree.specs.Transaction.{TxState, current, done_as, taken}
 use Rattle.txs_tree.specs.Tree.{Mark}
-use Rattle.txs_value.specs.Cells.{World}
-use Rattle.txs_value.specs.declared.form.UpdateForm.{UpdateForm}
-use Rattle.txs_value.specs.declared.form.UpdateForm.TheVariants.{Alter, Commute, Swap}
-use Rattle.txs_value.specs.declared.op.Callee.{Callee}
+use Rattle.txs_cells.specs.Cells.{World}
+use Rattle.txs_cells.specs.declared.form.UpdateForm.{UpdateForm}
+use Rattle.txs_cells.specs.declared.form.UpdateForm.TheVariants.{Alter, Commute, Swap}
+use Rattle.txs_terms.specs.declared.op.Callee.{Callee}
 use Rattle.txs_eval_work.specs.declared.work.TxWork.{TxWork}
 use Rattle.txs_eval_work.specs.declared.stop.ThreadStop.{ThreadStop}
 use Rattle.txs_eval_work.specs.declared.stop.ThreadStop.TheVariants.{Fault, Event as NoEvent, Wrong as OtherEvent, Turns as NoTurns, Memory}

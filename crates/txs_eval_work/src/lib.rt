@@ -4,12 +4,14 @@
 
 pub mod same;
 pub mod stop;
+pub mod values;
 pub mod view;
 pub mod work;
 pub mod writes;
 
 pub use same::{same_action, same_cell, same_commit, same_value};
 pub use stop::ThreadStop;
+pub use values::{collect, operate, print_line};
 pub use view::RefView;
 pub use work::{TxWork, take_cell};
 pub use writes::{merge, put_write, value_in, valued};

@@ -4,7 +4,9 @@ ghost use Rattle.std.specs.Prelude.{◌≡◌, ◌&&◌};
 ghost use Rattle.txs_asks.specs.Ask.{same_value, same_cell, same_values, same_span, same_callee, same_action, same_actions, same_writes};
 ghost use Rattle.txs_value.specs.PlainValue.{kind_out};
 
-use txs_value::{Action, Callee, CellId, CellKind, Span, Value, same};
+use txs_cells::Action;
+use txs_terms::{Callee, Span};
+use txs_value::{CellId, CellKind, Value, same};
 
 /// Whether two values are equal.
 pub fn same_value(a: &Value, b: &Value) -> bool

@@ -5,7 +5,7 @@ ghost use Rattle.txs_eval_work.specs.declared.stop.ThreadStop.TheVariants.{Memor
 ghost use Rattle.txs_eval_work.specs.Worked.{stop_without_fault};
 
 use std::alloc::{AllocError, AllocFailed};
-use txs_value::Fault;
+use txs_terms::Fault;
 
 /// Why an evaluation gives no value.
 #[derive(Clone, Copy)]

@@ -8,17 +8,16 @@ ghost use Rattle.txs_tree.specs.Meaning.{Completes, result_of};
 ghost use Rattle.txs_tree.specs.Transaction.{own, current, value_or, noted, taken, tx_look, done_as};
 ghost use Rattle.txs_tree.specs.View.{mark_of};
 ghost use Rattle.txs_eval_work.specs.Views.{plain_view, world_of};
-ghost use Rattle.txs_value.specs.Forms.{cell_of, rule};
+ghost use Rattle.txs_cells.specs.Forms.{cell_of, rule};
 ghost use Rattle.txs_value.specs.declared.value.Value.TheVariants.{Cell};
 
 use crate::stop::ThreadStop;
 use crate::view::RefView;
 use std::alloc::AllocError;
+use txs_cells::{Action, CellForm, LookForm, UpdateForm};
 use txs_frame::{SetError, TxFrame};
-use txs_value::{
-    Action, Callee, CellForm, CellId, Fault, FaultKind, Listed, LookForm, Span, UpdateForm, Value,
-    copy_value,
-};
+use txs_terms::{Callee, Fault, FaultKind, Span};
+use txs_value::{CellId, Listed, Value, copy_value};
 
 /// What a transaction has done: its values, sets, ensures, commutes and sends, the refs that it read of the world, by
 /// ascending number, and whether the result of a commute was used.

@@ -18,8 +18,8 @@ use Rattle.txs_evaluate.specs.declared.shape.Act.{Act}
 use Rattle.txs_evaluate.specs.declared.state.State.{State}
 use Rattle.txs_eval_work.specs.declared.stop.ThreadStop.{ThreadStop}
 use Rattle.txs_eval_work.specs.declared.stop.ThreadStop.TheVariants.{Memory}
-use Rattle.txs_value.specs.declared.fault.Fault as fault
-use Rattle.txs_value.specs.declared.fault.Span.{Span}
+use Rattle.txs_terms.specs.declared.fault.Fault as fault
+use Rattle.txs_terms.specs.declared.fault.Span.{Span}
 use Rattle.txs_value.specs.declared.value.CellId.{CellId}
 use Rattle.txs_value.specs.declared.value.Value.{Value}
 use Rattle.txs_value.specs.declared.value.Value.TheVariants.{Nil}

@@ -2,9 +2,9 @@
 use Rattle.std.proofs.Common.{ℕ, Bool, true, List, [], length, Result, Ok, Err, sym, subst}
 use Rattle.std.proofs.lemmas.Bool.{false≢true}
 use Rattle.txs_operations.specs.Core.{core}
-use Rattle.txs_value.specs.declared.fault.Span.{Span}
-use Rattle.txs_value.specs.declared.op.Callee.{Callee}
-use Rattle.txs_value.specs.declared.op.Callee.TheVariants.{Core as CoreOp, Function}
+use Rattle.txs_terms.specs.declared.fault.Span.{Span}
+use Rattle.txs_terms.specs.declared.op.Callee.{Callee}
+use Rattle.txs_terms.specs.declared.op.Callee.TheVariants.{Core as CoreOp, Function}
 use Rattle.txs_value.specs.declared.value.Value.{Value}
 use Rattle.txs_evaluate.specs.Evaluated.{applied}
 use Rattle.txs_eval_work.specs.Worked.{Gives, Told}

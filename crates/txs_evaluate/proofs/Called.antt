@@ -1,7 +1,7 @@
 -- What is sound of a function's body where the function is called, and how far calls go.
 use Rattle.std.proofs.Common.{◌≡◌, ℕ, zero, suc, ◌+◌, ◌-◌, ◌*◌, ◌<◌, ◌≤◌, true, List, [], ◌∷◌, Option, Some, None, length, take, sym, ap, ◌∙◌, subst, arith}
-use Rattle.txs_value.specs.Places.{nth}
-use Rattle.txs_value.specs.declared.cell.CellDefinition.{CellDefinition}
+use Rattle.txs_terms.specs.Places.{nth}
+use Rattle.txs_cells.specs.declared.cell.CellDefinition.{CellDefinition}
 use Rattle.txs_tree.specs.Known.{Known, is_inside, is_outside, is_pure, known_of, known}
 use Rattle.txs_tree.specs.Sound.{Zone, in_function, MayCall, SoundCall, PureCall, SoundTree, SoundFunctions, nodes, nodes_of_functions}
 use Rattle.txs_tree.specs.Tree.{Tree, PlainFunction}

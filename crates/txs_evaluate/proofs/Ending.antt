@@ -24,10 +24,10 @@ use Rattle.txs_eval_work.specs.declared.stop.ThreadStop.{ThreadStop}
 use Rattle.txs_eval_work.specs.declared.stop.ThreadStop.TheVariants.{Fault, Event, Wrong, Turns, Memory}
 use Rattle.txs_eval_work.specs.declared.view.RefView.{RefView}
 use Rattle.txs_value.specs.Limits.{reruns}
-use Rattle.txs_value.specs.Places.{fault_at}
-use Rattle.txs_value.specs.declared.fault.Fault as fault
-use Rattle.txs_value.specs.declared.fault.FaultKind.TheVariants.{AgentFailed}
-use Rattle.txs_value.specs.declared.fault.Span.{Span}
+use Rattle.txs_terms.specs.Places.{fault_at}
+use Rattle.txs_terms.specs.declared.fault.Fault as fault
+use Rattle.txs_terms.specs.declared.fault.FaultKind.TheVariants.{AgentFailed}
+use Rattle.txs_terms.specs.declared.fault.Span.{Span}
 use Rattle.txs_value.specs.declared.value.Value.{Value}
 use Rattle.txs_evaluate.proofs.Acting.{finals_agree}
 use Rattle.txs_evaluate.proofs.Applying.{carried}

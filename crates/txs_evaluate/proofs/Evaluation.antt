@@ -4,9 +4,9 @@ use Rattle.std.proofs.Math.Seq.{drop-append_seam, take-append_seam}
 use Rattle.std.proofs.lemmas.Bool.{eq-eqb}
 use Rattle.std.proofs.lemmas.List.{append-nil, length-take, take-append-le, take-append-drop}
 use Rattle.txs_operations.specs.Core.{is_false}
-use Rattle.txs_value.specs.Places.{nth}
+use Rattle.txs_terms.specs.Places.{nth}
 use Rattle.txs_operations.specs.Truth.{choose}
-use Rattle.txs_value.specs.declared.form.PutForm.{PutForm}
+use Rattle.txs_cells.specs.declared.form.PutForm.{PutForm}
 use Rattle.txs_value.specs.declared.value.Value.{Value}
 use Rattle.txs_value.specs.declared.value.Value.TheVariants.{Nil, Truth, Int, Key, Text, Vector, Cell}
 use Rattle.txs_evaluate.specs.Evaluated.{Part, part, is_on, forms_on, forms_in, calls_in, around_it, GivesAll, Yields, Steps, StepsOn, means, all_mean, if_means, do_means, let_means, locals_mean, loop_means, turns_mean, call_means, finishes, finish_means, strict_means, acts, act_means, form_means}
@@ -23,7 +23,7 @@ use Rattle.txs_tree.specs.declared.node.Node.{Node}
 use Rattle.txs_evaluate.specs.declared.state.State.{State}
 use Rattle.txs_eval_work.specs.declared.stop.ThreadStop.{ThreadStop}
 use Rattle.txs_eval_work.specs.declared.stop.ThreadStop.TheVariants.{Fault, Event, Wrong, Turns, Memory}
-use Rattle.txs_value.specs.declared.fault.Span.{Span}
+use Rattle.txs_terms.specs.declared.fault.Span.{Span}
 use Rattle.txs_tree.proofs.Soundness.{trees_from}
 
 pub nth_at : (vs : List Value) (i : ℕ) (v : Value) → i < length vs → v ≡ get_or vs i v → nth vs i ≡ Some v

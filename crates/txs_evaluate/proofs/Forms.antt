@@ -29,32 +29,32 @@ use Rattle.txs_evaluate.specs.declared.seen.Seen.{Seen}
 use Rattle.txs_evaluate.specs.declared.state.State.{State}
 use Rattle.txs_evaluate.specs.declared.thread.Sending.{Sending}
 use Rattle.txs_evaluate.specs.declared.thread.Sending.TheVariants.{Sent as WasSent, Refused as WasRefused, Other as NotSent}
-use Rattle.txs_value.specs.Places.{fault_at}
-use Rattle.txs_value.specs.declared.action.Action.{Action}
+use Rattle.txs_terms.specs.Places.{fault_at}
+use Rattle.txs_cells.specs.declared.action.Action.{Action}
 use Rattle.txs_eval_work.specs.declared.stop.ThreadStop.{ThreadStop}
 use Rattle.txs_eval_work.specs.declared.stop.ThreadStop.TheVariants.{Fault, Event, Wrong, Turns, Memory}
-use Rattle.txs_value.specs.Cells.{World}
-use Rattle.txs_value.specs.Forms.{rule, cell_of, cell_if, same_kind, may_stand}
+use Rattle.txs_cells.specs.Cells.{World}
+use Rattle.txs_cells.specs.Forms.{rule, cell_of, cell_if, same_kind, may_stand}
 use Rattle.txs_value.specs.Printed.{printed_line}
-use Rattle.txs_value.specs.declared.fault.FaultKind.{FaultKind}
-use Rattle.txs_value.specs.declared.fault.FaultKind.TheVariants.{NotARef, NotAnAgent, AgentFailed}
-use Rattle.txs_value.specs.declared.fault.Span.{Span}
-use Rattle.txs_value.specs.declared.form.CellForm.{CellForm}
-use Rattle.txs_value.specs.declared.form.CellForm.TheVariants as form_of
-use Rattle.txs_value.specs.declared.form.PutForm.{PutForm}
-use Rattle.txs_value.specs.declared.form.PutForm.TheVariants.{RefSet, Reset}
-use Rattle.txs_value.specs.declared.form.FormAsk.{FormAsk}
-use Rattle.txs_value.specs.declared.form.FormAsk.TheVariants.{Nothing, ItsValue}
-use Rattle.txs_value.specs.declared.form.LookForm.{LookForm}
-use Rattle.txs_value.specs.declared.form.LookForm.TheVariants.{Deref, Ensure}
+use Rattle.txs_terms.specs.declared.fault.FaultKind.{FaultKind}
+use Rattle.txs_terms.specs.declared.fault.FaultKind.TheVariants.{NotARef, NotAnAgent, AgentFailed}
+use Rattle.txs_terms.specs.declared.fault.Span.{Span}
+use Rattle.txs_cells.specs.declared.form.CellForm.{CellForm}
+use Rattle.txs_cells.specs.declared.form.CellForm.TheVariants as form_of
+use Rattle.txs_cells.specs.declared.form.PutForm.{PutForm}
+use Rattle.txs_cells.specs.declared.form.PutForm.TheVariants.{RefSet, Reset}
+use Rattle.txs_cells.specs.declared.form.FormAsk.{FormAsk}
+use Rattle.txs_cells.specs.declared.form.FormAsk.TheVariants.{Nothing, ItsValue}
+use Rattle.txs_cells.specs.declared.form.LookForm.{LookForm}
+use Rattle.txs_cells.specs.declared.form.LookForm.TheVariants.{Deref, Ensure}
 use Rattle.txs_tree.specs.Known.{Known}
-use Rattle.txs_value.specs.declared.form.UpdateForm.{UpdateForm}
-use Rattle.txs_value.specs.declared.form.UpdateForm.TheVariants.{Alter, Commute, Swap}
-use Rattle.txs_value.specs.declared.form.Standing.{Standing}
-use Rattle.txs_value.specs.declared.form.Standing.TheVariants.{Anywhere, Inside, Outside}
-use Rattle.txs_value.specs.declared.op.Callee.{Callee}
-use Rattle.txs_value.specs.declared.op.Op.{Op}
-use Rattle.txs_value.specs.declared.op.Callee.TheVariants.{Function}
+use Rattle.txs_cells.specs.declared.form.UpdateForm.{UpdateForm}
+use Rattle.txs_cells.specs.declared.form.UpdateForm.TheVariants.{Alter, Commute, Swap}
+use Rattle.txs_cells.specs.declared.form.Standing.{Standing}
+use Rattle.txs_cells.specs.declared.form.Standing.TheVariants.{Anywhere, Inside, Outside}
+use Rattle.txs_terms.specs.declared.op.Callee.{Callee}
+use Rattle.txs_terms.specs.declared.op.Op.{Op}
+use Rattle.txs_terms.specs.declared.op.Callee.TheVariants.{Function}
 use Rattle.txs_value.specs.declared.value.CellId.{CellId}
 use Rattle.txs_value.specs.declared.value.CellKind.{CellKind}
 use Rattle.txs_value.specs.declared.value.CellKind.TheVariants.{Ref, Atom, Agent}

@@ -36,16 +36,16 @@ use Rattle.txs_evaluate.specs.declared.state.Transacted.{Transacted}
 use Rattle.txs_eval_work.specs.declared.stop.ThreadStop.{ThreadStop}
 use Rattle.txs_eval_work.specs.declared.stop.ThreadStop.TheVariants.{Fault, Event as NoEvent, Wrong as OtherEvent, Turns as NoTurns, Memory}
 use Rattle.txs_evaluate.specs.declared.seen.Seen.{Seen}
-use Rattle.txs_value.specs.Forms.{rule}
+use Rattle.txs_cells.specs.Forms.{rule}
 use Rattle.txs_value.specs.Limits.{reruns}
-use Rattle.txs_value.specs.Places.{fault_at}
-use Rattle.txs_value.specs.declared.action.Action.{Action}
-use Rattle.txs_value.specs.declared.fault.FaultKind.TheVariants.{AgentFailed}
-use Rattle.txs_value.specs.declared.fault.Span.{Span}
-use Rattle.txs_value.specs.declared.form.CellForm.TheVariants as form_of
-use Rattle.txs_value.specs.declared.form.UpdateForm.{UpdateForm}
-use Rattle.txs_value.specs.declared.form.Standing.TheVariants.{Outside}
-use Rattle.txs_value.specs.declared.op.Callee.{Callee}
+use Rattle.txs_terms.specs.Places.{fault_at}
+use Rattle.txs_cells.specs.declared.action.Action.{Action}
+use Rattle.txs_terms.specs.declared.fault.FaultKind.TheVariants.{AgentFailed}
+use Rattle.txs_terms.specs.declared.fault.Span.{Span}
+use Rattle.txs_cells.specs.declared.form.CellForm.TheVariants as form_of
+use Rattle.txs_cells.specs.declared.form.UpdateForm.{UpdateForm}
+use Rattle.txs_cells.specs.declared.form.Standing.TheVariants.{Outside}
+use Rattle.txs_terms.specs.declared.op.Callee.{Callee}
 use Rattle.txs_value.specs.declared.value.CellId.{CellId}
 use Rattle.txs_value.specs.declared.value.Value.{Value}
 use Rattle.txs_value.specs.declared.value.Value.TheVariants.{Cell}

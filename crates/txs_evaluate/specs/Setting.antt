@@ -2,7 +2,7 @@
 use Rattle.std.specs.Prelude.{ℕ, ◌-◌, Option, Some, None, List, take}
 use Rattle.txs_tree.specs.Known.{Known, known}
 use Rattle.txs_tree.specs.Sound.{Zone, in_thread, in_dosync}
-use Rattle.txs_value.specs.declared.cell.CellDefinition.{CellDefinition}
+use Rattle.txs_cells.specs.declared.cell.CellDefinition.{CellDefinition}
 use Rattle.txs_tree.specs.View.{functions_of}
 use Rattle.txs_eval_work.specs.Views.{PlainView}
 use Rattle.txs_tree.specs.declared.node.Function.{Function}

@@ -3,8 +3,8 @@ use Rattle.std.specs.Prelude.{◌≡◌}
 use Rattle.txs_tree.specs.Tree.{Mark, Tree, Trees, none, more}
 use Rattle.txs_tree.specs.Tree as tree
 use Rattle.txs_tree.specs.View.{tree_of, trees_of}
-use Rattle.txs_value.specs.declared.form.CellForm.{CellForm}
-use Rattle.txs_value.specs.declared.form.CellForm.TheVariants as form_of
+use Rattle.txs_cells.specs.declared.form.CellForm.{CellForm}
+use Rattle.txs_cells.specs.declared.form.CellForm.TheVariants as form_of
 use Rattle.txs_evaluate.specs.declared.shape.Act.{Act}
 use Rattle.txs_evaluate.specs.declared.shape.Act.TheVariants.{Look as a_look, Put as a_put, Update as an_update, Send as a_send}
 use Rattle.txs_evaluate.specs.declared.shape.Shape.{Shape}

@@ -7,8 +7,10 @@ ghost use Rattle.txs_eval_work.specs.Views.{plain_view, plain_world};
 use crate::seen::Seen;
 use crate::state::{Progress, Transacted};
 use txs_asks::EventKind;
+use txs_cells::Action;
 use txs_eval_work::{RefView, ThreadStop, same_commit};
-use txs_value::{Action, CellId, Span, Value};
+use txs_terms::Span;
+use txs_value::{CellId, Value};
 
 /// The world on which the commutes of a transaction ran, if the event is one of its end: a commit has them on the world at its
 /// place, a failure and a refusal on the one that was viewed.

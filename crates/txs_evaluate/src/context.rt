@@ -2,16 +2,17 @@
 
 ghost use Rattle.std.specs.Prelude.{◌≡◌, ◌<◌, ◌≤◌, ◌-◌, [], Some, length};
 ghost use Rattle.txs_asks.specs.SeenEvent.{atoms_below, home};
-ghost use Rattle.txs_value.specs.Places.{nth};
+ghost use Rattle.txs_terms.specs.Places.{nth};
 ghost use Rattle.txs_evaluate.specs.Setting.{Setting, deeper, on_view};
 ghost use Rattle.txs_tree.specs.Sound.{SoundFunctions};
 ghost use Rattle.txs_tree.specs.View.{function_of, functions_of};
 ghost use Rattle.txs_eval_work.specs.Views.{plain_view, plain_world};
 
 use std::marker::Model;
+use txs_cells::CellDefinition;
 use txs_eval_work::RefView;
 use txs_tree::Function;
-use txs_value::{CellDefinition, CellId, CellKind};
+use txs_value::{CellId, CellKind};
 
 /// The cells and functions that are defined, how deep calls may go, how many turns each loop may make, and the world of a
 /// running transaction. A function calls those before it alone: so no more depth is used than there are functions.

@@ -3,12 +3,10 @@
 ghost use Rattle.std.specs.Prelude.{true, false, ℕ, ◌≡◌, ◌≤◌, ◌-◌, ◌+◌, ◌++◌, ◌∷◌, [], suc, Bool, length, take, drop, None, Some, IsTrue, IfOk, OnOk, MatchResult};
 ghost use Rattle.txs_frame.specs.Frame.{commuted, phase_work, set_writes};
 ghost use Rattle.txs_asks.specs.SeenEvent.{home};
-ghost use Rattle.txs_operations.specs.Core.{core, takes, vector_of};
 ghost use Rattle.txs_evaluate.specs.Evaluated.{Ate, Steps, Yields, GivesAll, Ready, ReadyIn, Finishes, Runs, SoundCommutes, means, all_mean, do_means, if_means, let_means, locals_mean, loop_means, turns_mean, call_means, finish_means, strict_means, form_means, inside_means, outside_means, update_means, swap_means, applied, dosync_means, eat_means, body_means, final_means, redone_means, step_of, thread_state};
 ghost use Rattle.txs_eval_work.specs.Worked.{Told, ToldOf, Gives, RefCell, UpdatesRef, tx_state};
 ghost use Rattle.txs_evaluate.specs.declared.evaluate.Step.TheVariants.{Value as AValue};
 ghost use Rattle.txs_eval_work.specs.declared.stop.ThreadStop.TheVariants.{Memory};
-ghost use Rattle.txs_tree.specs.Meaning.{result_of};
 ghost use Rattle.txs_evaluate.specs.Setting.{callable, zone_in};
 ghost use Rattle.txs_tree.specs.Sound.{InSomeTail, SoundCall, SoundCallee, SoundTree, SoundAll, SoundDo, SoundLet, in_thread, in_dosync};
 ghost use Rattle.txs_tree.specs.Thread.{ThreadState};
@@ -17,8 +15,6 @@ ghost use Rattle.txs_tree.specs.Tree.{count};
 ghost use Rattle.txs_tree.specs.View.{tree_of, trees_of, mark_of};
 ghost use Rattle.txs_eval_work.specs.Views.{plain_view, world_of};
 ghost use Rattle.txs_value.specs.Limits.{reruns};
-ghost use Rattle.txs_value.specs.Printed.{printed_line};
-ghost use Rattle.txs_value.specs.declared.value.Value.TheVariants.{Nil};
 
 use crate::closing::{close, end_stop, end_view};
 use crate::context::Context;
@@ -27,13 +23,16 @@ use crate::shape::{Act, Shape, Strict, shape_of};
 use crate::state::{Progress, State, Transacted};
 use crate::thread::{end_swap, read_at, reset_at, send_at, swap_at};
 use std::alloc::{AllocError, Global};
-use txs_eval_work::{RefView, ThreadStop, TxWork, merge, put_write, take_cell, value_in, valued};
-use txs_frame::{Commute, TxFrame};
-use txs_operations::{apply, is_false, make_vector};
-use txs_tree::Node;
-use txs_value::{
-    Callee, CellId, Fault, Listed, Op, Span, Stop, UpdateForm, Value, copy_value, write_line,
+use txs_cells::UpdateForm;
+use txs_eval_work::{
+    RefView, ThreadStop, TxWork, collect, merge, operate, print_line, put_write, take_cell,
+    value_in, valued,
 };
+use txs_frame::{Commute, TxFrame};
+use txs_operations::is_false;
+use txs_terms::{Callee, Span};
+use txs_tree::Node;
+use txs_value::{CellId, Listed, Value, copy_value};
 
 /// What a node in tail position gives.
 #[derive(Drop)]
@@ -66,37 +65,6 @@ fn as_step(given: Result<Value, ThreadStop>) -> Result<Step, ThreadStop>
         Ok(value) => Ok(Step::Value(value)),
         Err(stop) => Err(stop),
     }
-}
-
-/// The operation on its arguments; a fault has the span.
-fn operate(alloc: Global, op: Op, args: Vec<Value>, span: Span) -> Result<Value, ThreadStop>
-    requires { IsTrue (takes op (length args.items)) }
-    ensures { Told result (result_of (core op args.items) span tt) }
-{
-    match apply(alloc, op, args.as_slice()) {
-        Ok(value) => Ok(value),
-        Err(Stop::Fault(kind)) => Err(ThreadStop::Fault(Fault { kind, span })),
-        Err(Stop::Memory) => Err(ThreadStop::Memory),
-    }
-}
-
-/// The vector of the items; a fault has the span.
-fn collect(alloc: Global, items: Vec<Value>, span: Span) -> Result<Value, ThreadStop>
-    ensures { Told result (result_of (vector_of items.items) span tt) }
-{
-    match make_vector(alloc, items) {
-        Ok(value) => Ok(value),
-        Err(Stop::Fault(kind)) => Err(ThreadStop::Fault(Fault { kind, span })),
-        Err(Stop::Memory) => Err(ThreadStop::Memory),
-    }
-}
-
-/// Appends the line of these values, and gives nil.
-fn print_line(values: Vec<Value>, printed: &mut Vec<u8>) -> Result<Value, ThreadStop>
-    ensures { MatchResult result (λ v. (v ≡ Nil) × (printed.new.items ≡ printed.old.items ++ printed_line values.items)) (λ y. y ≡ Memory) }
-{
-    write_line(values.as_slice(), printed)?;
-    Ok(Value::Nil)
 }
 
 /// Puts the values in the place of the locals from there on.

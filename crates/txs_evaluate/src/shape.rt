@@ -5,8 +5,10 @@ ghost use Rattle.txs_evaluate.specs.Shapes.{IsShape, form_of_act};
 ghost use Rattle.txs_tree.specs.View.{tree_of, mark_of};
 
 use std::slice::from_ref;
+use txs_cells::{CellForm, LookForm, PutForm, UpdateForm};
+use txs_terms::{Callee, Op};
 use txs_tree::{Node, NodeKind};
-use txs_value::{Callee, CellForm, LookForm, Op, PutForm, UpdateForm, Value};
+use txs_value::Value;
 
 /// What is done with the values of a node's parts, which come from left to right.
 #[derive(Clone, Copy)]

@@ -6,8 +6,8 @@ ghost use Rattle.txs_eval_work.specs.Worked.{Gives, tx_state};
 ghost use Rattle.txs_eval_work.specs.declared.stop.ThreadStop.TheVariants.{Memory};
 ghost use Rattle.txs_tree.specs.Meaning.{Faults};
 ghost use Rattle.txs_tree.specs.Thread.{with_tx};
-ghost use Rattle.txs_value.specs.Places.{fault_at};
-ghost use Rattle.txs_value.specs.declared.fault.FaultKind.TheVariants.{AgentFailed};
+ghost use Rattle.txs_terms.specs.Places.{fault_at};
+ghost use Rattle.txs_terms.specs.declared.fault.FaultKind.TheVariants.{AgentFailed};
 ghost use Rattle.txs_tree.specs.Transaction.{tx_start};
 ghost use Rattle.txs_evaluate.specs.Events.{seen_events};
 
@@ -15,8 +15,9 @@ use crate::seen::Seen;
 use std::alloc::Global;
 use txs_eval_work::{ThreadStop, TxWork};
 use txs_frame::TxFrame;
+use txs_terms::{Fault, FaultKind, Span};
 use txs_tree::Node;
-use txs_value::{Fault, FaultKind, Listed, Span, Value, copy_value};
+use txs_value::{Listed, Value, copy_value};
 
 /// A transaction that came to its end: its body with its locals, whether its result is wanted, its result, and what it did.
 #[derive(Drop)]

@@ -9,8 +9,10 @@ ghost use Rattle.txs_tree.specs.Thread.{ThreadState, reads, resets, sends, is_re
 use crate::seen::Seen;
 use crate::state::Progress;
 use txs_asks::EventKind;
+use txs_cells::Action;
 use txs_eval_work::{RefView, ThreadStop, same_action, same_cell, same_value};
-use txs_value::{Action, Callee, CellId, Fault, FaultKind, Listed, Span, Value};
+use txs_terms::{Callee, Fault, FaultKind, Span};
+use txs_value::{CellId, Listed, Value};
 
 /// How often a transaction is tried.
 const TRIES: u16 = 10_000;

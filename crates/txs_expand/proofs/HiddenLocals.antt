@@ -1,6 +1,6 @@
 -- What the symbol of a hidden local stands for.
 use Rattle.std.proofs.Common.{◌≡◌, ℕ, [], Option, Some, Ok, length, if◌then◌else◌, refl, ap}
-use Rattle.txs_value.specs.Operations.{op_name}
+use Rattle.txs_terms.specs.Operations.{op_name}
 use Rattle.txs_reader.specs.Tree.{symbol}
 use Rattle.txs_tree.specs.Tree.{Local}
 use Rattle.txs_names.specs.Scope.{Scope, local_number, meaning, a_local, definition_of, is_current, operations, or_defined, or_local, or_unknown, the_current, with_local, with_name}

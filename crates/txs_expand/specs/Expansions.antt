@@ -1,6 +1,6 @@
 -- The forms that stand for others, and what each stands for: one level at a time, as Clojure's `macroexpand-1`.
 use Rattle.std.specs.Prelude.{ℕ, zero, suc, ◌%◌, Bool, true, false, [], Option, Some, None, if◌then◌else◌}
-use Rattle.txs_value.specs.declared.fault.Span.{Span}
+use Rattle.txs_terms.specs.declared.fault.Span.{Span}
 use Rattle.txs_reader.specs.declared.form.Bracket.TheVariants.{Round, Square}
 use Rattle.txs_reader.specs.Tree.{Tree as Form, Trees as Forms, leaf, group, first, symbol, nil, truth, parts}
 use Rattle.txs_reader.specs.Tree.{none as no_forms}

@@ -1,6 +1,6 @@
 -- Forms as the resolver meets them, and what they are once they are expanded.
 use Rattle.std.specs.Prelude.{◌≡◌, Bool, true, false, List, [], Option, Some, None, Ok, Err}
-use Rattle.txs_value.specs.declared.fault.Span.{Span}
+use Rattle.txs_terms.specs.declared.fault.Span.{Span}
 use Rattle.txs_reader.specs.declared.form.Bracket.TheVariants.{Round}
 use Rattle.txs_reader.specs.declared.form.Form.{Form as AForm}
 use Rattle.txs_reader.specs.Tree.{Tree as Form, Trees as Forms, Leaf, leaf, group, first, place, symbol, nil, truth, tree, trees, trees_of}
@@ -10,8 +10,8 @@ use Rattle.txs_tree.specs.Tree.{Put}
 use Rattle.txs_names.specs.declared.names.FormName.{FormName}
 use Rattle.txs_names.specs.declared.names.FormName.TheVariants as kind
 use Rattle.txs_names.specs.Scope.{Scope, local_number}
-use Rattle.txs_value.specs.declared.form.CellForm.{CellForm}
-use Rattle.txs_value.specs.declared.form.CellForm.TheVariants as on_cell
+use Rattle.txs_cells.specs.declared.form.CellForm.{CellForm}
+use Rattle.txs_cells.specs.declared.form.CellForm.TheVariants as on_cell
 use Rattle.txs_expand.specs.declared.error.ResolveErrorKind.TheVariants.{BadForm}
 use Rattle.txs_expand.specs.declared.shapes.Change.{Change}
 use Rattle.txs_expand.specs.declared.shapes.Change.TheVariants as change_by

@@ -5,7 +5,7 @@ ghost use Rattle.txs_names.specs.Scope.{Scope};
 ghost use Rattle.txs_reader.specs.Tree.{tree};
 ghost use Rattle.txs_expand.specs.Expansions.{alone, form_at, is_alone};
 ghost use Rattle.txs_expand.specs.Parts.{is_single, part_form, plain, PartFits};
-ghost use Rattle.txs_value.specs.declared.fault.Span.{Span as ASpan};
+ghost use Rattle.txs_terms.specs.declared.fault.Span.{Span as ASpan};
 
 use crate::shapes::{Change, Couple, Sequence, Single};
 use txs_names::{FormName, form_of};

@@ -5,9 +5,9 @@ ghost use Rattle.txs_names.specs.declared.names.FormName.TheVariants.{Cond, Do};
 ghost use Rattle.txs_names.specs.Scope.{Scope as AScope};
 ghost use Rattle.txs_reader.specs.declared.form.Bracket.TheVariants.{Round};
 ghost use Rattle.txs_reader.specs.Tree.{tree, group, first, place};
-ghost use Rattle.txs_value.specs.declared.fault.Span.{Span as ASpan};
-ghost use Rattle.txs_value.specs.declared.form.CellForm.TheVariants.{Look, Put};
-ghost use Rattle.txs_value.specs.declared.op.Callee.TheVariants.{Core as CoreOp};
+ghost use Rattle.txs_terms.specs.declared.fault.Span.{Span as ASpan};
+ghost use Rattle.txs_cells.specs.declared.form.CellForm.TheVariants.{Look, Put};
+ghost use Rattle.txs_terms.specs.declared.op.Callee.TheVariants.{Core as CoreOp};
 ghost use Rattle.txs_expand.specs.Expansions.{expand_once};
 ghost use Rattle.txs_expand.specs.declared.shapes.Spot.{Spot as ASpot};
 ghost use Rattle.txs_expand.specs.Expressions.{applied, cell_form, core_of, of_family};
@@ -17,9 +17,10 @@ ghost use Rattle.txs_expand.specs.Parts.{core_at as the_core};
 use crate::error::{ResolveError, ResolveErrorKind, refusal};
 use crate::parts::{Core, Part, Special, Whole, alone, form_at};
 use crate::shapes::{Change, Couple, Sequence, Single, Spot, are_pairs, callee, is_chain};
+use txs_cells::{CellForm, LookForm, PutForm, UpdateForm};
 use txs_names::{FormName, Scope};
 use txs_reader::{Bracket, Form};
-use txs_value::{Callee, CellForm, LookForm, Op, PutForm, Span, UpdateForm};
+use txs_terms::{Callee, Op, Span};
 
 /// The first of the forms, else nil.
 fn first_of(forms: &[Form]) -> Part<'_>

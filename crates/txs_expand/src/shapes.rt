@@ -6,9 +6,10 @@ ghost use Rattle.txs_names.specs.Viewed.{meant};
 ghost use Rattle.txs_reader.specs.Tree.{tree, trees, trees_of};
 
 use crate::error::{ResolveError, ResolveErrorKind, refusal};
+use txs_cells::{LookForm, PutForm, UpdateForm};
 use txs_names::{Definition, Found, Scope};
 use txs_reader::Form;
-use txs_value::{Callee, LookForm, Op, PutForm, Span, UpdateForm};
+use txs_terms::{Callee, Op, Span};
 
 /// Where a node stands: how many levels it may have, its span, and whether its result is wanted.
 #[derive(Clone, Copy)]

@@ -1,8 +1,8 @@
 -- What the nodes of a form's parts are put together to.
 use Rattle.std.proofs.Common.{◌≡◌, ◌<◌, ◌≤◌, ◌+◌, ◌-◌, ◌||◌, ℕ, zero, suc, Bool, true, false, List, [], ◌∷◌, ◌++◌, Result, Ok, Err, if◌then◌else◌, cond, length, map, nat_lt, refl, sym, ap, ◌∙◌, subst, arith, Bor}
 use Rattle.std.proofs.lemmas.Bool.Decides.{nat_tests}
-use Rattle.txs_value.specs.declared.fault.Span.{Span}
-use Rattle.txs_value.specs.declared.op.Callee.{Callee}
+use Rattle.txs_terms.specs.declared.fault.Span.{Span}
+use Rattle.txs_terms.specs.declared.op.Callee.{Callee}
 use Rattle.txs_reader.specs.declared.form.Form.{Form}
 use Rattle.txs_reader.specs.Tree.{Tree as FormTree, first, place, tree, parts}
 use Rattle.txs_reader.specs.Tree.{none as no_forms}

@@ -1,7 +1,7 @@
 -- The values of literals that a loop has built, and those of a vector.
 use Rattle.std.proofs.Common.{◌≡◌, ◌≢◌, ◌<◌, ◌≤◌, ◌+◌, ◌-◌, ◌==◌, ℕ, Bool, true, false, ◌||◌, nat_lt, List, [], ◌∷◌, ◌++◌, Ok, Err, length, drop, get_or, cond, refl, ap, ◌∙◌, arith, Vec, Global}
 use Rattle.std.proofs.lemmas.Bool.Decides.{nat_tests}
-use Rattle.txs_value.specs.declared.fault.Span.{Span}
+use Rattle.txs_terms.specs.declared.fault.Span.{Span}
 use Rattle.txs_value.specs.declared.value.Value.{Value}
 use Rattle.txs_value.specs.declared.value.Value.TheVariants.{Vector}
 use Rattle.txs_value.specs.PlainValue.{depth, row_depth, plain_row}

@@ -1,7 +1,7 @@
 -- How many nodes stand in one another, where the levels of functions are known by their numbers.
 use Rattle.std.specs.Prelude.{ℕ, zero, suc, max, List, [], ◌∷◌}
-use Rattle.txs_value.specs.declared.op.Callee.{Callee}
-use Rattle.txs_value.specs.declared.op.Callee.TheVariants.{Core as CoreOp, Function}
+use Rattle.txs_terms.specs.declared.op.Callee.{Callee}
+use Rattle.txs_terms.specs.declared.op.Callee.TheVariants.{Core as CoreOp, Function}
 use Rattle.txs_tree.specs.Tree.{Tree, Const, Local, If, Do, Let, Loop, Recur, Core, Call, VectorOf, Println, Dosync, Look, Put, Update, Send, Trees, none, more}
 
 -- the number at a place, nought where there is none

@@ -6,8 +6,8 @@ ghost use Rattle.txs_tree.specs.View.{tree_of, trees_of};
 ghost use Rattle.txs_value.specs.Limits.{most_levels};
 
 use std::slice::from_ref;
+use txs_terms::Callee;
 use txs_tree::{Node, NodeKind};
-use txs_value::Callee;
 
 /// The levels of the function of this number.
 fn at_place(known: &[u16], number: u16) -> usize

@@ -18,8 +18,9 @@ use txs_expand::{
 };
 use txs_names::{Definition, Found, Scope};
 use txs_reader::Form;
+use txs_terms::Callee;
 use txs_tree::{Node, NodeKind};
-use txs_value::{Callee, CellId, Name, Value, copy_value};
+use txs_value::{CellId, Name, Value, copy_value};
 
 /// Nodes in a row. Where memory was wanted for one of them they are lost, and no more is made of them. The walk over the
 /// forms goes on all the same to what may be refused: so a form that is refused is never answered by want of memory.

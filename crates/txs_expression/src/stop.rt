@@ -5,7 +5,7 @@ ghost use Rattle.txs_expression.specs.declared.stop.Stop.TheVariants.{Refused, M
 
 use std::alloc::{AllocError, AllocFailed};
 use txs_expand::{ResolveError, ResolveErrorKind};
-use txs_value::Span;
+use txs_terms::Span;
 
 /// Why the resolver stops: a refusal of the forms, or want of memory.
 #[derive(Clone, Copy)]

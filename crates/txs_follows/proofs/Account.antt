@@ -1,8 +1,8 @@
 -- How a tree's run on replies goes with its thread's run on events: what the theorems on threads have in common.
 use Rattle.std.proofs.Common.{ℕ, List, [], ◌≡◌, ◌∷◌, ◌++◌}
 use Rattle.txs_asks.specs.SeenEvent.{SeenEvent}
-use Rattle.txs_value.specs.Cells.{World}
-use Rattle.txs_value.specs.declared.cell.CellDefinition.{CellDefinition}
+use Rattle.txs_cells.specs.Cells.{World}
+use Rattle.txs_cells.specs.declared.cell.CellDefinition.{CellDefinition}
 use Rattle.txs_value.specs.declared.value.Value.{Value}
 use Rattle.txs_tree.specs.Meaning.{Completion, Completes, Recurs, Faults, Retries, Waits, OutOfTurns, Invalid}
 use Rattle.txs_tree.specs.Thread.{ThreadState}

@@ -7,12 +7,12 @@ use Rattle.txs_asks.specs.declared.ask.Ask.TheVariants.{Take, Finish}
 use Rattle.txs_asks.specs.declared.ask.Reply.{Reply}
 use Rattle.txs_asks.specs.declared.ask.Reply.TheVariants as reply
 use Rattle.txs_operations.specs.Core.{core}
-use Rattle.txs_value.specs.declared.action.Action.{Action}
-use Rattle.txs_value.specs.declared.fault.Fault.{Fault}
-use Rattle.txs_value.specs.declared.fault.FaultKind.{FaultKind}
-use Rattle.txs_value.specs.declared.fault.Span.{Span}
-use Rattle.txs_value.specs.declared.op.Callee.{Callee}
-use Rattle.txs_value.specs.declared.op.Callee.TheVariants.{Core as CoreOp, Function}
+use Rattle.txs_cells.specs.declared.action.Action.{Action}
+use Rattle.txs_terms.specs.declared.fault.Fault.{Fault}
+use Rattle.txs_terms.specs.declared.fault.FaultKind.{FaultKind}
+use Rattle.txs_terms.specs.declared.fault.Span.{Span}
+use Rattle.txs_terms.specs.declared.op.Callee.{Callee}
+use Rattle.txs_terms.specs.declared.op.Callee.TheVariants.{Core as CoreOp, Function}
 use Rattle.txs_value.specs.declared.value.CellId.{CellId}
 use Rattle.txs_value.specs.declared.value.Value.{Value}
 use Rattle.txs_value.specs.declared.value.Value.TheVariants.{Nil}

@@ -1,6 +1,6 @@
 -- All threads of a program.
 use Rattle.std.proofs.Common.{◌≡◌, ℕ, zero, suc, List, [], ◌∷◌, length, map, Option, Some, None, refl, sym, ap, subst}
-use Rattle.txs_value.specs.Places.{nth}
+use Rattle.txs_terms.specs.Places.{nth}
 use Rattle.txs_tree.specs.Known.{Known, known}
 use Rattle.txs_tree.specs.Sound.{SoundThread, SoundThreads, SoundSource}
 use Rattle.txs_tree.specs.Tree.{PlainThread}

@@ -1,11 +1,11 @@
 -- What stands in a tree, by rules: callees of updates and sends, forms on cells, and calls. In a sound tree callees are pure.
 use Rattle.std.proofs.Common.{◌≡◌, ◌+◌, ℕ, suc, Bool, true, List, [], Option, Some, None, take, ap, ◌∙◌}
-use Rattle.txs_value.specs.Forms.{rule}
-use Rattle.txs_value.specs.Places.{nth}
-use Rattle.txs_value.specs.declared.form.CellForm.{CellForm}
-use Rattle.txs_value.specs.declared.form.CellForm.TheVariants as form_of
-use Rattle.txs_value.specs.declared.op.Callee.{Callee}
-use Rattle.txs_value.specs.declared.op.Callee.TheVariants.{Core as CoreOp, Function}
+use Rattle.txs_cells.specs.Forms.{rule}
+use Rattle.txs_terms.specs.Places.{nth}
+use Rattle.txs_cells.specs.declared.form.CellForm.{CellForm}
+use Rattle.txs_cells.specs.declared.form.CellForm.TheVariants as form_of
+use Rattle.txs_terms.specs.declared.op.Callee.{Callee}
+use Rattle.txs_terms.specs.declared.op.Callee.TheVariants.{Core as CoreOp, Function}
 use Rattle.txs_tree.specs.Known.{Known, is_pure, known}
 use Rattle.txs_tree.specs.Sound.{Zone, in_function, in_dosync, MayStand, SoundTree, SoundAll, SoundLet, SoundDo, SoundCall, SoundCallee, SoundFunctions}
 use Rattle.txs_tree.specs.Tree.{Tree, Const, Local, If, Do, Let, Loop, Recur, Core, Call, VectorOf, Println, Dosync, Look, Put, Update, Send, Trees, none, more, count, PlainFunction}

@@ -6,8 +6,8 @@ use Rattle.txs_asks.specs.declared.ask.Ask.TheVariants as ask
 use Rattle.txs_asks.specs.declared.ask.Ask.{Ask}
 use Rattle.txs_asks.specs.declared.ask.Reply.TheVariants as reply
 use Rattle.txs_asks.specs.declared.ask.Reply.{Reply}
-use Rattle.txs_value.specs.Cells.{World}
-use Rattle.txs_value.specs.declared.cell.CellDefinition.{CellDefinition}
+use Rattle.txs_cells.specs.Cells.{World}
+use Rattle.txs_cells.specs.declared.cell.CellDefinition.{CellDefinition}
 use Rattle.txs_value.specs.declared.value.CellId.{CellId}
 use Rattle.txs_tree.specs.Transaction.{merged}
 use Rattle.txs_follows.specs.RepliesFit.{Phase, Out, In, Viewed, WithSwap, OnEvent, SaysRetry, SaysRead, SaysCommit, SaysFail, SaysRefused, SaysSent, SaysSendRefused, SaysSwap, SaysBroke, AgreeOn, Goes, OutFits, InFits, ViewedFits, SwapFits, belongs, PhaseFits, IfBelongs, RepliesFit}

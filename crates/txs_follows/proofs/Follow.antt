@@ -3,7 +3,7 @@ use Rattle.std.proofs.Common.{List, [], sym, ap, subst, ◌≡◌, ◌++◌, ◌
 use Rattle.std.proofs.lemmas.List.{append-nil}
 use Rattle.txs_asks.specs.Ask.{Exchange}
 use Rattle.txs_asks.specs.SeenEvent.{SeenEvent}
-use Rattle.txs_value.specs.declared.cell.CellDefinition.{CellDefinition}
+use Rattle.txs_cells.specs.declared.cell.CellDefinition.{CellDefinition}
 use Rattle.txs_value.specs.declared.value.Value.{Value}
 use Rattle.txs_tree.specs.Meaning.{Completion, Completes, Recurs, Faults, Retries, Waits, OutOfTurns, Invalid}
 use Rattle.txs_tree.specs.Thread.{ThreadState, thread_meaning}

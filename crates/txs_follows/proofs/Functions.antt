@@ -5,11 +5,11 @@ use Rattle.std.proofs.lemmas.Bool.{false≢true}
 use Rattle.txs_tree.specs.Known.{Known, only_inside, only_outside, is_inside, is_outside, is_pure, inside_in, any_inside, outside_in, any_outside, pure_in, all_pure, known_of, known_from, known}
 use Rattle.txs_tree.specs.Sound.{MayStand, in_function, in_thread, in_dosync, SoundCall, SoundTree, SoundAll, SoundLet, SoundDo, SoundFunction, SoundFunctions}
 use Rattle.txs_tree.specs.Tree.{Tree, Const, Local, If, Do, Let, Loop, Recur, Core, Call, VectorOf, Println, Dosync, Look, Put, Update, Send, Trees, none, more, count, PlainFunction}
-use Rattle.txs_value.specs.Forms.{rule}
-use Rattle.txs_value.specs.Places.{nth}
-use Rattle.txs_value.specs.declared.form.CellForm.TheVariants as form_of
-use Rattle.txs_value.specs.declared.form.Standing.{Standing}
-use Rattle.txs_value.specs.declared.form.Standing.TheVariants.{Anywhere, Inside, Outside}
+use Rattle.txs_cells.specs.Forms.{rule}
+use Rattle.txs_terms.specs.Places.{nth}
+use Rattle.txs_cells.specs.declared.form.CellForm.TheVariants as form_of
+use Rattle.txs_cells.specs.declared.form.Standing.{Standing}
+use Rattle.txs_cells.specs.declared.form.Standing.TheVariants.{Anywhere, Inside, Outside}
 
 abbrev IsThere : {A : Type 0} → Option A → Type 0
 IsThere None = ⊥

@@ -2,8 +2,8 @@
 use Rattle.std.proofs.Common.{ℕ, List, [], sym, subst, ◌≡◌, ◌++◌}
 use Rattle.txs_asks.specs.Ask.{Exchange}
 use Rattle.txs_asks.specs.SeenEvent.{SeenEvent}
-use Rattle.txs_value.specs.Cells.{World}
-use Rattle.txs_value.specs.declared.cell.CellDefinition.{CellDefinition}
+use Rattle.txs_cells.specs.Cells.{World}
+use Rattle.txs_cells.specs.declared.cell.CellDefinition.{CellDefinition}
 use Rattle.txs_value.specs.declared.value.Value.{Value}
 use Rattle.txs_code.specs.ActorState.{ActorState}
 use Rattle.txs_tree.specs.Meaning.{Completion, Completes, Recurs, Faults, Retries, Waits, OutOfTurns, Invalid}

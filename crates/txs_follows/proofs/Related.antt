@@ -5,17 +5,17 @@ use Rattle.txs_tree.specs.Meaning.{Completion, Completes, Recurs, Faults, Retrie
 use Rattle.txs_follows.proofs.Callees.{Rules, Keeps, KeepAll}
 use Rattle.txs_tree.specs.Tree.{Tree, Const, Local, If, Do, Let, Loop, Recur, Core, Call, VectorOf, Println, Dosync, Look, Put, Update, Send, Mark, Trees, none, more, count, is_none, PlainFunction}
 use Rattle.txs_operations.specs.Core.{core, vector_of}
-use Rattle.txs_value.specs.Places.{nth}
+use Rattle.txs_terms.specs.Places.{nth}
 use Rattle.txs_operations.specs.Truth.{choose}
-use Rattle.txs_value.specs.declared.fault.Fault.{Fault}
-use Rattle.txs_value.specs.declared.fault.FaultKind.{FaultKind}
-use Rattle.txs_value.specs.declared.fault.Span.{Span}
-use Rattle.txs_value.specs.declared.form.CellForm.TheVariants as form_of
-use Rattle.txs_value.specs.declared.form.LookForm.{LookForm}
-use Rattle.txs_value.specs.declared.form.PutForm.{PutForm}
-use Rattle.txs_value.specs.declared.form.UpdateForm.{UpdateForm}
-use Rattle.txs_value.specs.declared.op.Callee.TheVariants.{Core as CoreOp, Function}
-use Rattle.txs_value.specs.declared.op.Callee.{Callee}
+use Rattle.txs_terms.specs.declared.fault.Fault.{Fault}
+use Rattle.txs_terms.specs.declared.fault.FaultKind.{FaultKind}
+use Rattle.txs_terms.specs.declared.fault.Span.{Span}
+use Rattle.txs_cells.specs.declared.form.CellForm.TheVariants as form_of
+use Rattle.txs_cells.specs.declared.form.LookForm.{LookForm}
+use Rattle.txs_cells.specs.declared.form.PutForm.{PutForm}
+use Rattle.txs_cells.specs.declared.form.UpdateForm.{UpdateForm}
+use Rattle.txs_terms.specs.declared.op.Callee.TheVariants.{Core as CoreOp, Function}
+use Rattle.txs_terms.specs.declared.op.Callee.{Callee}
 use Rattle.txs_value.specs.declared.value.Value.TheVariants.{Nil, Truth, Int, Key, Text, Vector, Cell}
 use Rattle.txs_value.specs.declared.value.Value.{Value}
 

@@ -2,19 +2,19 @@
 use Rattle.std.proofs.Common.{suc, Bool, true, false, List, ◌∷◌, ◌||◌, None, Result, Ok, Err, refl, sym, subst, length, ◌≡◌}
 use Rattle.std.proofs.lemmas.Bool.{false≢true}
 use Rattle.txs_frame.specs.Frame.{Work, set_ref, commute_ref, hold_send}
-use Rattle.txs_value.specs.Cells.{World}
-use Rattle.txs_value.specs.Forms.{rule, cell_of}
-use Rattle.txs_value.specs.declared.fault.FaultKind.{FaultKind}
-use Rattle.txs_value.specs.declared.fault.Span.{Span}
-use Rattle.txs_value.specs.declared.form.CellForm.TheVariants as form_of
-use Rattle.txs_value.specs.declared.form.LookForm.{LookForm}
-use Rattle.txs_value.specs.declared.form.LookForm.TheVariants.{Deref, Ensure}
-use Rattle.txs_value.specs.declared.form.PutForm.{PutForm}
-use Rattle.txs_value.specs.declared.form.PutForm.TheVariants.{RefSet, Reset}
-use Rattle.txs_value.specs.declared.form.Standing.TheVariants.{Outside}
-use Rattle.txs_value.specs.declared.form.UpdateForm.{UpdateForm}
-use Rattle.txs_value.specs.declared.form.UpdateForm.TheVariants as update_of
-use Rattle.txs_value.specs.declared.op.Callee.{Callee}
+use Rattle.txs_cells.specs.Cells.{World}
+use Rattle.txs_cells.specs.Forms.{rule, cell_of}
+use Rattle.txs_terms.specs.declared.fault.FaultKind.{FaultKind}
+use Rattle.txs_terms.specs.declared.fault.Span.{Span}
+use Rattle.txs_cells.specs.declared.form.CellForm.TheVariants as form_of
+use Rattle.txs_cells.specs.declared.form.LookForm.{LookForm}
+use Rattle.txs_cells.specs.declared.form.LookForm.TheVariants.{Deref, Ensure}
+use Rattle.txs_cells.specs.declared.form.PutForm.{PutForm}
+use Rattle.txs_cells.specs.declared.form.PutForm.TheVariants.{RefSet, Reset}
+use Rattle.txs_cells.specs.declared.form.Standing.TheVariants.{Outside}
+use Rattle.txs_cells.specs.declared.form.UpdateForm.{UpdateForm}
+use Rattle.txs_cells.specs.declared.form.UpdateForm.TheVariants as update_of
+use Rattle.txs_terms.specs.declared.op.Callee.{Callee}
 use Rattle.txs_value.specs.declared.value.CellId.{CellId}
 use Rattle.txs_value.specs.declared.value.Value.{Value}
 use Rattle.txs_tree.specs.Meaning.{Completion, Completes, Recurs, Faults, Retries, Waits, OutOfTurns, Invalid, bind, result_of, Applies}

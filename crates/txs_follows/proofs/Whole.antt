@@ -14,7 +14,7 @@ use Rattle.txs_asks.specs.SeenEvent.{SeenEvent}
 use Rattle.txs_tree.specs.Thread.{ThreadState, thread_meaning}
 use Rattle.txs_tree.specs.Sound.{SoundSource}
 use Rattle.txs_tree.specs.Tree.{ThreadSource}
-use Rattle.txs_value.specs.declared.cell.CellDefinition.{CellDefinition}
+use Rattle.txs_cells.specs.declared.cell.CellDefinition.{CellDefinition}
 use Rattle.txs_asks.specs.Ask.{Exchange}
 use Rattle.txs_value.specs.declared.value.Value.{Value}
 

@@ -12,22 +12,22 @@ use Rattle.txs_asks.specs.declared.event.EventKind.{EventKind}
 use Rattle.txs_asks.specs.declared.event.EventKind.TheVariants as event
 use Rattle.txs_frame.specs.Frame.{Work, no_work, with_cell, is_commuted, set_ref, ensure_ref, commute_ref, hold_send}
 use Rattle.txs_frame.specs.declared.frame.Commute.{Commute}
-use Rattle.txs_value.specs.Cells.{World}
-use Rattle.txs_value.specs.Forms.{rule, may_stand, same_kind, cell_if, cell_of_kind, cell_of}
-use Rattle.txs_value.specs.declared.action.Action.{Action}
-use Rattle.txs_value.specs.declared.cell.CellDefinition.{CellDefinition}
-use Rattle.txs_value.specs.declared.fault.FaultKind.{FaultKind}
-use Rattle.txs_value.specs.declared.fault.FaultKind.TheVariants.{SetAfterCommute, OutsideOnly}
-use Rattle.txs_value.specs.declared.fault.Span.{Span}
-use Rattle.txs_value.specs.declared.form.CellForm.TheVariants as form_of
-use Rattle.txs_value.specs.declared.form.FormRule.{FormRule}
-use Rattle.txs_value.specs.declared.form.LookForm.{LookForm}
-use Rattle.txs_value.specs.declared.form.LookForm.TheVariants.{Deref, Ensure}
-use Rattle.txs_value.specs.declared.form.PutForm.{PutForm}
-use Rattle.txs_value.specs.declared.form.PutForm.TheVariants.{RefSet, Reset}
-use Rattle.txs_value.specs.declared.form.UpdateForm.{UpdateForm}
-use Rattle.txs_value.specs.declared.form.UpdateForm.TheVariants as update_of
-use Rattle.txs_value.specs.declared.op.Callee.{Callee}
+use Rattle.txs_cells.specs.Cells.{World}
+use Rattle.txs_cells.specs.Forms.{rule, may_stand, same_kind, cell_if, cell_of_kind, cell_of}
+use Rattle.txs_cells.specs.declared.action.Action.{Action}
+use Rattle.txs_cells.specs.declared.cell.CellDefinition.{CellDefinition}
+use Rattle.txs_terms.specs.declared.fault.FaultKind.{FaultKind}
+use Rattle.txs_terms.specs.declared.fault.FaultKind.TheVariants.{SetAfterCommute, OutsideOnly}
+use Rattle.txs_terms.specs.declared.fault.Span.{Span}
+use Rattle.txs_cells.specs.declared.form.CellForm.TheVariants as form_of
+use Rattle.txs_cells.specs.declared.form.FormRule.{FormRule}
+use Rattle.txs_cells.specs.declared.form.LookForm.{LookForm}
+use Rattle.txs_cells.specs.declared.form.LookForm.TheVariants.{Deref, Ensure}
+use Rattle.txs_cells.specs.declared.form.PutForm.{PutForm}
+use Rattle.txs_cells.specs.declared.form.PutForm.TheVariants.{RefSet, Reset}
+use Rattle.txs_cells.specs.declared.form.UpdateForm.{UpdateForm}
+use Rattle.txs_cells.specs.declared.form.UpdateForm.TheVariants as update_of
+use Rattle.txs_terms.specs.declared.op.Callee.{Callee}
 use Rattle.txs_value.specs.declared.value.CellId.{CellId}
 use Rattle.txs_value.specs.declared.value.CellKind.{CellKind}
 use Rattle.txs_value.specs.declared.value.CellKind.TheVariants.{Ref}

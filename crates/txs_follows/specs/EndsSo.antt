@@ -5,8 +5,8 @@ use Rattle.txs_value.specs.declared.value.Value.{Value}
 use Rattle.txs_tree.specs.Meaning.{Completion, Completes, Recurs, Faults, Retries, Waits, OutOfTurns, Invalid}
 use Rattle.txs_asks.specs.SeenEvent.{SeenEvent, home}
 use Rattle.txs_asks.specs.declared.event.EventKind.TheVariants.{Fail, Broke}
-use Rattle.txs_value.specs.Cells.{World}
-use Rattle.txs_value.specs.declared.cell.CellDefinition.{CellDefinition}
+use Rattle.txs_cells.specs.Cells.{World}
+use Rattle.txs_cells.specs.declared.cell.CellDefinition.{CellDefinition}
 use Rattle.txs_tree.specs.Thread.{ThreadState, thread_meaning}
 use Rattle.txs_tree.specs.Tree.{ThreadSource}
 use Rattle.txs_code.specs.Machine.{ThreadCode}

@@ -3,12 +3,12 @@ use Rattle.std.specs.Prelude.{ℕ, zero, suc, Bool, true, false, List, [], ◌�
 use Rattle.txs_asks.specs.Ask.{Writes}
 use Rattle.txs_frame.specs.Frame.{commuted, phase_work}
 use Rattle.txs_value.specs.Limits.{reruns}
-use Rattle.txs_value.specs.Places.{fault_at}
-use Rattle.txs_value.specs.declared.fault.FaultKind.TheVariants.{RetryLimit, AgentFailed}
-use Rattle.txs_value.specs.declared.fault.Span.{Span}
-use Rattle.txs_value.specs.declared.form.UpdateForm.{UpdateForm}
-use Rattle.txs_value.specs.declared.form.UpdateForm.TheVariants.{Alter, Commute, Swap}
-use Rattle.txs_value.specs.declared.op.Callee.{Callee}
+use Rattle.txs_terms.specs.Places.{fault_at}
+use Rattle.txs_terms.specs.declared.fault.FaultKind.TheVariants.{RetryLimit, AgentFailed}
+use Rattle.txs_terms.specs.declared.fault.Span.{Span}
+use Rattle.txs_cells.specs.declared.form.UpdateForm.{UpdateForm}
+use Rattle.txs_cells.specs.declared.form.UpdateForm.TheVariants.{Alter, Commute, Swap}
+use Rattle.txs_terms.specs.declared.op.Callee.{Callee}
 use Rattle.txs_value.specs.declared.value.CellId.{CellId}
 use Rattle.txs_value.specs.declared.value.Value.{Value}
 use Rattle.txs_tree.specs.Meaning.{Completion, Completes, Recurs, Faults, Retries, Waits, OutOfTurns, Invalid, bind, allowed, Applies, Effects}

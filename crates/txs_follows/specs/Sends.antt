@@ -1,8 +1,8 @@
 -- Code that sends only what a program may send.
 use Rattle.std.specs.Prelude.{◌≡◌, ℕ, suc, List, Some}
-use Rattle.txs_value.specs.Places.{nth}
-use Rattle.txs_value.specs.declared.fault.Span.{Span}
-use Rattle.txs_value.specs.declared.op.Callee.{Callee}
+use Rattle.txs_terms.specs.Places.{nth}
+use Rattle.txs_terms.specs.declared.fault.Span.{Span}
+use Rattle.txs_terms.specs.declared.op.Callee.{Callee}
 use Rattle.txs_tree.specs.Known.{known}
 use Rattle.txs_tree.specs.Sound.{SoundCallee}
 use Rattle.txs_tree.specs.Tree.{PlainFunction}

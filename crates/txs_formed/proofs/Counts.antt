@@ -1,9 +1,9 @@
 -- The code of a tree whose names are resolved is short, its instructions count few arguments, and its locals are few.
 use Rattle.std.proofs.Common.{◌≡◌, ℕ, zero, suc, ◌+◌, ◌*◌, ◌≤◌, List, [], ◌∷◌, ◌++◌, length, length-append, refl, ◌∙◌, arith}
 use Rattle.txs_value.specs.Limits.{most_items, most_locals}
-use Rattle.txs_value.specs.declared.fault.Span.{Span}
-use Rattle.txs_value.specs.declared.op.Callee.{Callee}
-use Rattle.txs_value.specs.declared.op.Callee.TheVariants as callee
+use Rattle.txs_terms.specs.declared.fault.Span.{Span}
+use Rattle.txs_terms.specs.declared.op.Callee.{Callee}
+use Rattle.txs_terms.specs.declared.op.Callee.TheVariants as callee
 use Rattle.txs_tree.specs.Known.{Known}
 use Rattle.txs_tree.specs.Scoped.{ScopedTree, ScopedAll, ScopedLet}
 use Rattle.txs_tree.specs.Sound.{nodes, nodes_in}

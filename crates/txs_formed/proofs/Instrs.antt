@@ -3,16 +3,16 @@ use Rattle.std.proofs.Common.{◌≡◌, ℕ, suc, ◌+◌, ◌<◌, ◌≤◌, 
 use Rattle.std.specs.Prelude.{nat_lt, nat_le}
 use Rattle.std.specs.List.{AllByRecursion}
 use Rattle.txs_value.specs.Limits.{most_items, most_locals}
-use Rattle.txs_value.specs.Operations.{op_number}
-use Rattle.txs_value.specs.Places.{nth}
-use Rattle.txs_value.specs.declared.fault.Span.{Span}
-use Rattle.txs_value.specs.declared.form.LookForm.TheVariants.{Deref, Ensure}
-use Rattle.txs_value.specs.declared.form.PutForm.TheVariants.{RefSet, Reset}
-use Rattle.txs_value.specs.declared.form.UpdateForm.TheVariants as update
-use Rattle.txs_value.specs.declared.op.Callee.{Callee}
-use Rattle.txs_value.specs.declared.op.Callee.TheVariants as callee
-use Rattle.txs_value.specs.declared.op.Op.{Op}
-use Rattle.txs_value.specs.declared.op.Op.TheVariants as ops
+use Rattle.txs_terms.specs.Operations.{op_number}
+use Rattle.txs_terms.specs.Places.{nth}
+use Rattle.txs_terms.specs.declared.fault.Span.{Span}
+use Rattle.txs_cells.specs.declared.form.LookForm.TheVariants.{Deref, Ensure}
+use Rattle.txs_cells.specs.declared.form.PutForm.TheVariants.{RefSet, Reset}
+use Rattle.txs_cells.specs.declared.form.UpdateForm.TheVariants as update
+use Rattle.txs_terms.specs.declared.op.Callee.{Callee}
+use Rattle.txs_terms.specs.declared.op.Callee.TheVariants as callee
+use Rattle.txs_terms.specs.declared.op.Op.{Op}
+use Rattle.txs_terms.specs.declared.op.Op.TheVariants as ops
 use Rattle.txs_value.specs.declared.value.Value.{Value}
 use Rattle.txs_code.specs.declared.instr.Instr.{Instr}
 use Rattle.txs_code.specs.declared.instr.Instr.TheVariants as instr

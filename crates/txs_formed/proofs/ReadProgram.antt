@@ -3,16 +3,16 @@ use Rattle.std.proofs.Common.{◌≡◌, ◌&&◌, ◌||◌, ◌==◌, ◌-◌, 
 use Rattle.std.specs.List.{list_any, AllByRecursion}
 use Rattle.std.proofs.lemmas.Bool.Decides.{nat_tests}
 use Rattle.txs_value.specs.Limits.{most_definitions, most_depth, most_items, most_levels, most_threads}
-use Rattle.txs_value.specs.Operations.{op_name}
+use Rattle.txs_terms.specs.Operations.{op_name}
 use Rattle.txs_value.specs.PlainValue.{plain_row}
 use Rattle.txs_value.specs.View.{plain_of, plains_of}
-use Rattle.txs_value.specs.declared.cell.ErrorMode.{ErrorMode}
-use Rattle.txs_value.specs.declared.fault.Span.{Span}
-use Rattle.txs_value.specs.declared.form.CellForm.{CellForm}
-use Rattle.txs_value.specs.declared.form.CellForm.TheVariants as on_cell
-use Rattle.txs_value.specs.declared.op.Op.{Op}
-use Rattle.txs_value.specs.declared.op.Callee.{Callee}
-use Rattle.txs_value.specs.declared.op.Callee.TheVariants.{Core as CoreOp, Function as TheFunction}
+use Rattle.txs_cells.specs.declared.cell.ErrorMode.{ErrorMode}
+use Rattle.txs_terms.specs.declared.fault.Span.{Span}
+use Rattle.txs_cells.specs.declared.form.CellForm.{CellForm}
+use Rattle.txs_cells.specs.declared.form.CellForm.TheVariants as on_cell
+use Rattle.txs_terms.specs.declared.op.Op.{Op}
+use Rattle.txs_terms.specs.declared.op.Callee.{Callee}
+use Rattle.txs_terms.specs.declared.op.Callee.TheVariants.{Core as CoreOp, Function as TheFunction}
 use Rattle.txs_value.specs.declared.value.CellKind.{CellKind}
 use Rattle.txs_value.specs.declared.value.CellKind.TheVariants.{Ref, Atom, Agent}
 use Rattle.txs_value.specs.declared.value.Value.{Value}

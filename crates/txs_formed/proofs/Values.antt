@@ -13,9 +13,9 @@ use Rattle.txs_value.specs.Limits.{most_items, most_text}
 use Rattle.txs_value.specs.Names.{IsName}
 use Rattle.txs_value.specs.PlainValue.{PlainValue, PlainValues, nil, truth, int, key, text, vector, cell, end, more, plain_list}
 use Rattle.txs_value.specs.View.{plain_of}
-use Rattle.txs_value.specs.declared.cell.CellDefinition.{CellDefinition}
-use Rattle.txs_value.specs.declared.cell.ErrorMode.{ErrorMode}
-use Rattle.txs_value.specs.declared.cell.ErrorMode.TheVariants.{Fail, Continue}
+use Rattle.txs_cells.specs.declared.cell.CellDefinition.{CellDefinition}
+use Rattle.txs_cells.specs.declared.cell.ErrorMode.{ErrorMode}
+use Rattle.txs_cells.specs.declared.cell.ErrorMode.TheVariants.{Fail, Continue}
 use Rattle.txs_value.specs.declared.value.CellId.{CellId}
 use Rattle.txs_value.specs.declared.value.CellKind.{CellKind}
 use Rattle.txs_value.specs.declared.value.CellKind.TheVariants.{Ref, Atom, Agent}

@@ -5,9 +5,9 @@ use Rattle.txs_value.specs.Limits.{most_depth, most_items, most_text}
 use Rattle.txs_value.specs.Names.{IsName}
 use Rattle.txs_value.specs.PlainValue.{PlainValue, nil, truth, int, key, text, vector, cell as a_cell, PlainValues, end, more as behind, plain_list}
 use Rattle.txs_value.specs.View.{plain_of}
-use Rattle.txs_value.specs.declared.cell.CellDefinition.{CellDefinition}
-use Rattle.txs_value.specs.declared.cell.ErrorMode.{ErrorMode}
-use Rattle.txs_value.specs.declared.cell.ErrorMode.TheVariants.{Fail}
+use Rattle.txs_cells.specs.declared.cell.CellDefinition.{CellDefinition}
+use Rattle.txs_cells.specs.declared.cell.ErrorMode.{ErrorMode}
+use Rattle.txs_cells.specs.declared.cell.ErrorMode.TheVariants.{Fail}
 use Rattle.txs_value.specs.declared.value.CellKind.{CellKind}
 use Rattle.txs_value.specs.declared.value.CellKind.TheVariants.{Ref, Atom, Agent}
 use Rattle.txs_value.specs.declared.value.Value.{Value}

@@ -1,7 +1,7 @@
 -- What is left of a commute phase.
 use Rattle.std.specs.Prelude.{◌≡◌, ℕ, true, is_some, List, [], ◌∷◌, Option, Some, None}
 use Rattle.txs_asks.specs.Ask.{Writes, buffered, with_write}
-use Rattle.txs_value.specs.declared.op.Callee.{Callee}
+use Rattle.txs_terms.specs.declared.op.Callee.{Callee}
 use Rattle.txs_value.specs.declared.value.CellId.{CellId}
 use Rattle.txs_value.specs.declared.value.Value.{Value}
 use Rattle.txs_value.specs.declared.value.Value.TheVariants.{Nil}

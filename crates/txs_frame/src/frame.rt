@@ -11,7 +11,9 @@ use crate::own::{How, Own, find, how_at, put, was_commuted, with_commute};
 use std::alloc::{AllocError, Global};
 use std::marker::Model;
 use thiserror::Error;
-use txs_value::{Action, Callee, CellId, CellKind, Listed, Value, copy_value, copy_values};
+use txs_cells::Action;
+use txs_terms::Callee;
+use txs_value::{CellId, CellKind, Listed, Value, copy_value, copy_values};
 
 /// A commute that is kept: its ref, what it calls, and the arguments behind the ref's value.
 #[derive(Drop)]

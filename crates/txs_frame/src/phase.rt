@@ -10,7 +10,8 @@ use crate::frame::{Commute, TxFrame};
 use std::alloc::{AllocError, Global};
 use std::marker::Model;
 use std::mem;
-use txs_value::{Callee, CellId, Listed, Value, copy_value};
+use txs_terms::Callee;
+use txs_value::{CellId, Listed, Value, copy_value};
 
 /// What is left of a commute phase: the refs that were commuted and not set with their values so far, and the commutes that are
 /// still to be applied, ref by ref by ascending number.

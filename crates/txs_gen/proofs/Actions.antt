@@ -1,10 +1,10 @@
 -- The code of pure functions does what they mean, where an agent's actions call them.
 use Rattle.std.proofs.Common.{◌≡◌, ℕ, true, false, List, [], ◌∷◌, length, sym, subst}
-use Rattle.txs_value.specs.Places.{nth}
-use Rattle.txs_value.specs.declared.action.Action.{Action}
+use Rattle.txs_terms.specs.Places.{nth}
+use Rattle.txs_cells.specs.declared.action.Action.{Action}
 use Rattle.txs_value.specs.declared.value.CellId.{CellId}
 use Rattle.txs_value.specs.declared.value.Value.{Value}
-use Rattle.txs_value.specs.declared.op.Callee.TheVariants.{Function}
+use Rattle.txs_terms.specs.declared.op.Callee.TheVariants.{Function}
 use Rattle.txs_tree.specs.Known.{is_pure, known}
 use Rattle.txs_tree.specs.Meaning.{Completion, Completes, Recurs, Faults, Retries, Waits, OutOfTurns, Invalid}
 use Rattle.txs_tree.specs.Pure.{pure_calls}

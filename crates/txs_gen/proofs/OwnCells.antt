@@ -1,6 +1,6 @@
 -- The code of a program that names its own cells alone names them alone.
 use Rattle.std.proofs.Common.{List, [], ◌∷◌, ◌++◌, sym, subst}
-use Rattle.txs_value.specs.declared.cell.CellDefinition.{CellDefinition}
+use Rattle.txs_cells.specs.declared.cell.CellDefinition.{CellDefinition}
 use Rattle.txs_value.specs.declared.value.Value.{Value}
 use Rattle.txs_tree.specs.Tree.{PlainProgram}
 use Rattle.txs_code.specs.OwnCells.{NameDefined, OpeningsNameNone, NamesOwnCells}

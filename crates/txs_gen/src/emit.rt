@@ -9,9 +9,11 @@ ghost use Rattle.txs_gen.specs.Gen.{opening};
 ghost use Rattle.txs_value.specs.Limits.{most_items, most_locals, most_nodes};
 
 use std::alloc::AllocError;
+use txs_cells::UpdateForm;
 use txs_code::{Instr, OpenForm};
+use txs_terms::{Callee, Span};
 use txs_tree::{Node, NodeKind};
-use txs_value::{Callee, Span, UpdateForm, Value, copy_value};
+use txs_value::{Value, copy_value};
 
 /// Where a node's code stands: how many locals there are, how many values are on the stack, and what a
 /// recur does there: from which local on it stores its values, and where it goes on.

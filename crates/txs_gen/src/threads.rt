@@ -11,9 +11,11 @@ ghost use Rattle.txs_gen.specs.OwnCells.{ProgramNamesOwnCells};
 
 use crate::emit::{Around, Emitter, emit};
 use std::alloc::{AllocError, Global};
+use txs_cells::CellDefinition;
 use txs_code::{Body, Code, Instr, Verified};
+use txs_terms::Span;
 use txs_tree::{Function, Node, Program, Thread};
-use txs_value::{CellDefinition, Span, Value, copy_value};
+use txs_value::{Value, copy_value};
 
 /// Constants, and bodies that push them, with how many values each has on the stack at most.
 #[derive(Drop)]

@@ -3,13 +3,13 @@ use Rattle.std.proofs.Common.{◌≡◌, ℕ, zero, suc, ◌+◌, ◌<◌, ◌�
 use Rattle.std.proofs.Math.Nat.{le-max_left, le-max_right, max-le}
 use Rattle.std.proofs.lemmas.Bool.Decides.{nat_tests}
 use Rattle.std.specs.List.{list_any}
-use Rattle.txs_value.specs.Operations.{op_name}
-use Rattle.txs_value.specs.declared.fault.Span.{Span}
-use Rattle.txs_value.specs.declared.form.CellForm.{CellForm}
-use Rattle.txs_value.specs.declared.form.CellForm.TheVariants as on_cell
-use Rattle.txs_value.specs.declared.op.Op.{Op}
-use Rattle.txs_value.specs.declared.op.Callee.{Callee}
-use Rattle.txs_value.specs.declared.op.Callee.TheVariants.{Core as CoreOp, Function as TheFunction}
+use Rattle.txs_terms.specs.Operations.{op_name}
+use Rattle.txs_terms.specs.declared.fault.Span.{Span}
+use Rattle.txs_cells.specs.declared.form.CellForm.{CellForm}
+use Rattle.txs_cells.specs.declared.form.CellForm.TheVariants as on_cell
+use Rattle.txs_terms.specs.declared.op.Op.{Op}
+use Rattle.txs_terms.specs.declared.op.Callee.{Callee}
+use Rattle.txs_terms.specs.declared.op.Callee.TheVariants.{Core as CoreOp, Function as TheFunction}
 use Rattle.txs_reader.specs.declared.form.Bracket.TheVariants.{Round, Square}
 use Rattle.txs_reader.specs.Tree.{Leaf, Tree as Form, Trees as Forms, leaf, group, first, place, number, symbol, nil, truth, text, keyword, parts}
 use Rattle.txs_reader.specs.Tree.{none as no_forms}

@@ -2,8 +2,8 @@
 use Rattle.std.proofs.Common.{◌≡◌, ◌≢◌, ℕ, suc, Bool, true, false, not, ◌&&◌, bytes_eq, List, [], ◌∷◌, length, Option, Some, None, if◌then◌else◌, refl, sym, ap, ◌∙◌, subst}
 use Rattle.std.proofs.lemmas.Slice.Eq.{bytes_eq-Decides}
 use Rattle.std.specs.List.{list_any}
-use Rattle.txs_value.specs.Operations.{op_name}
-use Rattle.txs_value.specs.declared.op.Op.{Op}
+use Rattle.txs_terms.specs.Operations.{op_name}
+use Rattle.txs_terms.specs.declared.op.Op.{Op}
 use Rattle.txs_names.specs.declared.names.FormName.{FormName}
 use Rattle.txs_names.specs.declared.scope.Definition.{Definition}
 use Rattle.txs_names.specs.Nearest.{NoneNamed}

@@ -1,7 +1,7 @@
 -- A function whose parameter is renamed is the same function, or is refused for the same reason.
 use Rattle.std.proofs.Common.{◌≡◌, ◌≢◌, ℕ, zero, suc, Bool, true, false, not, ◌&&◌, ◌||◌, nat_lt, List, [], ◌∷◌, length, Option, Some, None, Ok, Err, refl, sym, ap, subst, ◌∙◌, if◌then◌else◌}
 use Rattle.txs_value.specs.Limits.{most_definitions, most_levels}
-use Rattle.txs_value.specs.declared.fault.Span.{Span}
+use Rattle.txs_terms.specs.declared.fault.Span.{Span}
 use Rattle.txs_reader.specs.declared.form.Bracket.TheVariants.{Round, Square}
 use Rattle.txs_reader.specs.Tree.{Tree as Form, Trees as Forms, leaf, group, first, number, symbol, nil, truth, text, keyword}
 use Rattle.txs_reader.specs.Tree.{none as no_forms}

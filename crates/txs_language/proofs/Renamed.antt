@@ -2,7 +2,7 @@
 use Rattle.std.proofs.Common.{◌≡◌, ◌≢◌, ℕ, zero, suc, ◌%◌, Bool, true, false, not, ◌&&◌, ◌||◌, bytes_eq, List, [], ◌∷◌, Option, Some, None, Ok, Err, refl, sym, ap, subst, ◌∙◌, if◌then◌else◌}
 use Rattle.std.proofs.lemmas.Slice.Eq.{bytes_eq-Decides}
 use Rattle.std.specs.List.{list_any}
-use Rattle.txs_value.specs.declared.fault.Span.{Span}
+use Rattle.txs_terms.specs.declared.fault.Span.{Span}
 use Rattle.txs_reader.specs.declared.form.Bracket.{Bracket}
 use Rattle.txs_reader.specs.declared.form.Bracket.TheVariants.{Round, Square}
 use Rattle.txs_reader.specs.Tree.{Leaf, Tree as Form, Trees as Forms, leaf, group, first, place, number, symbol, nil, truth, text, keyword, parts}

@@ -3,7 +3,7 @@ use Rattle.std.proofs.Common.{◌≡◌, ◌≢◌, ℕ, suc, ◌+◌, ◌-◌, 
 use Rattle.std.proofs.lemmas.Bool.{false≢true}
 use Rattle.std.proofs.lemmas.Bool.Decides.{nat_tests}
 use Rattle.txs_value.specs.Limits.{most_depth, most_levels, most_parameters}
-use Rattle.txs_value.specs.declared.fault.Span.{Span}
+use Rattle.txs_terms.specs.declared.fault.Span.{Span}
 use Rattle.txs_value.specs.declared.value.Value.{Value}
 use Rattle.txs_value.specs.declared.value.Value.TheVariants.{Vector}
 use Rattle.txs_value.specs.View.{plains_of}

@@ -1,8 +1,8 @@
 -- Where the parts of forms stand, also those that expansions make of written ones.
 use Rattle.std.proofs.Common.{◌≡◌, ℕ, zero, suc, ◌+◌, ◌<◌, ◌≤◌, ◌⊎◌, inl, inr, Bool, true, false, List, [], ◌∷◌, Option, Some, None, Ok, Err, refl, sym, ap, subst, ◌∙◌, arith, if◌then◌else◌}
 use Rattle.std.proofs.lemmas.Bool.{cases_Bool, false≢true}
-use Rattle.txs_value.specs.declared.fault.Span.{Span}
-use Rattle.txs_value.specs.declared.op.Op.{Op}
+use Rattle.txs_terms.specs.declared.fault.Span.{Span}
+use Rattle.txs_terms.specs.declared.op.Op.{Op}
 use Rattle.txs_reader.specs.declared.form.Bracket.{Bracket}
 use Rattle.txs_reader.specs.declared.form.Bracket.TheVariants.{Round, Square}
 use Rattle.txs_reader.specs.Tree.{Leaf, Tree as Form, Trees as Forms, leaf, group, first, place, symbol, nil}

@@ -1,9 +1,9 @@
 -- Which fault of names a form has, told of the form as it is written: for each kind of refusal the forms that have it, and its place.
 use Rattle.std.specs.Prelude.{◌≡◌, ◌≤◌, ◌<◌, ◌+◌, ◌&&◌, ℕ, suc, Bool, true, false, List, [], length, Option, Some, None, Ok}
 use Rattle.txs_value.specs.Limits.{most_definitions, most_depth, most_items, most_levels, most_locals, most_parameters, most_threads}
-use Rattle.txs_value.specs.declared.fault.Span.{Span}
-use Rattle.txs_value.specs.Operations.{op_name}
-use Rattle.txs_value.specs.declared.op.Op.{Op}
+use Rattle.txs_terms.specs.declared.fault.Span.{Span}
+use Rattle.txs_terms.specs.Operations.{op_name}
+use Rattle.txs_terms.specs.declared.op.Op.{Op}
 use Rattle.txs_reader.specs.declared.form.Bracket.TheVariants.{Round, Square}
 use Rattle.txs_reader.specs.Tree.{Tree as Form, Trees as Forms, leaf, group, first, place, symbol, parts}
 use Rattle.txs_reader.specs.Tree.{none as no_forms}

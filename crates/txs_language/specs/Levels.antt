@@ -1,6 +1,6 @@
 -- What the limit of levels refuses.
 use Rattle.std.specs.Prelude.{◌≡◌, List, Ok, Err}
-use Rattle.txs_value.specs.declared.fault.Span.{Span}
+use Rattle.txs_terms.specs.declared.fault.Span.{Span}
 use Rattle.txs_reader.specs.Tree.{Tree as Form}
 use Rattle.txs_names.specs.Scope.{Scope}
 use Rattle.txs_expand.specs.declared.error.ResolveErrorKind.TheVariants.{TooMany}

@@ -1,7 +1,7 @@
 -- What `and` and `or` do, told without what they stand for.
 use Rattle.std.specs.Prelude.{◌≡◌, ℕ, Bool, true, List, [], ◌∷◌, ◌++◌, length}
 use Rattle.txs_operations.specs.Truth.{choose}
-use Rattle.txs_value.specs.declared.fault.Span.{Span}
+use Rattle.txs_terms.specs.declared.fault.Span.{Span}
 use Rattle.txs_value.specs.declared.value.Value.{Value}
 use Rattle.txs_tree.specs.Meaning.{Completion, Completes, bind, Effects, eval}
 use Rattle.txs_tree.specs.Tree.{Tree, Local, If, Let, none, more}

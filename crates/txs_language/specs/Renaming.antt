@@ -1,6 +1,6 @@
 -- Renaming a local: the same forms with the same spans, in which the local has another name wherever a symbol stands for it.
 use Rattle.std.specs.Prelude.{◌≡◌, ◌≢◌, ℕ, Bool, true, false, ◌||◌, bytes_eq, List, [], Option, Some, None, if◌then◌else◌}
-use Rattle.txs_value.specs.declared.fault.Span.{Span}
+use Rattle.txs_terms.specs.declared.fault.Span.{Span}
 use Rattle.txs_reader.specs.declared.form.Bracket.{Bracket}
 use Rattle.txs_reader.specs.declared.form.Bracket.TheVariants.{Round, Square}
 use Rattle.txs_reader.specs.Tree.{Leaf, Tree as Form, Trees as Forms, leaf, group, first, number, symbol, nil, truth, text, keyword}

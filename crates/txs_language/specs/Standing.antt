@@ -1,6 +1,6 @@
 -- In which scope, and with how many levels, a form stands in another one.
 use Rattle.std.specs.Prelude.{◌≡◌, ℕ, suc, Bool, List, Ok}
-use Rattle.txs_value.specs.declared.form.PutForm.{PutForm}
+use Rattle.txs_cells.specs.declared.form.PutForm.{PutForm}
 use Rattle.txs_reader.specs.Tree.{Tree as Form, Trees as Forms, first, place}
 use Rattle.txs_reader.specs.Tree.{none as no_forms}
 use Rattle.txs_tree.specs.Tree.{Tree}

@@ -1,6 +1,6 @@
 -- How forms stand in a text, and the forms of a program in it.
 use Rattle.std.specs.Prelude.{ℕ, ◌<◌, ◌≤◌}
-use Rattle.txs_value.specs.declared.fault.Span.{Span}
+use Rattle.txs_terms.specs.declared.fault.Span.{Span}
 use Rattle.txs_reader.specs.Tree.{Tree as Form, Trees as Forms, leaf, group, first, place}
 use Rattle.txs_reader.specs.Tree.{none as no_forms}
 

@@ -11,11 +11,11 @@ use Rattle.txs_asks.specs.declared.event.Outcome.{Outcome}
 use Rattle.txs_asks.specs.declared.event.Outcome.TheVariants as outcome
 use Rattle.txs_value.proofs.SameLemmas.{number-itself}
 use Rattle.txs_value.specs.Limits.{most_events}
-use Rattle.txs_value.specs.Places.{nth}
-use Rattle.txs_value.specs.declared.action.Action.{Action}
-use Rattle.txs_value.specs.declared.fault.Fault.{Fault}
-use Rattle.txs_value.specs.declared.form.LookForm.TheVariants as look
-use Rattle.txs_value.specs.declared.form.PutForm.TheVariants as put
+use Rattle.txs_terms.specs.Places.{nth}
+use Rattle.txs_cells.specs.declared.action.Action.{Action}
+use Rattle.txs_terms.specs.declared.fault.Fault.{Fault}
+use Rattle.txs_cells.specs.declared.form.LookForm.TheVariants as look
+use Rattle.txs_cells.specs.declared.form.PutForm.TheVariants as put
 use Rattle.txs_value.specs.declared.value.CellId.{CellId}
 use Rattle.txs_value.specs.declared.value.Value.{Value}
 use Rattle.txs_value.specs.declared.value.Value.TheVariants.{Nil}
@@ -38,8 +38,9 @@ use Rattle.txs_actor.proofs.Landing.{look_stands, open_stands, put_stands, send_
 use Rattle.txs_actor.proofs.Replies.{take_replies, finish_replies}
 use Rattle.txs_actor.proofs.Striding.{none_asked}
 use Rattle.txs_world.proofs.Merging.{joined}
-use Rattle.txs_world.specs.Book.{has_agent, actor_of}
-use Rattle.txs_world.specs.Store.{served, cell_of, cells_of, is_taken, next_action, takes, taken_after, hands_out, is_done}
+use Rattle.txs_book.specs.Book.{has_agent, actor_of}
+use Rattle.txs_book.specs.Served.{served, cell_of, cells_of}
+use Rattle.txs_world.specs.Store.{is_taken, next_action, takes, taken_after, hands_out, is_done}
 use Rattle.txs_runs.specs.Shared.{Shared}
 use Rattle.txs_runs.proofs.Acting.{agent_within}
 use Rattle.txs_runs.proofs.Growing.{Grown}

@@ -19,7 +19,7 @@ use Rattle.txs_actor.specs.declared.outcome.Turn.{Turn}
 use Rattle.txs_actor.specs.declared.outcome.Turn.TheVariants as turned
 use Rattle.txs_actor.proofs.Following.{Unstopped, unstopped_if}
 use Rattle.txs_actor.proofs.Saying.{turn_says}
-use Rattle.txs_world.specs.Store.{Served}
+use Rattle.txs_book.specs.Served.{Served}
 use Rattle.txs_runs.specs.Laws.{with_book}
 use Rattle.txs_runs.specs.Run as run
 use Rattle.txs_runs.specs.Run.{Stop, Actor, State, Moved, Play, TakesTurn, IsStopped, moved, entry, exchange, comes_to, stop, hears, replied, asked, answered as answered_so, turned as turned_so, turns_from, stops_from, play, placed, plays_from}

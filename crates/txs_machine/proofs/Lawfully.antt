@@ -6,11 +6,11 @@ use Rattle.txs_asks.specs.declared.ask.Ask.{Ask}
 use Rattle.txs_asks.specs.declared.ask.Reply.{Reply}
 use Rattle.txs_asks.specs.declared.event.Event.{Event}
 use Rattle.txs_asks.specs.declared.event.Outcome.{Outcome}
-use Rattle.txs_value.specs.declared.cell.CellDefinition.{CellDefinition}
+use Rattle.txs_cells.specs.declared.cell.CellDefinition.{CellDefinition}
 use Rattle.txs_code.specs.Machine.{ThreadCode, turn}
 use Rattle.txs_code.specs.Opening.{given}
 use Rattle.txs_actor.specs.PlainActor.{PlainActor, MayAnswer, Stops, answered, configuration_of, state_of, standing}
-use Rattle.txs_world.specs.Store.{Served}
+use Rattle.txs_book.specs.Served.{Served}
 use Rattle.txs_runs.specs.Lawful.{CodeIsKnown, OpeningIsKnown}
 use Rattle.txs_runs.specs.Run.{exchange}
 use Rattle.txs_runs.specs.Shared.{book_for, serve_on, may_ask}

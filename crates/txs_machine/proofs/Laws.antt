@@ -2,7 +2,7 @@
 use Rattle.txs_follows.proofs.Fitted.{fits_of}
 use Rattle.txs_world.specs.Laws.{ActionStays, RefusedIsUndisturbed, ServeKeeps}
 use Rattle.txs_world.proofs.Actions.{action_stays}
-use Rattle.txs_world.proofs.Older.{after_unwritten}
+use Rattle.txs_book.proofs.Older.{after_unwritten}
 use Rattle.txs_world.proofs.Serves.{done_is_undisturbed, refused_is_undisturbed, serve_stands}
 use Rattle.txs_runs.specs.Report.{RunReported, RunTraced}
 use Rattle.txs_runs.proofs.Report.{run_reported}

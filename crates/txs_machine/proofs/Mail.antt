@@ -3,11 +3,11 @@ use Rattle.std.proofs.Common.{◌≡◌, ◌<◌, ◌+◌, ℕ, zero, suc, true,
 use Rattle.std.proofs.lemmas.Bool.Decides.{nat_tests}
 use Rattle.txs_asks.specs.Ask.{Exchange}
 use Rattle.txs_operations.specs.Core.{takes}
-use Rattle.txs_value.specs.Places.{nth}
-use Rattle.txs_value.specs.declared.action.Action.{Action}
-use Rattle.txs_value.specs.declared.fault.Span.{Span}
-use Rattle.txs_value.specs.declared.op.Callee.{Callee}
-use Rattle.txs_value.specs.declared.op.Callee.TheVariants as callee
+use Rattle.txs_terms.specs.Places.{nth}
+use Rattle.txs_cells.specs.declared.action.Action.{Action}
+use Rattle.txs_terms.specs.declared.fault.Span.{Span}
+use Rattle.txs_terms.specs.declared.op.Callee.{Callee}
+use Rattle.txs_terms.specs.declared.op.Callee.TheVariants as callee
 use Rattle.txs_value.specs.declared.value.CellId.{CellId}
 use Rattle.txs_value.specs.declared.value.Value.{Value}
 use Rattle.txs_code.specs.Machine.{PlainInstr, SendOf, instr_at, fetch, Configuration, Unfinished, run}
@@ -19,7 +19,8 @@ use Rattle.txs_code.specs.declared.instr.Instr.{Instr}
 use Rattle.txs_code.specs.declared.instr.Instr.TheVariants as instr
 use Rattle.txs_actor.specs.PlainActor.{CanApply, MayRun, functions_of, own_body, code_of}
 use Rattle.txs_world.specs.Laws.{ServeKeeps}
-use Rattle.txs_world.specs.Store.{cells_of, next_action}
+use Rattle.txs_book.specs.Served.{cells_of}
+use Rattle.txs_world.specs.Store.{next_action}
 use Rattle.txs_runs.specs.Shared.{Shared}
 use Rattle.txs_runs.specs.Staged.{StagedCode}
 use Rattle.txs_runs.proofs.Known.{standing_staged}

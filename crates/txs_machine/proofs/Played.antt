@@ -2,12 +2,12 @@
 use Rattle.std.proofs.Common.{◌≡◌, ◌≤◌, ◌<◌, ◌+◌, ℕ, zero, suc, Bool, List, [], ◌∷◌, length, set, Option, Some, None, refl, sym, ap, subst, ◌∙◌, ◌⊎◌, inl, inr, arith}
 use Rattle.txs_asks.specs.declared.event.Event.{Event}
 use Rattle.txs_asks.specs.declared.event.Outcome.{Outcome}
-use Rattle.txs_value.specs.Places.{nth}
+use Rattle.txs_terms.specs.Places.{nth}
 use Rattle.txs_value.specs.declared.value.CellId.{CellId}
 use Rattle.txs_code.specs.PlainCode.{PlainCode}
 use Rattle.txs_actor.specs.PlainActor.{PlainActor}
-use Rattle.txs_world.specs.Book.{agents_below}
-use Rattle.txs_world.specs.Store.{cells_of}
+use Rattle.txs_book.specs.Book.{agents_below}
+use Rattle.txs_book.specs.Served.{cells_of}
 use Rattle.txs_runs.specs.Report.{RunTraced}
 use Rattle.txs_runs.proofs.Growing.{Grown}
 use Rattle.txs_shared.specs.SharedState.{PlainShared}

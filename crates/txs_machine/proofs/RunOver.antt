@@ -13,10 +13,10 @@ use Rattle.txs_asks.specs.declared.event.EventKind.{EventKind}
 use Rattle.txs_asks.specs.declared.event.Outcome.{Outcome}
 use Rattle.txs_asks.specs.declared.event.Outcome.TheVariants as outcome
 use Rattle.txs_value.proofs.SameLemmas.{and_both, numbers, number-itself}
-use Rattle.txs_value.specs.Cells.{World}
-use Rattle.txs_value.specs.Places.{nth}
-use Rattle.txs_value.specs.declared.action.Action.{Action}
-use Rattle.txs_value.specs.declared.cell.CellDefinition.{CellDefinition}
+use Rattle.txs_cells.specs.Cells.{World}
+use Rattle.txs_terms.specs.Places.{nth}
+use Rattle.txs_cells.specs.declared.action.Action.{Action}
+use Rattle.txs_cells.specs.declared.cell.CellDefinition.{CellDefinition}
 use Rattle.txs_value.specs.declared.value.CellId.{CellId}
 use Rattle.txs_value.specs.declared.value.Value.{Value}
 use Rattle.txs_code.specs.ActorState.{ActorState}
@@ -38,12 +38,14 @@ use Rattle.txs_actor.specs.declared.outcome.Turn.{Turn}
 use Rattle.txs_actor.specs.declared.outcome.Turn.TheVariants as turned
 use Rattle.txs_actor.proofs.Following.{Unstopped, unstopped_if}
 use Rattle.txs_actor.proofs.Saying.{turn_says}
-use Rattle.txs_world.specs.Book as world_book
+use Rattle.txs_book.specs.Book as world_book
 use Rattle.txs_world.proofs.Merging.{joined}
-use Rattle.txs_world.specs.Atom.{closes, closes_at, swapped_since}
-use Rattle.txs_world.specs.Book.{written, least_written, cells_in, is_failed, first_failed, has_cell}
+use Rattle.txs_book.specs.Atom.{closes, closes_at, swapped_since}
+use Rattle.txs_book.specs.Book.{written, least_written, cells_in, is_failed, first_failed, has_cell}
+use Rattle.txs_book.specs.Served as entry
 use Rattle.txs_world.specs.Store as world
-use Rattle.txs_world.specs.Store.{cells_of, Served, serve}
+use Rattle.txs_book.specs.Served.{cells_of, Served}
+use Rattle.txs_world.specs.Store.{serve}
 use Rattle.txs_value.specs.Limits.{most_events}
 use Rattle.txs_runs.specs.Invariant.{SharedStands}
 use Rattle.txs_runs.specs.Laws.{with_book, ToldFits, ServedIsTold}
@@ -844,7 +846,7 @@ one_of q w s t reply.Full h m g = subst (MayAnswer q) (sym g.0) h
 one_of q w s t reply.Memory h m g = m g.0
 
 added_may : (q : Ask) (a : ℕ) (kind : EventKind) (r : Reply) (book : List Event) (has : Bool) → MayAnswer q r → MayAnswer q reply.Full
-    → MayAnswer q (if has then world.served r (book ++ world.event_of a kind ∷ []) else world.served reply.Full book).reply
+    → MayAnswer q (if has then entry.served r (book ++ entry.event_of a kind ∷ []) else entry.served reply.Full book).reply
 added_may q a kind r book true h f = h
 added_may q a kind r book false h f = f
 

@@ -3,10 +3,10 @@ use Rattle.std.proofs.Common.{◌≡◌, ◌+◌, ◌-◌, ℕ, zero, suc, Bool,
 use Rattle.txs_asks.specs.declared.event.Event.{Event}
 use Rattle.txs_asks.specs.declared.event.Outcome.{Outcome}
 use Rattle.txs_asks.specs.declared.event.Outcome.TheVariants as outcome
-use Rattle.txs_value.specs.Forms.{same_kind}
-use Rattle.txs_value.specs.Places.{nth}
-use Rattle.txs_value.specs.declared.action.Action.{Action}
-use Rattle.txs_value.specs.declared.cell.CellDefinition.{CellDefinition}
+use Rattle.txs_cells.specs.Forms.{same_kind}
+use Rattle.txs_terms.specs.Places.{nth}
+use Rattle.txs_cells.specs.declared.action.Action.{Action}
+use Rattle.txs_cells.specs.declared.cell.CellDefinition.{CellDefinition}
 use Rattle.txs_value.specs.declared.value.CellId.{CellId}
 use Rattle.txs_value.specs.declared.value.CellKind.{CellKind}
 use Rattle.txs_value.specs.declared.value.CellKind.TheVariants.{Ref, Atom, Agent}
@@ -16,9 +16,10 @@ use Rattle.txs_code.specs.PlainCode.{CodeBody, PlainCode, thread_code, function_
 use Rattle.txs_follows.specs.FollowsAgent.{GoesOn}
 use Rattle.txs_actor.specs.PlainActor.{PlainActor, agents_from, agent_or_none, code_of, own_body, with_agent}
 use Rattle.txs_world.proofs.Merging.{joined}
-use Rattle.txs_world.specs.Book.{agents_below, is_of_kind, has_agent}
-use Rattle.txs_world.specs.Book as world
-use Rattle.txs_world.specs.Store.{cells_of, next_action}
+use Rattle.txs_book.specs.Book.{agents_below, is_of_kind, has_agent}
+use Rattle.txs_book.specs.Book as world
+use Rattle.txs_book.specs.Served.{cells_of}
+use Rattle.txs_world.specs.Store.{next_action}
 use Rattle.txs_runs.specs.Agents.{AllSound, ActsMean}
 use Rattle.txs_runs.specs.Explains.{outcome_at}
 use Rattle.txs_runs.specs.Report.{ActorTraced, RunTraced, RunsProgram, ReportExplained, CodesStaged, RunReported}

@@ -3,7 +3,7 @@ use Rattle.std.specs.Prelude.{◌≡◌, ◌+◌, ℕ, List, [], length, map, Op
 use Rattle.txs_asks.specs.declared.event.Event.{Event}
 use Rattle.txs_asks.specs.declared.event.Outcome.{Outcome}
 use Rattle.txs_asks.specs.declared.event.Outcome.TheVariants as outcome
-use Rattle.txs_value.specs.Places.{nth}
+use Rattle.txs_terms.specs.Places.{nth}
 use Rattle.txs_value.specs.declared.value.CellId.{CellId}
 use Rattle.txs_tree.specs.Tree.{PlainProgram}
 use Rattle.txs_code.specs.PlainCode.{PlainCode, thread_code, function_codes}
@@ -11,7 +11,8 @@ use Rattle.txs_follows.specs.FollowsAgent.{FollowsAgents}
 use Rattle.txs_follows.specs.FollowsAll.{FollowsAll}
 use Rattle.txs_follows.specs.Sends.{CodesSendSound}
 use Rattle.txs_actor.specs.PlainActor.{PlainActor, HasRun, agents_from, code_of, unanswered}
-use Rattle.txs_world.specs.Store.{cells_of, next_action}
+use Rattle.txs_book.specs.Served.{cells_of}
+use Rattle.txs_world.specs.Store.{next_action}
 use Rattle.txs_runs.specs.Agents.{ActsMean, AllSound}
 use Rattle.txs_runs.specs.Shared.{Shared}
 use Rattle.txs_runs.specs.Told.{Entry, exchange_of, AllHold, TraceHolds, trace_of}

@@ -4,7 +4,7 @@ use Rattle.txs_asks.specs.Ask.{Exchange}
 use Rattle.txs_asks.specs.declared.ask.Ask.{Ask}
 use Rattle.txs_asks.specs.declared.event.Event.{Event}
 use Rattle.txs_asks.specs.declared.event.Outcome.{Outcome}
-use Rattle.txs_value.specs.declared.cell.CellDefinition.{CellDefinition}
+use Rattle.txs_cells.specs.declared.cell.CellDefinition.{CellDefinition}
 use Rattle.txs_code.specs.Machine.{ThreadCode, Configuration, Unfinished, run}
 use Rattle.txs_code.specs.Opening.{opening}
 use Rattle.txs_code.specs.PlainCode.{PlainCode}

@@ -4,7 +4,8 @@ use Rattle.txs_asks.specs.declared.event.Outcome.{Outcome}
 use Rattle.txs_value.specs.declared.value.CellId.{CellId}
 use Rattle.txs_code.specs.PlainCode.{PlainCode}
 use Rattle.txs_actor.specs.PlainActor.{PlainActor, Lives, unanswered}
-use Rattle.txs_world.specs.Store.{cells_of, none_taken}
+use Rattle.txs_book.specs.Served.{cells_of}
+use Rattle.txs_world.specs.Store.{none_taken}
 use Rattle.txs_runs.proofs.Growing.{Grown}
 use Rattle.txs_runs.specs.Shared.{untouched}
 use Rattle.txs_shared.specs.SharedState.{PlainShared, shared_of}

@@ -8,14 +8,15 @@ use Rattle.txs_asks.specs.declared.ask.Reply.{Reply}
 use Rattle.txs_asks.specs.declared.event.Event.{Event}
 use Rattle.txs_asks.specs.declared.event.Outcome.{Outcome}
 use Rattle.txs_asks.specs.declared.event.Outcome.TheVariants as outcome
-use Rattle.txs_value.specs.Places.{nth}
-use Rattle.txs_value.specs.declared.action.Action.{Action}
+use Rattle.txs_terms.specs.Places.{nth}
+use Rattle.txs_cells.specs.declared.action.Action.{Action}
 use Rattle.txs_value.specs.declared.value.CellId.{CellId}
 use Rattle.txs_code.specs.Machine.{Activity, Outside, Restarting, Running, Applying, Swapping, Acting, Configuration, Turned, Ended, Failed, Unfinished}
 use Rattle.txs_code.specs.PlainCode.{PlainCode}
 use Rattle.txs_actor.specs.PlainActor.{PlainActor, HasRun, IsActorOf, Lives, MayAnswer, answered, code_of, configuration_of, state_of, unanswered}
-use Rattle.txs_world.specs.Book.{has_agent, actor_of}
-use Rattle.txs_world.specs.Store.{cells_of, is_taken, next_action}
+use Rattle.txs_book.specs.Book.{has_agent, actor_of}
+use Rattle.txs_book.specs.Served.{cells_of}
+use Rattle.txs_world.specs.Store.{is_taken, next_action}
 use Rattle.txs_runs.specs.Run as run
 use Rattle.txs_runs.specs.Run.{Stop, JournalFull, Memory, TurnsSpent}
 use Rattle.txs_runs.specs.Told.{exchange_of, AllHold, trace_of}

@@ -3,11 +3,12 @@
 ghost use Rattle.std.specs.Prelude.{◌≡◌, ◌≤◌, ◌<◌, ◌+◌, ℕ, length, take, IfOk, IfSome, IsTrue, Some, None, true, false};
 ghost use Rattle.txs_actor.specs.PlainActor.{agents_from};
 ghost use Rattle.txs_shared.specs.SharedState.{numbered_book};
-ghost use Rattle.txs_value.specs.declared.action.Action.{Action as AnAction};
-ghost use Rattle.txs_value.specs.Forms.{same_kind};
+ghost use Rattle.txs_cells.specs.declared.action.Action.{Action as AnAction};
+ghost use Rattle.txs_cells.specs.Forms.{same_kind};
 ghost use Rattle.txs_value.specs.declared.value.CellKind.TheVariants.{Agent as AnAgent};
-ghost use Rattle.txs_world.specs.Book.{has_agent};
-ghost use Rattle.txs_world.specs.Store.{cells_of, next_action};
+ghost use Rattle.txs_book.specs.Book.{has_agent};
+ghost use Rattle.txs_book.specs.Served.{cells_of};
+ghost use Rattle.txs_world.specs.Store.{next_action};
 ghost use Rattle.txs_machine.specs.Agents.{agents_of};
 ghost use Rattle.txs_machine.specs.Plays.{AreOpenedFor};
 ghost use Rattle.txs_machine.specs.RunOver.{IsStateOf};

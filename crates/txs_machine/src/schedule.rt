@@ -11,8 +11,9 @@ ghost use Rattle.txs_machine.specs.Plays.{IsThreadsPlay, IsAgentsPlay, IsPlayAt,
 ghost use Rattle.txs_machine.specs.Schedule.{player, all_named, AreDone, ArePlayed, HaveEnded, IsExplainedBy, HasNoReport};
 ghost use Rattle.txs_runs.specs.Shared.{untouched};
 ghost use Rattle.txs_shared.specs.SharedState.{shared_of};
-ghost use Rattle.txs_value.specs.declared.action.Action.{Action as AnAction};
-ghost use Rattle.txs_world.specs.Store.{cells_of, next_action};
+ghost use Rattle.txs_cells.specs.declared.action.Action.{Action as AnAction};
+ghost use Rattle.txs_book.specs.Served.{cells_of};
+ghost use Rattle.txs_world.specs.Store.{next_action};
 
 use crate::agents::{first_working, is_due, open_next};
 use crate::player::{AgentPlayer, Place, Player, Players};

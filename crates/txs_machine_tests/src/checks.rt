@@ -4,8 +4,8 @@ use std::alloc::Global;
 use txs_check::law::{one_answer, sound_where_nothing_refuses};
 use txs_check::{check, is_pure_callee};
 use txs_compile::compile;
+use txs_terms::{Callee, Op};
 use txs_tree::{Program, Raw};
-use txs_value::{Callee, Op};
 
 // Whether a program of nothing is sound.
 fn is_sound_when_empty(alloc: Global) -> bool {

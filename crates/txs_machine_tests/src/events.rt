@@ -9,8 +9,9 @@ use std::str::SplitWhitespace;
 use txs_asks::{EventKind, Outcome};
 use txs_compile::compile;
 use txs_eval::{Needs, RefView, Seen, ThreadMeaning, TxMeaning, eval_thread, eval_tx};
+use txs_terms::Fault;
 use txs_tree::{Node, NodeKind, Program};
-use txs_value::{CellId, CellKind, Fault, Listed, Value, write_text};
+use txs_value::{CellId, CellKind, Listed, Value, write_text};
 
 /// A word of digits as a number.
 pub fn number_of(word: &str) -> i64 {

@@ -4,8 +4,9 @@ use txs_asks::Outcome;
 use txs_check::is_pure_callee;
 use txs_compile::compile;
 use txs_eval::{EvalStop, Needs, eval_pure, eval_thread};
+use txs_terms::{Callee, Op, Span};
 use txs_tree::Program;
-use txs_value::{Callee, Op, Span, Value, write_text};
+use txs_value::{Value, write_text};
 
 const SCRIPT: &[u8] =
     b"(defn swapped [a b] [b a]) (defn spin [] (recur)) (future (println (swapped 1 2)))";

@@ -10,7 +10,7 @@ ghost use Rattle.txs_mail.specs.contracts.mailbox.Mailbox.{the_row};
 use std::alloc::{AllocError, Global};
 use std::collections::VecDeque;
 use std::marker::Model;
-use txs_value::Action;
+use txs_cells::Action;
 
 /// The actions that wait for an agent, in the order of their sends. The first may be taken to be run; it stays in front
 /// until it is finished or given back.

@@ -1,9 +1,9 @@
 -- What a name stands for, by the names in scope.
 use Rattle.std.specs.Prelude.{ℕ, Bool, true, false, not, ◌&&◌, ◌==◌, bytes_eq, codes, List, [], ◌∷◌, length, Option, Some, None, if◌then◌else◌}
 use Rattle.std.specs.List.{list_any}
-use Rattle.txs_value.specs.Operations.{op_name}
-use Rattle.txs_value.specs.declared.op.Op.{Op}
-use Rattle.txs_value.specs.declared.op.Op.TheVariants.{Add, Subtract, Multiply, Inc, Dec, Quot, Rem, Mod, Equal, NotEqual, Less, Greater, LessOrEqual, GreaterOrEqual, Max, Min, Not, IsNil, IsZero, IsPositive, IsNegative, Count, Nth, Conj, Assoc, Peek, Pop}
+use Rattle.txs_terms.specs.Operations.{op_name}
+use Rattle.txs_terms.specs.declared.op.Op.{Op}
+use Rattle.txs_terms.specs.declared.op.Op.TheVariants.{Add, Subtract, Multiply, Inc, Dec, Quot, Rem, Mod, Equal, NotEqual, Less, Greater, LessOrEqual, GreaterOrEqual, Max, Min, Not, IsNil, IsZero, IsPositive, IsNegative, Count, Nth, Conj, Assoc, Peek, Pop}
 use Rattle.txs_names.specs.declared.names.FormName.{FormName}
 use Rattle.txs_names.specs.declared.names.FormName.TheVariants as kind
 use Rattle.txs_names.specs.declared.scope.Definition.{Definition}

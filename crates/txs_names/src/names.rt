@@ -2,10 +2,10 @@
 
 ghost use Rattle.std.specs.Prelude.{◌≡◌};
 ghost use Rattle.std.specs.List.{list_any};
-ghost use Rattle.txs_value.specs.Operations.{op_name};
+ghost use Rattle.txs_terms.specs.Operations.{op_name};
 ghost use Rattle.txs_names.specs.Scope.{form_name, form_names, operations, with_name, is_dot, may_bind};
 
-use txs_value::Op;
+use txs_terms::Op;
 
 /// The forms that have a name.
 #[derive(Clone, Copy)]

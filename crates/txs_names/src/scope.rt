@@ -9,8 +9,9 @@ use crate::names::{FormName, form_of, has_dot, operation_of};
 use indexmap::IndexMap;
 use std::alloc::{AllocError, Global};
 use std::marker::Model;
+use txs_terms::Op;
 use txs_value::limits::MOST_LOCALS;
-use txs_value::{CellId, Name, Op, Value};
+use txs_value::{CellId, Name, Value};
 
 /// What a name is defined as.
 #[derive(Drop)]

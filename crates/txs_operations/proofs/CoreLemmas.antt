@@ -4,7 +4,7 @@ use Rattle.std.proofs.lemmas.List.{drop_more}
 use Rattle.txs_operations.specs.Core.{number_of, from_left, arg}
 use Rattle.txs_value.specs.declared.value.Value.{Value}
 use Rattle.txs_value.specs.declared.value.Value.TheVariants.{Int}
-use Rattle.txs_value.specs.declared.fault.FaultKind.{FaultKind}
+use Rattle.txs_terms.specs.declared.fault.FaultKind.{FaultKind}
 
 module _ (f : ℤ → ℤ → Result ℤ FaultKind) where
   -- one more number, and the rest of the list

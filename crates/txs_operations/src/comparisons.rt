@@ -5,7 +5,8 @@ ghost use Rattle.std.specs.Ordering.{int_eq};
 ghost use Rattle.txs_operations.specs.Core.{compared, tested, equals, is_false, is_nil};
 
 use crate::numbers::number;
-use txs_value::{FaultKind, Value, same};
+use txs_terms::FaultKind;
+use txs_value::{Value, same};
 
 /// `=`
 pub(crate) fn equal(a: &Value, b: &Value) -> bool

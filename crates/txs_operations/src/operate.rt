@@ -2,7 +2,7 @@
 
 ghost use Rattle.std.specs.Prelude.{◌≡◌, true, false, length, IsTrue, Err};
 ghost use Rattle.txs_operations.specs.Core.{core, takes, may_copy, Answers};
-ghost use Rattle.txs_value.specs.declared.fault.Stop.TheVariants.{Memory};
+ghost use Rattle.txs_terms.specs.declared.fault.Stop.TheVariants.{Memory};
 
 use crate::comparisons::{
     equal, greater, greater_or_equal, is_false, is_negative, is_nil, is_positive, is_zero, less,
@@ -12,7 +12,8 @@ use crate::numbers::{dec, difference, inc, max, min, product, quot, rem, remaind
 use crate::vectors::{assoc, assoc_owned, conj, conj_owned, count, nth, peek, pop, pop_owned};
 use std::alloc::Global;
 use std::mem;
-use txs_value::{FaultKind, Op, Stop, Value};
+use txs_terms::{FaultKind, Op, Stop};
+use txs_value::Value;
 
 /// Whether the operation takes so many arguments.
 #[tactic(auto, unfolding(crate::specs::Core::takes))]

@@ -9,8 +9,9 @@ ghost use Rattle.txs_value.specs.View.{plain_of, plains_of};
 
 use crate::numbers::number;
 use std::alloc::{AllocError, Global};
+use txs_terms::{FaultKind, Stop};
 use txs_value::limits::{MOST_DEPTH, MOST_ITEMS};
-use txs_value::{FaultKind, Items, Stop, Value, copy_value};
+use txs_value::{Items, Value, copy_value};
 
 /// The items of the vector that a value is.
 fn items(value: &Value) -> Result<&Items, FaultKind>

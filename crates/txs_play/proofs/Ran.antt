@@ -12,7 +12,7 @@ use Rattle.txs_play.specs.RunTold.{RunTold, of_failure, of_report}
 use Rattle.txs_play.specs.WorkersTold as script_told
 use Rattle.txs_play.specs.WorkersTold.{WorkedTells}
 use Rattle.txs_tree.specs.Tree.{PlainProgram}
-use Rattle.txs_value.specs.declared.cell.CellDefinition.{CellDefinition}
+use Rattle.txs_cells.specs.declared.cell.CellDefinition.{CellDefinition}
 
 -- of a script, whose program explains the run, and has the code's cells
 pub of_script : (script : Script) (p : PlainProgram) (code : PlainCode) (steps : ℕ) (cells events : Bool) (t : Told)

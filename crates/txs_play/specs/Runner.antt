@@ -9,7 +9,7 @@ use Rattle.txs_machine.specs.declared.run_error.RunError.{RunError}
 use Rattle.txs_machine.specs.declared.schedule.Report.{Report}
 use Rattle.txs_machine.specs.declared.schedule.ThreadReport.{ThreadReport}
 use Rattle.txs_shared.specs.SharedState.{PlainShared, shared_of}
-use Rattle.txs_value.specs.Places.{nth}
+use Rattle.txs_terms.specs.Places.{nth}
 
 -- each actor of the code has a number of 16 bits
 abbrev pub IsRunnable : PlainCode → Type 0

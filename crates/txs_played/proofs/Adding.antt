@@ -9,16 +9,18 @@ use Rattle.txs_asks.specs.declared.ask.Reply.{Reply}
 use Rattle.txs_asks.specs.declared.ask.Reply.TheVariants as reply
 use Rattle.txs_asks.specs.declared.event.Event.{Event}
 use Rattle.txs_asks.specs.declared.event.EventKind.{EventKind}
-use Rattle.txs_value.specs.Cells.{World}
+use Rattle.txs_cells.specs.Cells.{World}
 use Rattle.txs_value.specs.Limits.{most_events}
-use Rattle.txs_value.specs.declared.action.Action.{Action}
-use Rattle.txs_value.specs.declared.cell.CellDefinition.{CellDefinition}
+use Rattle.txs_cells.specs.declared.action.Action.{Action}
+use Rattle.txs_cells.specs.declared.cell.CellDefinition.{CellDefinition}
 use Rattle.txs_value.specs.declared.value.CellId.{CellId}
 use Rattle.txs_value.specs.declared.value.Value.{Value}
-use Rattle.txs_world.specs.Atom.{closes, closes_at, swapped_since}
-use Rattle.txs_world.specs.Book.{written, least_written, cells_in, is_failed, first_failed}
+use Rattle.txs_book.specs.Atom.{closes, closes_at, swapped_since}
+use Rattle.txs_book.specs.Book.{written, least_written, cells_in, is_failed, first_failed}
+use Rattle.txs_book.specs.Served as entry
 use Rattle.txs_world.specs.Store as world
-use Rattle.txs_world.specs.Store.{Served, cells_of, serve}
+use Rattle.txs_book.specs.Served.{Served, cells_of}
+use Rattle.txs_world.specs.Store.{serve}
 use Rattle.txs_runs.specs.Shared.{is_atom, atom_of, serve_atom, serve_on, book_for}
 use Rattle.txs_runs.specs.Told as told_by
 use Rattle.txs_runs.specs.Told.{Entry, EntryHolds, AllHold, before_entry, served_at, adding, trace_of}
@@ -43,8 +45,8 @@ one_longer book e = let n = append_one book e in grind (arith, nat_tests, n)
     append_one (x ∷ xs) y = let n = append_one xs y in omega (arith, n)
 
 added : (f : Reply → Bool) (r : Reply) (a : ℕ) (kind : EventKind) (book : List Event) (room : Bool) → f r ≡ true → f reply.Full ≡ false
-    → TellsGrowth f book (if room then world.served r (book ++ world.event_of a kind ∷ []) else world.served reply.Full book)
-added f r a kind book true e g = one_longer book (world.event_of a kind) ∙ sym e
+    → TellsGrowth f book (if room then entry.served r (book ++ entry.event_of a kind ∷ []) else entry.served reply.Full book)
+added f r a kind book true e g = one_longer book (entry.event_of a kind) ∙ sym e
 added f r a kind book false e g = not_less (length book) ∙ sym g
 
 -- whether a reply isn't that the book is full

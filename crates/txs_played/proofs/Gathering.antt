@@ -6,8 +6,8 @@ use Rattle.txs_asks.specs.declared.event.Event.{Event}
 use Rattle.txs_asks.specs.declared.event.Outcome.{Outcome}
 use Rattle.txs_asks.specs.declared.event.Outcome.TheVariants as outcome
 use Rattle.txs_asks.specs.declared.event.Outcome.TheVariants.{JournalFull}
-use Rattle.txs_value.specs.Places.{nth}
-use Rattle.txs_value.specs.declared.cell.CellDefinition.{CellDefinition}
+use Rattle.txs_terms.specs.Places.{nth}
+use Rattle.txs_cells.specs.declared.cell.CellDefinition.{CellDefinition}
 use Rattle.txs_tree.specs.Thread.{thread_meaning}
 use Rattle.txs_tree.specs.Tree.{PlainThread, PlainProgram}
 use Rattle.txs_code.specs.ActorState.{ActorState}
@@ -18,10 +18,10 @@ use Rattle.txs_follows.specs.Follows.{Follows}
 use Rattle.txs_follows.specs.FollowsAgent.{GoesOn}
 use Rattle.txs_follows.specs.FollowsAll.{source_of, FollowsAll}
 use Rattle.txs_actor.specs.PlainActor.{PlainActor, agents_from, own_body, code_of}
-use Rattle.txs_world.specs.Book.{has_agent}
-use Rattle.txs_world.specs.Book as world
+use Rattle.txs_book.specs.Book.{has_agent}
+use Rattle.txs_book.specs.Book as world
 use Rattle.txs_world.specs.Laws.{DoneIsUndisturbed, RefusedIsUndisturbed}
-use Rattle.txs_world.specs.Store.{cells_of}
+use Rattle.txs_book.specs.Served.{cells_of}
 use Rattle.txs_runs.specs.Agents.{AllSound, ActsMean}
 use Rattle.txs_runs.specs.Explains.{BooksStand, outcome_at}
 use Rattle.txs_runs.specs.Invariant.{SharedStands}

@@ -3,7 +3,7 @@ use Rattle.std.specs.Prelude.{◌≡◌, ◌≤◌, ◌+◌, ℕ, suc, false, Li
 use Rattle.txs_asks.specs.declared.ask.Ask.{Ask}
 use Rattle.txs_asks.specs.declared.event.Outcome.TheVariants.{JournalFull}
 use Rattle.txs_value.specs.Limits.{most_events}
-use Rattle.txs_value.specs.Places.{nth}
+use Rattle.txs_terms.specs.Places.{nth}
 use Rattle.txs_code.specs.PlainCode.{PlainCode}
 use Rattle.txs_actor.specs.PlainActor.{unanswered}
 use Rattle.txs_runs.specs.Shared.{book_for}

@@ -3,15 +3,16 @@
 ghost use Rattle.std.specs.Prelude.{◌≡◌, ◌<◌, ◌↔◌, ℕ, suc, true, length, Some, IsTrue, IfOk, OnOk};
 ghost use Rattle.txs_code.specs.PlainCode.{CodeBody, parameters_of};
 ghost use Rattle.txs_played.specs.Callees.{AreCallees, HandsOutSent, IsBodyOf, IsCallee, IsSentAmong, IsSentAt, IsSentIn, MarksMore, SendWithin, TakesSent, sent_by};
-ghost use Rattle.txs_value.specs.Places.{nth};
+ghost use Rattle.txs_terms.specs.Places.{nth};
 ghost use Rattle.txs_verify.specs.Marks.{mark_at};
 ghost use Rattle.txs_verify.specs.declared.walk.Mark.{Mark as AMark};
 
 use std::alloc::{AllocError, Global};
 use txs_asks::Reply;
+use txs_cells::Action;
 use txs_code::{Body, Instr, Verified};
 use txs_operations::takes;
-use txs_value::{Action, Callee};
+use txs_terms::Callee;
 use txs_verify::walk::{Mark, mark_places};
 
 /// The function that an instruction sends, if it sends one.

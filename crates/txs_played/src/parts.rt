@@ -14,7 +14,9 @@ ghost use Rattle.txs_shared.specs.SharedState.{shared_of};
 use crate::played::Played;
 use std::alloc::{AllocError, Global};
 use txs_asks::{Ask, Outcome, Reply};
+use txs_book::law::unwritten_stays;
 use txs_bytes::same_code;
+use txs_cells::CellDefinition;
 use txs_code::Verified;
 use txs_follows::replies_fit;
 use txs_machine::{Place, Report, RunError, ThreadReport, actors_explained};
@@ -23,8 +25,8 @@ use txs_replay::replay::replays;
 use txs_replay::{Kept, KeptEntries};
 use txs_runs::law::{every_report_is_explained, told_fits, typed_threads_are_staged};
 use txs_shared::SharedState;
-use txs_value::{CellDefinition, CellKind};
-use txs_world::law::{done_is_undisturbed, refused_is_undisturbed, unwritten_stays};
+use txs_value::CellKind;
+use txs_world::law::{done_is_undisturbed, refused_is_undisturbed};
 
 /// What actors shared, and what each of them did.
 #[derive(Drop)]

@@ -15,8 +15,9 @@ use crate::open_forms::OpenForms;
 use crate::quoted::read_quoted;
 use crate::word::form_of;
 use std::alloc::Global;
+use txs_terms::Span;
+use txs_value::Text;
 use txs_value::limits::{MOST_NESTING, MOST_SCRIPT, MOST_TEXT};
-use txs_value::{Span, Text};
 
 /// Reads an opening bracket, or a `@`.
 fn open(

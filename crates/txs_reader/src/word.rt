@@ -12,8 +12,9 @@ ghost use Rattle.txs_reader.specs.Tree.{Leaf, leaf, tree};
 use crate::error::{ReadError, ReadErrorKind};
 use crate::form::Form;
 use std::alloc::Global;
+use txs_terms::Span;
+use txs_value::Name;
 use txs_value::value::is_symbol_byte;
-use txs_value::{Name, Span};
 
 /// How many bytes a name may have.
 const MAX_NAME: usize = 255;

@@ -6,10 +6,10 @@ use Rattle.txs_asks.specs.declared.ask.Reply.{Reply}
 use Rattle.txs_asks.specs.declared.ask.Reply.TheVariants as reply
 use Rattle.txs_asks.specs.declared.event.Event.{Event}
 use Rattle.txs_value.proofs.SameLemmas.{numbers, number-itself}
-use Rattle.txs_value.specs.declared.cell.CellDefinition.{CellDefinition}
+use Rattle.txs_cells.specs.declared.cell.CellDefinition.{CellDefinition}
 use Rattle.txs_code.specs.Machine.{ThreadCode, Configuration, Turned, Ended, Failed, Asking, Unfinished, Stuck, turn}
 use Rattle.txs_code.specs.Opening.{given}
-use Rattle.txs_world.specs.Store.{Served}
+use Rattle.txs_book.specs.Served.{Served}
 use Rattle.txs_runs.specs.Report.{ActorTraced, RunTraced}
 use Rattle.txs_runs.specs.Run.{Actor, Moved, moved, entry, comes_to, hears, replied, asked, asks_for, turned, turns_from, State, Play, TakesTurn, placed, play, opens, plays_from, plays}
 use Rattle.txs_runs.specs.Shared.{Shared, untouched, book_for, shared_after}

@@ -1,7 +1,7 @@
 -- One entry more is served again.
 use Rattle.std.proofs.Common.{◌≡◌, ◌<◌, ◌+◌, ◌-◌, ℕ, suc, false, List, [], ◌∷◌, set, get_or, Option, Some, None, refl, sym, subst, arith}
 use Rattle.txs_asks.specs.declared.event.Event.{Event}
-use Rattle.txs_value.specs.declared.cell.CellDefinition.{CellDefinition}
+use Rattle.txs_cells.specs.declared.cell.CellDefinition.{CellDefinition}
 use Rattle.txs_runs.specs.Shared.{Shared}
 use Rattle.txs_shared.specs.SharedState.{PlainShared, shared_of}
 use Rattle.txs_replay.specs.Replay.{holder_from, FirstServed, NextServed, Replays, MadeStep, IsStepped}

@@ -2,7 +2,7 @@
 use Rattle.std.specs.Prelude.{◌≡◌, ℕ, List, [], map}
 use Rattle.std.proofs.Common.{get_or}
 use Rattle.txs_asks.specs.declared.event.Event.{Event}
-use Rattle.txs_value.specs.declared.cell.CellDefinition.{CellDefinition}
+use Rattle.txs_cells.specs.declared.cell.CellDefinition.{CellDefinition}
 use Rattle.txs_code.specs.Machine.{ThreadCode, Configuration, Turned, Unfinished}
 use Rattle.txs_code.specs.Opening.{opening}
 use Rattle.txs_runs.specs.Report.{ActorTraced}

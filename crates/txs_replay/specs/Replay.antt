@@ -2,8 +2,8 @@
 use Rattle.std.specs.Prelude.{◌≡◌, ◌==◌, ℕ, zero, suc, Bool, true, false, List, [], ◌∷◌, length, set, Option, Some, None, if◌then◌else◌}
 use Rattle.std.proofs.Common.{get_or}
 use Rattle.txs_asks.specs.declared.event.Event.{Event}
-use Rattle.txs_value.specs.declared.cell.CellDefinition.{CellDefinition}
-use Rattle.txs_world.specs.Store.{Served}
+use Rattle.txs_cells.specs.declared.cell.CellDefinition.{CellDefinition}
+use Rattle.txs_book.specs.Served.{Served}
 use Rattle.txs_runs.specs.Shared.{Shared, untouched, book_for, serve_on, may_ask, shared_after}
 use Rattle.txs_runs.specs.Told.{Entry, IsExchanged}
 use Rattle.txs_shared.specs.SharedState.{PlainShared, shared_of, numbered_book, is_lawful, answer_to, IsAfter}

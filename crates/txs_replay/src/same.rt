@@ -3,7 +3,9 @@
 ghost use Rattle.std.specs.Prelude.{◌≡◌, ◌↔◌, IsTrue};
 
 use txs_asks::{Event, EventKind, Reply};
-use txs_value::{Action, CellId, Fault, Value, same};
+use txs_cells::Action;
+use txs_terms::Fault;
+use txs_value::{CellId, Value, same};
 
 /// Whether two lists of values are equal.
 fn same_values(a: &[Value], b: &[Value]) -> bool

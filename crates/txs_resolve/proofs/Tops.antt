@@ -2,7 +2,7 @@
 use Rattle.std.proofs.Common.{◌≡◌, ◌<◌, ◌≤◌, ℕ, suc, Bool, true, false, nat_lt, cond, List, [], ◌∷◌, ◌++◌, length, map, Option, Some, None, Ok, refl, sym, ap, ◌∙◌, subst, arith}
 use Rattle.std.proofs.lemmas.Bool.Decides.{nat_tests}
 use Rattle.std.proofs.lemmas.List.{map-append}
-use Rattle.txs_value.specs.declared.fault.Span.{Span}
+use Rattle.txs_terms.specs.declared.fault.Span.{Span}
 use Rattle.txs_reader.specs.declared.form.Form.{Form}
 use Rattle.txs_tree.specs.Tree.{Tree, PlainFunction, PlainThread}
 use Rattle.txs_tree.specs.View.{tree_of, thread_of, threads_of, function_of, functions_of}

@@ -1,9 +1,9 @@
 -- Which program the forms of a script are, or the first refusal met.
 use Rattle.std.specs.Prelude.{◌≡◌, ℕ, suc, Bool, true, false, ◌&&◌, bytes_eq, codes, nat_lt, List, [], ◌∷◌, ◌++◌, length, Option, Some, None, Ok, Err, if◌then◌else◌}
 use Rattle.txs_value.specs.Limits.{most_depth, most_levels, most_definitions, most_threads, most_parameters}
-use Rattle.txs_value.specs.Operations.{op_name}
-use Rattle.txs_value.specs.declared.fault.Span.{Span}
-use Rattle.txs_value.specs.declared.cell.CellDefinition.{CellDefinition}
+use Rattle.txs_terms.specs.Operations.{op_name}
+use Rattle.txs_terms.specs.declared.fault.Span.{Span}
+use Rattle.txs_cells.specs.declared.cell.CellDefinition.{CellDefinition}
 use Rattle.txs_value.specs.declared.value.CellKind.{CellKind}
 use Rattle.txs_value.specs.declared.value.CellKind.TheVariants.{Ref, Atom, Agent}
 use Rattle.txs_value.specs.declared.value.Value.{Value}
@@ -18,8 +18,8 @@ use Rattle.txs_names.specs.declared.names.FormName.{FormName}
 use Rattle.txs_names.specs.declared.names.FormName.TheVariants as kind
 use Rattle.txs_names.specs.declared.scope.Definition.TheVariants.{Constant, Cell, Function}
 use Rattle.txs_resolve.specs.declared.definition.CellSort.{CellSort}
-use Rattle.txs_value.specs.declared.cell.ErrorMode.{ErrorMode}
-use Rattle.txs_value.specs.declared.cell.ErrorMode.TheVariants.{Fail, Continue}
+use Rattle.txs_cells.specs.declared.cell.ErrorMode.{ErrorMode}
+use Rattle.txs_cells.specs.declared.cell.ErrorMode.TheVariants.{Fail, Continue}
 use Rattle.txs_expand.specs.Expansions.{body, form_at}
 use Rattle.txs_expand.specs.Expressions.{Answer, is_symbol, named}
 use Rattle.txs_expression.specs.Literals.{is_literal, literal}

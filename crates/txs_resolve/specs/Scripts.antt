@@ -7,8 +7,8 @@ use Rattle.txs_tree.specs.Known.{Known, known}
 use Rattle.txs_tree.specs.Scoped.{ScopedFunctions, ScopedThreads}
 use Rattle.txs_tree.specs.View.{functions_of, threads_of}
 use Rattle.txs_value.specs.Limits.{most_definitions, most_levels, most_threads}
-use Rattle.txs_value.specs.Places.{nth}
-use Rattle.txs_value.specs.declared.fault.Span.{Span}
+use Rattle.txs_terms.specs.Places.{nth}
+use Rattle.txs_terms.specs.declared.fault.Span.{Span}
 use Rattle.txs_names.specs.declared.scope.Definition.{Definition}
 use Rattle.txs_names.specs.declared.scope.Definition.TheVariants.{Constant, Cell, Function}
 use Rattle.txs_resolve.specs.declared.definition.Opening.{Opening}

@@ -7,10 +7,11 @@ ghost use Rattle.txs_resolve.specs.Names.{cell_of, defining_of, is_error_mode, k
 ghost use Rattle.txs_expression.specs.Literals.{are_literals, is_literal};
 ghost use Rattle.txs_resolve.specs.Scripts.{defining};
 
+use txs_cells::ErrorMode;
 use txs_expand::form_at;
 use txs_names::FormName;
 use txs_reader::{Bracket, Form};
-use txs_value::{CellKind, ErrorMode};
+use txs_value::CellKind;
 
 /// The kind of a cell, and of an agent its error mode.
 #[derive(Clone, Copy)]

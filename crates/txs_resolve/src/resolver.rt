@@ -15,8 +15,8 @@ use std::alloc::Global;
 use txs_expand::{ResolveError, ResolveErrorKind};
 use txs_expression::Stop;
 use txs_reader::Form;
+use txs_terms::Span;
 use txs_tree::Raw;
-use txs_value::Span;
 
 /// The forms behind the `(ns name)` that they begin with, if they do.
 fn behind_namespace(forms: &[Form]) -> &[Form]

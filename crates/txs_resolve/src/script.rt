@@ -19,13 +19,15 @@ ghost use Rattle.txs_value.specs.Limits.{most_definitions, most_levels, most_par
 
 use crate::definition::{CellSort, Opening, defining_of};
 use std::alloc::{AllocError, Global};
+use txs_cells::CellDefinition;
 use txs_expand::{ResolveError, ResolveErrorKind, Spot, form_at, is_symbol, refusal};
 use txs_expression::{Stop, body, fits, levels, literal, refused};
 use txs_names::{Definition, FormName, Scope, may_bind, operation_of};
 use txs_reader::{Bracket, Form};
+use txs_terms::Span;
 use txs_tree::{Function, Node, Thread};
 use txs_value::limits::{MOST_DEFINITIONS, MOST_DEPTH, MOST_LEVELS, MOST_PARAMETERS, MOST_THREADS};
-use txs_value::{CellDefinition, CellId, Name, Span, Value};
+use txs_value::{CellId, Name, Value};
 
 /// What a script has defined so far: names, cells, functions and threads, the levels of the functions by their
 /// numbers, and how often `def` stood.

@@ -8,22 +8,22 @@ use Rattle.txs_asks.specs.declared.event.Event.{Event}
 use Rattle.txs_asks.specs.declared.event.EventKind.{EventKind}
 use Rattle.txs_asks.specs.declared.event.EventKind.TheVariants as event
 use Rattle.txs_value.proofs.SameLemmas.{numbers}
-use Rattle.txs_value.specs.Forms.{same_kind}
-use Rattle.txs_value.specs.Places.{nth}
-use Rattle.txs_value.specs.declared.action.Action.{Action}
-use Rattle.txs_value.specs.declared.fault.Fault.{Fault}
+use Rattle.txs_cells.specs.Forms.{same_kind}
+use Rattle.txs_terms.specs.Places.{nth}
+use Rattle.txs_cells.specs.declared.action.Action.{Action}
+use Rattle.txs_terms.specs.declared.fault.Fault.{Fault}
 use Rattle.txs_value.specs.declared.value.CellId.{CellId}
 use Rattle.txs_value.specs.declared.value.CellKind.{CellKind}
 use Rattle.txs_value.specs.declared.value.CellKind.TheVariants.{Ref, Atom, Agent}
 use Rattle.txs_value.specs.declared.value.Value.{Value}
 use Rattle.txs_tree.specs.Tree.{PlainFunction}
 use Rattle.txs_follows.specs.FollowsAgent.{SoundAction, AgentFits, AgentTold, taking}
-use Rattle.txs_world.proofs.Merging.{both}
-use Rattle.txs_world.specs.Book.{has_agent, has_cell, is_of_kind, is_there, is_failed, agents_below, newest, Mail, no_mail, sent_to, acted, mail_changed, mail_from, mail_after, goes_on, makes, Each, Legal}
-use Rattle.txs_world.specs.Book as world
+use Rattle.txs_book.proofs.Outcomes.{both}
+use Rattle.txs_book.specs.Book.{has_agent, has_cell, is_of_kind, is_there, is_failed, agents_below, newest, Mail, no_mail, sent_to, acted, mail_changed, mail_from, mail_after, goes_on, makes, Each, Legal}
+use Rattle.txs_book.specs.Book as world
 use Rattle.txs_world.specs.Laws.{acts_for, no_acts}
 use Rattle.txs_world.specs.Store.{first_action, next_action}
-use Rattle.txs_world.specs.declared.cell.StoreCell.{StoreCell}
+use Rattle.txs_book.specs.declared.cell.StoreCell.{StoreCell}
 use Rattle.txs_runs.specs.Agents.{AreSound, SendsSound, AllSound}
 use Rattle.txs_runs.specs.Run.{exchange}
 use Rattle.txs_runs.specs.Told.{Entry, exchange_of}

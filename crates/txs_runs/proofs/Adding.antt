@@ -9,14 +9,15 @@ use Rattle.txs_asks.specs.declared.event.Event.{Event}
 use Rattle.txs_asks.specs.declared.event.EventKind.{EventKind}
 use Rattle.txs_asks.specs.declared.event.EventKind.TheVariants as event
 use Rattle.txs_value.specs.Limits.{most_events}
-use Rattle.txs_value.specs.declared.action.Action.{Action}
-use Rattle.txs_value.specs.declared.cell.CellDefinition.{CellDefinition}
+use Rattle.txs_cells.specs.declared.action.Action.{Action}
+use Rattle.txs_cells.specs.declared.cell.CellDefinition.{CellDefinition}
 use Rattle.txs_value.specs.declared.value.CellId.{CellId}
 use Rattle.txs_value.specs.declared.value.Value.{Value}
-use Rattle.txs_world.proofs.Growth.{each_more}
-use Rattle.txs_world.specs.Atom.{closes_at, swapped_since}
-use Rattle.txs_world.specs.Book.{cells_in, opening, written, least_written, is_failed, first_failed, mail_after, Each}
-use Rattle.txs_world.specs.Store.{served, adds, event_of, cells_of, looks, commits, sends_to, merged}
+use Rattle.txs_book.proofs.Growth.{each_more}
+use Rattle.txs_book.specs.Atom.{closes_at, swapped_since}
+use Rattle.txs_book.specs.Book.{cells_in, opening, written, least_written, is_failed, first_failed, mail_after, Each}
+use Rattle.txs_book.specs.Served.{served, adds, event_of, cells_of}
+use Rattle.txs_world.specs.Store.{looks, commits, sends_to, merged}
 use Rattle.txs_runs.specs.Shared.{is_atom, serve_on}
 
 -- an event that sends nothing and is no action

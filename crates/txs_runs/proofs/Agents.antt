@@ -10,7 +10,7 @@ use Rattle.txs_asks.specs.declared.event.Event.{Event}
 use Rattle.txs_asks.specs.declared.event.EventKind.{EventKind}
 use Rattle.txs_asks.specs.declared.event.EventKind.TheVariants as event
 use Rattle.txs_value.proofs.SameLemmas.{numbers, number-itself}
-use Rattle.txs_value.specs.declared.cell.CellDefinition.{CellDefinition}
+use Rattle.txs_cells.specs.declared.cell.CellDefinition.{CellDefinition}
 use Rattle.txs_value.specs.declared.value.CellId.{CellId}
 use Rattle.txs_tree.specs.Tree.{PlainFunction}
 use Rattle.txs_code.specs.ActorState.{ActorState}
@@ -18,12 +18,13 @@ use Rattle.txs_code.specs.Machine.{PlainBody, ThreadCode, agent_code, Configurat
 use Rattle.txs_code.specs.Opening as machine
 use Rattle.txs_code.proofs.Acts.{stated, exec_run}
 use Rattle.txs_follows.specs.FollowsAgent.{AgentTold, GoesOn, FollowsAgents}
-use Rattle.txs_world.proofs.Merging.{both}
-use Rattle.txs_world.specs.Book.{has_agent, agents_below, opening}
-use Rattle.txs_world.specs.Book as world
+use Rattle.txs_book.proofs.Outcomes.{both}
+use Rattle.txs_book.specs.Book.{has_agent, agents_below, opening}
+use Rattle.txs_book.specs.Book as world
 use Rattle.txs_world.specs.Laws.{ActionStays, ServeKeeps}
-use Rattle.txs_world.specs.Store.{cells_of, none_taken, is_taken, hands_out, is_done, taken_after}
-use Rattle.txs_world.specs.declared.cell.StoreCell.{StoreCell}
+use Rattle.txs_book.specs.Served.{cells_of}
+use Rattle.txs_world.specs.Store.{none_taken, is_taken, hands_out, is_done, taken_after}
+use Rattle.txs_book.specs.declared.cell.StoreCell.{StoreCell}
 use Rattle.txs_runs.specs.Agents.{ActMeans, ActsMean, AllSound, HasFinished, HasTaken, RunsAgents, AgentExplained, AgentsExplain, ThreadsSendSound, RunActsMean}
 use Rattle.txs_runs.specs.Explains.{outcome_at}
 use Rattle.txs_runs.specs.Invariant.{SharedStands}

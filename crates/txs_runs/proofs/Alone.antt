@@ -2,13 +2,13 @@
 use Rattle.std.proofs.Common.{◌≡◌, ℕ, zero, suc, Bool, true, false, ◌==◌, List, [], ◌∷◌, if◌then◌else◌, drop, Some, refl, sym, ap, ◌∙◌, subst}
 use Rattle.txs_asks.specs.declared.event.Event.{Event}
 use Rattle.txs_value.proofs.SameLemmas.{number-itself}
-use Rattle.txs_value.specs.Cells.{World}
-use Rattle.txs_value.specs.Places.{nth}
-use Rattle.txs_value.specs.declared.cell.CellDefinition.{CellDefinition}
-use Rattle.txs_world.specs.Book.{opening}
-use Rattle.txs_world.specs.History as world
-use Rattle.txs_world.specs.Laws.{HistoryOfWhole}
-use Rattle.txs_world.specs.Store.{cells_of}
+use Rattle.txs_cells.specs.Cells.{World}
+use Rattle.txs_terms.specs.Places.{nth}
+use Rattle.txs_cells.specs.declared.cell.CellDefinition.{CellDefinition}
+use Rattle.txs_book.specs.Book.{opening}
+use Rattle.txs_book.specs.History as world
+use Rattle.txs_book.specs.Laws.{HistoryOfWhole}
+use Rattle.txs_book.specs.Served.{cells_of}
 use Rattle.txs_runs.specs.Laws.{alone, AloneHistory}
 use Rattle.txs_runs.specs.Told.{Place, trace_of, places_in, places_by, seen_before, seen_of}
 

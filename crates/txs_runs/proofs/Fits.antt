@@ -11,22 +11,23 @@ use Rattle.txs_asks.specs.declared.event.Event.{Event}
 use Rattle.txs_asks.specs.declared.event.EventKind.{EventKind}
 use Rattle.txs_asks.specs.declared.event.EventKind.TheVariants as event
 use Rattle.txs_value.proofs.SameLemmas.{and_both}
-use Rattle.txs_value.specs.Cells.{World}
-use Rattle.txs_value.specs.Forms.{same_kind}
+use Rattle.txs_cells.specs.Cells.{World}
+use Rattle.txs_cells.specs.Forms.{same_kind}
 use Rattle.txs_value.specs.Limits.{most_events}
-use Rattle.txs_value.specs.Places.{nth}
-use Rattle.txs_value.specs.declared.action.Action.{Action}
-use Rattle.txs_value.specs.declared.cell.CellDefinition.{CellDefinition}
+use Rattle.txs_terms.specs.Places.{nth}
+use Rattle.txs_cells.specs.declared.action.Action.{Action}
+use Rattle.txs_cells.specs.declared.cell.CellDefinition.{CellDefinition}
 use Rattle.txs_value.specs.declared.value.CellId.{CellId}
 use Rattle.txs_value.specs.declared.value.CellKind.TheVariants.{Atom}
 use Rattle.txs_value.specs.declared.value.Value.{Value}
 use Rattle.txs_follows.specs.RepliesFit.{Phase, Out, belongs, PhaseFits, Gives, AgreeOn}
 use Rattle.txs_follows.specs.RepliesFitTo.{RepliesFitTo}
-use Rattle.txs_world.specs.Atom.{atom_after, swapped_since, closes_at}
-use Rattle.txs_world.specs.Book.{opening, after, newest, written, least_written, cells_in, may_name, may_end, has_cell, is_failed, first_failed, has_ref, has_refs, are_refs, are_sends}
+use Rattle.txs_book.specs.Atom.{atom_after, swapped_since, closes_at}
+use Rattle.txs_book.specs.Book.{opening, after, newest, written, least_written, cells_in, may_name, may_end, has_cell, is_failed, first_failed, has_ref, has_refs, are_refs, are_sends}
 use Rattle.txs_tree.specs.Transaction as tree
-use Rattle.txs_world.specs.Laws.{UnwrittenStays}
-use Rattle.txs_world.specs.Store.{Served, served, adds, event_of, cells_of, looks, commits, sends_to, merged, are_apart, serve}
+use Rattle.txs_book.specs.Laws.{UnwrittenStays}
+use Rattle.txs_book.specs.Served.{Served, served, adds, event_of, cells_of}
+use Rattle.txs_world.specs.Store.{looks, commits, sends_to, merged, are_apart, serve}
 use Rattle.txs_runs.specs.Shared.{book_for, serve_on, may_ask, is_atom, has_atom, world_of, seen_in}
 use Rattle.txs_runs.specs.Stages.{Stage, Idle, Open, Viewing, Swapping, AsksIn, stage_after, phase_of}
 use Rattle.txs_runs.specs.Told.{Entry, exchange_of, Place, IsExchanged, AllHold, AreStaged, trace_of, seen_before, seen_of, ToldBy, history_of}

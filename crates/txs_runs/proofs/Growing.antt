@@ -8,8 +8,8 @@ use Rattle.txs_asks.specs.declared.ask.Reply.TheVariants as reply
 use Rattle.txs_value.specs.Limits.{most_events}
 use Rattle.txs_asks.specs.declared.event.Event.{Event}
 use Rattle.txs_value.proofs.SameLemmas.{numbers, number-itself}
-use Rattle.txs_value.specs.declared.cell.CellDefinition.{CellDefinition}
-use Rattle.txs_world.specs.Store.{Served}
+use Rattle.txs_cells.specs.declared.cell.CellDefinition.{CellDefinition}
+use Rattle.txs_book.specs.Served.{Served}
 use Rattle.txs_runs.specs.Shared.{book_for, serve_on, may_ask}
 use Rattle.txs_runs.specs.Stages.{Stage, Idle, AsksIn, stage_after}
 use Rattle.txs_runs.specs.Told.{Entry, Place, IsExchanged, before_entry, served_at, EntryHolds, AllHold, AreStaged, adding, trace_of, TraceHolds, places_in, places_by, ToldBy}

@@ -11,16 +11,17 @@ use Rattle.txs_asks.specs.declared.ask.Reply.TheVariants as reply
 use Rattle.txs_asks.specs.declared.event.Event.{Event}
 use Rattle.txs_frame.specs.Frame.{Work, commuted}
 use Rattle.txs_value.proofs.SameLemmas.{numbers, number-itself}
-use Rattle.txs_value.specs.declared.action.Action.{Action}
-use Rattle.txs_value.specs.declared.cell.CellDefinition.{CellDefinition}
+use Rattle.txs_cells.specs.declared.action.Action.{Action}
+use Rattle.txs_cells.specs.declared.cell.CellDefinition.{CellDefinition}
 use Rattle.txs_value.specs.declared.value.CellId.{CellId}
 use Rattle.txs_code.specs.ActorState.{ActorState, receives, heard, views, on_step, paired, viewed, view, asks}
 use Rattle.txs_code.specs.Machine.{PlainInstr, Push, Load, Store, Pop, Jump, JumpFalse, CoreOf, CallOf, Return, MakeVector, PrintOf, TxBegin, TxEnd, LookOf, PutOf, OpenOf, CloseOf, SendOf, Halt, TakeOf, RunOf, FinishOf, ThreadCode, fetch, Savepoint, Activity, Outside, Restarting, Running, Applying, Swapping, Acting, Configuration, Turned, Ended, Failed, Asking, Unfinished, Stuck, on, settles, ends, act, turn}
 use Rattle.txs_code.specs.Opening.{given}
 use Rattle.txs_world.proofs.Merging.{joined}
-use Rattle.txs_world.specs.Book.{has_cell, has_ref, has_refs, has_agent, are_refs, are_sends, cells_in, may_name, may_end}
+use Rattle.txs_book.specs.Book.{has_cell, has_ref, has_refs, has_agent, are_refs, are_sends, cells_in, may_name, may_end}
 use Rattle.txs_world.specs.Laws.{ServeKeeps}
-use Rattle.txs_world.specs.Store.{Served, cells_of, are_apart}
+use Rattle.txs_book.specs.Served.{Served, cells_of}
+use Rattle.txs_world.specs.Store.{are_apart}
 use Rattle.txs_runs.specs.Invariant.{ActorInvariant, RunInvariant}
 use Rattle.txs_runs.specs.Lawful.{CodeIsKnown, OpeningIsKnown, AsksAreLawful, RunAsksLawful}
 use Rattle.txs_runs.specs.Run.{Stop, Actor, Moved, moved, exchange, replied, asked, asks_for, turned, turns_from, stops_from, Play, TakesTurn, IsStopped, State, moves, actor_of, play, plays_from, opens}

@@ -12,12 +12,14 @@ use Rattle.txs_asks.specs.declared.event.EventKind.{EventKind}
 use Rattle.txs_asks.specs.declared.event.EventKind.TheVariants as event
 use Rattle.txs_value.proofs.SameLemmas.{number-itself}
 use Rattle.txs_value.specs.Limits.{most_events}
-use Rattle.txs_value.specs.declared.action.Action.{Action}
-use Rattle.txs_value.specs.declared.cell.CellDefinition.{CellDefinition}
+use Rattle.txs_cells.specs.declared.action.Action.{Action}
+use Rattle.txs_cells.specs.declared.cell.CellDefinition.{CellDefinition}
 use Rattle.txs_value.specs.declared.value.CellId.{CellId}
-use Rattle.txs_world.proofs.Merging.{both, joined}
-use Rattle.txs_world.specs.Book.{cells_in, opening, written, least_written, first_failed, counts, all_before, may_name, may_end}
-use Rattle.txs_world.specs.Store.{Served, event_of, cells_of, looks, commits, merged}
+use Rattle.txs_book.proofs.Outcomes.{both}
+use Rattle.txs_world.proofs.Merging.{joined}
+use Rattle.txs_book.specs.Book.{cells_in, opening, written, least_written, first_failed, counts, all_before, may_name, may_end}
+use Rattle.txs_book.specs.Served.{Served, event_of, cells_of}
+use Rattle.txs_world.specs.Store.{looks, commits, merged}
 use Rattle.txs_runs.specs.Shared.{book_for, serve_on}
 use Rattle.txs_runs.specs.Stages.{Stage, Idle, Open, Viewing, Swapping, AsksIn, stage_after}
 use Rattle.txs_runs.proofs.Growing.{AreOwn, Grown, differ}

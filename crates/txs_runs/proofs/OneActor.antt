@@ -5,11 +5,11 @@ use Rattle.txs_asks.specs.declared.ask.Ask.{Ask}
 use Rattle.txs_asks.specs.declared.ask.Reply.{Reply}
 use Rattle.txs_asks.specs.declared.ask.Reply.TheVariants as reply
 use Rattle.txs_asks.specs.declared.event.Event.{Event}
-use Rattle.txs_value.specs.declared.cell.CellDefinition.{CellDefinition}
+use Rattle.txs_cells.specs.declared.cell.CellDefinition.{CellDefinition}
 use Rattle.txs_code.specs.ActorState.{ActorState}
 use Rattle.txs_code.specs.Machine.{ThreadCode, fetch, Activity, Outside, Restarting, Running, Applying, Swapping, Acting, Configuration, Turned, Ended, Failed, Asking, Unfinished, Stuck, and_then, turn, run}
 use Rattle.txs_code.specs.Opening.{given, opening}
-use Rattle.txs_world.specs.Store.{Served}
+use Rattle.txs_book.specs.Served.{Served}
 use Rattle.txs_runs.specs.Invariant.{ActorInvariant}
 use Rattle.txs_runs.specs.Lawful.{CodeIsKnown, OpeningIsKnown}
 use Rattle.txs_runs.specs.Run.{Actor, Moved, exchange, replied, asked, asks_for, turned}

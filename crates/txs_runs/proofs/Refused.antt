@@ -5,10 +5,11 @@ use Rattle.txs_asks.specs.declared.ask.Ask.TheVariants as ask
 use Rattle.txs_asks.specs.declared.ask.Reply.{Reply}
 use Rattle.txs_asks.specs.declared.ask.Reply.TheVariants as reply
 use Rattle.txs_asks.specs.declared.event.Event.{Event}
-use Rattle.txs_value.specs.declared.cell.CellDefinition.{CellDefinition}
+use Rattle.txs_cells.specs.declared.cell.CellDefinition.{CellDefinition}
 use Rattle.txs_code.specs.Machine.{ThreadCode}
 use Rattle.txs_world.specs.Laws.{ServeKeeps, RefusedIsUndisturbed}
-use Rattle.txs_world.specs.Store.{cells_of, serve}
+use Rattle.txs_book.specs.Served.{cells_of}
+use Rattle.txs_world.specs.Store.{serve}
 use Rattle.txs_runs.specs.Told.{Entry, EntryHolds, AllHold}
 use Rattle.txs_runs.specs.Refused.{RefusalUndisturbed, RefusalsUndisturbed, RunRefusals}
 use Rattle.txs_runs.specs.Invariant.{RunInvariant}

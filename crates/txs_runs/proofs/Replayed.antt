@@ -7,15 +7,15 @@ use Rattle.txs_asks.specs.declared.event.Event.{Event}
 use Rattle.txs_asks.specs.declared.event.EventKind.{EventKind}
 use Rattle.txs_asks.specs.declared.event.EventKind.TheVariants.{Read, Commit, Retry, Fail, Refused, Send, SendRefused, Act, Swap, Broke}
 use Rattle.txs_value.proofs.SameLemmas.{and_both}
-use Rattle.txs_value.specs.Cells.{World}
-use Rattle.txs_value.specs.Places.{nth}
+use Rattle.txs_cells.specs.Cells.{World}
+use Rattle.txs_terms.specs.Places.{nth}
 use Rattle.txs_value.specs.declared.value.CellId.{CellId}
 use Rattle.txs_value.specs.declared.value.Value.{Value}
 use Rattle.txs_follows.specs.RepliesFit.{Gives, AgreeOn}
 use Rattle.txs_asks.specs.Ask.{Writes}
-use Rattle.txs_world.specs.Atom.{atom_after, swapped_to, is_swap, swapped_since}
-use Rattle.txs_world.specs.Book.{changed, value_or, after, newest, written, least, least_written, cells_in, all_before, may_name, may_end}
-use Rattle.txs_world.specs.Laws.{UnwrittenStays}
+use Rattle.txs_book.specs.Atom.{atom_after, swapped_to, is_swap, swapped_since}
+use Rattle.txs_book.specs.Book.{changed, value_or, after, newest, written, least, least_written, cells_in, all_before, may_name, may_end}
+use Rattle.txs_book.specs.Laws.{UnwrittenStays}
 
 pub length_taken : {A : Type 0} (k : ℕ) (xs : List A) → k ≤ length xs → length (take k xs) ≡ k
 length_taken k xs le = length-take-le k xs le

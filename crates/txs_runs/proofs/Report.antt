@@ -1,7 +1,7 @@
 -- A program explains all that its threads and its agents did in one run.
 use Rattle.std.proofs.Common.{◌≡◌, ℕ, zero, suc, true, nat_lt, List, [], ◌∷◌, length, Some, refl, sym, subst, arith}
 use Rattle.std.proofs.lemmas.Bool.Decides.{nat_tests}
-use Rattle.txs_value.specs.Places.{nth}
+use Rattle.txs_terms.specs.Places.{nth}
 use Rattle.txs_tree.specs.Tree.{PlainThread, PlainProgram}
 use Rattle.txs_code.specs.Machine.{PlainBody, ThreadCode}
 use Rattle.txs_follows.specs.Follows.{Follows}

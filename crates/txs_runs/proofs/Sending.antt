@@ -8,7 +8,7 @@ use Rattle.txs_asks.specs.declared.event.Event.{Event}
 use Rattle.txs_asks.specs.declared.event.EventKind.{EventKind}
 use Rattle.txs_asks.specs.declared.event.EventKind.TheVariants as event
 use Rattle.txs_value.proofs.SameLemmas.{numbers}
-use Rattle.txs_value.specs.declared.cell.CellDefinition.{CellDefinition}
+use Rattle.txs_cells.specs.declared.cell.CellDefinition.{CellDefinition}
 use Rattle.txs_tree.specs.Known.{known}
 use Rattle.txs_tree.specs.Sound.{SoundCallee}
 use Rattle.txs_tree.specs.Tree.{PlainFunction}
@@ -17,7 +17,7 @@ use Rattle.txs_code.specs.Machine.{ThreadCode, fetch, Configuration, Turned, End
 use Rattle.txs_code.specs.Opening.{given}
 use Rattle.txs_follows.specs.FollowsAgent.{SoundAction}
 use Rattle.txs_follows.specs.Sends.{CodeSendsSound}
-use Rattle.txs_world.proofs.Merging.{both}
+use Rattle.txs_book.proofs.Outcomes.{both}
 use Rattle.txs_runs.specs.Agents.{AreSound, SendsSound, AllSound}
 use Rattle.txs_runs.specs.Run.{Stop, Actor, Moved, moved, comes_to, replied, exchange, asked, asks_for, turned, turns_from, stops_from, Play, TakesTurn, IsStopped, State, moves, actor_of, play, opens}
 use Rattle.txs_runs.specs.Shared.{Shared, book_for, serve_on, may_ask}

@@ -10,20 +10,20 @@ use Rattle.txs_asks.specs.declared.event.Event.{Event}
 use Rattle.txs_asks.specs.declared.event.EventKind.{EventKind}
 use Rattle.txs_asks.specs.declared.event.EventKind.TheVariants as event
 use Rattle.txs_value.proofs.SameLemmas.{numbers}
-use Rattle.txs_value.specs.Places.{nth}
-use Rattle.txs_value.specs.declared.action.Action.{Action}
-use Rattle.txs_value.specs.declared.cell.CellDefinition.{CellDefinition}
-use Rattle.txs_value.specs.declared.fault.Fault.{Fault}
+use Rattle.txs_terms.specs.Places.{nth}
+use Rattle.txs_cells.specs.declared.action.Action.{Action}
+use Rattle.txs_cells.specs.declared.cell.CellDefinition.{CellDefinition}
+use Rattle.txs_terms.specs.declared.fault.Fault.{Fault}
 use Rattle.txs_value.specs.declared.value.CellId.{CellId}
 use Rattle.txs_value.specs.declared.value.Value.{Value}
 use Rattle.txs_code.specs.ActorState.{ActorState}
 use Rattle.txs_code.specs.Machine.{ThreadCode, fetch, Configuration, Turned, Ended, Failed, Asking, Unfinished, Stuck, turn, run}
 use Rattle.txs_code.specs.Opening.{given, opening}
-use Rattle.txs_world.proofs.Merging.{both}
-use Rattle.txs_world.specs.Book.{is_there, is_failed, Mail, no_mail, sent_to, acted, mail_changed, mail_from, mail_after, goes_on, Each}
+use Rattle.txs_book.proofs.Outcomes.{both}
+use Rattle.txs_book.specs.Book.{is_there, is_failed, Mail, no_mail, sent_to, acted, mail_changed, mail_from, mail_after, goes_on, Each}
 use Rattle.txs_world.specs.Laws.{ServeKeeps}
 use Rattle.txs_world.specs.Store.{first_action, next_action}
-use Rattle.txs_world.specs.declared.cell.StoreCell.{StoreCell}
+use Rattle.txs_book.specs.declared.cell.StoreCell.{StoreCell}
 use Rattle.txs_runs.specs.Invariant.{RunInvariant}
 use Rattle.txs_runs.specs.Run.{Stop, Actor, Moved, moved, comes_to, replied, exchange, asked, asks_for, turned, turns_from, stops_from, Play, TakesTurn, IsStopped, State, moves, actor_of, play, plays_from, opens}
 use Rattle.txs_runs.specs.Shared.{Shared, book_for, serve_on, may_ask}

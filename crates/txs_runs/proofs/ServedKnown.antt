@@ -8,18 +8,19 @@ use Rattle.txs_asks.specs.declared.ask.Reply.TheVariants as reply
 use Rattle.txs_asks.specs.declared.event.Event.{Event}
 use Rattle.txs_asks.specs.declared.event.EventKind.{EventKind}
 use Rattle.txs_asks.specs.declared.event.EventKind.TheVariants as event
-use Rattle.txs_value.specs.Cells.{World}
+use Rattle.txs_cells.specs.Cells.{World}
 use Rattle.txs_value.specs.Limits.{most_events}
-use Rattle.txs_value.specs.declared.action.Action.{Action}
-use Rattle.txs_value.specs.declared.cell.CellDefinition.{CellDefinition}
-use Rattle.txs_value.specs.declared.fault.Fault.{Fault}
+use Rattle.txs_cells.specs.declared.action.Action.{Action}
+use Rattle.txs_cells.specs.declared.cell.CellDefinition.{CellDefinition}
+use Rattle.txs_terms.specs.declared.fault.Fault.{Fault}
 use Rattle.txs_value.specs.declared.value.CellId.{CellId}
 use Rattle.txs_value.specs.declared.value.Value.{Value}
 use Rattle.txs_code.specs.Machine.{ThreadCode}
-use Rattle.txs_world.specs.Atom.{swapped_to, atom_after, atom_newest, swapped_since, closes_at}
-use Rattle.txs_world.specs.Book.{cells_in, opening, value_or, state_of, writes_of, changed, after, newest, written, least_written, Mail, no_mail, sent_to, acted, mail_changed, mail_from, mail_after, is_failed, first_failed}
-use Rattle.txs_world.specs.Store.{Served, event_of, cells_of, adds, looks, commits, sends_to, takes, first_action, merged, serve}
-use Rattle.txs_world.specs.declared.cell.StoreCell.{StoreCell}
+use Rattle.txs_book.specs.Atom.{swapped_to, atom_after, atom_newest, swapped_since, closes_at}
+use Rattle.txs_book.specs.Book.{cells_in, opening, value_or, state_of, writes_of, changed, after, newest, written, least_written, Mail, no_mail, sent_to, acted, mail_changed, mail_from, mail_after, is_failed, first_failed}
+use Rattle.txs_book.specs.Served.{Served, event_of, cells_of, adds}
+use Rattle.txs_world.specs.Store.{looks, commits, sends_to, takes, first_action, merged, serve}
+use Rattle.txs_book.specs.declared.cell.StoreCell.{StoreCell}
 use Rattle.txs_runs.specs.Lawful.{IsKnown, OpeningIsKnown}
 use Rattle.txs_runs.specs.Shared.{is_atom, atom_of, serve_atom, serve_on}
 use Rattle.txs_runs.proofs.CoreKnown.{AllKnown}

@@ -12,19 +12,20 @@ use Rattle.txs_asks.specs.declared.event.Event.{Event}
 use Rattle.txs_asks.specs.declared.event.EventKind.{EventKind}
 use Rattle.txs_asks.specs.declared.event.EventKind.TheVariants as event
 use Rattle.txs_value.proofs.SameLemmas.{and_both, numbers}
-use Rattle.txs_value.specs.Forms.{same_kind}
+use Rattle.txs_cells.specs.Forms.{same_kind}
 use Rattle.txs_value.specs.Limits.{most_events}
-use Rattle.txs_value.specs.Places.{nth}
-use Rattle.txs_value.specs.declared.action.Action.{Action}
-use Rattle.txs_value.specs.declared.cell.CellDefinition.{CellDefinition}
+use Rattle.txs_terms.specs.Places.{nth}
+use Rattle.txs_cells.specs.declared.action.Action.{Action}
+use Rattle.txs_cells.specs.declared.cell.CellDefinition.{CellDefinition}
 use Rattle.txs_value.specs.declared.value.CellId.{CellId}
 use Rattle.txs_value.specs.declared.value.CellKind.{CellKind}
 use Rattle.txs_value.specs.declared.value.CellKind.TheVariants.{Ref, Atom, Agent}
 use Rattle.txs_value.specs.declared.value.Value.{Value}
-use Rattle.txs_world.specs.Atom.{LegalAtom, LegalAtomKind, atom_newest, closes_at, swapped_since}
-use Rattle.txs_world.specs.Book.{Each, may_name, has_cell, is_of_kind, written, least_written, cells_in, is_failed, first_failed, opening, after}
+use Rattle.txs_book.specs.Atom.{LegalAtom, LegalAtomKind, atom_newest, closes_at, swapped_since}
+use Rattle.txs_book.specs.Book.{Each, may_name, has_cell, is_of_kind, written, least_written, cells_in, is_failed, first_failed, opening, after}
 use Rattle.txs_world.specs.Laws.{ServeKeeps, StoreStands}
-use Rattle.txs_world.specs.Store.{store_with, takes, next_action, Served, served, adds, event_of, cells_of, is_lawful, looks, commits, sends_to, merged, serve, taken_after}
+use Rattle.txs_world.specs.Store.{store_with, takes, next_action, is_lawful, looks, commits, sends_to, merged, serve, taken_after}
+use Rattle.txs_book.specs.Served.{Served, served, adds, event_of, cells_of}
 use Rattle.txs_runs.specs.Shared.{Shared, store_of, atom_of, is_atom, has_atom, book_for, serve_on, may_ask, shared_after}
 use Rattle.txs_runs.specs.Told.{IsExchanged}
 use Rattle.txs_runs.specs.Explains.{AreThreads}

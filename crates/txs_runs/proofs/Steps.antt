@@ -6,14 +6,14 @@ use Rattle.txs_asks.specs.declared.ask.Reply.{Reply}
 use Rattle.txs_asks.specs.declared.ask.Reply.TheVariants as reply
 use Rattle.txs_asks.specs.declared.event.Event.{Event}
 use Rattle.txs_value.proofs.SameLemmas.{numbers, number-itself}
-use Rattle.txs_value.specs.declared.cell.CellDefinition.{CellDefinition}
+use Rattle.txs_cells.specs.declared.cell.CellDefinition.{CellDefinition}
 use Rattle.txs_code.specs.ActorState.{ActorState}
 use Rattle.txs_code.specs.Machine.{ThreadCode, Configuration, Turned, Ended, Failed, Asking, Unfinished, Stuck, and_then, turn, run}
 use Rattle.txs_code.specs.Opening.{given, opening}
 use Rattle.txs_code.proofs.Acts.{run_more}
 use Rattle.txs_code.proofs.Later.{more_to_come}
 use Rattle.txs_world.specs.Laws.{ServeKeeps}
-use Rattle.txs_world.specs.Store.{Served}
+use Rattle.txs_book.specs.Served.{Served}
 use Rattle.txs_runs.specs.Shared.{Shared, book_for, serve_on, may_ask}
 use Rattle.txs_runs.specs.Stages.{AsksIn, stage_after}
 use Rattle.txs_runs.specs.Told.{Entry, exchange_of, IsExchanged, ToldBy}

@@ -2,9 +2,10 @@
 use Rattle.std.proofs.lemmas.Bool.{false≢true}
 use Rattle.std.proofs.Common.{◌≡◌, ℕ, zero, suc, arith, get_or, Bool, true, false, ◌==◌, List, [], ◌∷◌, ◌++◌, if◌then◌else◌, refl, sym, ap}
 use Rattle.txs_value.proofs.SameLemmas.{numbers}
-use Rattle.txs_world.specs.Laws.{UnwrittenStays}
-use Rattle.txs_world.specs.Store.{cells_of, none_taken}
-use Rattle.txs_world.specs.declared.cell.StoreCell.{StoreCell}
+use Rattle.txs_book.specs.Laws.{UnwrittenStays}
+use Rattle.txs_book.specs.Served.{cells_of}
+use Rattle.txs_world.specs.Store.{none_taken}
+use Rattle.txs_book.specs.declared.cell.StoreCell.{StoreCell}
 use Rattle.txs_runs.specs.Shared.{book_for, serve_on}
 use Rattle.txs_runs.specs.Laws.{ToldFits, ServedIsTold, OthersLeaveTold}
 use Rattle.txs_runs.proofs.Fits as fits

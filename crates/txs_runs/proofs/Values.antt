@@ -11,25 +11,25 @@ use Rattle.txs_frame.specs.Frame.{Work, no_work, with_cell, with_cells, has_numb
 use Rattle.txs_frame.specs.declared.frame.Commute.{Commute}
 use Rattle.txs_operations.specs.Core.{core, vector_of}
 use Rattle.txs_value.proofs.SameLemmas.{numbers}
-use Rattle.txs_value.specs.Forms.{same_kind, rule, cell_if, cell_of_kind, cell_of}
-use Rattle.txs_value.specs.Places.{nth, fault_at}
+use Rattle.txs_cells.specs.Forms.{same_kind, rule, cell_if, cell_of_kind, cell_of}
+use Rattle.txs_terms.specs.Places.{nth, fault_at}
 use Rattle.txs_value.specs.Printed.{printed_line}
-use Rattle.txs_value.specs.declared.action.Action.{Action}
-use Rattle.txs_value.specs.declared.cell.CellDefinition.{CellDefinition}
-use Rattle.txs_value.specs.declared.fault.Fault.{Fault}
-use Rattle.txs_value.specs.declared.fault.FaultKind.{FaultKind}
-use Rattle.txs_value.specs.declared.fault.FaultKind.TheVariants.{SetAfterCommute}
-use Rattle.txs_value.specs.declared.fault.Span.{Span}
-use Rattle.txs_value.specs.declared.form.CellForm.TheVariants as form
-use Rattle.txs_value.specs.declared.form.FormRule.{FormRule}
-use Rattle.txs_value.specs.declared.form.LookForm.{LookForm}
-use Rattle.txs_value.specs.declared.form.LookForm.TheVariants.{Deref, Ensure}
-use Rattle.txs_value.specs.declared.form.PutForm.{PutForm}
-use Rattle.txs_value.specs.declared.form.PutForm.TheVariants.{RefSet, Reset}
-use Rattle.txs_value.specs.declared.form.UpdateForm.{UpdateForm}
-use Rattle.txs_value.specs.declared.form.UpdateForm.TheVariants as update
-use Rattle.txs_value.specs.declared.op.Callee.{Callee}
-use Rattle.txs_value.specs.declared.op.Callee.TheVariants as callee
+use Rattle.txs_cells.specs.declared.action.Action.{Action}
+use Rattle.txs_cells.specs.declared.cell.CellDefinition.{CellDefinition}
+use Rattle.txs_terms.specs.declared.fault.Fault.{Fault}
+use Rattle.txs_terms.specs.declared.fault.FaultKind.{FaultKind}
+use Rattle.txs_terms.specs.declared.fault.FaultKind.TheVariants.{SetAfterCommute}
+use Rattle.txs_terms.specs.declared.fault.Span.{Span}
+use Rattle.txs_cells.specs.declared.form.CellForm.TheVariants as form
+use Rattle.txs_cells.specs.declared.form.FormRule.{FormRule}
+use Rattle.txs_cells.specs.declared.form.LookForm.{LookForm}
+use Rattle.txs_cells.specs.declared.form.LookForm.TheVariants.{Deref, Ensure}
+use Rattle.txs_cells.specs.declared.form.PutForm.{PutForm}
+use Rattle.txs_cells.specs.declared.form.PutForm.TheVariants.{RefSet, Reset}
+use Rattle.txs_cells.specs.declared.form.UpdateForm.{UpdateForm}
+use Rattle.txs_cells.specs.declared.form.UpdateForm.TheVariants as update
+use Rattle.txs_terms.specs.declared.op.Callee.{Callee}
+use Rattle.txs_terms.specs.declared.op.Callee.TheVariants as callee
 use Rattle.txs_value.specs.declared.value.CellId.{CellId}
 use Rattle.txs_value.specs.declared.value.CellKind.{CellKind}
 use Rattle.txs_value.specs.declared.value.CellKind.TheVariants.{Ref, Atom, Agent}
@@ -39,10 +39,12 @@ use Rattle.txs_code.specs.ActorState.{ActorState, Reception, Replied, Unreplied,
 use Rattle.txs_code.specs.Machine.{PlainInstr, Push, Load, Store, Pop, Jump, JumpFalse, CoreOf, CallOf, Return, MakeVector, PrintOf, TxBegin, TxEnd, LookOf, PutOf, OpenOf, CloseOf, SendOf, Halt, TakeOf, RunOf, FinishOf, PlainBody, ThreadCode, fetch, nils, locals_of, Destination, to_stack, to_commutes, Frame, Savepoint, Activity, Outside, Restarting, Running, Applying, Swapping, Acting, is_inside, Configuration, ahead, staying, saved, value_or_nil, arguments_of, Turned, Ended, Failed, Asking, Unfinished, Stuck, told, raise, rerun, retried, on, found, on_top, on_args, on_args_of, on_two, push_all, put, gives, starts, begins, decided, lands, settles, applies, ends, applied, stack_after, doing_after, returns_to, opens_ref, opens_atom, opens, swap_decided, closes_swap, closes, started, runs_callee, runs, act, turn}
 use Rattle.txs_code.specs.declared.instr.OpenForm.{OpenForm}
 use Rattle.txs_code.specs.declared.instr.OpenForm.TheVariants as open_form
-use Rattle.txs_world.proofs.Merging.{both, joined, refs_from, refs_has, refs_with}
-use Rattle.txs_world.specs.Book.{has_cell, has_ref, has_agent, cells_in, are_refs, has_refs}
-use Rattle.txs_world.specs.Store.{cells_of, is_among, are_apart}
-use Rattle.txs_world.specs.declared.cell.StoreCell.{StoreCell}
+use Rattle.txs_book.proofs.Outcomes.{both}
+use Rattle.txs_world.proofs.Merging.{joined, refs_from, refs_has, refs_with}
+use Rattle.txs_book.specs.Book.{has_cell, has_ref, has_agent, cells_in, are_refs, has_refs}
+use Rattle.txs_book.specs.Served.{cells_of}
+use Rattle.txs_world.specs.Store.{is_among, are_apart}
+use Rattle.txs_book.specs.declared.cell.StoreCell.{StoreCell}
 use Rattle.txs_runs.specs.Lawful.{IsKnown, CodeIsKnown}
 use Rattle.txs_runs.specs.Shared.{has_atom}
 use Rattle.txs_runs.specs.Standing.{MayStandIn, MayStandHere}

@@ -5,8 +5,8 @@ use Rattle.txs_asks.specs.declared.ask.Ask.TheVariants as ask
 use Rattle.txs_asks.specs.declared.ask.Reply.{Reply}
 use Rattle.txs_asks.specs.declared.ask.Reply.TheVariants as reply
 use Rattle.txs_asks.specs.declared.event.Event.{Event}
-use Rattle.txs_value.specs.Places.{nth}
-use Rattle.txs_value.specs.declared.cell.CellDefinition.{CellDefinition}
+use Rattle.txs_terms.specs.Places.{nth}
+use Rattle.txs_cells.specs.declared.cell.CellDefinition.{CellDefinition}
 use Rattle.txs_tree.specs.Thread.{thread_meaning}
 use Rattle.txs_tree.specs.Tree.{PlainThread}
 use Rattle.txs_code.specs.Machine.{ThreadCode, Configuration, Turned, Ended, Failed, Asking, Unfinished, Stuck, Outcome, and_then}
@@ -16,8 +16,10 @@ use Rattle.txs_follows.specs.Follows.{Follows}
 use Rattle.txs_follows.specs.FollowsAll.{source_of}
 use Rattle.txs_follows.specs.RepliesFit.{Out, RepliesFit, Explained, Consumed}
 use Rattle.txs_follows.specs.RepliesFitTo.{FittingToFits}
-use Rattle.txs_world.specs.Laws.{UnwrittenStays, ServeKeeps, DoneIsUndisturbed, StoreStands}
-use Rattle.txs_world.specs.Store.{cells_of, serve}
+use Rattle.txs_book.specs.Laws.{UnwrittenStays}
+use Rattle.txs_world.specs.Laws.{ServeKeeps, DoneIsUndisturbed, StoreStands}
+use Rattle.txs_book.specs.Served.{cells_of}
+use Rattle.txs_world.specs.Store.{serve}
 use Rattle.txs_runs.specs.Shared.{untouched, store_of}
 use Rattle.txs_runs.specs.Stages.{Stage, Idle, phase_of}
 use Rattle.txs_runs.specs.Told.{Entry, exchange_of, EntryHolds, AllHold, history_of}

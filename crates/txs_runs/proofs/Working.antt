@@ -11,9 +11,9 @@ use Rattle.txs_asks.specs.declared.event.Event.{Event}
 use Rattle.txs_asks.specs.declared.event.EventKind.TheVariants as event
 use Rattle.txs_value.proofs.SameLemmas.{numbers}
 use Rattle.txs_value.specs.Limits.{most_events}
-use Rattle.txs_value.specs.declared.action.Action.{Action}
-use Rattle.txs_value.specs.declared.cell.CellDefinition.{CellDefinition}
-use Rattle.txs_value.specs.declared.fault.Fault.{Fault}
+use Rattle.txs_cells.specs.declared.action.Action.{Action}
+use Rattle.txs_cells.specs.declared.cell.CellDefinition.{CellDefinition}
+use Rattle.txs_terms.specs.declared.fault.Fault.{Fault}
 use Rattle.txs_value.specs.declared.value.CellId.{CellId}
 use Rattle.txs_value.specs.declared.value.Value.{Value}
 use Rattle.txs_tree.specs.Tree.{PlainFunction}
@@ -23,11 +23,12 @@ use Rattle.txs_code.specs.Opening.{given, opening, agent_target}
 use Rattle.txs_code.proofs.Acts.{run_more, exec_run, stated}
 use Rattle.txs_code.proofs.Later.{more_to_come}
 use Rattle.txs_follows.specs.FollowsAgent.{action_meaning, AgentFits, AsksNext, FollowsAgents}
-use Rattle.txs_world.proofs.Merging.{both}
-use Rattle.txs_world.specs.Book.{has_agent, newest, Legal}
-use Rattle.txs_world.specs.Book as world
+use Rattle.txs_book.proofs.Outcomes.{both}
+use Rattle.txs_book.specs.Book.{has_agent, newest, Legal}
+use Rattle.txs_book.specs.Book as world
 use Rattle.txs_world.specs.Laws.{ActionStays}
-use Rattle.txs_world.specs.Store.{served, cells_of, is_taken, takes, next_action}
+use Rattle.txs_book.specs.Served.{served, cells_of}
+use Rattle.txs_world.specs.Store.{is_taken, takes, next_action}
 use Rattle.txs_runs.specs.Agents.{HasConsumed, ActMeans, AllSound, HasFinished, HasTaken}
 use Rattle.txs_runs.specs.Run.{Stop, Actor, exchange, entry, stop, comes_to, hears, replied, asked, asks_for, turned, turns_from, stops_from}
 use Rattle.txs_runs.specs.Run as run_of

@@ -8,9 +8,9 @@ use Rattle.txs_asks.specs.declared.ask.Reply.TheVariants as reply
 use Rattle.txs_asks.specs.declared.event.Event.{Event}
 use Rattle.txs_asks.specs.declared.event.EventKind.{EventKind}
 use Rattle.txs_asks.specs.declared.event.EventKind.TheVariants as event
-use Rattle.txs_value.specs.declared.action.Action.{Action}
-use Rattle.txs_value.specs.declared.cell.CellDefinition.{CellDefinition}
-use Rattle.txs_value.specs.declared.fault.Fault.{Fault}
+use Rattle.txs_cells.specs.declared.action.Action.{Action}
+use Rattle.txs_cells.specs.declared.cell.CellDefinition.{CellDefinition}
+use Rattle.txs_terms.specs.declared.fault.Fault.{Fault}
 use Rattle.txs_value.specs.declared.value.CellId.{CellId}
 use Rattle.txs_value.specs.declared.value.Value.{Value}
 use Rattle.txs_tree.specs.Tree.{PlainFunction}
@@ -19,9 +19,10 @@ use Rattle.txs_code.specs.Machine.{PlainBody, ThreadCode, agent_code, Configurat
 use Rattle.txs_code.specs.Opening.{given, opening, agent_target}
 use Rattle.txs_follows.specs.FollowsAgent.{action_meaning, SoundAction, AgentFits, AsksNext, GoesOn, FollowsAgents}
 use Rattle.txs_follows.specs.Sends.{CodeSendsSound}
-use Rattle.txs_world.specs.Book.{has_agent, actor_of, newest, Each}
-use Rattle.txs_world.specs.Book as world
-use Rattle.txs_world.specs.Store.{cells_of, next_action}
+use Rattle.txs_book.specs.Book.{has_agent, actor_of, newest, Each}
+use Rattle.txs_book.specs.Book as world
+use Rattle.txs_book.specs.Served.{cells_of}
+use Rattle.txs_world.specs.Store.{next_action}
 use Rattle.txs_runs.specs.Explains.{outcome_at}
 use Rattle.txs_runs.specs.Told.{Entry, exchange_of}
 use Rattle.txs_runs.specs.Run.{Actor, State, Play, plays, exchange, entry}

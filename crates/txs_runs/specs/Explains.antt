@@ -5,8 +5,8 @@ use Rattle.txs_asks.specs.declared.ask.Ask.{Ask}
 use Rattle.txs_asks.specs.declared.ask.Reply.{Reply}
 use Rattle.txs_asks.specs.declared.ask.Reply.TheVariants as reply
 use Rattle.txs_asks.specs.declared.event.Event.{Event}
-use Rattle.txs_value.specs.Places.{nth}
-use Rattle.txs_value.specs.declared.cell.CellDefinition.{CellDefinition}
+use Rattle.txs_terms.specs.Places.{nth}
+use Rattle.txs_cells.specs.declared.cell.CellDefinition.{CellDefinition}
 use Rattle.txs_value.specs.declared.value.CellId.{CellId}
 use Rattle.txs_asks.specs.SeenEvent.{home}
 use Rattle.txs_tree.specs.Thread.{thread_meaning}
@@ -16,9 +16,9 @@ use Rattle.txs_code.specs.Opening.{opening}
 use Rattle.txs_follows.specs.Follows.{Follows}
 use Rattle.txs_follows.specs.FollowsAll.{source_of, FollowsAll}
 use Rattle.txs_follows.specs.RepliesFit.{Out, RepliesFit, Explained}
-use Rattle.txs_world.specs.Atom.{LegalAtom}
-use Rattle.txs_world.specs.Book.{Each, Legal, Undisturbed, Untouched, cells_in}
-use Rattle.txs_world.specs.Store.{cells_of}
+use Rattle.txs_book.specs.Atom.{LegalAtom}
+use Rattle.txs_book.specs.Book.{Each, Legal, Undisturbed, Untouched, cells_in}
+use Rattle.txs_book.specs.Served.{cells_of}
 use Rattle.txs_runs.specs.Shared.{Shared, has_atom}
 use Rattle.txs_runs.specs.Told.{Entry, exchange_of, trace_of, TraceHolds, history_of}
 use Rattle.txs_runs.specs.Staged.{StagedCode}

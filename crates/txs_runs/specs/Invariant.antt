@@ -1,10 +1,10 @@
 -- What holds of the actors and of what they share between the plays of a run.
 use Rattle.std.specs.Prelude.{◌≡◌, ℕ, true, List, map}
 use Rattle.txs_asks.specs.declared.event.Event.{Event}
-use Rattle.txs_value.specs.declared.cell.CellDefinition.{CellDefinition}
+use Rattle.txs_cells.specs.declared.cell.CellDefinition.{CellDefinition}
 use Rattle.txs_code.specs.Machine.{ThreadCode, run}
 use Rattle.txs_code.specs.Opening.{opening}
-use Rattle.txs_world.specs.Atom.{LegalAtom}
+use Rattle.txs_book.specs.Atom.{LegalAtom}
 use Rattle.txs_world.specs.Laws.{StoreStands}
 use Rattle.txs_asks.specs.SeenEvent.{home}
 use Rattle.txs_value.specs.declared.value.CellId.{CellId}

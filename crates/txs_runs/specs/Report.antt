@@ -1,8 +1,8 @@
 -- What it is that a program explains all that its threads and its agents did in one run.
 use Rattle.std.specs.Prelude.{◌≡◌, ℕ, List, length, map, Some}
 use Rattle.txs_asks.specs.declared.event.Event.{Event}
-use Rattle.txs_value.specs.Places.{nth}
-use Rattle.txs_value.specs.declared.cell.CellDefinition.{CellDefinition}
+use Rattle.txs_terms.specs.Places.{nth}
+use Rattle.txs_cells.specs.declared.cell.CellDefinition.{CellDefinition}
 use Rattle.txs_tree.specs.Tree.{PlainThread, PlainProgram}
 use Rattle.txs_code.specs.Machine.{PlainBody, ThreadCode}
 use Rattle.txs_code.specs.PlainCode.{PlainCode, thread_code}

@@ -7,15 +7,16 @@ use Rattle.txs_asks.specs.declared.ask.Reply.TheVariants as reply
 use Rattle.txs_asks.specs.declared.event.Event.{Event}
 use Rattle.txs_asks.specs.declared.event.EventKind.{EventKind}
 use Rattle.txs_asks.specs.declared.event.EventKind.TheVariants as event
-use Rattle.txs_value.specs.Cells.{World}
-use Rattle.txs_value.specs.Forms.{same_kind}
-use Rattle.txs_value.specs.declared.cell.CellDefinition.{CellDefinition}
+use Rattle.txs_cells.specs.Cells.{World}
+use Rattle.txs_cells.specs.Forms.{same_kind}
+use Rattle.txs_cells.specs.declared.cell.CellDefinition.{CellDefinition}
 use Rattle.txs_value.specs.declared.value.CellId.{CellId}
 use Rattle.txs_value.specs.declared.value.CellKind.TheVariants.{Atom}
-use Rattle.txs_world.specs.Atom.{PlainAtom, atom_after, atom_newest, closes}
-use Rattle.txs_world.specs.Book.{has_cell, may_name, opening, after}
-use Rattle.txs_world.specs.History.{at_of, view_of}
-use Rattle.txs_world.specs.Store.{PlainStore, store_with, cells_of, none_taken, Served, served, adds, is_lawful, serve, taken_after}
+use Rattle.txs_book.specs.Atom.{PlainAtom, atom_after, atom_newest, closes}
+use Rattle.txs_book.specs.Book.{has_cell, may_name, opening, after}
+use Rattle.txs_book.specs.History.{at_of, view_of}
+use Rattle.txs_world.specs.Store.{PlainStore, store_with, none_taken, is_lawful, serve, taken_after}
+use Rattle.txs_book.specs.Served.{cells_of, Served, served, adds}
 
 -- the books by number, 0 the store's and n the n-th atom's, and of which agents the first action is taken
 pub record Shared : Type 0 where

@@ -6,7 +6,7 @@ use Rattle.txs_asks.specs.declared.ask.Ask.TheVariants as ask
 use Rattle.txs_asks.specs.declared.ask.Reply.{Reply}
 use Rattle.txs_asks.specs.declared.ask.Reply.TheVariants as reply
 use Rattle.txs_asks.specs.declared.event.Event.{Event}
-use Rattle.txs_value.specs.declared.cell.CellDefinition.{CellDefinition}
+use Rattle.txs_cells.specs.declared.cell.CellDefinition.{CellDefinition}
 use Rattle.txs_value.specs.declared.value.CellId.{CellId}
 use Rattle.txs_follows.specs.RepliesFit.{Phase, Out, In, Viewed, WithSwap}
 use Rattle.txs_runs.specs.Shared.{world_of}

@@ -11,11 +11,9 @@ ghost use Rattle.txs_runs.specs.Refused.{RunRefusals};
 ghost use Rattle.txs_runs.specs.Report.{RunTraced, RunReported, TypedAreStaged};
 ghost use Rattle.txs_runs.specs.Standing.{StandingIsStaged};
 
+use txs_book::law::{history_of_whole, unwritten_stays};
 use txs_follows::replies_fit;
-use txs_world::law::{
-    action_stays, done_is_undisturbed, history_of_whole, refused_is_undisturbed, serve_keeps,
-    unwritten_stays,
-};
+use txs_world::law::{action_stays, done_is_undisturbed, refused_is_undisturbed, serve_keeps};
 
 /// Every run is explained: its books are legal, each commit was undisturbed, and each source that an actor's code follows means just
 /// what the actor did, with what it printed and how it ended.

@@ -7,12 +7,13 @@ use Rattle.txs_asks.specs.declared.ask.Ask.TheVariants as ask
 use Rattle.txs_asks.specs.declared.ask.Reply.{Reply}
 use Rattle.txs_asks.specs.declared.event.Event.{Event}
 use Rattle.txs_value.proofs.SameLemmas.{and_both, number-itself}
-use Rattle.txs_value.specs.declared.cell.CellDefinition.{CellDefinition}
+use Rattle.txs_cells.specs.declared.cell.CellDefinition.{CellDefinition}
 use Rattle.txs_value.specs.declared.value.CellId.{CellId}
 use Rattle.txs_value.specs.declared.value.Value.{Value}
-use Rattle.txs_world.specs.Atom as world
-use Rattle.txs_world.specs.Book.{is_there, has_cell, may_name, opening}
-use Rattle.txs_world.specs.Store.{store_with, cells_of, is_lawful, serve, taken_after}
+use Rattle.txs_book.specs.Atom as world
+use Rattle.txs_book.specs.Book.{is_there, has_cell, may_name, opening}
+use Rattle.txs_world.specs.Store.{store_with, is_lawful, serve, taken_after}
+use Rattle.txs_book.specs.Served.{cells_of}
 use Rattle.txs_runs.specs.Shared.{is_atom, has_atom, atom_of, book_for, serve_atom, serve_on, may_close, may_ask}
 use Rattle.txs_shared.specs.Kept.{atom_named, names_place}
 

@@ -2,9 +2,10 @@
 use Rattle.std.proofs.Common.{◌≡◌, ℕ, zero, suc, Bool, true, false, List, [], ◌∷◌, map, get_or, refl, sym, ap, subst, arith, if◌then◌else◌}
 use Rattle.std.proofs.Math.Path.{fun_ext}
 use Rattle.txs_asks.specs.declared.event.Event.{Event}
-use Rattle.txs_value.specs.declared.cell.CellDefinition.{CellDefinition}
-use Rattle.txs_world.specs.Atom.{PlainAtom}
-use Rattle.txs_world.specs.Store.{PlainStore, store_with, cells_of, none_taken}
+use Rattle.txs_cells.specs.declared.cell.CellDefinition.{CellDefinition}
+use Rattle.txs_book.specs.Atom.{PlainAtom}
+use Rattle.txs_world.specs.Store.{PlainStore, store_with, none_taken}
+use Rattle.txs_book.specs.Served.{cells_of}
 use Rattle.txs_runs.specs.Invariant.{SharedStands}
 use Rattle.txs_runs.specs.Shared.{untouched}
 use Rattle.txs_runs.proofs.Told.{fresh_stands}

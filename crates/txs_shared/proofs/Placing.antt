@@ -6,15 +6,15 @@ use Rattle.std.proofs.lemmas.Bool.Decides.{nat_tests}
 use Rattle.txs_asks.specs.SeenEvent.{home, atoms_below}
 use Rattle.txs_asks.specs.declared.event.Event.{Event}
 use Rattle.txs_value.proofs.SameLemmas.{and_both}
-use Rattle.txs_value.specs.Forms.{same_kind}
-use Rattle.txs_value.specs.Places.{nth}
-use Rattle.txs_value.specs.declared.cell.CellDefinition.{CellDefinition}
+use Rattle.txs_cells.specs.Forms.{same_kind}
+use Rattle.txs_terms.specs.Places.{nth}
+use Rattle.txs_cells.specs.declared.cell.CellDefinition.{CellDefinition}
 use Rattle.txs_value.specs.declared.value.CellId.{CellId}
 use Rattle.txs_value.specs.declared.value.CellKind.{CellKind}
 use Rattle.txs_value.specs.declared.value.CellKind.TheVariants.{Ref, Atom, Agent}
-use Rattle.txs_world.specs.Atom.{PlainAtom}
-use Rattle.txs_world.specs.Book.{has_cell, is_of_kind, opening}
-use Rattle.txs_world.specs.Store.{cells_of}
+use Rattle.txs_book.specs.Atom.{PlainAtom}
+use Rattle.txs_book.specs.Book.{has_cell, is_of_kind, opening}
+use Rattle.txs_book.specs.Served.{cells_of}
 use Rattle.txs_runs.specs.Shared.{is_atom, has_atom, atom_of}
 use Rattle.txs_shared.specs.Kept.{atom_id, opens_atom, new_atom, atoms_of, places_of, without_book, no_atom}
 

@@ -11,13 +11,14 @@ use Rattle.txs_asks.specs.declared.ask.Reply.{Reply}
 use Rattle.txs_asks.specs.declared.ask.Reply.TheVariants as reply
 use Rattle.txs_asks.specs.declared.event.Event.{Event}
 use Rattle.txs_value.proofs.SameLemmas.{and_both, numbers, number-itself}
-use Rattle.txs_value.specs.declared.cell.CellDefinition.{CellDefinition}
+use Rattle.txs_cells.specs.declared.cell.CellDefinition.{CellDefinition}
 use Rattle.txs_value.specs.declared.value.CellId.{CellId}
-use Rattle.txs_world.specs.Atom as world
-use Rattle.txs_world.specs.Atom.{PlainAtom, AtomAnswers, AtomTakesMemory, atom_with}
+use Rattle.txs_book.specs.Atom as world
+use Rattle.txs_book.specs.Atom.{PlainAtom, AtomAnswers, AtomTakesMemory, atom_with}
 use Rattle.txs_world.specs.Laws.{ServeKeeps}
 use Rattle.txs_world.specs.Store as world_store
-use Rattle.txs_world.specs.Store.{PlainStore, store_with, store_after, cells_of, Served, serve, taken_after, TakesMemory}
+use Rattle.txs_world.specs.Store.{PlainStore, store_with, store_after, serve, taken_after, TakesMemory}
+use Rattle.txs_book.specs.Served.{cells_of, Served}
 use Rattle.txs_runs.specs.Invariant.{SharedStands}
 use Rattle.txs_runs.specs.Shared.{has_atom, atom_of, book_for, shared_after}
 use Rattle.txs_runs.proofs.Serving.{serving_stands}

@@ -5,14 +5,15 @@ use Rattle.txs_asks.specs.declared.ask.Ask.{Ask}
 use Rattle.txs_asks.specs.declared.ask.Ask.TheVariants.{Begin, Look, View, Commit, Fail, Peek, Send, Take, Finish, OpenAt, CloseAt, Broke}
 use Rattle.txs_asks.specs.declared.ask.Reply.{Reply}
 use Rattle.txs_asks.specs.declared.event.Event.{Event}
-use Rattle.txs_value.specs.Forms.{same_kind}
-use Rattle.txs_value.specs.declared.cell.CellDefinition.{CellDefinition}
+use Rattle.txs_cells.specs.Forms.{same_kind}
+use Rattle.txs_cells.specs.declared.cell.CellDefinition.{CellDefinition}
 use Rattle.txs_value.specs.declared.value.CellId.{CellId}
 use Rattle.txs_value.specs.declared.value.CellKind.TheVariants.{Atom}
 use Rattle.txs_value.specs.declared.value.Value.TheVariants.{Nil}
-use Rattle.txs_world.specs.Atom.{PlainAtom, AtomAnswers, atom_with, serve_atom}
-use Rattle.txs_world.specs.Book.{may_name}
-use Rattle.txs_world.specs.Store.{PlainStore, cells_of}
+use Rattle.txs_book.specs.Atom.{PlainAtom, AtomAnswers, atom_with, serve_atom}
+use Rattle.txs_book.specs.Book.{may_name}
+use Rattle.txs_world.specs.Store.{PlainStore}
+use Rattle.txs_book.specs.Served.{cells_of}
 use Rattle.txs_runs.specs.Invariant.{SharedStands}
 use Rattle.txs_runs.specs.Shared.{is_atom, may_close}
 use Rattle.txs_shared.specs.SharedState.{PlainShared, shared_of}

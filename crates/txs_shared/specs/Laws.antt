@@ -1,7 +1,7 @@
 -- What holds of the state that all actors share.
 use Rattle.std.specs.Prelude.{◌≡◌, ℕ, true, List, [], ◌∷◌}
 use Rattle.txs_asks.specs.declared.ask.Ask.{Ask}
-use Rattle.txs_value.specs.declared.cell.CellDefinition.{CellDefinition}
+use Rattle.txs_cells.specs.declared.cell.CellDefinition.{CellDefinition}
 use Rattle.txs_runs.specs.Invariant.{SharedStands}
 use Rattle.txs_runs.specs.Shared.{Shared, untouched, book_for, serve_on, may_ask, shared_after}
 

@@ -7,11 +7,12 @@ use Rattle.txs_asks.specs.declared.ask.Ask.TheVariants as ask
 use Rattle.txs_asks.specs.declared.ask.Reply.{Reply}
 use Rattle.txs_asks.specs.declared.ask.Reply.TheVariants as reply
 use Rattle.txs_asks.specs.declared.event.Event.{Event}
-use Rattle.txs_value.specs.declared.cell.CellDefinition.{CellDefinition}
+use Rattle.txs_cells.specs.declared.cell.CellDefinition.{CellDefinition}
 use Rattle.txs_value.specs.declared.value.CellId.{CellId}
 use Rattle.txs_value.specs.declared.value.Value.{Value}
-use Rattle.txs_world.specs.Atom.{AtomTakesMemory}
-use Rattle.txs_world.specs.Store.{Served, TakesMemory}
+use Rattle.txs_book.specs.Atom.{AtomTakesMemory}
+use Rattle.txs_book.specs.Served.{Served}
+use Rattle.txs_world.specs.Store.{TakesMemory}
 use Rattle.txs_runs.specs.Shared.{Shared, book_for, serve_on, may_ask, shared_after, world_of}
 
 -- the state as contracts see it: the cells as they were defined, how many threads there are, the books, which are the store's and behind it each atom's in the order of their cells, and of each cell whether it is an agent whose first action is taken

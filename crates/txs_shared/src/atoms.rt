@@ -3,15 +3,16 @@
 ghost use Rattle.std.specs.Prelude.{◌≡◌, ◌≤◌, ◌<◌, ◌++◌, ◌∷◌, [], suc, length, true, IfOk, OnOk, if◌then◌else◌};
 ghost use Rattle.std.proofs.Common.{get_or};
 ghost use Rattle.txs_asks.specs.declared.ask.Ask.TheVariants as ask;
-ghost use Rattle.txs_value.specs.Forms.{same_kind};
+ghost use Rattle.txs_cells.specs.Forms.{same_kind};
 ghost use Rattle.txs_value.specs.declared.value.CellKind.TheVariants as kind;
-ghost use Rattle.txs_world.specs.Atom.{AtomAnswers, serve_atom, is_lawful_atom};
+ghost use Rattle.txs_book.specs.Atom.{AtomAnswers, serve_atom, is_lawful_atom};
 ghost use Rattle.txs_shared.specs.Kept.{opens_atom, new_atom, atoms_of, places_of, no_atom, atom_named, names_place, AnswersAt};
 
 use std::alloc::{AllocError, Global};
 use txs_asks::{Ask, Reply};
-use txs_value::{CellDefinition, CellId, CellKind, copy_value};
-use txs_world::AtomBook;
+use txs_book::AtomBook;
+use txs_cells::CellDefinition;
+use txs_value::{CellId, CellKind, copy_value};
 
 /// The same cells again.
 pub(crate) fn copy_cells(

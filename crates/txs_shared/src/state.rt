@@ -6,15 +6,18 @@ ghost use Rattle.txs_runs.specs.Invariant.{SharedStands};
 ghost use Rattle.txs_runs.specs.Shared.{untouched, has_atom, atom_of, book_for};
 ghost use Rattle.txs_shared.specs.Kept.{atom_named};
 ghost use Rattle.txs_shared.specs.SharedState.{PlainShared, shared_of, numbered_book, book_of, newest_of};
-ghost use Rattle.txs_world.specs.Book.{has_cell, has_agent, mail_after};
-ghost use Rattle.txs_world.specs.Store.{cells_of};
+ghost use Rattle.txs_book.specs.Book.{has_cell, has_agent, mail_after};
+ghost use Rattle.txs_book.specs.Served.{cells_of};
 
 use crate::atoms::{atom_named, copy_cells, open_atoms, open_places};
 use std::alloc::{AllocError, Global};
 use std::marker::Model;
 use txs_asks::{Ask, Event};
-use txs_value::{CellDefinition, CellId, CellKind, Fault, Value, same};
-use txs_world::{AtomBook, Store};
+use txs_book::AtomBook;
+use txs_cells::CellDefinition;
+use txs_terms::Fault;
+use txs_value::{CellId, CellKind, Value, same};
+use txs_world::Store;
 
 /// What all actors share: the refs and agents with their book, and the atoms, each with a book of its own.
 pub struct SharedState {

@@ -2,7 +2,9 @@
 use std::alloc::Global;
 use std::str::SplitWhitespace;
 use txs_asks::Ask;
-use txs_value::{Action, Callee, CellId, CellKind, Fault, FaultKind, Listed, Op, Span, Value};
+use txs_cells::Action;
+use txs_terms::{Callee, Fault, FaultKind, Op, Span};
+use txs_value::{CellId, CellKind, Listed, Value};
 
 const AGENT: CellId = CellId {
     kind: CellKind::Agent,

@@ -1,7 +1,7 @@
 // What no clause says: that the calls of an atom's book succeed with ample memory.
 use crate::replies::{are_events, is_told};
+use txs_book::AtomBook;
 use txs_value::{CellId, CellKind, Value, same};
-use txs_world::AtomBook;
 
 // Whether swaps and a read are answered so, of which the second comes too late.
 fn swaps(atom: &mut AtomBook) -> bool {

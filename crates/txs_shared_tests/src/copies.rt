@@ -2,9 +2,9 @@
 use crate::asks::{ask_of, one};
 use std::alloc::Global;
 use txs_asks::{Ask, Event, EventKind, Reply, copy_ask, copy_event, copy_reply, copy_writes};
-use txs_value::{
-    Action, Callee, CellId, CellKind, Fault, FaultKind, Listed, Op, Span, Value, copy_action, same,
-};
+use txs_cells::{Action, copy_action};
+use txs_terms::{Callee, Fault, FaultKind, Op, Span};
+use txs_value::{CellId, CellKind, Listed, Value, same};
 
 const REF: CellId = CellId {
     kind: CellKind::Ref,

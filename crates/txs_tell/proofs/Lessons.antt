@@ -1,9 +1,9 @@
 -- A line with what explains it: there is a sentence exactly where there is a line.
 use Rattle.std.proofs.Common.{◌≡◌, ◌≢◌, ◌++◌, ◌∙◌, ℕ, List, [], ◌∷◌, Option, Some, None, codes, refl, sym, ap, append_assoc}
 use Rattle.txs_tell.specs.Lines.{Script, IsLesson, at_place, failed_line, lesson_of, refusal_line, stopped_line}
-use Rattle.txs_value.specs.Faults.{fault_name}
-use Rattle.txs_value.specs.declared.fault.Fault.{Fault}
-use Rattle.txs_value.specs.declared.fault.Span.{Span}
+use Rattle.txs_terms.specs.Faults.{fault_name}
+use Rattle.txs_terms.specs.declared.fault.Fault.{Fault}
+use Rattle.txs_terms.specs.declared.fault.Span.{Span}
 
 -- ---- these are lines
 

@@ -4,11 +4,11 @@ use Rattle.txs_asks.specs.declared.event.Outcome.{Outcome}
 use Rattle.txs_asks.specs.declared.event.Outcome.TheVariants.{Failed}
 use Rattle.txs_machine.specs.declared.schedule.ThreadReport.{ThreadReport}
 use Rattle.txs_shared.specs.SharedState.{PlainShared, numbered_book}
-use Rattle.txs_world.specs.Book.{mail_after}
-use Rattle.txs_world.specs.Store.{cells_of}
+use Rattle.txs_book.specs.Book.{mail_after}
+use Rattle.txs_book.specs.Served.{cells_of}
 use Rattle.txs_tell.specs.Lines.{Script, IsLesson, agent_front, end_line, end_place, status_of}
-use Rattle.txs_value.specs.declared.cell.CellDefinition.{CellDefinition}
-use Rattle.txs_value.specs.declared.fault.Fault.{Fault}
+use Rattle.txs_cells.specs.declared.cell.CellDefinition.{CellDefinition}
+use Rattle.txs_terms.specs.declared.fault.Fault.{Fault}
 use Rattle.txs_value.specs.declared.value.CellId.{CellId}
 use Rattle.txs_value.specs.declared.value.CellKind.{CellKind}
 use Rattle.txs_value.specs.declared.value.CellKind.TheVariants.{Ref, Atom, Agent}

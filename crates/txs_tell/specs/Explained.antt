@@ -2,7 +2,7 @@
 use Rattle.std.specs.Prelude.{ℕ, List, [], ◌∷◌, ◌++◌, Option, Some, None, decimal}
 use Rattle.txs_position.specs.Place.{line_number, column_number}
 use Rattle.txs_position.specs.Pointed.{pointed}
-use Rattle.txs_value.specs.declared.fault.Span.{Span}
+use Rattle.txs_terms.specs.declared.fault.Span.{Span}
 
 -- the name of a file, and the line and the column of an offset of its text, with a colon between each two, and a newline
 abbrev pub place_line : List ℕ → List ℕ → ℕ → List ℕ

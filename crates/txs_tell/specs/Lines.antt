@@ -10,9 +10,9 @@ use Rattle.txs_tell.specs.Explained.{explained}
 use Rattle.txs_schedule.specs.declared.plays.WrongPlay.{WrongPlay}
 use Rattle.txs_reader.specs.Errors.{report_number as read_number, report_name as read_name}
 use Rattle.txs_expand.specs.Reported.{report_number as resolve_number, report_name as resolve_name}
-use Rattle.txs_value.specs.Faults.{fault_name}
-use Rattle.txs_value.specs.declared.fault.Fault.{Fault}
-use Rattle.txs_value.specs.declared.fault.Span.{Span}
+use Rattle.txs_terms.specs.Faults.{fault_name}
+use Rattle.txs_terms.specs.declared.fault.Fault.{Fault}
+use Rattle.txs_terms.specs.declared.fault.Span.{Span}
 
 -- a script as the program has it: its bytes, and the name of its file where lines are explained
 pub record Script : Type 0 where

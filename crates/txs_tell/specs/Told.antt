@@ -28,7 +28,7 @@ use Rattle.txs_schedule.specs.declared.plays.WrongPlay.{WrongPlay}
 use Rattle.txs_shared.specs.SharedState.{PlainShared, shared_of, numbered_book, newest_of}
 use Rattle.txs_tree.specs.Tree.{PlainProgram}
 use Rattle.txs_value.specs.Limits.{most_script}
-use Rattle.txs_value.specs.declared.cell.CellDefinition.{CellDefinition}
+use Rattle.txs_cells.specs.declared.cell.CellDefinition.{CellDefinition}
 
 -- what is told: the bytes of both streams, and the status
 pub record Told : Type 0 where

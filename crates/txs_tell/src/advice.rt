@@ -6,7 +6,7 @@ ghost use Rattle.std.specs.Prelude.{◌≡◌, ◌↔◌, IsNone};
 use txs_check::CheckErrorKind;
 use txs_reader::ReadErrorKind;
 use txs_resolve::ResolveErrorKind;
-use txs_value::FaultKind;
+use txs_terms::FaultKind;
 
 /// What to do about a list of plays that has an item which says none.
 pub const OF_LIST: &str =

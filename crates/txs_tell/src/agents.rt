@@ -4,16 +4,18 @@ ghost use Rattle.std.specs.Prelude.{◌≡◌, ◌≤◌, ◌++◌, ℕ, List, l
 ghost use Rattle.txs_tell.specs.AgentLines.{AgentTold, AreAgentsTold, EndTold, end_status, failed_by, failure_of, named_from, status_of_agents, with_named};
 ghost use Rattle.txs_tell.specs.Lent.{script_of};
 ghost use Rattle.txs_tell.specs.Lines.{agent_front};
-ghost use Rattle.txs_world.specs.Book.{has_cell};
-ghost use Rattle.txs_world.specs.Store.{cells_of};
+ghost use Rattle.txs_book.specs.Book.{has_cell};
+ghost use Rattle.txs_book.specs.Served.{cells_of};
 
 use crate::explain::Script;
 use crate::told::{Front, Told, tell_end};
 use std::alloc::AllocError;
 use txs_asks::Outcome;
+use txs_cells::CellDefinition;
 use txs_machine::ThreadReport;
 use txs_shared::SharedState;
-use txs_value::{CellDefinition, CellId, CellKind, Fault};
+use txs_terms::Fault;
+use txs_value::{CellId, CellKind};
 
 /// How an agent ended that has failed by this fault, if it has.
 fn failed_by(fault: Option<Fault>) -> Option<Outcome>

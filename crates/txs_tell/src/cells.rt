@@ -6,8 +6,9 @@ ghost use Rattle.txs_shared.specs.SharedState.{newest_of};
 ghost use Rattle.txs_tell.specs.CellLines.{cell_line, cell_lines};
 
 use std::alloc::AllocError;
+use txs_cells::CellDefinition;
 use txs_shared::SharedState;
-use txs_value::{CellDefinition, CellId, Name, Value, write_text};
+use txs_value::{CellId, Name, Value, write_text};
 
 /// Appends the line of a cell: its name, a space, and its value.
 fn write_cell(output: &mut Vec<u8>, name: &Name, value: &Value) -> Result<(), AllocError>

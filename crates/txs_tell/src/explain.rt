@@ -8,7 +8,7 @@ ghost use Rattle.txs_tell.specs.Explained.{place_line, shown_where, explained};
 use itoa::Buffer;
 use std::alloc::AllocError;
 use txs_position::{position, write_pointed};
-use txs_value::Span;
+use txs_terms::Span;
 
 /// A script of which lines on the standard error tell.
 #[derive(Clone, Copy)]

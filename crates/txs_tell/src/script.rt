@@ -19,6 +19,7 @@ use crate::explain::Script;
 use crate::told::{Told, UNUSABLE, Use, answer, complaint, of_threads, refused};
 use std::alloc::{AllocError, Global};
 use txs_bytes::encode;
+use txs_cells::CellDefinition;
 use txs_code::Verified;
 use txs_compile::compile;
 use txs_disasm::write_listing;
@@ -26,7 +27,6 @@ use txs_machine::{Play, Report, ScheduleError, run_schedule};
 use txs_schedule::write_events;
 use txs_shared::SharedState;
 use txs_tree::Program;
-use txs_value::CellDefinition;
 
 /// What is told of the threads and agents of a run that is over: the lines of threads, and behind them those of agents.
 pub fn of_report(

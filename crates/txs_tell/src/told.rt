@@ -17,7 +17,7 @@ use txs_asks::Outcome;
 use txs_compile::CompileError;
 use txs_machine::{Play, Report, ThreadReport};
 use txs_schedule::WrongPlay;
-use txs_value::{Fault, Span};
+use txs_terms::{Fault, Span};
 
 /// What the program tells: its standard output and error, and its status.
 #[derive(Drop)]

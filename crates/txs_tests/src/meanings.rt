@@ -5,7 +5,7 @@ use std::test::Fail;
 use txs_asks::Outcome;
 use txs_compile::compile;
 use txs_eval::{ThreadMeaning, eval_thread};
-use txs_value::Fault;
+use txs_terms::Fault;
 
 // What the run of a thread tells that ended so.
 fn line_of(alloc: Global, fault: &Fault) -> Result<String, AllocError> {

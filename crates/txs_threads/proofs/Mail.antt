@@ -2,9 +2,10 @@
 use Rattle.std.proofs.Common.{◌≡◌, ◌==◌, ℕ, true, not, ◌&&◌}
 use Rattle.txs_asks.specs.declared.ask.Ask.TheVariants as ask
 use Rattle.txs_value.specs.declared.value.CellId.{CellId}
-use Rattle.txs_world.specs.Book.{has_agent, actor_of}
-use Rattle.txs_world.specs.Store.{cells_of, is_taken}
-use Rattle.txs_world.proofs.Merging.{both}
+use Rattle.txs_book.specs.Book.{has_agent, actor_of}
+use Rattle.txs_book.specs.Served.{cells_of}
+use Rattle.txs_world.specs.Store.{is_taken}
+use Rattle.txs_book.proofs.Outcomes.{both}
 use Rattle.txs_shared.specs.SharedState.{PlainShared, is_lawful}
 
 -- what may be taken an action from is an agent

@@ -7,10 +7,11 @@ use Rattle.txs_machine.specs.Schedule.{HaveEnded, IsExplainedBy}
 use Rattle.txs_machine.specs.declared.schedule.ThreadReport.{ThreadReport}
 use Rattle.txs_played.specs.Gather.{AllHaveDone, AllHaveAttended}
 use Rattle.txs_shared.specs.SharedState.{PlainShared, numbered_book, shared_of}
-use Rattle.txs_value.specs.Places.{nth}
+use Rattle.txs_terms.specs.Places.{nth}
 use Rattle.txs_value.specs.declared.value.CellId.{CellId}
-use Rattle.txs_world.specs.Book.{has_agent}
-use Rattle.txs_world.specs.Store.{cells_of, next_action}
+use Rattle.txs_book.specs.Book.{has_agent}
+use Rattle.txs_book.specs.Served.{cells_of}
+use Rattle.txs_world.specs.Store.{next_action}
 
 -- every thread has ended
 abbrev pub AllEnded : List ThreadReport → Type 0

@@ -4,8 +4,8 @@ ghost use Rattle.std.specs.Prelude.{◌≡◌, ◌⊎◌, length, true, IsTrue, 
 ghost use Rattle.txs_machine.specs.Agents.{agents_of};
 ghost use Rattle.txs_machine.specs.declared.run_error.RunError.TheVariants.{JournalMismatch, Memory};
 ghost use Rattle.txs_threads.specs.Run.{AllEnded, AreAgents, IsDrained, AllDrained, IsLeft};
-ghost use Rattle.txs_world.specs.Book.{has_agent};
-ghost use Rattle.txs_world.specs.Store.{cells_of};
+ghost use Rattle.txs_book.specs.Book.{has_agent};
+ghost use Rattle.txs_book.specs.Served.{cells_of};
 
 use crate::desk::{Actors, Desk, Server};
 use crate::player::{Next, Player};

@@ -12,8 +12,9 @@ use crate::kept::KeptTransaction;
 use crate::state::{Pending, Transaction};
 use std::alloc::{AllocError, Global};
 use txs_asks::Ask;
+use txs_cells::{Action, copy_action};
 use txs_frame::TxFrame;
-use txs_value::{Action, CellId, Listed, Value, copy_action, copy_value};
+use txs_value::{CellId, Listed, Value, copy_value};
 
 /// The same refs in a list of their own: mostly there are none.
 #[inline(always)]

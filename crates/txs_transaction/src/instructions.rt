@@ -6,12 +6,12 @@ ghost use Rattle.txs_frame.specs.Frame.{Work, commuted};
 ghost use Rattle.txs_frame.specs.Phase.{next_arguments};
 ghost use Rattle.txs_operations.specs.Core.{Answers, core, takes};
 ghost use Rattle.txs_frame.specs.declared.frame.Commute.{Commute as ACommute};
-ghost use Rattle.txs_value.specs.Forms.{rule, cell_of};
-ghost use Rattle.txs_value.specs.declared.fault.Span.{Span as ASpan};
+ghost use Rattle.txs_cells.specs.Forms.{rule, cell_of};
+ghost use Rattle.txs_terms.specs.declared.fault.Span.{Span as ASpan};
 ghost use Rattle.txs_value.specs.declared.value.CellId.{CellId as ACell};
 ghost use Rattle.txs_value.specs.declared.value.Value.{Value as AValue};
-ghost use Rattle.txs_value.specs.declared.form.CellForm.TheVariants as form;
-ghost use Rattle.txs_value.specs.declared.form.UpdateForm.TheVariants as update;
+ghost use Rattle.txs_cells.specs.declared.form.CellForm.TheVariants as form;
+ghost use Rattle.txs_cells.specs.declared.form.UpdateForm.TheVariants as update;
 ghost use Rattle.txs_transaction.specs.Effect.{Comes, ComesQuickly, IsRare, CanMove, effect, reads, ensures, update_of, opens, sets, resets, sends, swaps, swapped, closes, begins, settles, applying, goes_through, ends, Operates, LeftApply, IsForRefs};
 ghost use Rattle.txs_transaction.specs.declared.state.Origin.{Origin as AnOrigin};
 ghost use Rattle.txs_transaction.specs.declared.state.Transaction.{Transaction as ATransaction};
@@ -24,14 +24,13 @@ use crate::moved::{Moved, Quick};
 use crate::state::{Origin, Pending, Transaction};
 use std::alloc::{AllocError, Global};
 use std::mem;
+use txs_cells::{Action, CellForm, LookForm, PutForm, UpdateForm};
 use txs_code::{Instr, OpenForm};
 use txs_frame::{Commute, Phase, SetError, TxFrame};
 use txs_operations::apply_owned;
 use txs_stack::Stack;
-use txs_value::{
-    Action, Callee, CellForm, CellId, Fault, FaultKind, Listed, LookForm, Op, PutForm, Span, Stop,
-    UpdateForm, Value, copy_value, copy_values,
-};
+use txs_terms::{Callee, Fault, FaultKind, Op, Span, Stop};
+use txs_value::{CellId, Listed, Value, copy_value, copy_values};
 
 /// Whether a transaction runs.
 #[inline(always)]

@@ -12,8 +12,9 @@ use std::alloc::{AllocError, Global};
 use std::marker::Model;
 use std::mem;
 use txs_stack::Stack;
+use txs_terms::Span;
+use txs_value::CellId;
 use txs_value::limits::RERUNS;
-use txs_value::{CellId, Span};
 
 /// How often a transaction that runs may run again, and how many inner ones it has.
 #[derive(Clone, Copy)]

@@ -1,7 +1,8 @@
 //! What instructions on cells or the transaction come to.
 
 use crate::state::Pending;
-use txs_value::{CellId, Fault, FaultKind};
+use txs_terms::{Fault, FaultKind};
+use txs_value::CellId;
 
 /// What an instruction on cells or the transaction came to.
 #[derive(Drop)]

@@ -1,8 +1,10 @@
 //! What an actor keeps of its transaction and of its unanswered ask.
 
+use txs_cells::Action;
 use txs_frame::{Commute, Phase};
 use txs_stack::Stack;
-use txs_value::{Action, CellId, Fault, Listed, Span, Value};
+use txs_terms::{Fault, Span};
+use txs_value::{CellId, Listed, Value};
 
 /// Where a transaction or a swap began: its span, and the stack there, whose body goes on at its first instruction.
 #[derive(Drop)]

@@ -14,17 +14,17 @@ use Rattle.txs_tree.specs.Sound.{SoundTree, in_thread}
 use Rattle.txs_tree.specs.Thread.{ThreadState, Surroundings, thread_in}
 use Rattle.txs_tree.specs.Transaction.{tx_meaning, final_writes}
 use Rattle.txs_tree.specs.Tree.{Mark, Tree, Const, Local, Do, Call, Core, VectorOf, Println, Dosync, Look, Put, Update, Send, none, more, PlainFunction}
-use Rattle.txs_value.specs.Cells.{World}
-use Rattle.txs_value.specs.Places.{fault_at}
-use Rattle.txs_value.specs.declared.action.Action.{Action}
-use Rattle.txs_value.specs.declared.fault.FaultKind.TheVariants.{DivideByZero, NotANumber, NotARef, OutsideOnly, SetAfterCommute, RetryLimit, AgentFailed}
-use Rattle.txs_value.specs.declared.fault.Span.{Span}
-use Rattle.txs_value.specs.declared.form.LookForm.TheVariants.{Deref, Ensure}
-use Rattle.txs_value.specs.declared.form.PutForm.TheVariants.{RefSet, Reset}
-use Rattle.txs_value.specs.declared.form.UpdateForm.TheVariants.{Alter, Commute, Swap}
-use Rattle.txs_value.specs.declared.op.Callee.{Callee}
-use Rattle.txs_value.specs.declared.op.Callee.TheVariants.{Core as CoreOp, Function}
-use Rattle.txs_value.specs.declared.op.Op.TheVariants.{Add, Multiply, Inc, Quot}
+use Rattle.txs_cells.specs.Cells.{World}
+use Rattle.txs_terms.specs.Places.{fault_at}
+use Rattle.txs_cells.specs.declared.action.Action.{Action}
+use Rattle.txs_terms.specs.declared.fault.FaultKind.TheVariants.{DivideByZero, NotANumber, NotARef, OutsideOnly, SetAfterCommute, RetryLimit, AgentFailed}
+use Rattle.txs_terms.specs.declared.fault.Span.{Span}
+use Rattle.txs_cells.specs.declared.form.LookForm.TheVariants.{Deref, Ensure}
+use Rattle.txs_cells.specs.declared.form.PutForm.TheVariants.{RefSet, Reset}
+use Rattle.txs_cells.specs.declared.form.UpdateForm.TheVariants.{Alter, Commute, Swap}
+use Rattle.txs_terms.specs.declared.op.Callee.{Callee}
+use Rattle.txs_terms.specs.declared.op.Callee.TheVariants.{Core as CoreOp, Function}
+use Rattle.txs_terms.specs.declared.op.Op.TheVariants.{Add, Multiply, Inc, Quot}
 use Rattle.txs_value.specs.declared.value.CellId.{CellId}
 use Rattle.txs_value.specs.declared.value.CellKind.TheVariants.{Ref, Atom, Agent}
 use Rattle.txs_value.specs.declared.value.Value.{Value}

@@ -2,11 +2,11 @@
 use Rattle.std.proofs.Common.{◌≡◌, ℕ, zero, suc, Bool, true, false, ◌&&◌, List, [], ◌∷◌, ◌++◌, Option, Some, None, Result, Ok, Err, length, take, nat_eq, if◌then◌else◌, refl, sym, ap, ◌∙◌, subst}
 use Rattle.std.proofs.lemmas.Bool.{false≢true}
 use Rattle.txs_operations.specs.Core.{core, vector_of}
-use Rattle.txs_value.specs.Places.{nth}
+use Rattle.txs_terms.specs.Places.{nth}
 use Rattle.txs_operations.specs.Truth.{choose}
-use Rattle.txs_value.specs.declared.fault.Fault.{Fault}
-use Rattle.txs_value.specs.declared.fault.FaultKind.{FaultKind}
-use Rattle.txs_value.specs.declared.fault.Span.{Span}
+use Rattle.txs_terms.specs.declared.fault.Fault.{Fault}
+use Rattle.txs_terms.specs.declared.fault.FaultKind.{FaultKind}
+use Rattle.txs_terms.specs.declared.fault.Span.{Span}
 use Rattle.txs_value.specs.declared.value.Value.{Value}
 use Rattle.txs_value.specs.declared.value.Value.TheVariants.{Nil, Truth, Int, Key, Text, Vector, Cell}
 use Rattle.txs_tree.specs.Known.{Known, is_pure, pure_in, all_pure, known}

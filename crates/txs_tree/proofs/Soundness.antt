@@ -7,7 +7,7 @@ use Rattle.txs_tree.specs.View.{tree_of, trees_of, thread_of, threads_of}
 use Rattle.txs_tree.specs.declared.node.Node.{Node}
 use Rattle.std.proofs.lemmas.List.{drop_more}
 use Rattle.txs_operations.specs.Core.{takes}
-use Rattle.txs_value.specs.declared.op.Op.{Op}
+use Rattle.txs_terms.specs.declared.op.Op.{Op}
 use Rattle.txs_tree.specs.declared.node.Thread.{Thread}
 
 -- the nodes from a place on: the one at the place, and those after it

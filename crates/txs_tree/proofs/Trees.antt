@@ -1,10 +1,10 @@
 -- A node as a tree, with its children as a list.
 use Rattle.std.proofs.Common.{rules, ◌≡◌, ℕ, List, refl, sym, ap, ◌∙◌, Vec, Global, Box}
-use Rattle.txs_value.specs.declared.form.LookForm.{LookForm}
-use Rattle.txs_value.specs.declared.form.PutForm.{PutForm}
-use Rattle.txs_value.specs.declared.form.UpdateForm.{UpdateForm}
-use Rattle.txs_value.specs.declared.op.Callee.{Callee}
-use Rattle.txs_value.specs.declared.op.Op.{Op}
+use Rattle.txs_cells.specs.declared.form.LookForm.{LookForm}
+use Rattle.txs_cells.specs.declared.form.PutForm.{PutForm}
+use Rattle.txs_cells.specs.declared.form.UpdateForm.{UpdateForm}
+use Rattle.txs_terms.specs.declared.op.Callee.{Callee}
+use Rattle.txs_terms.specs.declared.op.Op.{Op}
 use Rattle.txs_value.specs.declared.value.Value.{Value}
 use Rattle.txs_tree.specs.Tree.{Mark, Tree, Trees, more}
 use Rattle.txs_tree.specs.Tree as tree

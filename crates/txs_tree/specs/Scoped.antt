@@ -1,8 +1,8 @@
 -- Which programs the resolution of names gives: each local and function that is named is there, and the limits are kept.
 use Rattle.std.specs.Prelude.{◌<◌, ◌≤◌, ◌+◌, ℕ, List, [], ◌∷◌, ◌++◌, length}
 use Rattle.txs_value.specs.Limits.{most_items, most_locals, most_threads, most_parameters, most_levels, most_definitions}
-use Rattle.txs_value.specs.declared.op.Callee.{Callee}
-use Rattle.txs_value.specs.declared.op.Callee.TheVariants.{Core as CoreOp, Function}
+use Rattle.txs_terms.specs.declared.op.Callee.{Callee}
+use Rattle.txs_terms.specs.declared.op.Callee.TheVariants.{Core as CoreOp, Function}
 use Rattle.txs_tree.specs.Known.{Known, known_of, known, levels}
 use Rattle.txs_tree.specs.Tree.{Tree, Const, Local, If, Do, Let, Loop, Recur, Core, Call, VectorOf, Println, Dosync, Look, Put, Update, Send, Trees, none, more, count, PlainFunction, PlainThread, PlainProgram}
 

@@ -1,6 +1,8 @@
 //! The nodes of a program.
 
-use txs_value::{Callee, LookForm, Op, PutForm, Span, UpdateForm, Value};
+use txs_cells::{LookForm, PutForm, UpdateForm};
+use txs_terms::{Callee, Op, Span};
+use txs_value::Value;
 
 /// What a node does.
 #[cycle(node)]

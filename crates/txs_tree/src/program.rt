@@ -7,7 +7,7 @@ ghost use Rattle.txs_tree.specs.View.{Parts, program_of};
 use crate::node::{Function, Thread};
 use crate::raw::Raw;
 use std::marker::Model;
-use txs_value::CellDefinition;
+use txs_cells::CellDefinition;
 
 /// A program that the checks accepted: the cells that it defines, in the order of their numbers, its functions
 /// and its threads, each in script order. Contracts see it as `program_of` its parts, which is sound.

@@ -6,7 +6,7 @@ ghost use Rattle.txs_tree.specs.View.{Parts, program_of};
 
 use crate::node::{Function, Thread};
 use std::marker::Model;
-use txs_value::CellDefinition;
+use txs_cells::CellDefinition;
 
 /// A program of which names are resolved, and that the checks haven't seen: the cells that it defines, in the
 /// order of their numbers, its functions and its threads, each in script order. Contracts see it as

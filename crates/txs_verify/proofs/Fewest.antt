@@ -1,6 +1,6 @@
 -- The rooms that are computed are the least with which the code is well typed.
 use Rattle.std.proofs.Common.{arith, ◌≡◌, ◌∙◌, ℕ, zero, suc, ◌≤◌, List, [], ◌∷◌, length, Bool, true, false, Some, None, ap, subst}
-use Rattle.txs_value.specs.Places.{nth}
+use Rattle.txs_terms.specs.Places.{nth}
 use Rattle.txs_value.specs.declared.value.Value.{Value}
 use Rattle.txs_code.specs.PlainCode.{CodeBody, PlainCode, parameters_of}
 use Rattle.txs_code.specs.WellTyped.{FunctionKind, Functions, Owner, a_thread, a_function, IsTable, WellTypedBody, WellTypedFunctions, WellTypedThreads, WellTyped}

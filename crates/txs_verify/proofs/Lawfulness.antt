@@ -2,16 +2,16 @@
 use Rattle.std.proofs.Common.{arith, inl, inr, ◌≡◌, ◌⊎◌, ◌∙◌, ℕ, zero, suc, ◌+◌, ◌<◌, ◌≤◌, List, [], ◌∷◌, length, get_or, Bool, true, false, not, ◌&&◌, ◌||◌, nat_eq, nat_lt, if◌then◌else◌, is_some, Option, Some, None, refl, sym, ap, subst}
 use Rattle.std.proofs.lemmas.Bool.{eqb-true, eqb-false, eq-eqb, ltb-true, ltb-false}
 use Rattle.txs_asks.specs.Ask.{same_callee}
-use Rattle.txs_value.specs.Operations.{op_number}
-use Rattle.txs_value.specs.Places.{nth}
-use Rattle.txs_value.specs.declared.form.UpdateForm.{UpdateForm}
-use Rattle.txs_value.specs.declared.form.UpdateForm.TheVariants as update
-use Rattle.txs_value.specs.declared.op.Callee.{Callee}
-use Rattle.txs_value.specs.declared.op.Callee.TheVariants as callee
-use Rattle.txs_value.specs.declared.op.Op.{Op}
-use Rattle.txs_value.specs.declared.op.Op.TheVariants as op
+use Rattle.txs_terms.specs.Operations.{op_number}
+use Rattle.txs_terms.specs.Places.{nth}
+use Rattle.txs_cells.specs.declared.form.UpdateForm.{UpdateForm}
+use Rattle.txs_cells.specs.declared.form.UpdateForm.TheVariants as update
+use Rattle.txs_terms.specs.declared.op.Callee.{Callee}
+use Rattle.txs_terms.specs.declared.op.Callee.TheVariants as callee
+use Rattle.txs_terms.specs.declared.op.Op.{Op}
+use Rattle.txs_terms.specs.declared.op.Op.TheVariants as op
 use Rattle.txs_value.specs.declared.value.Value.{Value}
-use Rattle.txs_value.proofs.OperationsLemmas.{operations, operations-at_number}
+use Rattle.txs_terms.proofs.OperationsLemmas.{operations, operations-at_number}
 use Rattle.txs_code.specs.PlainCode.{CodeBody}
 use Rattle.txs_code.specs.WellTyped.{form_of, IsNamed, CalleeTakes, NamedTakes, Applies, IsBehindOpen, IsFollowed, IsOpened, IsLawful}
 use Rattle.txs_code.specs.declared.instr.OpenForm.{OpenForm}

@@ -1,6 +1,6 @@
 -- What a path comes to in a well-typed body, so that no such body is refused.
 use Rattle.std.proofs.Common.{arith, ◌≡◌, ◌≤◌, ℕ, List, Option, Some, None, refl, sym, ap, subst, ◌∙◌}
-use Rattle.txs_value.specs.Places.{nth}
+use Rattle.txs_terms.specs.Places.{nth}
 use Rattle.txs_value.specs.declared.value.Value.{Value}
 use Rattle.txs_code.specs.PlainCode.{CodeBody}
 use Rattle.txs_code.specs.WellTyped.{Functions, Owner, Stage, plain, opened, applied, Depths, Fits, Stages, FitsStage, WellTypedBody}

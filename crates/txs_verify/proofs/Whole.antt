@@ -1,10 +1,10 @@
 -- Closed marks of lawful code whose instructions may all stand there make a body well typed.
 use Rattle.std.proofs.Common.{arith, ◌≡◌, ◌+◌, ◌<◌, ◌≤◌, ℕ, zero, suc, true, List, [], ◌∷◌, Option, Some, None, refl, sym, ap, subst, ◌∙◌, length}
 use Rattle.txs_operations.specs.Core.{takes}
-use Rattle.txs_value.specs.Places.{nth}
-use Rattle.txs_value.specs.declared.form.UpdateForm.{UpdateForm}
-use Rattle.txs_value.specs.declared.op.Op.{Op}
-use Rattle.txs_value.specs.declared.op.Op.TheVariants as op
+use Rattle.txs_terms.specs.Places.{nth}
+use Rattle.txs_cells.specs.declared.form.UpdateForm.{UpdateForm}
+use Rattle.txs_terms.specs.declared.op.Op.{Op}
+use Rattle.txs_terms.specs.declared.op.Op.TheVariants as op
 use Rattle.txs_value.specs.declared.value.Value.{Value}
 use Rattle.txs_code.specs.PlainCode.{CodeBody}
 use Rattle.txs_code.specs.WellTyped.{Functions, Owner, Stage, opened, form_of, depth_at, Fits, IsTable, Stages, stage_at, FitsStage, IsStaging, IsLawful, IsFollowed, IsOpened, Applies, WellTypedBody}

@@ -2,11 +2,11 @@
 use Rattle.std.specs.Prelude.{◌≡◌, ◌⊎◌, ℕ, ◌+◌, ◌<◌, ◌≤◌, Bool, true, false, not, ◌&&◌, ◌||◌, nat_eq, nat_lt, if◌then◌else◌, is_some, List, length, Option, Some, None}
 use Rattle.txs_asks.specs.Ask.{same_callee}
 use Rattle.txs_operations.specs.Core.{takes}
-use Rattle.txs_value.specs.Places.{nth}
-use Rattle.txs_value.specs.declared.form.UpdateForm.{UpdateForm}
-use Rattle.txs_value.specs.declared.form.UpdateForm.TheVariants as update
-use Rattle.txs_value.specs.declared.op.Callee.{Callee}
-use Rattle.txs_value.specs.declared.op.Callee.TheVariants as callee
+use Rattle.txs_terms.specs.Places.{nth}
+use Rattle.txs_cells.specs.declared.form.UpdateForm.{UpdateForm}
+use Rattle.txs_cells.specs.declared.form.UpdateForm.TheVariants as update
+use Rattle.txs_terms.specs.declared.op.Callee.{Callee}
+use Rattle.txs_terms.specs.declared.op.Callee.TheVariants as callee
 use Rattle.txs_code.specs.PlainCode.{CodeBody}
 use Rattle.txs_code.specs.WellTyped.{form_of, IsBehindOpen, IsFollowed, IsOpened}
 use Rattle.txs_code.specs.declared.instr.Instr.{Instr}

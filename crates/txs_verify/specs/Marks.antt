@@ -1,6 +1,6 @@
 -- Marks of a body's places, and when they are closed: each leads to marked places alone.
 use Rattle.std.specs.Prelude.{◌≡◌, ℕ, zero, suc, ◌≤◌, List, [], ◌∷◌, Option, Some, None}
-use Rattle.txs_value.specs.Places.{nth}
+use Rattle.txs_terms.specs.Places.{nth}
 use Rattle.txs_code.specs.WellTyped.{Depths, Stages}
 use Rattle.txs_code.specs.declared.instr.Instr.{Instr}
 use Rattle.txs_verify.specs.declared.walk.Mark.{Mark}

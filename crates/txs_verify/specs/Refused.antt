@@ -1,6 +1,6 @@
 -- Why a body whose instructions are each lawful is refused: what a path of it comes to.
 use Rattle.std.specs.Prelude.{◌≡◌, ◌⊎◌, ℕ, ◌<◌, List, Some, None}
-use Rattle.txs_value.specs.Places.{nth}
+use Rattle.txs_terms.specs.Places.{nth}
 use Rattle.txs_code.specs.WellTyped.{Functions, Owner}
 use Rattle.txs_code.specs.declared.instr.Instr.{Instr}
 use Rattle.txs_verify.specs.declared.error.VerifyErrorKind.{VerifyErrorKind}

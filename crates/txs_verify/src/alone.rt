@@ -4,15 +4,16 @@ ghost use Rattle.std.specs.Prelude.{◌≡◌, ◌<◌, ℕ, length, is_some, na
 ghost use Rattle.txs_asks.specs.Ask.{same_callee};
 ghost use Rattle.txs_code.specs.PlainCode.{parameters_of};
 ghost use Rattle.txs_code.specs.declared.instr.Instr.{Instr as AnInstr};
-ghost use Rattle.txs_value.specs.Places.{nth};
+ghost use Rattle.txs_terms.specs.Places.{nth};
 ghost use Rattle.txs_verify.specs.Alone.{IsRightBody, IsWrongAlone, IsRight, applies, closes, fault, has_count, has_local, has_so_many, in_order, is_behind, is_below, is_followed, is_named, is_so_many, jumps_within, named_is_below, opens_form, same_form, takes_so};
 ghost use Rattle.txs_verify.specs.Paths.{before, before_that, opens};
 
 use crate::error::{Refusal, VerifyErrorKind};
 use crate::standing::form_of;
+use txs_cells::UpdateForm;
 use txs_code::{Body, Instr, OpenForm};
 use txs_operations::takes;
-use txs_value::{Callee, UpdateForm};
+use txs_terms::Callee;
 
 /// The instruction at a place, if there is one.
 fn instr_at(instrs: &[Instr], at: usize) -> Option<Instr>

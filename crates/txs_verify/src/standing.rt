@@ -1,7 +1,7 @@
 //! Where instructions may stand, and what functions are for.
 
 ghost use Rattle.std.specs.Prelude.{◌≡◌, ◌<◌, ◌+◌, length, slice_index_or, is_some, true, IfOk, IfErr};
-ghost use Rattle.txs_value.specs.Places.{nth};
+ghost use Rattle.txs_terms.specs.Places.{nth};
 ghost use Rattle.txs_code.specs.WellTyped.{form_of};
 ghost use Rattle.txs_code.specs.declared.instr.Instr.{Instr as AnInstr};
 ghost use Rattle.txs_verify.specs.Paths.{before, opens};
@@ -9,8 +9,9 @@ ghost use Rattle.txs_verify.specs.Standing.{IsSeen, IsWrong, call_wrong, end_wro
 
 use crate::error::{Refusal, VerifyErrorKind};
 use crate::walk::Mark;
+use txs_cells::{CellForm, Standing, UpdateForm};
 use txs_code::{Instr, OpenForm};
-use txs_value::{Callee, CellForm, Standing, UpdateForm};
+use txs_terms::Callee;
 
 /// Whether a body is for transactions alone, for outside alone, or impure: it has a form on cells, a print or a transaction.
 #[derive(Clone, Copy)]

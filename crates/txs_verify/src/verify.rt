@@ -4,7 +4,7 @@ ghost use Rattle.std.specs.Prelude.{◌≡◌, ◌<◌, ◌≤◌, ◌+◌, ℕ,
 ghost use Rattle.txs_code.specs.PlainCode.{CodeBody, parameters_of};
 ghost use Rattle.txs_code.specs.WellTyped.{WellTyped};
 ghost use Rattle.txs_code.specs.declared.instr.Instr.{Instr as AnInstr};
-ghost use Rattle.txs_value.specs.Places.{nth};
+ghost use Rattle.txs_terms.specs.Places.{nth};
 ghost use Rattle.txs_verify.specs.Alone.{IsRight, IsRightBody, IsWrongAlone};
 ghost use Rattle.txs_verify.specs.Going.{AllJumpWithin};
 ghost use Rattle.txs_verify.specs.Marks.{mark_at};

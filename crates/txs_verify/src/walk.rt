@@ -2,7 +2,7 @@
 
 ghost use Rattle.std.specs.Prelude.{◌≡◌, ◌<◌, ◌≤◌, ◌+◌, ℕ, List, [], length, Some, IfOk, IfErr, OnOk};
 ghost use Rattle.txs_code.specs.PlainCode.{parameters_of};
-ghost use Rattle.txs_value.specs.Places.{nth};
+ghost use Rattle.txs_terms.specs.Places.{nth};
 ghost use Rattle.txs_verify.specs.Going.{AllJumpWithin, AreReached, Goes, JumpsWithin, no_marks};
 ghost use Rattle.txs_verify.specs.Marks.{mark_at, IsClosed};
 ghost use Rattle.txs_verify.specs.Refused.{BreaksOff};

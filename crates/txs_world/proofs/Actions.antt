@@ -5,23 +5,23 @@ use Rattle.txs_asks.specs.Ask.{Writes, buffered}
 use Rattle.txs_asks.specs.declared.event.Event.{Event}
 use Rattle.txs_asks.specs.declared.event.EventKind.{EventKind}
 use Rattle.txs_asks.specs.declared.event.EventKind.TheVariants.{Read, Commit, Retry, Fail, Refused, Send, SendRefused, Act, Swap, Broke}
-use Rattle.txs_value.specs.Cells.{World}
-use Rattle.txs_value.specs.Forms.{same_kind}
-use Rattle.txs_value.specs.Places.{nth}
-use Rattle.txs_value.specs.declared.action.Action.{Action}
-use Rattle.txs_value.specs.declared.fault.Fault.{Fault}
+use Rattle.txs_cells.specs.Cells.{World}
+use Rattle.txs_cells.specs.Forms.{same_kind}
+use Rattle.txs_terms.specs.Places.{nth}
+use Rattle.txs_cells.specs.declared.action.Action.{Action}
+use Rattle.txs_terms.specs.declared.fault.Fault.{Fault}
 use Rattle.txs_value.specs.declared.value.CellId.{CellId}
 use Rattle.txs_value.specs.declared.value.CellKind.{CellKind}
 use Rattle.txs_value.specs.declared.value.CellKind.TheVariants.{Ref, Atom, Agent}
 use Rattle.txs_value.specs.declared.value.Value.{Value}
-use Rattle.txs_world.specs.Book.{is_of_kind, has_cell, has_ref, has_agent, cells_in, are_refs, opening, goes_on, state_of, writes_to, is_there, after, newest, Mail, no_mail, sent_to, acted, mail_changed, mail_after, LegalKind, Each}
+use Rattle.txs_book.specs.Book.{is_of_kind, has_cell, has_ref, has_agent, cells_in, are_refs, opening, goes_on, state_of, writes_to, is_there, after, newest, Mail, no_mail, sent_to, acted, mail_changed, mail_after, LegalKind, Each}
 use Rattle.txs_world.specs.Laws.{acts_for, no_acts}
 use Rattle.txs_world.specs.Store.{first_action, next_action}
-use Rattle.txs_world.specs.declared.cell.StoreCell.{StoreCell}
-use Rattle.txs_world.proofs.Growth.{after_last, mail_last}
+use Rattle.txs_book.specs.declared.cell.StoreCell.{StoreCell}
+use Rattle.txs_book.proofs.Growth.{after_last, mail_last}
 use Rattle.txs_world.proofs.Mailing.{equal}
-use Rattle.txs_world.proofs.Merging.{both}
-use Rattle.txs_world.proofs.Older.{unset}
+use Rattle.txs_book.proofs.Outcomes.{both}
+use Rattle.txs_book.proofs.Older.{unset}
 
 -- ---- the agent's state
 

@@ -5,28 +5,30 @@ use Rattle.std.proofs.lemmas.Bool.Decides.{nat_tests}
 use Rattle.std.proofs.lemmas.List.{get_or-set_same, get_or-set_other, length-set}
 use Rattle.txs_asks.specs.Ask.{Writes, buffered}
 use Rattle.txs_mail.specs.Mailbox.{IsMailbox}
-use Rattle.txs_value.specs.Cells.{World}
-use Rattle.txs_value.specs.Forms.{same_kind}
-use Rattle.txs_value.specs.Places.{nth}
+use Rattle.txs_cells.specs.Cells.{World}
+use Rattle.txs_cells.specs.Forms.{same_kind}
+use Rattle.txs_terms.specs.Places.{nth}
 use Rattle.txs_asks.specs.declared.event.Event.{Event}
 use Rattle.txs_asks.specs.declared.event.EventKind.{EventKind}
 use Rattle.txs_asks.specs.declared.event.EventKind.TheVariants.{Read, Commit, Retry, Fail, Refused, Send, SendRefused, Act, Swap, Broke}
-use Rattle.txs_value.specs.declared.action.Action.{Action}
-use Rattle.txs_value.specs.declared.fault.Fault.{Fault}
+use Rattle.txs_cells.specs.declared.action.Action.{Action}
+use Rattle.txs_terms.specs.declared.fault.Fault.{Fault}
 use Rattle.txs_value.specs.declared.value.CellId.{CellId}
 use Rattle.txs_value.specs.declared.value.CellKind.TheVariants.{Ref, Agent}
 use Rattle.txs_value.specs.declared.value.Value.{Value}
-use Rattle.txs_world.specs.Book.{is_of_kind, goes_on, opening, are_refs, are_sends, cells_in, value_or, state_of, writes_of, changed, after, is_there, writes_to, counts, no_mail, Mail, waits, acted, mailed, sent_to, mail_after, mail_changed, has_cell, has_ref, has_agent, makes, LegalKind, Guarded}
+use Rattle.txs_book.specs.Book.{is_of_kind, goes_on, opening, are_refs, are_sends, cells_in, value_or, state_of, writes_of, changed, after, is_there, writes_to, counts, no_mail, Mail, waits, acted, mailed, sent_to, mail_after, mail_changed, has_cell, has_ref, has_agent, makes, LegalKind, Guarded}
 use Rattle.txs_value.specs.Limits.{most_events}
 use Rattle.txs_world.specs.Inboxes.{PlainInbox, no_inbox, open_inboxes, inbox_of, mailed_all, all_sent_below, finished, fault_of, taken_up}
-use Rattle.txs_world.specs.Kept.{slot_of, no_slot, IsSlot, StandsAt, open_slots, put_all, all_below, Marked, StandAsBefore, IsInbox, ChangesNothing, IsKept}
-use Rattle.txs_world.specs.Store.{event_of}
-use Rattle.txs_world.specs.declared.cell.StoreCell.{StoreCell}
+use Rattle.txs_world.specs.Kept.{slot_of, no_slot, IsSlot, open_slots, put_all, all_below, IsInbox, ChangesNothing, IsKept}
+use Rattle.txs_book.specs.Stands.{StandsAt, Marked, StandAsBefore}
+use Rattle.txs_book.specs.Served.{event_of}
+use Rattle.txs_book.specs.declared.cell.StoreCell.{StoreCell}
 use Rattle.txs_world.specs.declared.slot.Slot.{Slot}
-use Rattle.txs_world.proofs.Growth.{after_last, unwritten_more, written_more, written_end, before_more, before_own, before_end, mail_last}
+use Rattle.txs_book.proofs.Growth.{after_last, unwritten_more, written_more, written_end, mail_last}
 use Rattle.txs_world.proofs.Mailing.{equal, unequal, mailed_many, mailed_at, is_inbox, inbox_entered, inbox_taken, inbox_finished, no_fault, failed_is}
-use Rattle.txs_world.proofs.Merging.{both}
-use Rattle.txs_world.proofs.Older.{unset}
+use Rattle.txs_book.proofs.Outcomes.{both}
+use Rattle.txs_book.proofs.Standing.{actor_more}
+use Rattle.txs_book.proofs.Older.{unset}
 use Rattle.txs_world.proofs.Serves.{keeps}
 
 -- ---- the opening
@@ -100,22 +102,6 @@ slot_more w es e k s h = go (buffered (writes_of e.kind) k) refl
     go : (o : Option Value) → buffered (writes_of e.kind) k ≡ o → IsSlot w (es ++ e ∷ []) k (put_in o (suc (length es)) s)
     go None q = slot_same w es e k s (ap is_there q) h
     go (Some v) q = slot_put w es e k v (ap is_there q) (ap (λ o. value_or o (after w es (length es) k)) q)
-
-pub actor_more : (all : Bool) (old new : List ℕ) (es : List Event) (a : ℕ) (d : EventKind) (b : ℕ) → Marked (counts all d) a (suc (length es)) old new → StandsAt all es b (slice_index old b) → StandsAt all (es ++ event_of a d ∷ []) b (slice_index new b)
-actor_more all old new es a d b marks h = subst (StandsAt all (es ++ event_of a d ∷ []) b) (sym (marks b)) (go (a == b && counts all d) refl)
-  where
-    go : (t : Bool) → (a == b && counts all d) ≡ t → StandsAt all (es ++ event_of a d ∷ []) b (if t then suc (length es) else slice_index old b)
-    go true e =
-        let many = length-append es (event_of a d ∷ []) in
-        record {
-          stands = λ p le. before_end all b p (es ++ event_of a d ∷ []) (omega (arith, le, many));
-          passed = λ p lt. before_own all b p es (event_of a d) e (omega (arith, lt));
-        }
-    go false e =
-        record {
-          stands = λ p le. before_more all b p es (event_of a d) e ∙ h.stands p le;
-          passed = λ p lt. before_more all b p es (event_of a d) e ∙ h.passed p lt;
-        }
 
 -- an inbox after an event
 abbrev pub InboxMoves : List StoreCell → List PlainInbox → List PlainInbox → List Event → EventKind → Type 0

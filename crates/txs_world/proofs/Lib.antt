@@ -1,14 +1,8 @@
 pub mod Actions
 pub mod Answering
-pub mod Atoms
-pub mod Counting
-pub mod Growth
 pub mod Kept
-pub mod Lists
 pub mod Mailing
 pub mod Merging
-pub mod Older
 pub mod Serves
-pub mod Sizes
 pub mod Storing
 pub mod Zipping

@@ -8,28 +8,18 @@ use Rattle.txs_asks.specs.declared.event.Event.{Event}
 use Rattle.txs_asks.specs.declared.event.EventKind.{EventKind}
 use Rattle.txs_asks.specs.declared.event.EventKind.TheVariants.{Read, Commit, Retry, Fail, Refused, Send, SendRefused, Act, Swap, Broke}
 use Rattle.txs_mail.specs.Mailbox.{PlainMailbox, RoomedMailbox, first, next}
-use Rattle.txs_value.specs.declared.action.Action.{Action}
-use Rattle.txs_value.specs.Places.{nth}
-use Rattle.txs_value.specs.declared.fault.Fault.{Fault}
+use Rattle.txs_cells.specs.declared.action.Action.{Action}
+use Rattle.txs_terms.specs.Places.{nth}
+use Rattle.txs_terms.specs.declared.fault.Fault.{Fault}
 use Rattle.txs_value.specs.declared.value.Value.{Value}
-use Rattle.txs_world.specs.Book.{goes_on, is_there, Mail, no_mail, mail_after, sent_to, mailed, acted, mail_changed, mail_from}
+use Rattle.txs_book.specs.Book.{goes_on, is_there, Mail, no_mail, mail_after, sent_to, mailed, acted, mail_changed, mail_from}
 use Rattle.txs_world.specs.Inboxes.{PlainInbox, plain_inbox, plain_inboxes, with_action, taken_up, fault_of, finished, no_inbox, mailed_all, all_sent_below, rooms, HaveRoom, RoomFor, promises, Promised, open_inboxes, inbox_of, taken_of}
 use Rattle.txs_world.specs.Kept.{IsKept}
 use Rattle.txs_world.specs.Store.{first_action, none_taken}
-use Rattle.txs_world.specs.declared.cell.StoreCell.{StoreCell}
+use Rattle.txs_book.specs.declared.cell.StoreCell.{StoreCell}
 use Rattle.txs_world.specs.declared.slot.Slot.{Slot}
 use Rattle.txs_world.specs.declared.inbox.Inbox.{Inbox}
-use Rattle.txs_world.proofs.Merging.{both}
-
--- what follows where there is none
-pub on_ok : {T E : Type 0} (r : Result T E) (P Q : Type 0) → (P → Q) → OnOk r P → OnOk r Q
-on_ok (Ok v) P Q f p = f p
-on_ok (Err e) P Q f p = tt
-
--- the same of an error
-pub if_err : {T E : Type 0} (r : Result T E) (P Q : Type 0) → (P → Q) → OnErr r P → OnErr r Q
-if_err (Ok v) P Q f p = tt
-if_err (Err e) P Q f p = f p
+use Rattle.txs_book.proofs.Outcomes.{both}
 
 pub equal : (a b : ℕ) → (a == b) ≡ true → a ≡ b
 equal a b e = grind (arith, nat_tests)

@@ -7,14 +7,11 @@ use Rattle.txs_asks.specs.Ask.{Writes, with_write}
 use Rattle.txs_asks.specs.declared.event.Event.{Event}
 use Rattle.txs_value.specs.declared.value.CellId.{CellId}
 use Rattle.txs_value.specs.declared.value.Value.{Value}
-use Rattle.txs_world.specs.Book.{has_ref, cells_in, are_refs, has_refs, written, least, least_written, Untouched}
+use Rattle.txs_book.specs.Book.{has_ref, cells_in, are_refs, has_refs, written, least, least_written, Untouched}
 use Rattle.txs_world.specs.Store.{merged}
-use Rattle.txs_world.specs.declared.cell.StoreCell.{StoreCell}
-use Rattle.txs_world.proofs.Growth.{unwritten_later}
-
-pub both : (a b : Bool) → (a && b) ≡ true → (a ≡ true) × (b ≡ true)
-both true b h = (refl, h)
-both false b h = absurd (false≢true h)
+use Rattle.txs_book.specs.declared.cell.StoreCell.{StoreCell}
+use Rattle.txs_book.proofs.Outcomes.{both}
+use Rattle.txs_book.proofs.Growth.{unwritten_later}
 
 pub joined : (a b : Bool) → a ≡ true → b ≡ true → (a && b) ≡ true
 joined a b p q = ap (λ t. t && b) p ∙ q

@@ -2,19 +2,20 @@
 use Rattle.std.specs.Prelude.{◌≡◌, ◌<◌, ◌≤◌, ℕ, true, false, Bool, ◌&&◌, ◌==◌, nat_lt, List, [], ◌∷◌, length, map, slice_index, Option, Some, None, if◌then◌else◌}
 use Rattle.std.proofs.Common.{get_or, set}
 use Rattle.txs_asks.specs.Ask.{Writes}
-use Rattle.txs_value.specs.Cells.{World}
-use Rattle.txs_value.specs.Places.{nth}
+use Rattle.txs_cells.specs.Cells.{World}
+use Rattle.txs_terms.specs.Places.{nth}
 use Rattle.txs_asks.specs.declared.event.Event.{Event}
 use Rattle.txs_asks.specs.declared.event.EventKind.{EventKind}
 use Rattle.txs_asks.specs.declared.event.EventKind.TheVariants.{Read, Commit, Retry, Fail, Refused, Send, SendRefused, Act, Swap, Broke}
 use Rattle.txs_value.specs.declared.value.CellId.{CellId}
 use Rattle.txs_value.specs.declared.value.Value.{Value}
 use Rattle.txs_value.specs.declared.value.Value.TheVariants.{Nil}
-use Rattle.txs_world.specs.Book.{agents_below, opening, newest, written, goes_on, Mail, mail_after, all_before, counts, Legal, Undisturbed}
+use Rattle.txs_book.specs.Book.{opening, newest, written, goes_on, Mail, mail_after, Legal, Undisturbed}
 use Rattle.txs_world.specs.Inboxes.{PlainInbox, inbox_of, no_inbox}
 use Rattle.txs_world.specs.declared.commit.End.{End}
 use Rattle.txs_world.specs.declared.commit.End.TheVariants.{Reruns, Redoes, Refuses, Commits}
-use Rattle.txs_world.specs.declared.cell.StoreCell.{StoreCell}
+use Rattle.txs_book.specs.Stands.{StandsAt}
+use Rattle.txs_book.specs.declared.cell.StoreCell.{StoreCell}
 use Rattle.txs_world.specs.declared.slot.Slot.{Slot}
 
 -- a value, and how many events there are up to the one that wrote it
@@ -31,11 +32,6 @@ pub record IsSlot (w : World) (book : List Event) (k : ℕ) (s : Slot) : Type 0 
   pub since : (p : ℕ) → p < s.written → written k p book ≡ true
   pub not_since : (p : ℕ) → s.written ≤ p → written k p book ≡ false
 
--- how many events there are up to the actor's last one that counts
-pub record StandsAt (all : Bool) (book : List Event) (a n : ℕ) : Type 0 where
-  pub stands : (p : ℕ) → n ≤ p → all_before all a p book ≡ true
-  pub passed : (p : ℕ) → p < n → all_before all a p book ≡ false
-
 -- the slots of cells that no event has written
 abbrev pub open_slots : List StoreCell → List Slot
 open_slots cells = map (λ c. slot_of c.opening 0) cells
@@ -49,18 +45,6 @@ put_all n slots (w ∷ ws) = set (put_all n slots ws) w.0.number (slot_of w.1 n)
 abbrev pub all_below : ℕ → Writes → Bool
 all_below n [] = true
 all_below n (w ∷ ws) = nat_lt w.0.number n && all_below n ws
-
--- where an actor stands after an event of this one, the last of so many, where it counts
-abbrev pub mark_at : Bool → Bool → ℕ → ℕ → ℕ
-mark_at counts own n stand = if own && counts then n else stand
-
--- where actors stand after an event of this one, the last of so many, where it counts
-abbrev pub Marked : Bool → ℕ → ℕ → List ℕ → List ℕ → Type 0
-Marked counts a n old new = (b : ℕ) → slice_index new b ≡ mark_at counts (a == b) n (slice_index old b)
-
--- every actor stands where it stood
-abbrev pub StandAsBefore : List ℕ → List ℕ → Type 0
-StandAsBefore old new = (b : ℕ) → slice_index new b ≡ slice_index old b
 
 -- an inbox is that of an agent with this mail
 abbrev pub IsInbox : Bool → Mail → PlainInbox → Type 0
@@ -85,12 +69,6 @@ IsEnd o1 o2 o3 (Reruns c) = o1 ≡ Some c
 IsEnd o1 o2 o3 (Redoes c) = (o1 ≡ None) × (o2 ≡ Some c)
 IsEnd o1 o2 o3 (Refuses g) = (o1 ≡ None) × (o2 ≡ None) × (o3 ≡ Some g)
 IsEnd o1 o2 o3 Commits = (o1 ≡ None) × (o2 ≡ None) × (o3 ≡ None)
-
--- of each cell it is known how many agents there are before it, and how many there are
-pub record AreCounted (cells : List StoreCell) (before : List ℕ) (agents : ℕ) : Type 0 where
-  pub many : length before ≡ length cells
-  pub each : (k : ℕ) → k < length before → get_or before k 0 ≡ agents_below cells k
-  pub all : agents ≡ agents_below cells (length cells)
 
 -- a store's parts agree
 pub record IsKept (cells : List StoreCell) (threads : ℕ) (slots : List Slot) (inboxes : List PlainInbox) (views tries : List ℕ) (book : List Event) : Type 0 where

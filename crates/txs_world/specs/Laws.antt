@@ -2,37 +2,18 @@
 use Rattle.std.specs.Prelude.{◌≡◌, ◌≤◌, ℕ, Bool, true, false, not, ◌&&◌, ◌==◌, List, [], ◌∷◌, ◌++◌, length, Some}
 use Rattle.std.proofs.Common.{get_or}
 use Rattle.txs_asks.specs.Ask.{Writes}
-use Rattle.txs_value.specs.Cells.{World}
 use Rattle.txs_asks.specs.declared.ask.Ask.{Ask}
 use Rattle.txs_asks.specs.declared.ask.Ask.TheVariants.{Commit}
 use Rattle.txs_asks.specs.declared.ask.Reply.TheVariants.{Done, AgentIsFailed}
-use Rattle.txs_value.specs.declared.action.Action.{Action}
+use Rattle.txs_cells.specs.declared.action.Action.{Action}
 use Rattle.txs_value.specs.declared.value.CellId.{CellId}
 use Rattle.txs_value.specs.declared.value.Value.{Value}
 use Rattle.txs_asks.specs.declared.event.Event.{Event}
 use Rattle.txs_asks.specs.declared.event.EventKind.{EventKind}
 use Rattle.txs_asks.specs.declared.event.EventKind.TheVariants as event
-use Rattle.txs_world.specs.Atom.{atom_after, swapped_since, LegalAtom, serve_atom, is_lawful_atom}
-use Rattle.txs_world.specs.Book.{cells_in, has_agent, opening, is_there, after, newest, written, mail_after, first_failed, waits, Legal, Untouched, Undisturbed}
-use Rattle.txs_world.specs.History.{before, past_of, history_of, replayed_from}
+use Rattle.txs_book.specs.Book.{cells_in, has_agent, opening, is_there, newest, mail_after, first_failed, waits, Legal, Untouched, Undisturbed}
 use Rattle.txs_world.specs.Store.{PlainStore, next_action, serve, store_after, is_lawful}
-use Rattle.txs_world.specs.declared.cell.StoreCell.{StoreCell}
-
--- what comes later leaves the worlds up to a place as they were
-abbrev pub WorldsStay : Type 0
-WorldsStay = (w : World) (book more : List Event) (k : ℕ) → k ≤ length book → after w (book ++ more) k ≡ after w book k
-
--- a ref that wasn't written since a place has its value of then
-abbrev pub UnwrittenStays : Type 0
-UnwrittenStays = (w : World) (book : List Event) (p k : ℕ) → written k p book ≡ false → after w book (length book) k ≡ after w book p k
-
--- one more event is in its actor's history alone
-abbrev pub HistoryGrows : Type 0
-HistoryGrows = (w : World) (a : ℕ) (book : List Event) (e : Event) → history_of w a (book ++ e ∷ []) ≡ history_of w a book ++ before (e.actor == a) (past_of w book e.kind) []
-
--- an event's worlds, which are of the events before it, are those of the whole book
-abbrev pub HistoryOfWhole : Type 0
-HistoryOfWhole = (cells : List StoreCell) (threads : ℕ) (w : World) (a : ℕ) (book : List Event) → Legal cells threads book → history_of w a book ≡ replayed_from w a book 0 book
+use Rattle.txs_book.specs.declared.cell.StoreCell.{StoreCell}
 
 -- the first action of each agent that is taken waits, and the agent hasn't failed
 abbrev pub TakenWait : PlainStore → Type 0
@@ -87,17 +68,3 @@ ActionStays =
     (cells : List StoreCell) (threads : ℕ) (book more : List Event) (g : CellId) (x : Action)
     → Legal cells threads (book ++ more) → has_agent cells g ≡ true → no_acts g.number more ≡ true → next_action cells book g ≡ Some x
     → (next_action cells (book ++ more) g ≡ Some x) × ((mail_after cells (book ++ more) g.number).acts ≡ (mail_after cells book g.number).acts) × (newest (opening cells) (book ++ more) g.number ≡ newest (opening cells) book g.number)
-
--- ---- atoms
-
--- what comes later leaves an atom's values up to a place as they were
-abbrev pub AtomStays : Type 0
-AtomStays = (v : Value) (book more : List Event) (k : ℕ) → k ≤ length book → atom_after v (book ++ more) k ≡ atom_after v book k
-
--- an atom that wasn't swapped since a place has its value of then
-abbrev pub UnswappedStays : Type 0
-UnswappedStays = (v : Value) (book : List Event) (p : ℕ) → swapped_since p book ≡ false → atom_after v book (length book) ≡ atom_after v book p
-
--- what an atom's book does keeps it legal
-abbrev pub AtomServeKeeps : Type 0
-AtomServeKeeps = (cell : CellId) (v : Value) (a : ℕ) (q : Ask) (book : List Event) → is_lawful_atom cell a q book ≡ true → LegalAtom cell book → LegalAtom cell (serve_atom cell v a q book).book

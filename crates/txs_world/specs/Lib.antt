@@ -1,6 +1,3 @@
-pub mod Atom
-pub mod Book
-pub mod History
 pub mod Inboxes
 pub mod Kept
 pub mod Laws

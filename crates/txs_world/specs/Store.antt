@@ -2,23 +2,24 @@
 use Rattle.std.specs.Prelude.{◌≡◌, ℕ, suc, Bool, true, false, not, ◌&&◌, ◌||◌, ◌==◌, nat_lt, List, [], ◌∷◌, ◌++◌, length, map, set, Option, Some, None, if◌then◌else◌}
 use Rattle.std.proofs.Common.{get_or}
 use Rattle.txs_asks.specs.Ask.{Writes, with_write}
-use Rattle.txs_value.specs.Cells.{World}
+use Rattle.txs_cells.specs.Cells.{World}
 use Rattle.txs_asks.specs.declared.ask.Ask.{Ask}
 use Rattle.txs_asks.specs.declared.ask.Ask.TheVariants as ask
 use Rattle.txs_asks.specs.declared.ask.Reply.{Reply}
 use Rattle.txs_asks.specs.declared.ask.Reply.TheVariants as reply
-use Rattle.txs_value.specs.declared.action.Action.{Action}
-use Rattle.txs_value.specs.declared.cell.CellDefinition.{CellDefinition}
-use Rattle.txs_value.specs.declared.cell.ErrorMode.{ErrorMode}
-use Rattle.txs_value.specs.declared.cell.ErrorMode.TheVariants as mode
+use Rattle.txs_cells.specs.declared.action.Action.{Action}
+use Rattle.txs_cells.specs.declared.cell.CellDefinition.{CellDefinition}
+use Rattle.txs_cells.specs.declared.cell.ErrorMode.{ErrorMode}
+use Rattle.txs_cells.specs.declared.cell.ErrorMode.TheVariants as mode
 use Rattle.txs_asks.specs.declared.event.Event.{Event}
 use Rattle.txs_asks.specs.declared.event.EventKind.{EventKind}
 use Rattle.txs_asks.specs.declared.event.EventKind.TheVariants.{Read, Commit, Retry, Fail, Refused, Send, SendRefused, Act}
 use Rattle.txs_value.specs.declared.value.CellId.{CellId}
 use Rattle.txs_value.specs.declared.value.Value.{Value}
-use Rattle.txs_world.specs.Book.{has_ref, has_agent, has_readable, cells_in, are_refs, has_refs, are_sends, actor_of, may_name, may_end, opening, after, newest, written, least_written, mail_after, is_failed, first_failed}
+use Rattle.txs_book.specs.Book.{has_ref, has_agent, has_readable, cells_in, are_refs, has_refs, are_sends, actor_of, may_name, may_end, opening, after, newest, written, least_written, mail_after, is_failed, first_failed}
 use Rattle.txs_value.specs.Limits.{most_events}
-use Rattle.txs_world.specs.declared.cell.StoreCell.{StoreCell}
+use Rattle.txs_book.specs.Served.{Served, served, adds}
+use Rattle.txs_book.specs.declared.cell.StoreCell.{StoreCell}
 
 -- a store as contracts see it: its cells as they opened, how many threads there are, its book, and of each cell whether it is an agent whose first action is taken
 pub record PlainStore : Type 0 where
@@ -30,19 +31,6 @@ pub record PlainStore : Type 0 where
 -- the store of these cells and so many threads, with this book and these agents' actions taken
 abbrev pub store_with : List StoreCell → ℕ → List Event → List Bool → PlainStore
 store_with cells threads book taken = record { cells = cells; threads = threads; book = book; taken = taken }
-
--- whether an agent of this error mode goes on after a fault
-abbrev pub continues : ErrorMode → Bool
-continues mode.Fail = false
-continues mode.Continue = true
-
--- the store's cell of a definition, without its name
-abbrev pub cell_of : CellDefinition → StoreCell
-cell_of d = record { kind = d.kind; opening = d.opening; goes_on = continues d.error_mode }
-
--- the store's cells of these definitions
-abbrev pub cells_of : List CellDefinition → List StoreCell
-cells_of ds = map cell_of ds
 
 -- of no cell an action is taken
 abbrev pub none_taken : List StoreCell → List Bool
@@ -102,23 +90,6 @@ has_named s a (ask.Broke c at) = false
 -- whether the actor may ask this of the store
 abbrev pub is_lawful : PlainStore → ℕ → Ask → Bool
 is_lawful s a q = may_ask s.cells s.threads a q && has_named s a q
-
--- a reply, and the book after it
-pub record Served : Type 0 where
-  pub reply : Reply
-  pub book : List Event
-
--- this reply, with this book after it
-abbrev pub served : Reply → List Event → Served
-served r book = record { reply = r; book = book }
-
--- what an actor did, as an event
-abbrev pub event_of : ℕ → EventKind → Event
-event_of a kind = record { actor = a; kind = kind }
-
--- the event goes to the book's end, unless the book is full
-abbrev pub adds : ℕ → EventKind → Reply → List Event → Served
-adds a kind r book = if nat_lt (length book) most_events then served r (book ++ event_of a kind ∷ []) else served reply.Full book
 
 -- a read in a transaction: that it has to run again where the ref was written since, else the value at the read point
 abbrev pub looks : Bool → World → ℕ → CellId → ℕ → List Event → Served

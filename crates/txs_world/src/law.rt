@@ -1,27 +1,6 @@
-//! Laws of books and of what the store answers. Each stands on a function of its own, which does nothing
-//! when it runs.
+//! Laws of what the store answers. Each stands on a function of its own, which does nothing when it runs.
 
-ghost use Rattle.txs_world.specs.Laws.{WorldsStay, UnwrittenStays, HistoryGrows, HistoryOfWhole, ServeKeeps, DoneIsUndisturbed, RefusedIsUndisturbed, ActionStays, AtomStays, UnswappedStays, AtomServeKeeps};
-
-/// What comes later leaves the worlds up to a place as they were.
-pub fn worlds_stay()
-    ensures { WorldsStay }
-{}
-
-/// A ref that wasn't written since a place has its value of then.
-pub fn unwritten_stays()
-    ensures { UnwrittenStays }
-{}
-
-/// One more event is in its actor's history alone.
-pub fn history_grows()
-    ensures { HistoryGrows }
-{}
-
-/// The worlds of an actor's history are those of the whole book.
-pub fn history_of_whole()
-    ensures { HistoryOfWhole }
-{}
+ghost use Rattle.txs_world.specs.Laws.{ServeKeeps, DoneIsUndisturbed, RefusedIsUndisturbed, ActionStays};
 
 /// What the store does keeps its book legal, its commits undisturbed, and each action that is taken waiting.
 pub fn serve_keeps()
@@ -42,19 +21,4 @@ pub fn refused_is_undisturbed()
 /// The action that an agent runs next stays so, with its number and the agent's state, until the agent has run one.
 pub fn action_stays()
     ensures { ActionStays }
-{}
-
-/// What comes later leaves an atom's values up to a place as they were.
-pub fn atom_stays()
-    ensures { AtomStays }
-{}
-
-/// An atom that wasn't swapped since a place has its value of then.
-pub fn unswapped_stays()
-    ensures { UnswappedStays }
-{}
-
-/// What an atom's book does keeps it legal.
-pub fn atom_serve_keeps()
-    ensures { AtomServeKeeps }
 {}

@@ -1,12 +1,9 @@
-//! The store: the refs and agents that threads share, and the book of what actors did to them; and atoms, each with a book of
-//! its own. Promises that each ask is answered as the replay of its book says, and that the book stays legal.
+//! The store: the refs and agents that threads share, and the book of what actors did to them. Promises that each ask is
+//! answered as the replay of its book says, and that the book stays legal.
 #![tactic(auto)]
 
-pub mod atom;
-pub mod cell;
 mod commit;
 mod inbox;
-mod journal;
 pub mod law;
 mod lawful;
 mod mail;
@@ -14,6 +11,4 @@ mod serve;
 mod slot;
 pub mod store;
 
-pub use atom::AtomBook;
-pub use cell::StoreCell;
 pub use store::Store;

@@ -1,10 +1,11 @@
 //! What the store answers.
 
 ghost use Rattle.std.specs.Prelude.{◌≡◌, ◌≤◌, ◌<◌, nat_lt, [], ◌↔◌, map, length, true, false, IsTrue, IfOk, OnOk};
-ghost use Rattle.txs_world.specs.Book.{has_cell, has_ref, has_readable, has_refs, may_name, may_end, opening, newest, written, makes, LegalKind};
+ghost use Rattle.txs_book.specs.Book.{has_cell, has_ref, has_readable, has_refs, may_name, may_end, opening, newest, written, makes, LegalKind};
 ghost use Rattle.txs_value.specs.Limits.{most_events};
 ghost use Rattle.txs_world.specs.Kept.{ChangesNothing};
-ghost use Rattle.txs_world.specs.Store.{is_lawful, adds, looks, serve, store_after, served, TakesMemory, Answers, Replies};
+ghost use Rattle.txs_world.specs.Store.{is_lawful, looks, serve, store_after, TakesMemory, Answers, Replies};
+ghost use Rattle.txs_book.specs.Served.{adds, served};
 ghost use Rattle.txs_asks.specs.declared.ask.Reply.TheVariants as reply;
 ghost use Rattle.txs_asks.specs.declared.event.EventKind.TheVariants as event;
 

@@ -1,13 +1,13 @@
 //! The newest values of cells, and the lists of what an event writes.
 
 ghost use Rattle.std.specs.Prelude.{◌≡◌, ◌<◌, ◌≤◌, ◌++◌, ◌∷◌, [], length, set, true, IfOk, OnOk};
-ghost use Rattle.txs_world.specs.Book.{cells_in};
+ghost use Rattle.txs_book.specs.Book.{cells_in};
 ghost use Rattle.txs_world.specs.Kept.{slot_of, open_slots, put_all, all_below};
 ghost use Rattle.txs_world.specs.Store.{are_apart, merged};
 ghost use Rattle.txs_world.specs.Places.{place_of, Ascend, is_first};
 
-use crate::cell::StoreCell;
 use std::alloc::{AllocError, Global};
+use txs_book::StoreCell;
 use txs_value::{CellId, Listed, Value, copy_value};
 
 /// The newest value of a cell, and how many events the book has up to the last one that wrote it: 0

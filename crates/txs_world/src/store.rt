@@ -1,18 +1,20 @@
 //! The store of refs and agents, with its book.
 
 ghost use Rattle.std.specs.Prelude.{◌≡◌, ◌↔◌, [], length, true, false, IsTrue, IfOk};
-ghost use Rattle.txs_world.specs.Book.{has_cell, has_agent, opening, newest, mail_after, Legal, Undisturbed};
-ghost use Rattle.txs_world.specs.Store.{PlainStore, store_with, cell_of, cells_of, none_taken};
+ghost use Rattle.txs_book.specs.Book.{has_cell, has_agent, opening, newest, mail_after, Legal, Undisturbed};
+ghost use Rattle.txs_world.specs.Store.{PlainStore, store_with, none_taken};
+ghost use Rattle.txs_book.specs.Served.{cell_of, cells_of};
 
-use crate::cell::{Cells, StoreCell, continues};
 use crate::inbox::{Inbox, open_inboxes};
-use crate::journal::Journal;
 use crate::slot::{Slot, open_slots};
 use std::alloc::{AllocError, Global};
 use std::collections::VecDeque;
 use std::marker::Model;
 use txs_asks::Event;
-use txs_value::{Action, CellDefinition, CellId, Fault, Value, same};
+use txs_book::{Cells, Journal, StoreCell, continues};
+use txs_cells::{Action, CellDefinition};
+use txs_terms::Fault;
+use txs_value::{CellId, Value, same};
 
 /// The refs and agents that threads share, with the book of what actors did to them. Each atom has a book of its own.
 #[derive(Drop)]

@@ -1,5 +1,5 @@
 use Rattle.std.proofs.Common.{◌≡◌, true, sym, ap, ◌∙◌, subst}
-use Rattle.txs_value.specs.declared.op.Callee.{Callee}
+use Rattle.txs_terms.specs.declared.op.Callee.{Callee}
 use Rattle.txs_tree.specs.Known.{known}
 use Rattle.txs_tree.specs.Pure.{PureCallee}
 use Rattle.txs_tree.specs.View.{functions_of}

@@ -1,5 +1,5 @@
 use Rattle.std.proofs.Common.{rules, ◌≡◌, suc, length, refl, sym, ap, ◌∙◌}
-use Rattle.txs_value.specs.declared.form.CellForm.TheVariants as form_of
+use Rattle.txs_cells.specs.declared.form.CellForm.TheVariants as form_of
 use Rattle.txs_tree.specs.Tree.{count}
 use Rattle.txs_tree.specs.View.{trees_of}
 use Rattle.txs_check.specs.Refused.{applied, calls, here, operates, recurs}

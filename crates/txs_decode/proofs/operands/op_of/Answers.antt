@@ -1,5 +1,5 @@
 use Rattle.std.proofs.Common.{◌≡◌, ap, ◌∙◌, sym, rules, arith}
-use Rattle.txs_value.specs.Places.{nth}
+use Rattle.txs_terms.specs.Places.{nth}
 use Rattle.txs_decode.specs.InstrForm.{operations}
 use Rattle.txs_decode.proofs.Lists.{nth_past, op_answer}
 use Rattle.txs_decode.proofs.operands.op_of.Goals as goal

@@ -2,7 +2,7 @@ use Rattle.std.proofs.Common.{[], sym, subst}
 use Rattle.txs_tree.specs.Pure.{pure_meaning}
 use Rattle.txs_tree.specs.Sound.{SoundFunctions}
 use Rattle.txs_tree.specs.View.{functions_of}
-use Rattle.txs_value.specs.declared.op.Callee.TheVariants.{Function}
+use Rattle.txs_terms.specs.declared.op.Callee.TheVariants.{Function}
 use Rattle.txs_eval.proofs.Ends.{whole_of, waitless}
 use Rattle.txs_eval.proofs.PureEnds.{callable_here, told_pure}
 use Rattle.txs_eval.proofs.pure_call.call_function.Goals as goal

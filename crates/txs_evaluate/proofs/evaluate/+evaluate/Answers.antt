@@ -4,9 +4,9 @@ use Rattle.txs_asks.specs.Ask.{Writes}
 use Rattle.txs_asks.specs.SeenEvent.{home}
 use Rattle.txs_frame.specs.Frame.{phase_work, set_writes}
 use Rattle.txs_operations.specs.Core.{is_false}
-use Rattle.txs_value.specs.Forms.{rule, cell_of}
+use Rattle.txs_cells.specs.Forms.{rule, cell_of}
 use Rattle.txs_value.specs.Limits.{reruns}
-use Rattle.txs_value.specs.Places.{nth}
+use Rattle.txs_terms.specs.Places.{nth}
 use Rattle.txs_value.specs.declared.value.CellId.{CellId}
 use Rattle.txs_value.specs.declared.value.Value.{Value}
 use Rattle.txs_evaluate.specs.Evaluated.{ReadyIn, Runs, SoundCommutes, body_means, part, is_on, forms_in, calls_in, Yields, GivesAll, Steps, means, all_mean, do_means, let_means, locals_mean, loop_means, turns_mean, form_means, inside_means, outside_means, update_means, swap_means, applied, redone_means, final_means, dosync_means, transacting, at_end, eat_means, ended, end_stop, thread_state}

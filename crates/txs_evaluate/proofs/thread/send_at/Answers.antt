@@ -1,7 +1,7 @@
 use Rattle.std.proofs.Common.{refl, sym, ap, ◌∙◌}
 use Rattle.txs_evaluate.specs.Evaluated.{sending}
 use Rattle.txs_evaluate.specs.declared.thread.Sending.TheVariants.{Sent, Refused, Other}
-use Rattle.txs_value.specs.declared.action.Action.{Action}
+use Rattle.txs_cells.specs.declared.action.Action.{Action}
 use Rattle.txs_evaluate.proofs.Forms.{send_as}
 use Rattle.txs_evaluate.proofs.thread.send_at.Goals as goal
 

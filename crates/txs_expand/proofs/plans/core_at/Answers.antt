@@ -1,5 +1,5 @@
 use Rattle.std.proofs.Common.{◌≡◌, true, false, refl, sym, ap, ◌∙◌}
-use Rattle.txs_value.specs.declared.fault.Span.{Span}
+use Rattle.txs_terms.specs.declared.fault.Span.{Span}
 use Rattle.txs_reader.specs.Tree.{Tree as FormTree, place}
 use Rattle.txs_expand.specs.declared.parts.Part.{Part}
 use Rattle.txs_expand.specs.declared.parts.Part.TheVariants as part

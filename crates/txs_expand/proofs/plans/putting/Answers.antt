@@ -1,5 +1,5 @@
 use Rattle.std.proofs.Common.{List, Some, sym, ap, ◌∙◌}
-use Rattle.txs_value.specs.declared.form.CellForm.TheVariants.{Put}
+use Rattle.txs_cells.specs.declared.form.CellForm.TheVariants.{Put}
 use Rattle.txs_reader.specs.declared.form.Form.{Form}
 use Rattle.txs_reader.specs.Tree.{first, tree}
 use Rattle.txs_expand.specs.Expressions.{of_family}

@@ -1,5 +1,5 @@
 use Rattle.std.proofs.Common.{◌≡◌, ◌+◌, ◌++◌, ◌∷◌, List, [], length, get_or, take, true, false, rules, refl, sym, subst, arith}
-use Rattle.txs_value.specs.Forms.{same_kind}
+use Rattle.txs_cells.specs.Forms.{same_kind}
 use Rattle.txs_value.specs.declared.value.CellId.{CellId}
 use Rattle.txs_value.specs.declared.value.CellKind.TheVariants.{Agent}
 use Rattle.txs_actor.specs.PlainActor.{agents_from}

@@ -3,7 +3,8 @@ use Rattle.txs_actor.proofs.Following.{actors_run}
 use Rattle.txs_actor.specs.PlainActor.{agents_from}
 use Rattle.txs_actor.specs.Turns.{IsNew}
 use Rattle.txs_runs.proofs.Typed.{typed_stands}
-use Rattle.txs_world.specs.Store.{cells_of, none_taken}
+use Rattle.txs_book.specs.Served.{cells_of}
+use Rattle.txs_world.specs.Store.{none_taken}
 use Rattle.txs_machine.specs.Agents.{agents_of}
 use Rattle.txs_machine.specs.Playing.{IsBetween, AreBetween, AreNew}
 use Rattle.txs_machine.specs.Plays.{AreOpenedFor}

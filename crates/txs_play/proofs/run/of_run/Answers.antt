@@ -5,7 +5,7 @@ use Rattle.txs_tell.specs.AgentLines.{named_from}
 use Rattle.txs_tell.specs.Lent.{script_of, told_of}
 use Rattle.txs_tell.specs.Told.{EndsTold, cells_told, events_told, run_status}
 use Rattle.txs_play.proofs.run.of_run.Goals as goal
-use Rattle.txs_value.specs.declared.cell.CellDefinition.{CellDefinition}
+use Rattle.txs_cells.specs.declared.cell.CellDefinition.{CellDefinition}
 
 pub of_report-requires-clause-one_each : goal.of_report-requires-clause-one_each
 of_report-requires-clause-one_each c =

@@ -11,7 +11,7 @@ use Rattle.txs_tell.specs.Told.{RunAnswers, RunTells, cells_told, events_told}
 use Rattle.txs_tell.specs.declared.told.Told as owned
 use Rattle.txs_tell.proofs.Fronts.{ok_three}
 use Rattle.txs_play.specs.CodeTold.{CodeTells, Ran, no_script, of_run, of_no_actor}
-use Rattle.txs_value.specs.declared.cell.CellDefinition.{CellDefinition}
+use Rattle.txs_cells.specs.declared.cell.CellDefinition.{CellDefinition}
 use Rattle.txs_play.proofs.usage.run_verified.Goals as goal
 
 -- a play names no actor

@@ -1,5 +1,5 @@
 use Rattle.std.proofs.Common.{◌≡◌, ◌<◌, ◌+◌, length, rules, subst, Some}
-use Rattle.txs_value.specs.Places.{nth}
+use Rattle.txs_terms.specs.Places.{nth}
 use Rattle.txs_played.specs.Callees.{IsSentAmong, IsSentIn, MarksMore}
 use Rattle.txs_played.proofs.Sent.{body_more, nth_read, two_more}
 use Rattle.txs_played.proofs.callees.mark_bodies.Goals as goal

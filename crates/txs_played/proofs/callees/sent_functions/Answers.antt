@@ -1,5 +1,5 @@
 use Rattle.std.proofs.Common.{◌≡◌, inl, inr, false, length, replicate, rules, subst, Some}
-use Rattle.txs_value.specs.Places.{nth}
+use Rattle.txs_terms.specs.Places.{nth}
 use Rattle.txs_played.specs.Callees.{IsSentAmong, MarksMore}
 use Rattle.txs_played.proofs.Sent.{all_callees}
 use Rattle.txs_played.proofs.callees.sent_functions.Goals as goal

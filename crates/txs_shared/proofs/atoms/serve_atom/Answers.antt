@@ -1,5 +1,5 @@
 use Rattle.std.proofs.Common.{sym, subst}
-use Rattle.txs_world.specs.Atom.{AtomAnswers, serve_atom}
+use Rattle.txs_book.specs.Atom.{AtomAnswers, serve_atom}
 use Rattle.txs_shared.proofs.atoms.serve_atom.Goals as goal
 
 pub returns-in-OpenAt : goal.returns-in-OpenAt

@@ -4,7 +4,7 @@ use Rattle.std.proofs.lemmas.List.{append-nil, drop_all}
 use Rattle.txs_shared.specs.SharedState.{newest_of}
 use Rattle.txs_tell.specs.CellLines.{cell_lines}
 use Rattle.txs_value.proofs.PrintedLemmas.{Extends-after}
-use Rattle.txs_value.specs.declared.cell.CellDefinition.{CellDefinition}
+use Rattle.txs_cells.specs.declared.cell.CellDefinition.{CellDefinition}
 use Rattle.txs_tell.proofs.cells.append_cells.Goals as goal
 
 pub returns-in_err-write_cell-clause-kept : goal.returns-in_err-write_cell-clause-kept

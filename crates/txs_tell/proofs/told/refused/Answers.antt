@@ -2,7 +2,7 @@ use Rattle.std.proofs.Common.{◌≡◌, ◌++◌, ◌∙◌, ℕ, List, Option,
 use Rattle.txs_tell.specs.Lent.{script_of}
 use Rattle.txs_tell.specs.Lines.{IsLesson, lesson_of, refusal_line, refused_line, refused_place}
 use Rattle.txs_tell.specs.Told.{of_refused}
-use Rattle.txs_value.specs.declared.fault.Span.{Span}
+use Rattle.txs_terms.specs.declared.fault.Span.{Span}
 use Rattle.txs_tell.proofs.Lessons.{is_refusal_line, line_told}
 use Rattle.txs_tell.proofs.told.refused.Goals as goal
 

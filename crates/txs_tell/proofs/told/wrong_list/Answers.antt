@@ -1,7 +1,7 @@
 use Rattle.std.proofs.Common.{◌≡◌, ◌++◌, ◌∙◌, ℕ, List, Option, codes, ap, subst}
 use Rattle.txs_tell.specs.Lent.{script_of}
 use Rattle.txs_tell.specs.Lines.{IsLesson}
-use Rattle.txs_value.specs.declared.fault.Span.{Span}
+use Rattle.txs_terms.specs.declared.fault.Span.{Span}
 use Rattle.txs_tell.proofs.Lessons.{begun_told}
 use Rattle.txs_tell.proofs.told.wrong_list.Goals as goal
 

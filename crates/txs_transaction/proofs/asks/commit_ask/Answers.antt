@@ -2,7 +2,7 @@ use Rattle.std.proofs.Common.{◌≡◌, ◌∙◌, ℕ, List, ap}
 use Rattle.txs_asks.specs.Ask.{Writes}
 use Rattle.txs_asks.specs.declared.ask.Ask.TheVariants.{Commit}
 use Rattle.txs_frame.specs.Frame.{set_writes}
-use Rattle.txs_value.specs.declared.action.Action.{Action}
+use Rattle.txs_cells.specs.declared.action.Action.{Action}
 use Rattle.txs_value.specs.declared.value.CellId.{CellId}
 use Rattle.txs_transaction.proofs.asks.commit_ask.Goals as goal
 

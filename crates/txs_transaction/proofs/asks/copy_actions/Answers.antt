@@ -1,6 +1,6 @@
 use Rattle.std.proofs.Common.{◌≡◌, ◌<◌, ◌+◌, ◌∙◌, ◌∷◌, ◌++◌, [], ℕ, List, length, take, get_or, ap, sym, arith}
 use Rattle.std.proofs.lemmas.List.{take_more}
-use Rattle.txs_value.specs.declared.action.Action.{Action}
+use Rattle.txs_cells.specs.declared.action.Action.{Action}
 use Rattle.txs_transaction.proofs.asks.copy_actions.Goals as goal
 
 -- one more is copied

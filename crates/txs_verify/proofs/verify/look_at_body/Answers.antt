@@ -1,5 +1,5 @@
 use Rattle.std.proofs.Common.{◌≡◌, ◌<◌, Option, Some, None, sym, ap, subst, ◌∙◌}
-use Rattle.txs_value.specs.Places.{nth}
+use Rattle.txs_terms.specs.Places.{nth}
 use Rattle.txs_code.specs.PlainCode.{CodeBody, parameters_of}
 use Rattle.txs_verify.specs.Alone.{IsRight}
 use Rattle.txs_verify.proofs.Lists.{nth_is}

@@ -1,7 +1,7 @@
 use Rattle.std.proofs.Common.{rules, arith, length}
 use Rattle.txs_code.specs.PlainCode.{parameters_of}
 use Rattle.txs_code.specs.declared.instr.Instr.TheVariants.{Const}
-use Rattle.txs_value.specs.Places.{nth}
+use Rattle.txs_terms.specs.Places.{nth}
 use Rattle.txs_verify.proofs.Going.{jumps_further}
 use Rattle.txs_verify.proofs.Lists.{nth_is}
 use Rattle.txs_verify.proofs.Reached.{gives_passed}

@@ -1,5 +1,5 @@
 use Rattle.std.proofs.Common.{◌≤◌, ◌+◌, ◌∙◌, ap, length, subst, sym}
-use Rattle.txs_world.proofs.Lists.{take_next}
+use Rattle.txs_book.proofs.Lists.{take_next}
 use Rattle.txs_world.proofs.inbox.fill_queue.Goals as goal
 
 pub loop-action-preserved : goal.loop-action-preserved

@@ -1,7 +1,7 @@
 use Rattle.std.proofs.Common.{◌∙◌, ap, length}
 use Rattle.txs_world.specs.Kept.{slot_of}
-use Rattle.txs_world.specs.declared.cell.StoreCell.{StoreCell}
-use Rattle.txs_world.proofs.Lists.{map_next, one_more}
+use Rattle.txs_book.specs.declared.cell.StoreCell.{StoreCell}
+use Rattle.txs_book.proofs.Lists.{map_next, one_more}
 use Rattle.txs_world.proofs.slot.open_slots.Goals as goal
 
 pub loop-cell-init : goal.loop-cell-init

@@ -4,8 +4,8 @@ use Rattle.txs_eval_work.specs.Worked.{Stops}
 use Rattle.txs_tree.specs.Meaning.{Faults}
 use Rattle.txs_tree.specs.Thread.{eats_tx, is_retry}
 use Rattle.txs_value.specs.Limits.{reruns}
-use Rattle.txs_value.specs.Places.{fault_at}
-use Rattle.txs_value.specs.declared.fault.FaultKind.TheVariants.{RetryLimit}
+use Rattle.txs_terms.specs.Places.{fault_at}
+use Rattle.txs_terms.specs.declared.fault.FaultKind.TheVariants.{RetryLimit}
 use Rattle.txs_evaluate.proofs.Ending.{unmatched, eats_none, eats_end, eats_more}
 use Rattle.txs_evaluate.proofs.state.Progress.end_of_tx.Goals as goal
 

@@ -1,6 +1,6 @@
 use Rattle.std.proofs.Common.{refl, sym, ap, ◌∙◌}
 use Rattle.std.specs.List.{list_any}
-use Rattle.txs_value.specs.Operations.{op_name}
+use Rattle.txs_terms.specs.Operations.{op_name}
 use Rattle.txs_names.specs.Scope.{form_name, form_names, is_dot, operations, with_name}
 use Rattle.txs_names.proofs.Heads.{stands_so}
 use Rattle.txs_names.proofs.scope.Scope.lookup.Goals as goal

@@ -1,6 +1,6 @@
 use Rattle.std.proofs.Common.{◌≡◌, ◌<◌, true, get_or, length, sym, ◌∙◌, ap, subst}
 use Rattle.txs_asks.specs.SeenEvent.{atoms_below}
-use Rattle.txs_world.specs.Atom as world
+use Rattle.txs_book.specs.Atom as world
 use Rattle.txs_shared.specs.Kept.{state_of, no_atom, AnswersAt}
 use Rattle.txs_shared.specs.SharedState.{PlainShared, is_lawful, answer_to, Answers}
 use Rattle.txs_shared.proofs.Serving.{atom_serves, atom_answers, atom_kept, store_answers, store_kept}

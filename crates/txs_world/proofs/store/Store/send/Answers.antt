@@ -2,9 +2,10 @@ use Rattle.std.proofs.Common.{◌≡◌, ◌<◌, ◌∙◌, ◌∷◌, [], ap, 
 use Rattle.txs_asks.specs.declared.ask.Reply.TheVariants as reply
 use Rattle.txs_asks.specs.declared.event.EventKind.TheVariants.{Send}
 use Rattle.txs_value.specs.Limits.{most_events}
-use Rattle.txs_world.specs.Book.{makes, LegalKind}
+use Rattle.txs_book.specs.Book.{makes, LegalKind}
 use Rattle.txs_world.specs.Inboxes.{plain_inboxes, mailed_all, taken_of}
-use Rattle.txs_world.specs.Store.{PlainStore, event_of, store_with}
+use Rattle.txs_world.specs.Store.{PlainStore, store_with}
+use Rattle.txs_book.specs.Served.{event_of}
 use Rattle.txs_world.proofs.Answering.{has_room, sends_so, told, told_full, told_not}
 use Rattle.txs_world.proofs.Kept.{sent, same_stands}
 use Rattle.txs_world.proofs.Storing.{stored, unstored, entered_leaves}

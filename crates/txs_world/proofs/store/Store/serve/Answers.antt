@@ -3,9 +3,10 @@ use Rattle.txs_asks.specs.declared.ask.Ask.{Ask}
 use Rattle.txs_asks.specs.declared.ask.Ask.TheVariants as ask
 use Rattle.txs_asks.specs.declared.ask.Reply.{Reply}
 use Rattle.txs_asks.specs.declared.ask.Reply.TheVariants as reply
-use Rattle.txs_world.specs.Book.{has_agent, has_ref, may_name, opening, newest}
-use Rattle.txs_world.specs.Store.{PlainStore, has_named, is_lawful, is_taken, may_ask, serve, served, store_after, Answers, Replies}
-use Rattle.txs_world.proofs.Merging.{both}
+use Rattle.txs_book.specs.Book.{has_agent, has_ref, may_name, opening, newest}
+use Rattle.txs_world.specs.Store.{PlainStore, has_named, is_lawful, is_taken, may_ask, serve, store_after, Answers, Replies}
+use Rattle.txs_book.specs.Served.{served}
+use Rattle.txs_book.proofs.Outcomes.{both}
 use Rattle.txs_world.proofs.Serves.{lawful}
 use Rattle.txs_world.proofs.store.Store.serve.Goals as goal
 

@@ -1,7 +1,7 @@
 use Rattle.std.proofs.Common.{◌≤◌, length, subst, sym}
 use Rattle.txs_value.specs.declared.value.CellId.{CellId}
-use Rattle.txs_world.specs.Book.{newest, opening}
-use Rattle.txs_world.proofs.Lists.{map_more, one_more, refs_later}
+use Rattle.txs_book.specs.Book.{newest, opening}
+use Rattle.txs_book.proofs.Lists.{map_more, one_more, refs_later}
 use Rattle.txs_world.proofs.store.Store.share_all.Goals as goal
 
 pub loop-cell-preserved : goal.loop-cell-preserved

@@ -1,0 +1,13 @@
+//! Books of events: which are legal, and what they make of the cells, by definitions; the journal that holds one, and knows
+//! where each actor stands; the cells of a script as they open; and atoms, each with a book of its own. Promises that an atom
+//! answers each ask as the replay of its book says, and that its book stays legal.
+#![tactic(auto)]
+
+pub mod atom;
+pub mod cell;
+pub mod journal;
+pub mod law;
+
+pub use atom::AtomBook;
+pub use cell::{Cells, StoreCell, continues};
+pub use journal::{Journal, stand_of};
