@@ -1,6 +1,6 @@
 //! Runs of all threads and agents over what they share, by turns that a schedule names.
 
-ghost use Rattle.std.specs.Prelude.{◌≡◌, ◌<◌, ◌≤◌, ◌+◌, ℕ, [], length, true, false, IfOk, IfErr, IfSome, OnOk, Some, None};
+ghost use Rattle.std.specs.Prelude.{◌≡◌, ◌<◌, ◌≤◌, ◌+◌, ℕ, [], length, true, false, IfOk, IfErr, IfSome, IsTrue, OnOk, Some, None};
 ghost use Rattle.txs_actor.specs.PlainActor.{MayRun, with_agent};
 ghost use Rattle.txs_machine.specs.declared.schedule.ScheduleError.TheVariants.{Memory};
 ghost use Rattle.txs_machine.specs.RunOver.{IsStateOf, books_of};
@@ -151,8 +151,15 @@ fn open_players(
     Ok(())
 }
 
+/// The plays that a schedule or a round makes of any actor.
+struct OfAny;
+
+/// The plays of the only one that is left.
+struct OfLast;
+
 /// A play of an actor: up to so many turns, up to its end or an ask, which is served. One that has ended stays as it is.
-fn play_actor(
+/// The type says for whom it is: each caller has a copy of it, which is inlined so.
+fn play_actor<Caller>(
     player: &mut Player,
     code: &Verified,
     shared: &mut SharedState,
@@ -216,7 +223,7 @@ fn play_at(
     let threads = players.threads.len();
     let at = k as usize;
     if at < threads {
-        play_actor(&mut players.threads[at], code, shared, k, budget, max_steps);
+        play_actor::<OfAny>(&mut players.threads[at], code, shared, k, budget, max_steps);
     } else {
         play_agent(
             &mut players.agents[at - threads],
@@ -227,6 +234,15 @@ fn play_at(
             max_steps,
         );
     }
+}
+
+/// Whether an actor hasn't ended.
+#[inline(always)]
+fn is_unended(player: &Player) -> bool
+    ensures yes { IsTrue result → player.now.actor.outcome ≡ None }
+    ensures no { result ≡ false → player.now.actor.outcome ≡ None → ⊥ }
+{
+    player.actor.outcome().is_none()
 }
 
 /// These plays, one after the other.
@@ -279,6 +295,47 @@ fn play_rest(
 {
     for k in from..actors {
         play_at(players, code, shared, k, u64::MAX, max_steps);
+    }
+}
+
+/// Where no other actor stands behind a thread's, further asks of that one, up to its end: a round has no other, since those
+/// before it have ended.
+fn play_out(
+    players: &mut Players,
+    code: &Verified,
+    shared: &mut SharedState,
+    k: u16,
+    actors: u16,
+    max_steps: u64,
+)
+    requires of { IsStateOf code.now shared.old }
+    requires playing { ArePlaying code.now max_steps shared.old players.old }
+    ensures of { IsStateOf code.now shared.new }
+    ensures playing { ArePlaying code.now max_steps shared.new players.new }
+    ensures many { length players.new.threads.items ≡ length players.old.threads.items }
+    ensures agents { length players.new.agents.items ≡ length players.old.agents.items }
+    ensures later { AreLater players.old.threads.items players.new.threads.items }
+    ensures left { left_all players.new ≤ left_all players.old }
+{
+    let _own_cells = code.code();
+    let at = k as usize;
+    if at >= players.threads.len() {
+        return;
+    }
+    if at + 1 != actors as usize {
+        return;
+    }
+    let mut going = is_unended(&players.threads[at]);
+    while going {
+        play_actor::<OfLast>(
+            &mut players.threads[at],
+            code,
+            shared,
+            k,
+            u64::MAX,
+            max_steps,
+        );
+        going = is_unended(&players.threads[at]);
     }
 }
 
@@ -339,6 +396,7 @@ fn play_rounds(
     }
     while let Some(k) = first_live(players, code, shared) {
         play_at(players, code, shared, k, u64::MAX, max_steps);
+        play_out(players, code, shared, k, actors, max_steps);
         play_rest(players, code, shared, k + 1, actors, max_steps);
     }
 }

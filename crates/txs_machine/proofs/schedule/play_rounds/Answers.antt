@@ -11,22 +11,28 @@ first_live-requires-clause-playing c = (c.args.max_steps, c.loop-k.invariant.pla
 pub loop-k-smaller : goal.loop-k-smaller
 loop-k-smaller c =
     let p = c.play_at.ensures in
+    let o = c.play_out.ensures in
     let r = c.play_rest.ensures in
     let live = p.live c.in-Some.ensures.live in
-    omega (arith, live, r.left)
+    omega (arith, live, o.left, r.left)
 
 pub loop-k-preserved : goal.loop-k-preserved
 loop-k-preserved c =
     let p = c.play_at.ensures in
+    let o = c.play_out.ensures in
     let r = c.play_rest.ensures in
     let i = c.loop-k.invariant in
+    let first = c.args.players.now.threads.items in
+    let before = c.loop-k.players.threads.items in
+    let at = c.play_at.new.players.threads.items in
+    let out = c.play_out.new.players.threads.items in
+    let rest = c.play_rest.new.players.threads.items in
     record {
       of = r.of;
       playing = r.playing;
-      many = r.many ∙ p.many ∙ i.many;
-      agents = r.agents ∙ p.agents ∙ i.agents;
-      later = later_than c.args.players.now.threads.items c.loop-k.players.threads.items c.play_rest.new.players.threads.items i.later
-          (later_than c.loop-k.players.threads.items c.play_at.new.players.threads.items c.play_rest.new.players.threads.items p.later r.later);
+      many = r.many ∙ o.many ∙ p.many ∙ i.many;
+      agents = r.agents ∙ o.agents ∙ p.agents ∙ i.agents;
+      later = later_than first before rest i.later (later_than before at rest p.later (later_than at out rest o.later r.later));
     }
 
 -- where no rounds are wanted all is as it is
