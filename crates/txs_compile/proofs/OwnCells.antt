@@ -38,7 +38,8 @@ use Rattle.txs_expand.specs.Answers.{◌>>=◌, refuse}
 use Rattle.txs_expand.specs.Expansions.{alone, body, expand_once, form_at}
 use Rattle.txs_expand.specs.Expressions.{Answer, Bound, Special, row, one_part, putting, choice, binding, changing, Core as ACore, whole, parted, Resolver, spot_at, spot_mark, in_room, some_room, narrow, symbol_node, leaf_node, leaf_value, callee_of, flag, sequence_node, are_wanted, choice_node, single_node, is_wanted, change_node, binding_node, core_of, bound_name, named_all, named_bindings, put_together, made, resolved, named}
 use Rattle.txs_expression.specs.Literals.{literal, literals}
-use Rattle.txs_resolve.specs.Names.{State, nothing, program, new_name, Defining, defining_of, new_cell, with_definition, defined_as_one, NamedForm, named_form, defined_at, parameters, Written, written, with_function, function, with_thread, future, top_level, step, steps, behind_namespace, Resolves}
+use Rattle.txs_expand.specs.Namespace.{behind_namespace}
+use Rattle.txs_resolve.specs.Names.{State, nothing, program, new_name, Defining, defining_of, new_cell, with_definition, defined_as_one, NamedForm, named_form, defined_at, parameters, Written, written, with_function, function, with_thread, future, top_level, step, steps, Resolves}
 use Rattle.txs_resolve.proofs.Scoping.{Every, then_every, one_every, two_every, three_every, if_every}
 use Rattle.txs_gen.specs.Generated.{constants_of, constants_in, constants_of_functions, constants_of_threads}
 use Rattle.txs_gen.specs.OwnCells.{ProgramNamesOwnCells}

@@ -1,4 +1,5 @@
 pub mod HiddenLocals
+pub mod Namespaces
 pub mod Rows
 pub mod Singles
 pub mod Tables

@@ -4,11 +4,13 @@
 #![tactic(auto)]
 
 mod error;
+mod namespace;
 mod parts;
 mod plans;
 mod shapes;
 
 pub use error::{ResolveError, ResolveErrorKind, refusal};
+pub use namespace::behind_namespace;
 pub use parts::{Core, Part, Special, Whole, form_at};
 pub use plans::core_at;
 pub use shapes::{Change, Couple, Sequence, Single, Spot, callee, is_symbol};

@@ -6,7 +6,8 @@ use Rattle.txs_reader.specs.Tree.{Tree as Form, place, trees_of}
 use Rattle.txs_tree.specs.Tree.{PlainFunction, PlainThread, PlainProgram}
 use Rattle.txs_expand.specs.Answers.{◌>>=◌}
 use Rattle.txs_expand.specs.Expressions.{Answer}
-use Rattle.txs_resolve.specs.Names.{State, nothing, program, step, steps, behind_namespace, Resolves}
+use Rattle.txs_expand.specs.Namespace.{behind_namespace}
+use Rattle.txs_resolve.specs.Names.{State, nothing, program, step, steps, Resolves}
 use Rattle.txs_check.specs.Order.{Ascend, BeginFrom}
 use Rattle.txs_check.specs.Refused.{Body, function_body, thread_body, in_order}
 use Rattle.txs_language.specs.TextOrder.{NestIn}

@@ -21,7 +21,8 @@ use Rattle.txs_expand.specs.Answers.{◌>>=◌, refuse}
 use Rattle.txs_expand.specs.Expansions.{body, form_at}
 use Rattle.txs_expand.specs.Expressions.{Answer, named}
 use Rattle.txs_expression.specs.Literals.{literal}
-use Rattle.txs_resolve.specs.Names.{State, nothing, program, new_name, Defining, NamedForm, with_definition, entered, defined_as_one, defined_at, define, defining_of, named_form, are_symbols, parameters, Written, written, written_behind, untold, with_function, function, with_thread, future, top_level, step, steps, behind_namespace, is_namespace, named_script, Resolves}
+use Rattle.txs_expand.specs.Namespace.{behind_namespace, is_namespace}
+use Rattle.txs_resolve.specs.Names.{State, nothing, program, new_name, Defining, NamedForm, with_definition, entered, defined_as_one, defined_at, define, defining_of, named_form, are_symbols, parameters, Written, written, written_behind, untold, with_function, function, with_thread, future, top_level, step, steps, named_script, Resolves}
 use Rattle.txs_check.specs.Refused.{Body, function_body, thread_body, before, in_order}
 use Rattle.txs_language.specs.TextOrder.{Nests, NestIn}
 use Rattle.txs_language.proofs.Earliest.{BodiesLie}

@@ -5,7 +5,8 @@ use Rattle.txs_tree.specs.Tree.{PlainProgram}
 use Rattle.txs_expand.specs.declared.error.ResolveError.{ResolveError}
 use Rattle.txs_expand.specs.Answers.{◌>>=◌}
 use Rattle.txs_expand.specs.Expressions.{Answer}
-use Rattle.txs_resolve.specs.Names.{State, nothing, program, step, steps, behind_namespace, ResolveStops}
+use Rattle.txs_expand.specs.Namespace.{behind_namespace}
+use Rattle.txs_resolve.specs.Names.{State, nothing, program, step, steps, ResolveStops}
 use Rattle.txs_language.specs.FirstForm.{StopsAt}
 
 abbrev IsErr : {A : Type 0} → Answer A → Type 0

@@ -2,7 +2,8 @@
 use Rattle.std.specs.Prelude.{◌≡◌, List, ◌∷◌, ◌++◌, Ok, Err}
 use Rattle.txs_reader.specs.Tree.{Tree as Form}
 use Rattle.txs_expand.specs.declared.error.ResolveError.{ResolveError}
-use Rattle.txs_resolve.specs.Names.{State, nothing, step, steps, behind_namespace}
+use Rattle.txs_expand.specs.Namespace.{behind_namespace}
+use Rattle.txs_resolve.specs.Names.{State, nothing, step, steps}
 
 -- The top-level forms before one of them are all resolved, and that one, behind what they define, is refused so; whatever
 -- stands behind it, it is refused so.

@@ -22,7 +22,8 @@ use Rattle.txs_resolve.specs.Defined.{Definitions, no_definitions, opening_cell,
 use Rattle.txs_expand.specs.Expansions.{body, form_at}
 use Rattle.txs_expand.specs.Expressions.{Answer, named}
 use Rattle.txs_expression.specs.Literals.{literal}
-use Rattle.txs_resolve.specs.Names.{State, nothing, program, new_name, Defining, defining_of, with_definition, defined_as_one, NamedForm, named_form, defined_at, parameters, Written, written, with_function, function, with_thread, future, top_level, step, steps, behind_namespace, named_script, Resolves}
+use Rattle.txs_expand.specs.Namespace.{behind_namespace}
+use Rattle.txs_resolve.specs.Names.{State, nothing, program, new_name, Defining, defining_of, with_definition, defined_as_one, NamedForm, named_form, defined_at, parameters, Written, written, with_function, function, with_thread, future, top_level, step, steps, named_script, Resolves}
 use Rattle.txs_resolve.proofs.Scoping.{Every, then_every, one_every, if_every}
 
 -- ---- names

@@ -24,7 +24,8 @@ use Rattle.txs_resolve.specs.declared.definition.CellSort.{CellSort}
 use Rattle.txs_expand.specs.Expansions.{body, form_at}
 use Rattle.txs_expand.specs.Expressions.{Answer, named}
 use Rattle.txs_expression.specs.Literals.{literal}
-use Rattle.txs_resolve.specs.Names.{State, nothing, program, new_name, Defining, defining_of, new_cell, with_constant, with_definition, defined_as_one, NamedForm, named_form, defined_at, define, parameter, parameters, Written, written, with_function, function, with_thread, future, top_level, step, steps, behind_namespace, named_script, Resolves}
+use Rattle.txs_expand.specs.Namespace.{behind_namespace}
+use Rattle.txs_resolve.specs.Names.{State, nothing, program, new_name, Defining, defining_of, new_cell, with_constant, with_definition, defined_as_one, NamedForm, named_form, defined_at, define, parameter, parameters, Written, written, with_function, function, with_thread, future, top_level, step, steps, named_script, Resolves}
 use Rattle.txs_expand.specs.Answers.{◌>>=◌, refuse}
 use Rattle.txs_names.specs.Scope.{Scope, Entry, may_bind}
 use Rattle.txs_resolve.specs.Scripts.{IsKnown, AreKnown, ScopedState}

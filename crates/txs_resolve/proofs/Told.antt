@@ -28,7 +28,8 @@ use Rattle.txs_expression.specs.Literals.{literal, literals}
 use Rattle.txs_expression.specs.declared.stop.Stop.{Stop}
 use Rattle.txs_expression.specs.declared.stop.Stop.TheVariants.{Refused}
 use Rattle.txs_resolve.specs.Given.{Ends}
-use Rattle.txs_resolve.specs.Names.{State, nothing, program, new_name, Defining, defining_of, with_definition, entered, defined_as_one, NamedForm, named_form, defined_at, parameter, parameters, Written, written, with_function, function, with_thread, future, top_level, step, steps, behind_namespace, named_script, ResolveStops}
+use Rattle.txs_expand.specs.Namespace.{behind_namespace}
+use Rattle.txs_resolve.specs.Names.{State, nothing, program, new_name, Defining, defining_of, with_definition, entered, defined_as_one, NamedForm, named_form, defined_at, parameter, parameters, Written, written, with_function, function, with_thread, future, top_level, step, steps, named_script, ResolveStops}
 
 abbrev IsWant : ResolveErrorKind → Type 0
 IsWant UnknownName = ⊥

@@ -13,7 +13,7 @@ use Rattle.txs_expand.specs.declared.error.ResolveError.{ResolveError}
 use Rattle.txs_value.specs.declared.value.Value.{Value}
 use Rattle.txs_expression.specs.Given.{Gives, refusal_of}
 use Rattle.txs_resolve.specs.declared.definition.CellSort.{CellSort}
-use Rattle.txs_resolve.specs.Names.{State, named_form, names_space, with_definition}
+use Rattle.txs_resolve.specs.Names.{State, named_form, with_definition}
 use Rattle.txs_expression.specs.declared.stop.Stop.{Stop}
 use Rattle.txs_expression.specs.declared.stop.Stop.TheVariants.{Refused, Memory}
 use Rattle.txs_expand.specs.Parts.{plain}
@@ -27,16 +27,6 @@ pub one_form : (name : List ℕ) (at : Span) (fs : List Form) (d : Form) → len
 one_form name at [] d h = absurd (omega (arith, h))
 one_form name at (f ∷ []) d h = refl
 one_form name at (f ∷ g ∷ fs) d h = absurd (omega (arith, h))
-
-pub not_one_name : (fs : List Form) → (length fs ≡ 1 → ⊥) → names_space (Some Ns) (plain fs) ≡ false
-not_one_name [] h = refl
-not_one_name (f ∷ []) h = absurd (h refl)
-not_one_name (f ∷ g ∷ fs) h = refl
-
-pub one_name : (fs : List Form) (d : Form) → length fs ≡ 1 → names_space (Some Ns) (plain fs) ≡ is_symbol (tree (slice_index_or fs 0 d))
-one_name [] d h = absurd (omega (arith, h))
-one_name (f ∷ []) d h = refl
-one_name (f ∷ g ∷ fs) d h = absurd (omega (arith, h))
 
 -- a body that is refused, or for which memory was wanted
 pub failed_body : {C : Type 0} (s : Stop) (now : C) (a : Answer Tree) (f : Tree → C) (b : Answer C) → Becomes (Err s) a → b ≡ (a >>= λ t. Ok (f t)) → Leaves (Err s) now b

@@ -24,6 +24,7 @@ use Rattle.txs_expand.specs.Expansions.{body, form_at}
 use Rattle.txs_expand.specs.Expressions.{Answer, is_symbol, named}
 use Rattle.txs_expression.specs.Literals.{is_literal, literal}
 use Rattle.txs_expand.specs.Answers.{◌>>=◌, refuse}
+use Rattle.txs_expand.specs.Namespace.{behind_namespace}
 use Rattle.txs_names.specs.Scope.{Entry, definition_of, with_name, operations, may_bind, is_none}
 
 -- what a script has defined so far: names; cells; functions; threads; and how often `def` stood
@@ -268,21 +269,6 @@ step s form = refuse BadForm (place form)
 abbrev pub steps : State → List Form → Answer State
 steps s [] = Ok s
 steps s (form ∷ forms) = step s form >>= λ t. steps t forms
-
--- `(ns name)`
-abbrev pub names_space : Option FormName → Forms → Bool
-names_space (Some kind.Ns) (first name no_forms) = is_symbol name
-names_space _ _ = false
-
--- whether a form is `(ns name)`
-abbrev pub is_namespace : Form → Bool
-is_namespace (group Round (first head parts) at) = names_space (form_at head) parts
-is_namespace form = false
-
--- a script's forms behind its `(ns name)`, if it begins with one
-abbrev pub behind_namespace : List Form → List Form
-behind_namespace [] = []
-behind_namespace (form ∷ forms) = if is_namespace form then forms else form ∷ forms
 
 -- the program of a script, or the first refusal met
 abbrev pub named_script : List Form → Answer PlainProgram

@@ -2,7 +2,8 @@
 
 ghost use Rattle.std.specs.Prelude.{◌≡◌, ◌≢◌, IfOk, IfErr, OnOk};
 ghost use Rattle.txs_resolve.specs.Given.{Ends};
-ghost use Rattle.txs_resolve.specs.Names.{Resolves, ResolveStops, no_memory, nothing, behind_namespace, steps};
+ghost use Rattle.txs_expand.specs.Namespace.{behind_namespace};
+ghost use Rattle.txs_resolve.specs.Names.{Resolves, ResolveStops, no_memory, nothing, steps};
 ghost use Rattle.txs_resolve.specs.Memory.{FirstResolves};
 ghost use Rattle.txs_resolve.specs.Scripts.{state_of, IsScript};
 ghost use Rattle.txs_expression.specs.declared.stop.Stop.TheVariants as stop;
@@ -10,23 +11,13 @@ ghost use Rattle.txs_expand.specs.declared.error.ResolveErrorKind.TheVariants.{M
 ghost use Rattle.txs_reader.specs.Tree.{trees};
 ghost use Rattle.txs_tree.specs.View.{program_of};
 
-use crate::script::{Script, is_namespace, step};
+use crate::script::{Script, step};
 use std::alloc::Global;
-use txs_expand::{ResolveError, ResolveErrorKind};
+use txs_expand::{ResolveError, ResolveErrorKind, behind_namespace};
 use txs_expression::Stop;
 use txs_reader::Form;
 use txs_terms::Span;
 use txs_tree::Raw;
-
-/// The forms behind the `(ns name)` that they begin with, if they do.
-fn behind_namespace(forms: &[Form]) -> &[Form]
-    ensures { trees result.now ≡ behind_namespace (trees forms.now) }
-{
-    match forms.split_first() {
-        Some((form, rest)) if is_namespace(form) => rest,
-        _ => forms,
-    }
-}
 
 /// Defines what all top-level forms define.
 fn steps<'a>(alloc: Global, script: &mut Script<'a>, forms: &'a [Form]) -> Result<(), Stop>

@@ -4,9 +4,8 @@ ghost use Rattle.std.specs.Prelude.{◌≡◌, ◌<◌, ◌≤◌, [], ◌∷◌
 ghost use Rattle.txs_resolve.specs.Given.{GivesLocals, Leaves};
 ghost use Rattle.txs_expand.specs.Parts.{seen};
 ghost use Rattle.txs_expand.specs.Expansions.{body, form_at};
-ghost use Rattle.txs_resolve.specs.Names.{nothing, entered, new_cell, new_name, named_form, define, untold, written, function, future, parameter, parameters, are_symbols, step, with_cell, with_constant, with_definition, with_function, names_space, is_namespace};
-ghost use Rattle.txs_expand.specs.Expressions.{is_symbol, named};
-ghost use Rattle.txs_names.specs.declared.names.FormName.TheVariants.{Ns};
+ghost use Rattle.txs_resolve.specs.Names.{nothing, entered, new_cell, new_name, named_form, define, untold, written, function, future, parameter, parameters, are_symbols, step, with_cell, with_constant, with_definition, with_function};
+ghost use Rattle.txs_expand.specs.Expressions.{named};
 ghost use Rattle.txs_names.specs.declared.scope.Definition.TheVariants.{Function as AFunction};
 ghost use Rattle.txs_names.specs.Scope.{definition_of, with_locals};
 ghost use Rattle.txs_resolve.specs.Scripts.{at_top, function_with, opened_as, state_of, IsScript, written_in, name_and_form};
@@ -456,37 +455,4 @@ pub fn step<'a>(alloc: Global, script: &mut Script<'a>, form: &'a Form) -> Resul
         Form::Keyword(_, span) => Err(refused(ResolveErrorKind::BadForm, *span)),
         Form::Symbol(_, span) => Err(refused(ResolveErrorKind::BadForm, *span)),
     }
-}
-
-/// Whether there is one part, which is a symbol.
-fn is_name(parts: &[Form]) -> bool
-    ensures { result ≡ names_space (Some Ns) (trees_of (trees parts.now)) }
-{
-    if parts.len() != 1 {
-        return false;
-    }
-    is_symbol(&parts[0])
-}
-
-/// Whether a list with this head and these parts is `(ns name)`.
-fn names_space(head: &Form, parts: &[Form]) -> bool
-    ensures { result ≡ names_space (form_at (tree head.now)) (trees_of (trees parts.now)) }
-{
-    match form_at(head) {
-        Some(FormName::Ns) => is_name(parts),
-        _ => false,
-    }
-}
-
-/// Whether the form is `(ns name)`.
-pub fn is_namespace(form: &Form) -> bool
-    ensures { result ≡ is_namespace (tree form.now) }
-{
-    let Form::Group(Bracket::Round, forms, _) = form else {
-        return false;
-    };
-    let Some((head, parts)) = forms.split_first() else {
-        return false;
-    };
-    names_space(head, parts)
 }

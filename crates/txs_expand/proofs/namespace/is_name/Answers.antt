@@ -1,8 +1,8 @@
 use Rattle.std.proofs.Common.{sym, ap, ◌∙◌}
 use Rattle.txs_reader.specs.Tree.{tree}
 use Rattle.txs_expand.specs.Expressions.{is_symbol}
-use Rattle.txs_resolve.proofs.TopLevel.{not_one_name, one_name}
-use Rattle.txs_resolve.proofs.script.is_name.Goals as goal
+use Rattle.txs_expand.proofs.Namespaces.{not_one_name, one_name}
+use Rattle.txs_expand.proofs.namespace.is_name.Goals as goal
 
 pub returns-then-parts-ne1 : goal.returns-then-parts-ne1
 returns-then-parts-ne1 c = sym (not_one_name c.args.parts.now c.if-parts-ne1.true)
