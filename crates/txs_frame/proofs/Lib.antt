@@ -4,3 +4,4 @@ pub mod Owns
 pub mod Phases
 pub mod Phasing
 pub mod Places
+pub mod Turns

@@ -160,10 +160,7 @@ impl TxFrame {
         ensures kept { OnOk result (self.new ≡ ensure_ref cell self.old) }
         ensures same { OnErr result (self.new ≡ self.old) }
     {
-        match self
-            .ensured
-            .binary_search_by_key(&cell.number, |c| c.number)
-        {
+        match find_ref(self.ensured.as_slice(), cell.number) {
             Ok(_) => Ok(()),
             Err(i) => {
                 self.ensured.insert(i, cell)?;
@@ -176,7 +173,13 @@ impl TxFrame {
     pub fn with_ensured(&self, cell: CellId) -> Result<Listed<CellId>, AllocError>
         ensures { IfOk result (λ cells. cells ≡ with_cell self.now.ensures cell) }
     {
-        Ok(Listed::from_vec(with_ref(self.alloc, &self.ensured, cell)?))
+        let refs = self.ensured.as_slice();
+        let mut cells = Vec::from_slice(self.alloc, refs)?;
+        match find_ref(refs, cell.number) {
+            Ok(_) => {}
+            Err(i) => cells.insert(i, cell)?,
+        }
+        Ok(Listed::from_vec(cells))
     }
 
     /// Ensures a ref, once, by the list of the refs that are ensured then: this wants no memory.
@@ -214,7 +217,10 @@ impl TxFrame {
     {
         let mut cells = Vec::new(self.alloc);
         for own in &self.own {
-            push_commuted(&mut cells, own)?;
+            match own.how {
+                How::Commuted => cells.push(ref_cell(own.number))?,
+                How::Set | How::Both => {}
+            }
         }
         Ok(cells)
     }
@@ -244,7 +250,12 @@ impl TxFrame {
     {
         let mut writes = Vec::with_capacity(self.alloc, self.own.len())?;
         for own in &self.own {
-            push_set(&mut writes, own)?;
+            match own.how {
+                How::Set | How::Both => {
+                    writes.push_reserved((ref_cell(own.number), copy_value(&own.value)?));
+                }
+                How::Commuted => {}
+            }
         }
         Ok(writes)
     }
@@ -279,21 +290,6 @@ fn find_ref(refs: &[CellId], number: u16) -> Result<usize, usize>
     refs.binary_search_by_key(&number, |c| c.number)
 }
 
-/// These refs with one more, once, by ascending number.
-fn with_ref(alloc: Global, refs: &[CellId], cell: CellId) -> Result<Vec<CellId>, AllocError>
-    requires { Ascends cell_number 0 refs.now }
-    ensures { IfOk result (λ cells. cells.items ≡ with_cell refs.now cell) }
-{
-    match find_ref(refs, cell.number) {
-        Ok(_) => Ok(Vec::from_slice(alloc, refs)?),
-        Err(i) => {
-            let mut cells = Vec::from_slice(alloc, refs)?;
-            cells.insert(i, cell)?;
-            Ok(cells)
-        }
-    }
-}
-
 /// The ref with this number.
 fn ref_cell(number: u16) -> CellId
     ensures { result ≡ record { kind = a_ref; number = number } }
@@ -304,49 +300,7 @@ fn ref_cell(number: u16) -> CellId
     }
 }
 
-/// Adds the ref if it was commuted and not set.
-fn push_commuted(cells: &mut Vec<CellId>, own: &Own) -> Result<(), AllocError>
-    ensures { OnOk result (cells.new.items ≡ cells.old.items ++ cells_by only_commuted (own.now ∷ [])) }
-{
-    match own.how {
-        How::Commuted => cells.push(ref_cell(own.number))?,
-        How::Set | How::Both => {}
-    }
-    Ok(())
-}
-
-/// Adds the ref with its value if it was set.
-fn push_set(writes: &mut Vec<(CellId, Value)>, own: &Own) -> Result<(), AllocError>
-    ensures { OnOk result (writes.new.items ≡ writes.old.items ++ writes_by was_set (own.now ∷ [])) }
-{
-    match own.how {
-        How::Set | How::Both => writes.push((ref_cell(own.number), copy_value(&own.value)?))?,
-        How::Commuted => {}
-    }
-    Ok(())
-}
-
-/// Adds the same commute once more if it is one of the ref with this number.
-fn push_if_of(
-    alloc: Global,
-    work: &mut Vec<Commute>,
-    number: u16,
-    commute: &Commute,
-) -> Result<(), AllocError>
-    ensures { OnOk result (work.new.items ≡ work.old.items ++ commutes_of number (commute.now ∷ [])) }
-{
-    if commute.cell.number == number {
-        work.reserve(1)?;
-        work.push_reserved(Commute {
-            cell: commute.cell,
-            callee: commute.callee,
-            args: copy_values(alloc, &commute.args)?,
-        });
-    }
-    Ok(())
-}
-
-/// Adds the commutes of the ref with this number, in order.
+/// Adds the commutes of the ref with this number once more, in order.
 fn push_commutes_of(
     alloc: Global,
     work: &mut Vec<Commute>,
@@ -356,7 +310,14 @@ fn push_commutes_of(
     ensures { OnOk result (work.new.items ≡ work.old.items ++ commutes_of number commutes.now) }
 {
     for commute in commutes {
-        push_if_of(alloc, work, number, commute)?;
+        if commute.cell.number == number {
+            work.reserve(1)?;
+            work.push_reserved(Commute {
+                cell: commute.cell,
+                callee: commute.callee,
+                args: copy_values(alloc, &commute.args)?,
+            });
+        }
     }
     Ok(())
 }

@@ -1,6 +1,6 @@
 //! The values that a transaction has of its own, by ascending number of their refs.
 
-ghost use Rattle.std.specs.Prelude.{◌≡◌, ◌≤◌, length, insert, OnOk, OnErr};
+ghost use Rattle.std.specs.Prelude.{◌≡◌, length, OnOk, OnErr};
 ghost use Rattle.std.specs.List.Sorted.{IsSearchInRange};
 ghost use Rattle.txs_frame.specs.Kept.{Ascends, IsPlaceOf, put_at, how_at, was_commuted_if, with_commute, number_of};
 
@@ -43,23 +43,8 @@ pub(crate) fn how_at(own: &[Own], place: Result<usize, usize>) -> Option<How>
     }
 }
 
-/// Puts an item before the one at this place. Most often there is none: a transaction that sets one ref has no other.
-#[inline(always)]
-fn insert_at(own: &mut Vec<Own>, i: usize, item: Own) -> Result<(), AllocError>
-    requires { i ≤ length own.old.items }
-    ensures inserted { OnOk result (own.new.items ≡ insert own.old.items i item) }
-    ensures kept { OnErr result (own.new.items ≡ own.old.items) }
-{
-    if i == own.len() {
-        own.reserve(1)?;
-        own.push_reserved(item);
-    } else {
-        own.insert(i, item)?;
-    }
-    Ok(())
-}
-
-/// Puts an own value at its place.
+/// Puts an own value at its place. Most often there is none yet, and it comes behind all others: a transaction that sets one ref
+/// has no other.
 #[inline(always)]
 pub(crate) fn put(
     own: &mut Vec<Own>,
@@ -72,7 +57,14 @@ pub(crate) fn put(
 {
     match place {
         Ok(i) => own[i] = item,
-        Err(i) => insert_at(own, i, item)?,
+        Err(i) => {
+            if i == own.len() {
+                own.reserve(1)?;
+                own.push_reserved(item);
+            } else {
+                own.insert(i, item)?;
+            }
+        }
     }
     Ok(())
 }

@@ -4,7 +4,7 @@ ghost use Rattle.std.specs.Prelude.{◌≡◌, ◌<◌, ◌∷◌, true, is_some
 ghost use Rattle.txs_asks.specs.Ask.{buffered, with_write};
 ghost use Rattle.txs_frame.specs.Frame.{commuted, phase_work};
 ghost use Rattle.txs_frame.specs.Kept.{Ascends, IsPlaceOf, item_of};
-ghost use Rattle.txs_frame.specs.Phase.{blank, filled, given, next_arguments, next_callee, value_or_nil, write_number};
+ghost use Rattle.txs_frame.specs.Phase.{IsPhase, blank, filled, given, next_arguments, next_callee, value_or_nil, write_number};
 
 use crate::frame::{Commute, TxFrame};
 use std::alloc::{AllocError, Global};
@@ -82,6 +82,17 @@ fn with_more(alloc: Global, first: Value, more: &[Value]) -> Result<Vec<Value>, 
     Ok(all)
 }
 
+/// These refs with their values, which both lists share.
+fn copied(alloc: Global, all: &[(CellId, Value)]) -> Result<Vec<(CellId, Value)>, AllocError>
+    ensures { IfOk result (λ ws. ws.items ≡ all.now) }
+{
+    let mut writes = Vec::with_capacity(alloc, all.len())?;
+    for write in all {
+        writes.push_reserved((write.0, copy_value(&write.1)?));
+    }
+    Ok(writes)
+}
+
 /// A ref that has a value gets another.
 fn put_value(values: &mut Vec<(CellId, Value)>, cell: CellId, value: Value)
     requires ascend { Ascends write_number 0 values.old.items }
@@ -118,16 +129,24 @@ impl TxFrame {
         for cell in refs {
             values.push_reserved((*cell, Value::Nil));
         }
-        Ok(Phase {
-            alloc,
-            values,
-            work,
-            next: 0,
-        })
+        Ok(Phase::begin(alloc, values, work))
     }
 }
 
 impl Phase {
+    /// A phase of which nothing is done yet.
+    fn begin(alloc: Global, values: Vec<(CellId, Value)>, work: Vec<Commute>) -> Phase
+        requires { IsPhase values.items work.items }
+        ensures { result ≡ record { work = work.items; values = values.items } }
+    {
+        Phase {
+            alloc,
+            values,
+            work,
+            next: 0,
+        }
+    }
+
     /// The refs were viewed, and have these values.
     pub fn fill(&mut self, values: Listed<Value>)
         requires { length values ≡ length self.old.values }
@@ -170,11 +189,6 @@ impl Phase {
     pub fn writes(&self) -> Result<Vec<(CellId, Value)>, AllocError>
         ensures { IfOk result (λ ws. ws.items ≡ self.now.values) }
     {
-        let all = self.values.as_slice();
-        let mut writes = Vec::with_capacity(self.alloc, all.len())?;
-        for write in all {
-            writes.push_reserved((write.0, copy_value(&write.1)?));
-        }
-        Ok(writes)
+        copied(self.alloc, self.values.as_slice())
     }
 }

@@ -5,9 +5,11 @@ use Rattle.std.proofs.lemmas.Bool.{false≢true, ltb-true, ltb-false, eqb-true}
 use Rattle.std.proofs.lemmas.Bool.Decides.{nat_tests}
 use Rattle.txs_asks.specs.Ask.{Writes, with_write}
 use Rattle.txs_asks.specs.declared.event.Event.{Event}
+use Rattle.txs_cells.specs.Forms.{same_kind}
 use Rattle.txs_value.specs.declared.value.CellId.{CellId}
+use Rattle.txs_value.specs.declared.value.CellKind.TheVariants.{Ref}
 use Rattle.txs_value.specs.declared.value.Value.{Value}
-use Rattle.txs_book.specs.Book.{has_ref, cells_in, are_refs, has_refs, written, least, least_written, Untouched}
+use Rattle.txs_book.specs.Book.{has_cell, has_ref, cells_in, are_refs, has_refs, written, least, least_written, Untouched}
 use Rattle.txs_world.specs.Store.{merged}
 use Rattle.txs_book.specs.declared.cell.StoreCell.{StoreCell}
 use Rattle.txs_book.proofs.Outcomes.{both}
@@ -167,6 +169,13 @@ drop_at : (cs : List CellId) (i : ℕ) (d : CellId) → i < length cs → drop i
 drop_at [] i d lt = absurd (omega (arith, lt))
 drop_at (c ∷ cs) zero d lt = refl
 drop_at (c ∷ cs) (suc i) d lt = drop_at cs i d (omega (arith, lt))
+
+-- the next of some refs is a cell of the store
+pub next_there : (cells : List StoreCell) (cs : List CellId) (i : ℕ) (d : CellId) → i < length cs → has_refs cells (drop i cs) ≡ true → has_cell cells (get_or cs i d) ≡ true
+next_there cells cs i d lt h =
+    let x = get_or cs i d in
+    let here = both (has_ref cells x) (has_refs cells (drop (suc i) cs)) (subst (λ l. has_refs cells l ≡ true) (drop_at cs i d lt) h) in
+    (both (same_kind x.kind Ref) (has_cell cells x) here.0).1
 
 -- one more of some cells: those to come are refs, and with what was found they give the answer
 abbrev pub FoundSo : List StoreCell → List Event → ℕ → List CellId → Option CellId → ℕ → Type 0

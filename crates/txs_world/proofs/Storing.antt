@@ -78,6 +78,13 @@ fault_read s cells threads slots bs views tries book i b g is h has at there =
     let in_cells = agent_in cells g (subst (λ (u : PlainStore). has_agent u.cells g ≡ true) (sym is) has) in
     ap (λ (y : PlainInbox). y.fault) (inbox_is cells threads slots bs views tries book g.number i b h in_cells at there) ∙ ap (λ (u : PlainStore). (mail_after u.cells u.book g.number).fault) is
 
+-- how many actions wait in it
+pub waiting_read : (s : PlainStore) (cells : List StoreCell) (threads : ℕ) (slots : List Slot) (bs : List Inbox) (views tries : List ℕ) (book : List Event) (i : ℕ) (b : Inbox) (g : CellId) → store_with cells threads book (taken_of (plain_inboxes bs)) ≡ s
+    → IsKept cells threads slots (plain_inboxes bs) views tries book → has_agent s.cells g ≡ true → i ≡ g.number → b ≡ get_or bs i b → length b.mailbox.plain.actions ≡ length (mail_after s.cells s.book g.number).actions
+waiting_read s cells threads slots bs views tries book i b g is h has at there =
+    let in_cells = agent_in cells g (subst (λ (u : PlainStore). has_agent u.cells g ≡ true) (sym is) has) in
+    ap (λ (y : PlainInbox). length y.mailbox.actions) (inbox_is cells threads slots bs views tries book g.number i b h in_cells at there) ∙ ap (λ (u : PlainStore). length (mail_after u.cells u.book g.number).actions) is
+
 -- what it runs next
 pub next_of : (s : PlainStore) (cells : List StoreCell) (threads : ℕ) (slots : List Slot) (bs : List Inbox) (views tries : List ℕ) (book : List Event) (g : CellId) → store_with cells threads book (taken_of (plain_inboxes bs)) ≡ s
     → IsKept cells threads slots (plain_inboxes bs) views tries book → has_agent s.cells g ≡ true → next (get_or (plain_inboxes bs) g.number no_inbox).mailbox ≡ next_action s.cells s.book g

@@ -1,8 +1,9 @@
-use Rattle.std.proofs.Common.{ap, sym, ◌∙◌, List, [], ◌∷◌, ◌++◌, take, append_assoc}
-use Rattle.std.proofs.lemmas.List.{take_more}
+use Rattle.std.proofs.Common.{ap, sym, ◌∙◌, List, Vec, Global, [], ◌∷◌, ◌++◌, take, append_assoc}
+use Rattle.txs_value.specs.declared.value.Value.{Value}
 use Rattle.txs_frame.specs.Frame.{commutes_of}
 use Rattle.txs_frame.specs.declared.frame.Commute.{Commute}
-use Rattle.txs_frame.proofs.Phases.{commutes_append}
+use Rattle.txs_frame.proofs.Turns.{commutes_join, commutes_stay}
+use Rattle.txs_frame.proofs.frame.push_commutes_of.Goals.{then-commute-number+in_ok-reserve+in_ok-copy_values, else-commute-number}
 use Rattle.txs_frame.proofs.frame.push_commutes_of.Goals as goal
 
 pub loop-commute-preserved : goal.loop-commute-preserved
@@ -12,9 +13,14 @@ loop-commute-preserved c =
     let i = c.loop-commute.commute-index in
     let o = c.commute-item.result in
     let was = c.args.work.now.items in
-    c.in_ok-push_if_of.ensures
-    ∙ ap (λ (x : List Commute). x ++ commutes_of n (o ∷ [])) c.loop-commute.invariant
-    ∙ append_assoc was (commutes_of n (take i ks)) (commutes_of n (o ∷ []))
-    ∙ ap (λ (x : Commute). was ++ (commutes_of n (take i ks) ++ commutes_of n (x ∷ []))) c.commute-item.is
-    ∙ ap (λ (x : List Commute). was ++ x) (sym (commutes_append n (take i ks) _))
-    ∙ ap (λ (x : List Commute). was ++ commutes_of n x) (sym (take_more ks i o c.loop-commute-test.true))
+    let before : List Commute = commutes_of n (take i ks) in
+    let made : List Value → Commute = λ vs. record { cell = o.cell; callee = o.callee; args = vs } in
+    elim c.if-commute-number.branch [
+      | then-commute-number+in_ok-reserve+in_ok-copy_values w ↦
+          let k = made w.in_ok-copy_values.field-0 in
+          ap (λ (v : Vec Commute Global). v.items) w.work-is ∙ w.push_reserved.ensures.items ∙ ap (λ (x : List Commute). x ++ k ∷ []) (w.in_ok-reserve.ensures.items ∙ c.loop-commute.invariant)
+          ∙ append_assoc was before (k ∷ []) ∙ ap (λ (vs : List Value). was ++ (before ++ made vs ∷ [])) w.in_ok-copy_values.ensures
+          ∙ ap (λ (x : List Commute). was ++ x) (sym (commutes_join n ks i o c.loop-commute-test.true c.commute-item.is w.if-commute-number.true))
+      | else-commute-number w ↦
+          ap (λ (v : Vec Commute Global). v.items) w.work-is ∙ c.loop-commute.invariant ∙ ap (λ (x : List Commute). was ++ x) (sym (commutes_stay n ks i o c.loop-commute-test.true c.commute-item.is w.if-commute-number.false))
+    ]

@@ -34,3 +34,19 @@ pub returns-clause-room : goal.returns-clause-room
 returns-clause-room c =
     let out = c.loop-action-test.false in
     room_last_all (rooms c.loop-action.inboxes.items) c.args.actions.now c.loop-action.action-index (omega (arith, out)) c.loop-action.invariant.room
+
+pub loop-action-init : goal.loop-action-init
+loop-action-init c =
+    let same = c.promise_all.ensures.same ∙ c.promise_none.ensures.same in
+    record {
+      places = subst (λ n. all_sent_below n c.args.actions.now ≡ true) (sym (plain_same_many c.promise_all.new.inboxes.items c.args.inboxes.now.items same)) c.requires;
+      same = same;
+      promised = c.promise_all.ensures.promised;
+      room = tt;
+    }
+
+pub returns-clause-same : goal.returns-clause-same
+returns-clause-same c = c.loop-action.invariant.same
+
+pub returns-in_err-reserve_at-clause-same : goal.returns-in_err-reserve_at-clause-same
+returns-in_err-reserve_at-clause-same c = c.reserve_at.ensures.same ∙ c.loop-action.invariant.same

@@ -1,6 +1,7 @@
-use Rattle.std.proofs.Common.{◌∙◌, None, ap, length}
+use Rattle.std.proofs.lemmas.List.{take_all}
+use Rattle.std.proofs.Common.{◌∙◌, None, ap, length, arith}
 use Rattle.txs_mail.specs.Mailbox.{PlainMailbox}
-use Rattle.txs_world.specs.Inboxes.{PlainInbox, empty_inbox, plain_inbox, plain_inboxes}
+use Rattle.txs_world.specs.Inboxes.{PlainInbox, empty_inbox, plain_inbox, plain_inboxes, open_inboxes}
 use Rattle.txs_book.specs.declared.cell.StoreCell.{StoreCell}
 use Rattle.txs_world.specs.declared.inbox.Inbox.{Inbox}
 use Rattle.txs_book.proofs.Lists.{map_next, map_push, one_more}
@@ -22,3 +23,11 @@ loop-cell-preserved c =
       room = put.ensures.capacity ∙ h.invariant.room;
       built = map_next (λ (s : StoreCell). empty_inbox s.goes_on) c.args.cells.now h.cell-index c.cell-item.result (plain_inboxes h.inboxes.items) (plain_inboxes put.new.self.items) (plain_inbox b) c.loop-cell-test.true c.cell-item.is h.invariant.built (ap plain_inboxes put.ensures.items ∙ map_push plain_inbox h.inboxes.items b) (ap new_inbox c.new.ensures);
     }
+
+pub push_reserved-requires : goal.push_reserved-requires
+push_reserved-requires c = omega (arith, c.loop-cell.inboxes.ok.0)
+
+pub returns : goal.returns
+returns c =
+    let out = c.loop-cell-test.false in
+    c.loop-cell.invariant.built ∙ ap open_inboxes (take_all c.loop-cell.cell-index c.args.cells.now (omega (arith, out)))

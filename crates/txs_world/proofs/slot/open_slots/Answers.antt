@@ -1,5 +1,6 @@
-use Rattle.std.proofs.Common.{◌∙◌, ap, length}
-use Rattle.txs_world.specs.Kept.{slot_of}
+use Rattle.std.proofs.lemmas.List.{take_all}
+use Rattle.std.proofs.Common.{◌∙◌, ap, length, arith}
+use Rattle.txs_world.specs.Kept.{slot_of, open_slots}
 use Rattle.txs_book.specs.declared.cell.StoreCell.{StoreCell}
 use Rattle.txs_book.proofs.Lists.{map_next, one_more}
 use Rattle.txs_world.proofs.slot.open_slots.Goals as goal
@@ -17,3 +18,11 @@ loop-cell-preserved c =
       room = put.ensures.capacity ∙ h.invariant.room;
       built = map_next (λ (s : StoreCell). slot_of s.opening 0) c.args.cells.now h.cell-index c.cell-item.result h.slots.items put.new.self.items (slot_of v.value 0) c.loop-cell-test.true c.cell-item.is h.invariant.built put.ensures.items (ap (λ o. slot_of o 0) v.ensures);
     }
+
+pub push_reserved-requires : goal.push_reserved-requires
+push_reserved-requires c = omega (arith, c.loop-cell.slots.ok.0)
+
+pub returns : goal.returns
+returns c =
+    let out = c.loop-cell-test.false in
+    c.loop-cell.invariant.built ∙ ap open_slots (take_all c.loop-cell.cell-index c.args.cells.now (omega (arith, out)))

@@ -1,11 +1,11 @@
-use Rattle.std.proofs.Common.{ap, sym, ◌∙◌, List, [], ◌∷◌, ◌++◌, take}
-use Rattle.std.proofs.lemmas.List.{take_all, take_more}
+use Rattle.std.proofs.Common.{ap, sym, ◌∙◌, List, Vec, Global, [], ◌∷◌, ◌++◌, take}
+use Rattle.std.proofs.lemmas.List.{take_all}
 use Rattle.txs_value.specs.declared.value.CellId.{CellId}
 use Rattle.txs_frame.specs.Frame.{commuted}
-use Rattle.txs_frame.specs.declared.own.Own.{Own}
 use Rattle.txs_frame.specs.Kept.{cells_by, only_commuted}
-use Rattle.txs_frame.proofs.Owns.{cells_by_append}
 use Rattle.txs_frame.proofs.Frames.{commuted_is}
+use Rattle.txs_frame.proofs.Turns.{cells_join, cells_stay, not_only_commuted}
+use Rattle.txs_frame.proofs.frame.TxFrame.commuted.Goals.{in-Commuted+in_ok-push-in-Commuted, in-Set}
 use Rattle.txs_frame.proofs.frame.TxFrame.commuted.Goals as goal
 
 pub returns : goal.returns
@@ -22,8 +22,11 @@ loop-own-preserved c =
     let os = c.deref-own-items.result.now in
     let i = c.loop-own.own-index in
     let o = c.own-item.result in
-    c.in_ok-push_commuted.ensures
-    ∙ ap (λ (x : List CellId). x ++ cells_by only_commuted (o ∷ [])) c.loop-own.invariant
-    ∙ ap (λ (x : Own). cells_by only_commuted (take i os) ++ cells_by only_commuted (x ∷ [])) c.own-item.is
-    ∙ sym (cells_by_append only_commuted (take i os) _)
-    ∙ ap (cells_by only_commuted) (sym (take_more os i o c.loop-own-test.true))
+    let before : List CellId = cells_by only_commuted (take i os) in
+    elim c.match-own.branch [
+      | in-Commuted+in_ok-push-in-Commuted w ↦
+          ap (λ (v : Vec CellId Global). v.items) w.cells-is ∙ w.in_ok-push-in-Commuted.ensures.items ∙ ap (λ (x : List CellId). x ++ w.ref_cell.result ∷ []) c.loop-own.invariant
+          ∙ ap (λ (x : CellId). before ++ x ∷ []) w.ref_cell.ensures ∙ sym (cells_join only_commuted os i o c.loop-own-test.true c.own-item.is (ap only_commuted w.in-Commuted.is))
+      | in-Set w ↦
+          ap (λ (v : Vec CellId Global). v.items) w.cells-is ∙ c.loop-own.invariant ∙ sym (cells_stay only_commuted os i o c.loop-own-test.true c.own-item.is (not_only_commuted o.how w.in-Set.is))
+    ]

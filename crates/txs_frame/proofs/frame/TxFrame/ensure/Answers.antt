@@ -1,9 +1,7 @@
-use Rattle.std.proofs.Common.{ap, subst, sym, ◌∙◌, List, rules}
-use Rattle.std.proofs.lemmas.List.Sorted.{answers_always}
+use Rattle.std.proofs.Common.{ap, subst, sym, ◌∙◌, List}
 use Rattle.txs_value.specs.declared.value.CellId.{CellId}
 use Rattle.txs_frame.specs.Frame.{ensure_ref}
 use Rattle.txs_frame.specs.Kept.{IsPlaceOf, IsKept, work_of, cell_number}
-use Rattle.txs_frame.proofs.Places.{placed}
 use Rattle.txs_frame.proofs.Frames.{ensure_done, ensure_kept, ensure_stays}
 use Rattle.txs_frame.proofs.frame.TxFrame.ensure.Goals as goal
 
@@ -11,10 +9,7 @@ pub invariant_of-self-in-Err : goal.invariant_of-self-in-Err
 invariant_of-self-in-Err c =
     let s = c.self.inside in
     let k = c.args.cell.number in
-    let up = c.self.invariant.ensured in
-    let facts = c.binary_search_by_key.ensures in
-    let p0 = placed cell_number c.deref.result.now k c.binary_search_by_key.result (rw c.deref.ensures.value up) facts.bound (facts.position cell_number (answers_always _ _ _ (λ f a r g called. search rules))) in
-    let p = subst (λ (x : List CellId). IsPlaceOf cell_number x k c.binary_search_by_key.result) c.deref.ensures.value p0 in
+    let p = subst (λ (x : List CellId). IsPlaceOf cell_number x k c.find_ref.result) c.as_slice.ensures.value c.find_ref.ensures in
     let q = subst (IsPlaceOf cell_number s.ensured.items k) c.in-Err.is p in
     subst (λ (x : List CellId). IsKept s.own.items x s.commutes.items) (sym c.in_ok-insert-in-Err.ensures.items) (ensure_kept s.own.items s.ensured.items s.commutes.items c.args.cell c.in-Err.i c.self.invariant q)
 
@@ -22,10 +17,7 @@ pub returns-in_ok-insert-in-Err-clause-kept : goal.returns-in_ok-insert-in-Err-c
 returns-in_ok-insert-in-Err-clause-kept c =
     let s = c.self.inside in
     let k = c.args.cell.number in
-    let up = c.self.invariant.ensured in
-    let facts = c.binary_search_by_key.ensures in
-    let p0 = placed cell_number c.deref.result.now k c.binary_search_by_key.result (rw c.deref.ensures.value up) facts.bound (facts.position cell_number (answers_always _ _ _ (λ f a r g called. search rules))) in
-    let p = subst (λ (x : List CellId). IsPlaceOf cell_number x k c.binary_search_by_key.result) c.deref.ensures.value p0 in
+    let p = subst (λ (x : List CellId). IsPlaceOf cell_number x k c.find_ref.result) c.as_slice.ensures.value c.find_ref.ensures in
     let q = subst (IsPlaceOf cell_number s.ensured.items k) c.in-Err.is p in
     ap (λ (x : List CellId). work_of s.own.items x s.commutes.items s.sends.items) c.in_ok-insert-in-Err.ensures.items
     ∙ sym (ensure_done s.own.items s.ensured.items s.commutes.items s.sends.items c.args.cell c.in-Err.i q)
@@ -35,9 +27,6 @@ pub returns-in-Ok-clause-kept : goal.returns-in-Ok-clause-kept
 returns-in-Ok-clause-kept c =
     let s = c.self.inside in
     let k = c.args.cell.number in
-    let up = c.self.invariant.ensured in
-    let facts = c.binary_search_by_key.ensures in
-    let p0 = placed cell_number c.deref.result.now k c.binary_search_by_key.result (rw c.deref.ensures.value up) facts.bound (facts.position cell_number (answers_always _ _ _ (λ f a r g called. search rules))) in
-    let p = subst (λ (x : List CellId). IsPlaceOf cell_number x k c.binary_search_by_key.result) c.deref.ensures.value p0 in
+    let p = subst (λ (x : List CellId). IsPlaceOf cell_number x k c.find_ref.result) c.as_slice.ensures.value c.find_ref.ensures in
     let q = subst (IsPlaceOf cell_number s.ensured.items k) c.in-Ok.is p in
     sym (ap (ensure_ref c.args.cell) (sym c.self.view_is) ∙ ensure_stays s.own.items s.ensured.items s.commutes.items s.sends.items c.args.cell c.in-Ok.field-0 c.self.invariant q ∙ c.self.view_is)

@@ -27,8 +27,8 @@ loop-cell-preserved c =
       built = put.ensures.items ∙ ap (λ (ws : Writes). ws ++ (d, Nil) ∷ []) h.invariant.built ∙ sym (blank_more (take i ds) d) ∙ ap blank (sym (take_more ds i none c.loop-cell-test.true));
     }
 
-pub invariant_of-result : goal.invariant_of-result
-invariant_of-result c =
+pub begin-requires : goal.begin-requires
+begin-requires c =
     let w : Work = c.args.self.now in
     let ds : List CellId = c.as_slice-refs.result.now in
     let all : ds ≡ commuted w = search rules in

@@ -1,15 +1,15 @@
-use Rattle.std.proofs.Common.{◌<◌, length, rules}
+use Rattle.std.proofs.Common.{◌<◌, ap, arith, length, rules}
 use Rattle.txs_value.proofs.ItemsLemmas.{plains_of-set, length-plains_of}
 use Rattle.txs_value.proofs.value.Leaf.set.Goals as goal
 
 pub returns-in-Some-clause-ok : goal.returns-in-Some-clause-ok
 returns-in-Some-clause-ok c =
     let vs = c.self.inside.shared.value.items in
-    let lt : c.args.place < length vs = search (rules, length-plains_of vs) in
+    let lt : c.args.place < length vs = omega (arith, c.requires, ap length c.self.view_is, length-plains_of vs) in
     search (rules, plains_of-set vs c.args.place c.args.item lt)
 
 pub returns-clause-ok : goal.returns-clause-ok
 returns-clause-ok c =
     let vs = c.self.inside.shared.value.items in
-    let lt : c.args.place < length vs = search (rules, length-plains_of vs) in
+    let lt : c.args.place < length vs = omega (arith, c.requires, ap length c.self.view_is, length-plains_of vs) in
     search (rules, plains_of-set vs c.args.place c.args.item lt)

@@ -1,4 +1,4 @@
-use Rattle.std.proofs.Common.{◌≡◌, ◌<◌, ◌≤◌, ◌++◌, ◌∷◌, [], length, rules}
+use Rattle.std.proofs.Common.{◌≡◌, ◌<◌, ◌≤◌, ◌++◌, ◌∷◌, [], length, rules, arith}
 use Rattle.txs_value.specs.Rows.{joined}
 use Rattle.txs_value.proofs.RowsLemmas.{leaves-push, leaves_full, branches-push, branches_full, row_alone}
 use Rattle.txs_value.proofs.value.Rows.push.Goals as goal
@@ -6,7 +6,7 @@ use Rattle.txs_value.proofs.value.Rows.push.Goals as goal
 pub invariant_of-self-then-len-lt32 : goal.invariant_of-self-then-len-lt32
 invariant_of-self-then-len-lt32 c =
     let cs = c.self.inside.leaves.items in
-    let room : length cs < 32 = search rules in
+    let room : length cs < 32 = omega (arith, c.self.inside.leaves.ok.0) in
     (c.self.invariant.0, leaves_full c.self.inside.branches.items cs c.args.self.now c.self.invariant.0 c.self.invariant.1 c.self.view_is c.push.new.self.items c.args.leaf c.in_ok-push.ensures.items c.requires.full room)
 
 pub returns-then-len-lt32 : goal.returns-then-len-lt32
@@ -18,9 +18,9 @@ invariant_of-self-2 c =
     let bs = c.self.inside.branches.items in
     let cs = c.self.inside.leaves.items in
     let b = joined c.in_ok-shared.shared.value.items in
-    let is : c.push-2.new.self.items ≡ bs ++ b ∷ [] = search rules in
+    let is : c.push-2.new.self.items ≡ bs ++ b ∷ [] = c.in_ok-push-2.ensures.items in
     let is_b : b ≡ joined cs = search rules in
-    let many : 32 ≤ length cs = search rules in
+    let many : 32 ≤ length cs = omega (arith, c.self.inside.leaves.ok.0) in
     let is_l : c.replace-full.new.dest.items ≡ c.args.leaf ∷ [] = search rules in
     (branches_full bs cs c.args.self.now c.self.invariant.0 c.self.invariant.1 c.self.view_is c.push-2.new.self.items b is is_b many c.requires.room, row_alone c.replace-full.new.dest.items c.args.leaf is_l c.requires.full)
 
@@ -29,7 +29,7 @@ returns c =
     let bs = c.self.inside.branches.items in
     let cs = c.self.inside.leaves.items in
     let b = joined c.in_ok-shared.shared.value.items in
-    let is : c.push-2.new.self.items ≡ bs ++ b ∷ [] = search rules in
+    let is : c.push-2.new.self.items ≡ bs ++ b ∷ [] = c.in_ok-push-2.ensures.items in
     let is_b : b ≡ joined cs = search rules in
     let is_l : c.replace-full.new.dest.items ≡ c.args.leaf ∷ [] = search rules in
     branches-push bs cs c.args.self.now c.self.invariant.0 c.self.invariant.1 c.self.view_is c.push-2.new.self.items c.replace-full.new.dest.items b c.args.leaf is is_b is_l

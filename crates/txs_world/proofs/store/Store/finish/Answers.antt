@@ -74,3 +74,6 @@ finish_at-requires-clause-taken c =
 
 pub returns-then-is_full : goal.returns-then-is_full
 returns-then-is_full c = acted_full c.args.self.now c.args.actor c.args.agent c.args.new (c.is_full.ensures.0 c.if-is_full.true)
+
+pub invariant_of-self : goal.invariant_of-self
+invariant_of-self c = c.self.invariant

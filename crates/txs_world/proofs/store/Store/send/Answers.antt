@@ -1,13 +1,15 @@
-use Rattle.std.proofs.Common.{◌≡◌, ◌<◌, ◌∙◌, ◌∷◌, [], ap, refl, sym, subst, length, true, false}
+use Rattle.txs_world.proofs.Mailing.{many_inboxes}
+use Rattle.txs_cells.specs.declared.action.Action.{Action}
+use Rattle.std.proofs.Common.{◌≡◌, ◌<◌, ◌∙◌, ◌∷◌, [], ap, refl, sym, subst, length, true, false, arith, get_or}
 use Rattle.txs_asks.specs.declared.ask.Reply.TheVariants as reply
 use Rattle.txs_asks.specs.declared.event.EventKind.TheVariants.{Send}
 use Rattle.txs_value.specs.Limits.{most_events}
-use Rattle.txs_book.specs.Book.{makes, LegalKind}
-use Rattle.txs_world.specs.Inboxes.{plain_inboxes, mailed_all, taken_of}
+use Rattle.txs_book.specs.Book.{makes, LegalKind, has_agent}
+use Rattle.txs_world.specs.Inboxes.{plain_inboxes, mailed_all, taken_of, rooms}
 use Rattle.txs_world.specs.Store.{PlainStore, store_with}
 use Rattle.txs_book.specs.Served.{event_of}
 use Rattle.txs_world.proofs.Answering.{has_room, sends_so, told, told_full, told_not}
-use Rattle.txs_world.proofs.Kept.{sent, same_stands}
+use Rattle.txs_world.proofs.Kept.{sent, same_stands, agent_in}
 use Rattle.txs_world.proofs.Storing.{stored, unstored, entered_leaves}
 use Rattle.txs_world.proofs.store.Store.send.Goals as goal
 
@@ -73,3 +75,23 @@ pub returns-then-is_full : goal.returns-then-is_full
 returns-then-is_full c =
     let s = c.args.self.now in
     sends_so s s c.args.actor c.args.action reply.Full false (sym c.is_failed-has_failed.ensures ∙ c.if-has_failed.false) (told_full s c.args.actor (Send c.args.action) reply.Done (c.is_full.ensures.0 c.if-is_full.true))
+
+pub ready_at-requires : goal.ready_at-requires
+ready_at-requires c =
+    let x = c.self.inside in
+    let in_cells = agent_in x.cells c.args.action.agent (subst (λ (s : PlainStore). has_agent s.cells c.args.action.agent ≡ true) (sym c.self.view_is) c.requires.agent) in
+    let many = many_inboxes x.cells x.threads x.slots.items x.inboxes.items x.journal.views.items x.journal.tries.items x.journal.book.items c.self.invariant in
+    omega (arith, in_cells, many)
+
+pub put_at-requires-clause-place : goal.put_at-requires-clause-place
+put_at-requires-clause-place c =
+    let x = c.self.inside in
+    let in_cells = agent_in x.cells c.args.action.agent (subst (λ (s : PlainStore). has_agent s.cells c.args.action.agent ≡ true) (sym c.self.view_is) c.requires.agent) in
+    let many = many_inboxes x.cells x.threads x.slots.items x.inboxes.items x.journal.views.items x.journal.tries.items x.journal.book.items c.self.invariant in
+    let more = c.ready_at.ensures.many in
+    subst (λ (a : Action). a.agent.number < length c.ready_at.new.inboxes.items) (sym c.in-Ok.ensures.copy) (omega (arith, in_cells, many, more))
+
+pub put_at-requires-clause-room : goal.put_at-requires-clause-room
+put_at-requires-clause-room c =
+    let room = c.in-Ok.ensures.room in
+    subst (λ (a : Action). 0 < get_or (rooms c.ready_at.new.inboxes.items) a.agent.number 0) (sym c.in-Ok.ensures.copy) (omega (arith, room))

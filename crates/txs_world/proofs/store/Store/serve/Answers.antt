@@ -3,7 +3,7 @@ use Rattle.txs_asks.specs.declared.ask.Ask.{Ask}
 use Rattle.txs_asks.specs.declared.ask.Ask.TheVariants as ask
 use Rattle.txs_asks.specs.declared.ask.Reply.{Reply}
 use Rattle.txs_asks.specs.declared.ask.Reply.TheVariants as reply
-use Rattle.txs_book.specs.Book.{has_agent, has_ref, may_name, opening, newest}
+use Rattle.txs_book.specs.Book.{has_agent, has_ref, may_name, opening, newest, has_refs}
 use Rattle.txs_world.specs.Store.{PlainStore, has_named, is_lawful, is_taken, may_ask, serve, store_after, Answers, Replies}
 use Rattle.txs_book.specs.Served.{served}
 use Rattle.txs_book.proofs.Outcomes.{both}
@@ -91,3 +91,27 @@ returns-in-Finish c = by_kind c.args.self.now c.finish.new.self c.args.actor c.a
 
 pub returns-in-Begin : goal.returns-in-Begin
 returns-in-Begin c = by_kind c.args.self.now c.args.self.now c.args.actor c.args.ask ask.Begin (reply.At c.read_point.result) c.in-Begin.is (ap reply.At c.read_point.ensures, refl)
+
+pub view-requires : goal.view-requires
+view-requires c =
+    let s = c.args.self.now in
+    subst (λ l. has_refs s.cells l ≡ true) (sym c.as_slice.ensures) (asked s c.args.actor c.args.ask (ask.View c.in-View.cells) c.requires c.in-View.is).1
+
+pub commit-requires : goal.commit-requires
+commit-requires c =
+    let s = c.args.self.now in
+    let a = c.args.actor in
+    let d = c.in-Commit in
+    subst (λ l. is_lawful s a (ask.Commit d.at d.sets l d.view c.as_slice-in-Commit-2.result.now d.sends) ≡ true) (sym c.as_slice-in-Commit.ensures)
+    (subst (λ l. is_lawful s a (ask.Commit d.at d.sets d.ensured d.view l d.sends) ≡ true) (sym c.as_slice-in-Commit-2.ensures) (subst (λ q. is_lawful s a q ≡ true) d.is c.requires))
+
+pub returns-in-Commit : goal.returns-in-Commit
+returns-in-Commit c =
+    let s = c.args.self.now in
+    let a = c.args.actor in
+    let d = c.in-Commit in
+    let r = c.commit.result in
+    let t = c.commit.new.self in
+    by_kind s t a c.args.ask (ask.Commit d.at d.sets d.ensured d.view d.commuted d.sends) r d.is
+    (subst (λ l. Replies s (serve s.cells a (ask.Commit d.at d.sets l d.view d.commuted d.sends) s.book) r t) c.as_slice-in-Commit.ensures
+    (subst (λ l. Replies s (serve s.cells a (ask.Commit d.at d.sets c.as_slice-in-Commit.result.now d.view l d.sends) s.book) r t) c.as_slice-in-Commit-2.ensures c.commit.ensures))

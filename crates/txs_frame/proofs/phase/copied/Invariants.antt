@@ -1,5 +1,5 @@
 use Rattle.std.proofs.Common.{◌≡◌, length, take, vec_capacity}
-use Rattle.txs_frame.proofs.phase.Phase.writes.Given as goal
+use Rattle.txs_frame.proofs.phase.copied.Given as goal
 
 abbrev pub invariant-loop-write : goal.invariant-loop-write
 invariant-loop-write l =
