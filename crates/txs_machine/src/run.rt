@@ -282,7 +282,7 @@ pub fn run_thread(
     ensures ended { IfOk result (λ ran. HasEnded code.now k max_steps (books_of shared.new) ran) }
     ensures explained { IfOk result (λ ran. IsExplained code.now k (books_of shared.new) ran) }
 {
-    let _rooms = code.rooms();
+    let (_functions, _threads) = code.rooms();
     let actor = Actor::thread(alloc, code, k, max_steps)?;
     let mut player = Player {
         actor,

@@ -135,7 +135,7 @@ fn open_players(
     requires no_agents { players.old.agents.items ≡ [] }
     ensures { OnOk result (AreReady code.now max_steps threads players.new) }
 {
-    let _rooms = code.rooms();
+    let (_functions, _threads) = code.rooms();
     players.threads.reserve(threads as usize)?;
     for k in 0..threads {
         let actor = Actor::thread(alloc, code, k, max_steps)?;
@@ -219,7 +219,7 @@ fn play_at(
     ensures { IsPlayAt code.now max_steps k shared.old players.old shared.new players.new }
 {
     let _own_cells = code.code();
-    let _rooms = code.rooms();
+    let (_functions, _threads) = code.rooms();
     let threads = players.threads.len();
     let at = k as usize;
     if at < threads {
@@ -480,7 +480,7 @@ fn run_all(
     ensures of { IsStateOf code.now shared.new }
     ensures says { IfOk result (λ report. SaysOf code.now max_steps plays.now rounds shared.new report) }
 {
-    let _rooms = code.rooms();
+    let (_functions, _threads) = code.rooms();
     let mut players = Players {
         threads: Vec::new(alloc),
         agents: Vec::new(alloc),

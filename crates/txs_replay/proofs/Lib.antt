@@ -1,3 +1,4 @@
+mod Comparing
 mod Holding
 pub mod Replaying
 pub mod Steps

@@ -7,15 +7,6 @@ ghost use Rattle.txs_replay.specs.Replay.{holder_from};
 use crate::kept::KeptEntries;
 use std::alloc::{AllocError, Global};
 
-/// How many entries there are, or as many as can be counted.
-fn count_entries(rests: &[KeptEntries]) -> usize {
-    let mut count = 0usize;
-    for rest in rests {
-        count = count.saturating_add(rest.len());
-    }
-    count
-}
-
 /// Puts the actor at the place of a number, if it has one.
 fn note(firsts: &mut Vec<u16>, number: u64, actor: u16)
     ensures { IsPut number actor firsts.old.items firsts.new.items }
@@ -39,7 +30,11 @@ pub(crate) fn first_holders(alloc: Global, rests: &[KeptEntries]) -> Result<Vec<
     requires few { length rests.now ≤ 65536 }
     ensures { IfOk result (λ v. AreFirst v.items rests.now) }
 {
-    let mut firsts = vec![in alloc; 0u16; count_entries(rests)]?;
+    let mut count = 0usize;
+    for rest in rests {
+        count = count.saturating_add(rest.len());
+    }
+    let mut firsts = vec![in alloc; 0u16; count]?;
     let mut actor = rests.len();
     while actor > 0 {
         actor -= 1;

@@ -1,6 +1,7 @@
 //! Equality of replies and of events.
 
 ghost use Rattle.std.specs.Prelude.{◌≡◌, ◌↔◌, IsTrue};
+ghost use Rattle.txs_runs.specs.Told.{IsExchanged};
 
 use txs_asks::{Event, EventKind, Reply};
 use txs_cells::Action;
@@ -80,37 +81,53 @@ fn same_new(a: &Result<Value, Fault>, b: &Result<Value, Fault>) -> bool
     }
 }
 
-/// Whether two replies are equal.
+/// Whether two replies are equal, and an actor goes on with such a one.
 pub(crate) fn same_reply(a: &Reply, b: &Reply) -> bool
-    ensures { IsTrue result ↔ (a.now ≡ b.now) }
+    ensures { IsTrue result ↔ ((a.now ≡ b.now) × IsExchanged a.now) }
 {
-    match (a, b) {
-        (Reply::At(p), Reply::At(q)) => *p == *q,
-        (Reply::Is(v), Reply::Is(w)) => same(v, w),
-        (Reply::Views(p, vs), Reply::Views(q, ws)) => {
-            *p == *q && same_values(vs.as_slice(), ws.as_slice())
-        }
-        (Reply::Done, Reply::Done) => true,
-        (Reply::Retry(c), Reply::Retry(d)) => *c == *d,
-        (Reply::Changed(c), Reply::Changed(d)) => *c == *d,
-        (Reply::AgentIsFailed(g), Reply::AgentIsFailed(h)) => *g == *h,
-        (
-            Reply::Action {
-                number: n,
-                action: x,
-                state: v,
-            },
+    match a {
+        Reply::At(p) => match b {
+            Reply::At(q) => *p == *q,
+            _ => false,
+        },
+        Reply::Is(v) => match b {
+            Reply::Is(w) => same(v, w),
+            _ => false,
+        },
+        Reply::Views(p, vs) => match b {
+            Reply::Views(q, ws) => *p == *q && same_values(vs.as_slice(), ws.as_slice()),
+            _ => false,
+        },
+        Reply::Done => matches!(b, Reply::Done),
+        Reply::Retry(c) => match b {
+            Reply::Retry(d) => *c == *d,
+            _ => false,
+        },
+        Reply::Changed(c) => match b {
+            Reply::Changed(d) => *c == *d,
+            _ => false,
+        },
+        Reply::AgentIsFailed(g) => match b {
+            Reply::AgentIsFailed(h) => *g == *h,
+            _ => false,
+        },
+        Reply::Action {
+            number: n,
+            action: x,
+            state: v,
+        } => match b {
             Reply::Action {
                 number: m,
                 action: y,
                 state: w,
-            },
-        ) => *n == *m && same_action(x, y) && same(v, w),
-        (Reply::Idle, Reply::Idle) => true,
-        (Reply::Opened(p, v), Reply::Opened(q, w)) => *p == *q && same(v, w),
-        (Reply::Full, Reply::Full) => true,
-        (Reply::Memory, Reply::Memory) => true,
-        _ => false,
+            } => *n == *m && same_action(x, y) && same(v, w),
+            _ => false,
+        },
+        Reply::Opened(p, v) => match b {
+            Reply::Opened(q, w) => *p == *q && same(v, w),
+            _ => false,
+        },
+        Reply::Idle | Reply::Full | Reply::Memory => false,
     }
 }
 
@@ -186,13 +203,6 @@ fn same_kind(a: &EventKind, b: &EventKind) -> bool
     }
 }
 
-/// Whether two events are equal.
-fn same_event(a: &Event, b: &Event) -> bool
-    ensures { IsTrue result ↔ (a.now ≡ b.now) }
-{
-    a.actor == b.actor && same_kind(&a.kind, &b.kind)
-}
-
 /// Whether two books are equal.
 pub(crate) fn same_events(a: &[Event], b: &[Event]) -> bool
     ensures { IsTrue result ↔ (a.now ≡ b.now) }
@@ -201,7 +211,9 @@ pub(crate) fn same_events(a: &[Event], b: &[Event]) -> bool
         return false;
     }
     for i in 0..a.len() {
-        if !same_event(&a[i], &b[i]) {
+        let x = &a[i];
+        let y = &b[i];
+        if x.actor != y.actor || !same_kind(&x.kind, &y.kind) {
             return false;
         }
     }

@@ -96,7 +96,7 @@ new_there m (d ∷ ds) (suc k) j e lt h = go (same_kind d.kind Atom) (new_there 
     go true r = subst (λ t. StandsThere (if t then new_atom m d ∷ atoms_of (suc m) ds else atoms_of (suc m) ds) (suc (atoms_below ds k)) x) (sym (small_true m 65536 (omega (arith, e, lt)))) ((let n = r.0 in omega (arith, n)), r.1)
     go false r = r
 
-book_at : (xs : List PlainAtom) (i : ℕ) → get_or (map (λ a. a.book) xs) i [] ≡ (get_or xs i no_atom).book
+pub book_at : (xs : List PlainAtom) (i : ℕ) → get_or (map (λ a. a.book) xs) i [] ≡ (get_or xs i no_atom).book
 book_at [] i = refl
 book_at (x ∷ xs) zero = refl
 book_at (x ∷ xs) (suc i) = book_at xs i

@@ -48,8 +48,8 @@ pub(crate) fn open_atoms(
     ensures { IfOk result (λ v. v.items ≡ atoms_of 0 cells.now) }
 {
     let mut atoms = Vec::new(alloc);
-    for (number, cell) in cells.iter().enumerate() {
-        open_atom(alloc, &mut atoms, number, cell)?;
+    for number in 0..cells.len() {
+        open_atom(alloc, &mut atoms, number, &cells[number])?;
     }
     Ok(atoms)
 }

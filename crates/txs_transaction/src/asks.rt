@@ -1,11 +1,9 @@
 //! What an actor asks the shared state, by what it waits for.
 
 ghost use Rattle.std.specs.Prelude.{◌≡◌, IfErr, IfOk};
-ghost use Rattle.txs_asks.specs.declared.ask.Ask.TheVariants.{Commit};
-ghost use Rattle.txs_frame.specs.Frame.{set_writes};
 ghost use Rattle.txs_transaction.specs.Asks.{applied_in, ask_of_read, ask_for, AskWantsMemory};
 ghost use Rattle.txs_transaction.specs.Transaction.{is_running};
-ghost use Rattle.txs_transaction.specs.declared.state.Pending.TheVariants.{Commit as WantsCommit};
+ghost use Rattle.txs_transaction.specs.declared.state.Pending.TheVariants.{Commit};
 
 use crate::instructions::runs;
 use crate::kept::KeptTransaction;
@@ -60,30 +58,6 @@ fn applied_in(tx: &KeptTransaction) -> Result<Listed<(CellId, Value)>, AllocErro
     }
 }
 
-/// The ask of a transaction that ends with this read point and this last view, and whose commutes gave these values.
-#[inline(always)]
-fn commit_ask(
-    alloc: Global,
-    at: u32,
-    view: u32,
-    frame: &TxFrame,
-    commuted: Listed<(CellId, Value)>,
-) -> Result<Ask, AllocError>
-    ensures { IfOk result (λ q. q ≡ Commit at (set_writes frame.now) frame.now.ensures view commuted frame.now.sends) }
-{
-    let ensured = copy_cells(alloc, frame.ensured())?;
-    let sends = copy_sends(alloc, frame.sends())?;
-    let sets = Listed::from_vec(frame.writes()?);
-    Ok(Ask::Commit {
-        at,
-        sets,
-        ensured,
-        view,
-        commuted,
-        sends,
-    })
-}
-
 /// What is asked for the value of a cell: where a transaction runs, that at its read point, and else the newest.
 #[inline(always)]
 pub fn ask_of_read(cell: CellId, tx: &KeptTransaction, at: u32) -> Ask
@@ -104,10 +78,20 @@ pub fn ask_of_commit(
     view: u32,
     frame: &TxFrame,
 ) -> Result<Ask, AllocError>
-    ensures { IfOk result (λ q. q ≡ ask_for WantsCommit (is_running tx.now) at view (applied_in tx.now) frame.now) }
+    ensures { IfOk result (λ q. q ≡ ask_for Commit (is_running tx.now) at view (applied_in tx.now) frame.now) }
 {
     let commuted = applied_in(tx)?;
-    commit_ask(tx.alloc(), at, view, frame, commuted)
+    let ensured = copy_cells(tx.alloc(), frame.ensured())?;
+    let sends = copy_sends(tx.alloc(), frame.sends())?;
+    let sets = Listed::from_vec(frame.writes()?);
+    Ok(Ask::Commit {
+        at,
+        sets,
+        ensured,
+        view,
+        commuted,
+        sends,
+    })
 }
 
 /// What is asked for this, where the transaction has this read point, this last view and this frame. An error comes where there

@@ -326,7 +326,7 @@ fn keep(
         Err(_) => Moved::Memory,
         Ok(()) => {
             stack.drop_under();
-            drop(mem::replace(commuting, None));
+            shut(commuting);
             Moved::On
         }
     }

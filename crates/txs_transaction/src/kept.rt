@@ -158,19 +158,16 @@ impl KeptTransaction {
         ensures taken { result ≡ self.old }
         ensures left { self.new ≡ tx.Outside }
     {
-        let running = self.running;
+        let Some(standing) = self.running else {
+            return mem::replace(&mut self.other, Transaction::Outside);
+        };
+        let from = mem::replace(&mut self.from, no_origin(self.alloc));
         self.running = None;
-        let other = mem::replace(&mut self.other, Transaction::Outside);
-        match running {
-            None => other,
-            Some(standing) => {
-                drop(other);
-                Transaction::Running {
-                    left: standing.left,
-                    inner: standing.inner,
-                    from: mem::replace(&mut self.from, no_origin(self.alloc)),
-                }
-            }
+        forget(&mut self.other);
+        Transaction::Running {
+            left: standing.left,
+            inner: standing.inner,
+            from,
         }
     }
 
@@ -293,31 +290,18 @@ impl KeptPending {
         ensures taken { result ≡ self.old }
         ensures left { self.new ≡ None }
     {
-        let wanted = self.wanted;
-        self.wanted = Wanted::Other;
-        let other = mem::replace(&mut self.other, None);
-        match wanted {
-            Wanted::Other => other,
-            Wanted::Begin(left) => {
-                drop(other);
-                Some(Pending::Begin {
-                    left,
-                    from: mem::replace(&mut self.from, no_origin(self.alloc)),
-                })
-            }
-            Wanted::Read(cell) => {
-                drop(other);
-                Some(Pending::Read(cell))
-            }
-            Wanted::Open(cell, n) => {
-                drop(other);
-                Some(Pending::Open(cell, n, None))
-            }
-            Wanted::Commit => {
-                drop(other);
-                Some(Pending::Commit)
-            }
-        }
+        let small = match self.wanted {
+            Wanted::Other => return mem::replace(&mut self.other, None),
+            Wanted::Begin(left) => Pending::Begin {
+                left,
+                from: mem::replace(&mut self.from, no_origin(self.alloc)),
+            },
+            Wanted::Read(cell) => Pending::Read(cell),
+            Wanted::Open(cell, n) => Pending::Open(cell, n, None),
+            Wanted::Commit => Pending::Commit,
+        };
+        self.clear();
+        Some(small)
     }
 
     /// This is asked for.

@@ -1,4 +1,4 @@
-use Rattle.std.proofs.Common.{◌≡◌, ℕ, List, Option, Result, false, refl, subst, rules}
+use Rattle.std.proofs.Common.{◌≡◌, ℕ, List, Option, Result, false, true, refl, sym, subst, rules}
 use Rattle.std.specs.Prelude.{IsTrue}
 use Rattle.std.proofs.lemmas.Bool.{false≢true}
 use Rattle.txs_asks.specs.Ask.{Writes}
@@ -16,6 +16,40 @@ use Rattle.txs_actor.proofs.answer.may_answer.Goals as goal
 -- a reply that an ask can't have
 no : {A : Type 0} → (A → ⊥) → (IsTrue false → A) × (A → IsTrue false)
 no n = (λ e. absurd (false≢true e), λ a. absurd (n a))
+
+-- a reply that an ask can have
+yes : {A : Type 0} → A → (IsTrue true → A) × (A → IsTrue true)
+yes a = (λ e. a, λ b. refl)
+
+-- each ask but that of a beginning, a view, an action and the open of an atom may find the book full
+may_be_full : (q0 : Ask) → (q0 ≡ ask.Begin → ⊥) → ((cs : List CellId) → q0 ≡ ask.View cs → ⊥) → ((g : CellId) → q0 ≡ ask.Take g → ⊥) → ((c : CellId) → q0 ≡ ask.OpenAt c → ⊥) → MayAnswer q0 reply.Full
+may_be_full ask.Begin n0 n1 n2 n3 = absurd (n0 refl)
+may_be_full (ask.Look c p) n0 n1 n2 n3 = tt
+may_be_full (ask.View cs) n0 n1 n2 n3 = absurd (n1 cs refl)
+may_be_full (ask.Commit p ws es q cs xs) n0 n1 n2 n3 = tt
+may_be_full (ask.Fail p q) n0 n1 n2 n3 = tt
+may_be_full (ask.Peek c) n0 n1 n2 n3 = tt
+may_be_full (ask.Send x) n0 n1 n2 n3 = tt
+may_be_full (ask.Take g) n0 n1 n2 n3 = absurd (n2 g refl)
+may_be_full (ask.Finish g new) n0 n1 n2 n3 = tt
+may_be_full (ask.OpenAt c) n0 n1 n2 n3 = absurd (n3 c refl)
+may_be_full (ask.CloseAt c p v) n0 n1 n2 n3 = tt
+may_be_full (ask.Broke c p) n0 n1 n2 n3 = tt
+
+-- each ask but that of a beginning may find no memory
+may_want_memory : (q0 : Ask) → (q0 ≡ ask.Begin → ⊥) → MayAnswer q0 reply.Memory
+may_want_memory ask.Begin n0 = absurd (n0 refl)
+may_want_memory (ask.Look c p) n0 = tt
+may_want_memory (ask.View cs) n0 = tt
+may_want_memory (ask.Commit p ws es q cs xs) n0 = tt
+may_want_memory (ask.Fail p q) n0 = tt
+may_want_memory (ask.Peek c) n0 = tt
+may_want_memory (ask.Send x) n0 = tt
+may_want_memory (ask.Take g) n0 = tt
+may_want_memory (ask.Finish g new) n0 = tt
+may_want_memory (ask.OpenAt c) n0 = tt
+may_want_memory (ask.CloseAt c p v) n0 = tt
+may_want_memory (ask.Broke c p) n0 = tt
 
 -- only a beginning has a read point
 no_read_point : (q0 : Ask) (n : ℕ) → (q0 ≡ ask.Begin → ⊥) → MayAnswer q0 (reply.At n) → ⊥
@@ -127,3 +161,10 @@ returns-in_default-matches-6 c = no (λ m. not_opened c.args.ask.now c.in-Opened
 
 pub returns-in_default-matches-3 : goal.returns-in_default-matches-3
 returns-in_default-matches-3 c = search rules
+
+pub returns-in_default-ask-2 : goal.returns-in_default-ask-2
+returns-in_default-ask-2 c =
+    yes (subst (λ (r : Reply). MayAnswer c.args.ask.now r) (sym c.in-Full.is) (may_be_full c.args.ask.now c.in_default-ask-2.not-Begin c.in_default-ask-2.not-View c.in_default-ask-2.not-Take c.in_default-ask-2.not-OpenAt))
+
+pub returns-in_default-ask-3 : goal.returns-in_default-ask-3
+returns-in_default-ask-3 c = yes (subst (λ (r : Reply). MayAnswer c.args.ask.now r) (sym c.in-Memory.is) (may_want_memory c.args.ask.now c.in_default-ask-3.not-Begin))

@@ -21,7 +21,7 @@ pub run_to_end-outcome-requires-clause-over : goal.run_to_end-outcome-requires-c
 run_to_end-outcome-requires-clause-over c =
     subst (λ (books : ℕ → List Event). RunLawfully c.args.code.now c.args.k books c.new.result.items c.in_ok-actor.actor) (sym (ap (λ (sh : Shared). sh.books) c.requires.unused))
     (new_over actors_run c.args.code.now c.args.k c.args.max_steps c.new.result.items c.in_ok-actor.actor c.new.ensures.items c.requires.thread
-    (standing_of typed_stands c.args.code.now c.rooms-rooms.result.0.now c.rooms-rooms.result.1.now c.args.k c.rooms-rooms.ensures c.requires.thread) c.in_ok-actor.ensures.new)
+    (standing_of typed_stands c.args.code.now c.rooms.result.0.now c.rooms.result.1.now c.args.k c.rooms.ensures c.requires.thread) c.in_ok-actor.ensures.new)
 
 pub run_to_end-outcome-requires-clause-own : goal.run_to_end-outcome-requires-clause-own
 run_to_end-outcome-requires-clause-own c = subst (λ (books : ℕ → List Event). AreOwn c.args.k books) (sym (ap (λ (sh : Shared). sh.books) c.requires.unused)) (λ n. tt)

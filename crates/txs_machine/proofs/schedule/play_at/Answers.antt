@@ -54,7 +54,7 @@ play_agent-requires-clause-long c = c.requires.playing.long
 -- what waits for an agent the code has sent
 pub play_agent-requires-clause-may : goal.play_agent-requires-clause-may
 play_agent-requires-clause-may c x e =
-    next_may keeps c.args.code.now c.rooms-rooms.result.0.now c.rooms-rooms.result.1.now c.rooms-rooms.ensures c.args.shared.now c.args.players.now.threads.items c.args.players.now.agents.items c.requires.playing.run
+    next_may keeps c.args.code.now c.rooms.result.0.now c.rooms.result.1.now c.rooms.ensures c.args.shared.now c.args.players.now.threads.items c.args.players.now.agents.items c.requires.playing.run
     c.index_mut-else-at-threads.result.now.agent x e
 
 pub returns-else-at-threads : goal.returns-else-at-threads

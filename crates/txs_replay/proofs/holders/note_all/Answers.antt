@@ -1,5 +1,5 @@
 use Rattle.std.proofs.Common.{rules, ◌<◌, length}
-use Rattle.txs_replay.proofs.Holding.{noted_more}
+use Rattle.txs_replay.proofs.Holding.{noted_more, noted_none}
 use Rattle.txs_replay.proofs.holders.note_all.Goals as goal
 
 pub loop-place-preserved : goal.loop-place-preserved
@@ -7,3 +7,6 @@ loop-place-preserved c =
     let ks = c.args.entries.now in
     let within : c.loop-place.place < length ks = search rules in
     noted_more ks c.get.result.now c.loop-place.place c.args.actor c.args.firsts.now.items c.loop-place.firsts.items c.note.new.firsts.items within c.get.ensures c.loop-place.invariant c.note.ensures
+
+pub loop-place-init : goal.loop-place-init
+loop-place-init c = noted_none c.args.actor c.args.firsts.now.items

@@ -1,6 +1,11 @@
-use Rattle.std.proofs.Common.{rules, arith}
-use Rattle.std.proofs.lemmas.Grind.{common_steps}
+use Rattle.std.proofs.Common.{rules, ◌≡◌}
+use Rattle.txs_replay.proofs.Comparing.{next_same, same_event}
 use Rattle.txs_replay.proofs.same.same_events.Goals as goal
 
 pub loop-i-preserved : goal.loop-i-preserved
-loop-i-preserved c = grind (arith, common_steps)
+loop-i-preserved c =
+    let x = c.index-a-i.result in
+    let y = c.index-b-i.result in
+    let actor : x.actor ≡ y.actor = search rules in
+    let kind : x.kind ≡ y.kind = search rules in
+    next_same c.args.a.now c.args.b.now c.loop-i.i x y c.if-a-b.false c.loop-i-test.true c.loop-i.invariant c.index-a-i.is c.index-b-i.is (same_event x y actor kind)

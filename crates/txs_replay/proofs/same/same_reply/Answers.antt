@@ -1,5 +1,5 @@
 use Rattle.std.proofs.Common.{rules}
 use Rattle.txs_replay.proofs.same.same_reply.Goals as goal
 
-pub returns-in-At-At : goal.returns-in-At-At
-returns-in-At-At c = search rules
+pub returns-in-At-b : goal.returns-in-At-b
+returns-in-At-b c = search rules

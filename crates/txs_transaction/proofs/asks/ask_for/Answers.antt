@@ -1,4 +1,4 @@
-use Rattle.std.proofs.Common.{◌≡◌, ◌∙◌, ℕ, Result, Ok, Err, ap, sym, subst}
+use Rattle.std.proofs.Common.{◌≡◌, ◌∙◌, ℕ, Result, Ok, Err, None, ap, sym, subst}
 use Rattle.std.specs.Prelude.{IfErr, IfOk}
 use Rattle.txs_asks.specs.declared.ask.Ask.{Ask}
 use Rattle.txs_asks.specs.declared.ask.Ask.TheVariants as ask
@@ -55,3 +55,7 @@ returns-in-Broke-clause-ask c = ap (asked c.args.tx.now c.args.at c.args.view c.
 
 pub returns-in-Take-clause-ask : goal.returns-in-Take-clause-ask
 returns-in-Take-clause-ask c = ap (asked c.args.tx.now c.args.at c.args.view c.args.frame.now) (sym c.in-Take.is)
+
+pub returns-in_ok-copy_value-in-Reset-clause-ask : goal.returns-in_ok-copy_value-in-Reset-clause-ask
+returns-in_ok-copy_value-in-Reset-clause-ask c =
+    ap (ask.CloseAt c.in-Reset.cell None) c.in_ok-copy_value-in-Reset.ensures ∙ ap (asked c.args.tx.now c.args.at c.args.view c.args.frame.now) (sym c.in-Reset.is)

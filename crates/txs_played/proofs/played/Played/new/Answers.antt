@@ -1,4 +1,4 @@
-use Rattle.std.proofs.Common.{map, sym, subst, None}
+use Rattle.std.proofs.Common.{rules, map, sym, subst, None}
 use Rattle.txs_replay.specs.Replay.{entry_of}
 use Rattle.txs_played.specs.Played.{HasPlayed}
 use Rattle.txs_played.proofs.Playing.{new_played}
@@ -18,3 +18,6 @@ invariant_of-result c =
       c.requires.callees,
       c.requires.new.limited,
     )
+
+pub returns : goal.returns
+returns c = search rules

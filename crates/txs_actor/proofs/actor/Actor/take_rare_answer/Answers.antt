@@ -7,7 +7,7 @@ use Rattle.txs_transaction.specs.declared.state.Pending.TheVariants.{Begin, Read
 use Rattle.txs_value.specs.declared.value.CellId.{CellId}
 use Rattle.txs_actor.specs.PlainActor.{PlainActor, answered, answered_if, run_again, stops_as}
 use Rattle.txs_actor.specs.Turns.{TakesAnswer}
-use Rattle.txs_actor.proofs.actor.Actor.take_any_answer.Goals as goal
+use Rattle.txs_actor.proofs.actor.Actor.take_rare_answer.Goals as goal
 
 -- a full book ends the actor
 full : (a : PlainActor) (many : ℕ) (o : Option Pending) → TakesAnswer a many o reply.Full → stops_as a outcome.JournalFull ≡ answered_if a o reply.Full
@@ -67,21 +67,21 @@ pub returns-in-Full : goal.returns-in-Full
 returns-in-Full c =
     let a = c.args.self.now in
     let many = length c.args.instrs.now in
-    let w = subst (λ (r : Reply). TakesAnswer a many a.pending r) c.in-Full.is c.requires in
+    let w = subst (λ (r : Reply). TakesAnswer a many a.pending r) c.in-Full.is c.requires.takes in
     c.stop.ensures ∙ full a many a.pending w ∙ ap (answered a) (sym c.in-Full.is)
 
 pub returns-in-Memory : goal.returns-in-Memory
 returns-in-Memory c =
     let a = c.args.self.now in
     let many = length c.args.instrs.now in
-    let w = subst (λ (r : Reply). TakesAnswer a many a.pending r) c.in-Memory.is c.requires in
+    let w = subst (λ (r : Reply). TakesAnswer a many a.pending r) c.in-Memory.is c.requires.takes in
     c.stop-in-Memory.ensures ∙ memory a many a.pending w ∙ ap (answered a) (sym c.in-Memory.is)
 
 pub returns-in-Retry : goal.returns-in-Retry
 returns-in-Retry c =
     let a = c.args.self.now in
     let many = length c.args.instrs.now in
-    let w = subst (λ (r : Reply). TakesAnswer a many a.pending r) c.in-Retry.is c.requires in
+    let w = subst (λ (r : Reply). TakesAnswer a many a.pending r) c.in-Retry.is c.requires.takes in
     c.run_again.ensures ∙ again a many c.in-Retry.field-0 a.pending w ∙ ap (answered a) (sym c.in-Retry.is)
 
 pub returns-in-Changed : goal.returns-in-Changed
