@@ -1,8 +1,8 @@
 //! The bodies of a program in script order: functions and futures, each of which are in script order.
 
 ghost use Rattle.std.specs.Prelude.{◌≡◌, ◌≤◌, length, map};
-ghost use Rattle.txs_tree.specs.View.{tree_of, function_of, functions_of, threads_of};
-ghost use Rattle.txs_check.specs.Refused.{before, checked_body, checked_bodies, function_body, in_order, room, taken, thread_body};
+ghost use Rattle.txs_tree.specs.View.{tree_of, functions_of, threads_of};
+ghost use Rattle.txs_check.specs.Refused.{before, checked_bodies, in_order, room, taken, thread_body};
 ghost use Rattle.txs_check.specs.Signatures.{known_as};
 
 use crate::class::Signature;
@@ -28,14 +28,6 @@ fn count_before(from: u32, threads: &[Thread]) -> usize
     count
 }
 
-/// Whether the function's body may stand: it is a target of recur.
-fn check_function(signatures: &[Signature], function: &Function) -> Result<(), CheckError>
-    ensures { result ≡ checked_body (known_as signatures.now) (function_body (function_of function.now)) }
-{
-    let own = Target::Nearest(usize::from(function.parameters), true);
-    check_node(signatures, Zone::InFunction, own, &function.body)
-}
-
 /// Whether each future's body may stand.
 fn check_threads(signatures: &[Signature], threads: &[Thread]) -> Result<(), CheckError>
     ensures { result ≡ checked_bodies (known_as signatures.now) (map thread_body (threads_of threads.now)) }
@@ -58,7 +50,9 @@ pub fn check_bodies(
     for function in functions {
         let (earlier, later) = rest.split_at(count_before(function.span.from, rest));
         check_threads(signatures, earlier)?;
-        check_function(signatures, function)?;
+        // A function's body is a target of recur.
+        let own = Target::Nearest(usize::from(function.parameters), true);
+        check_node(signatures, Zone::InFunction, own, &function.body)?;
         rest = later;
     }
     check_threads(signatures, rest)

@@ -3,7 +3,7 @@
 ghost use Rattle.std.specs.Prelude.{◌≡◌};
 ghost use Rattle.txs_check.specs.Errors.{check_number, check_name, out_of_memory};
 
-use std::alloc::{AllocError, AllocFailed};
+use std::alloc::AllocError;
 use std::fmt::{self, Display, Formatter, Write};
 use thiserror::Error;
 use txs_terms::Span;
@@ -88,17 +88,6 @@ impl From<AllocError> for CheckError {
     ghost from_gives = { λ _ e. e ≡ out_of_memory };
 
     fn from(_: AllocError) -> CheckError {
-        CheckError {
-            kind: CheckErrorKind::Memory,
-            at: Span { from: 0, to: 0 },
-        }
-    }
-}
-
-impl<T: Drop> From<AllocFailed<T>> for CheckError {
-    ghost from_gives = { λ _ e. e ≡ out_of_memory };
-
-    fn from(_: AllocFailed<T>) -> CheckError {
         CheckError {
             kind: CheckErrorKind::Memory,
             at: Span { from: 0, to: 0 },

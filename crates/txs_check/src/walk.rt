@@ -2,7 +2,7 @@
 
 ghost use Rattle.std.specs.Prelude.{◌≡◌, length, suc};
 ghost use Rattle.txs_tree.specs.View.{tree_of, trees_of};
-ghost use Rattle.txs_check.specs.Refused.{accepts, applied, called, calls, checked, checked_all, formed, here, operates, turned, zoned};
+ghost use Rattle.txs_check.specs.Refused.{accepts, applied, called, calls, checked, checked_all, formed, here, turned, zoned};
 ghost use Rattle.txs_tree.specs.Known.{is_pure};
 ghost use Rattle.txs_check.specs.Signatures.{known_as, known_if};
 
@@ -11,15 +11,8 @@ use crate::error::{CheckError, CheckErrorKind};
 use crate::place::{Target, Zone, only};
 use txs_cells::{CellForm, Standing};
 use txs_operations::takes;
-use txs_terms::{Callee, Op, Span};
+use txs_terms::{Callee, Span};
 use txs_tree::{Node, NodeKind};
-
-/// Whether the operation takes so many arguments.
-fn check_operation(op: Op, count: usize, at: Span) -> Result<(), CheckError>
-    ensures { result ≡ operates op count at }
-{
-    only(takes(op, count), CheckErrorKind::Arity, at)
-}
 
 /// Whether there is such a function and it has so many parameters.
 fn accepts(signature: Option<Signature>, count: usize) -> bool
@@ -80,7 +73,7 @@ fn check_callee(
     ensures { result ≡ called (known_as signatures.now) callee count at }
 {
     match callee {
-        Callee::Core(op) => check_operation(op, count, at),
+        Callee::Core(op) => only(takes(op, count), CheckErrorKind::Arity, at),
         Callee::Function(number) => {
             let signature = signature_of(signatures, number);
             only(accepts(signature, count), CheckErrorKind::Arity, at)?;
@@ -130,7 +123,9 @@ fn check_here(
         | NodeKind::Vector(_)
         | NodeKind::Dosync(_) => Ok(()),
         NodeKind::Recur(values) => target.check_recur(values.len(), node.span),
-        NodeKind::Core(op, args) => check_operation(*op, args.len(), node.span),
+        NodeKind::Core(op, args) => {
+            only(takes(*op, args.len()), CheckErrorKind::Arity, node.span)
+        }
         NodeKind::Call(number, args) => {
             check_call(signatures, zone, *number, args.len(), node.span)
         }

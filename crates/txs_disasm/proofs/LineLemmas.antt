@@ -1,7 +1,8 @@
 -- Lines of a listing, one more at a time, and what a writer got of them.
-use Rattle.std.proofs.Common.{◌≡◌, ℕ, zero, suc, ◌<◌, ◌+◌, List, [], ◌∷◌, ◌++◌, length, drop, get_or, refl, sym, ap, ◌∙◌, append_assoc, length-append, add-one, arith, subst}
+use Rattle.std.proofs.Common.{◌≡◌, ℕ, zero, suc, ◌<◌, ◌≤◌, ◌+◌, List, [], ◌∷◌, ◌++◌, length, drop, get_or, refl, sym, ap, ◌∙◌, append_assoc, length-append, add-one, arith, subst}
 use Rattle.std.specs.Prelude.{Option, slice_index_or}
 use Rattle.std.proofs.Math.Seq.{drop-cons}
+use Rattle.std.proofs.lemmas.List.{append-nil, drop_all}
 use Rattle.txs_terms.specs.declared.fault.Span.{Span}
 use Rattle.txs_code.specs.PlainCode.{CodeBody}
 use Rattle.txs_code.specs.declared.instr.Instr.{Instr}
@@ -65,3 +66,11 @@ module _ (a b : Option (List ℕ)) (all page left line rest : List ℕ) (split :
   -- there was no memory for the next line
   pub IsCut-here : 0 < length line → IsCut a b all
   IsCut-here some = record { left = (page ++ line) ++ rest; some = rw (length-append (page ++ line) rest, length-append page line) (omega (arith, some)); sent = joined }
+
+-- behind the last of a list no lines are to come
+pub Sent-end : {A : Type 0} (lines : ℕ → A → List ℕ) (xs : List A) (i : ℕ) (a b : Option (List ℕ)) (all page : List ℕ) → length xs ≤ i → Sent a b all (page ++ numbered lines i (drop i xs)) → Sent a b all page
+Sent-end lines xs i a b all page past s = subst (λ l. Sent a b all l) (ap (λ ys. page ++ numbered lines i ys) (drop_all i xs past) ∙ append-nil page) s
+
+-- the same of instructions with their spans
+pub Sent-instrs_end : (is : List Instr) (ss : List Span) (i : ℕ) (a b : Option (List ℕ)) (all page : List ℕ) → length is ≤ i → Sent a b all (page ++ instr_lines i (drop i is) (drop i ss)) → Sent a b all page
+Sent-instrs_end is ss i a b all page past s = subst (λ l. Sent a b all l) (ap (λ xs. page ++ instr_lines i xs (drop i ss)) (drop_all i is past) ∙ append-nil page) s

@@ -6,6 +6,14 @@ use Rattle.txs_disasm.specs.Sent.{Sent, IsCut}
 use Rattle.txs_disasm.proofs.LineLemmas.{IsCut-on, Sent-on}
 use Rattle.txs_disasm.proofs.SentLemmas.{IsCut-after, Sent-all, Sent-none, Sent-trans, Sent-whole}
 
+pub IsCut-first : (u v : Option (List ℕ)) (cells constants functions threads page : List ℕ) → page ≡ [] → IsCut u v (page ++ cells) → IsCut u v (cells ++ constants ++ functions ++ threads)
+IsCut-first u v cells constants functions threads page empty k =
+    let all : List ℕ = cells ++ constants ++ functions ++ threads in
+    let rest : List ℕ = constants ++ (functions ++ threads) in
+    let in_parts : all ≡ cells ++ rest = append_assoc (cells ++ constants) functions threads ∙ append_assoc cells constants (functions ++ threads) in
+    let begun : Sent u u all (page ++ all) = subst (λ l. Sent u u all (l ++ all)) (sym empty) (Sent-none u all) in
+    IsCut-on u u all page all cells rest in_parts begun v k
+
 module _ (u v w x : Option (List ℕ)) (cells constants functions threads p0 p1 p2 p3 : List ℕ) (empty : p0 ≡ []) (one : Sent u v (p0 ++ cells) p1) where
   abbrev all : List ℕ
   all = cells ++ constants ++ functions ++ threads

@@ -1,6 +1,6 @@
 //! Why a listing isn't written whole.
 
-use std::alloc::{AllocError, AllocFailed};
+use std::alloc::AllocError;
 use thiserror::Error;
 
 /// Why a listing isn't written whole.
@@ -16,12 +16,6 @@ pub enum WriteFault {
 
 impl From<AllocError> for WriteFault {
     fn from(_: AllocError) -> WriteFault {
-        WriteFault::Memory
-    }
-}
-
-impl<T: Drop> From<AllocFailed<T>> for WriteFault {
-    fn from(_: AllocFailed<T>) -> WriteFault {
         WriteFault::Memory
     }
 }

@@ -1,11 +1,11 @@
 //! The lines of a listing.
 
-ghost use Rattle.std.specs.Prelude.{◌≡◌, ◌++◌, OnOk};
+ghost use Rattle.std.specs.Prelude.{◌≡◌, ◌++◌, decimal, OnOk};
 ghost use Rattle.txs_value.specs.Printed.{printed};
 ghost use Rattle.txs_value.specs.View.{plain_of};
-ghost use Rattle.txs_disasm.specs.Listing.{at_span, body_head, body_line, callee_words, cell_line, constant_line, instr_line, number, operands, word};
+ghost use Rattle.txs_disasm.specs.Listing.{at_span, body_head, body_line, callee_words, cell_line, constant_line, instr_line, operands, word};
 
-use crate::names::{instr_name, kind_name, mode_words};
+use crate::names::{cell_end, instr_name, kind_name};
 use itoa::Buffer;
 use std::alloc::AllocError;
 use txs_cells::CellDefinition;
@@ -28,11 +28,11 @@ fn put_word(text: &[u8], out: &mut Vec<u8>) -> Result<(), AllocError>
     out.extend_from_slice(text)
 }
 
-/// Appends a number behind a space.
-fn put_number(n: u64, out: &mut Vec<u8>) -> Result<(), AllocError>
-    ensures { OnOk result (out.new.items ≡ out.old.items ++ number n) }
+/// Appends a text, and a number behind it.
+fn put_number(text: &[u8], n: u64, out: &mut Vec<u8>) -> Result<(), AllocError>
+    ensures { OnOk result (out.new.items ≡ out.old.items ++ text.now ++ decimal n) }
 {
-    out.push(b' ')?;
+    out.extend_from_slice(text)?;
     out.extend_from_slice(Buffer::new().format(n).as_bytes())
 }
 
@@ -53,10 +53,7 @@ fn put_callee(callee: Callee, out: &mut Vec<u8>) -> Result<(), AllocError>
             out.extend_from_slice(b" core")?;
             put_word(op.name(), out)
         }
-        Callee::Function(function) => {
-            out.extend_from_slice(b" fn")?;
-            put_number(u64::from(function), out)
-        }
+        Callee::Function(function) => put_number(b" fn ", u64::from(function), out),
     }
 }
 
@@ -66,21 +63,21 @@ fn put_operands(instr: Instr, out: &mut Vec<u8>) -> Result<(), AllocError>
 {
     match instr {
         Instr::Const(number) | Instr::Jump(number) | Instr::JumpFalse(number) => {
-            put_number(u64::from(number), out)
+            put_number(b" ", u64::from(number), out)
         }
-        Instr::Local(local) | Instr::Store(local) => put_number(u64::from(local), out),
+        Instr::Local(local) | Instr::Store(local) => put_number(b" ", u64::from(local), out),
         Instr::Core(op, count) => {
             put_word(op.name(), out)?;
-            put_number(u64::from(count), out)
+            put_number(b" ", u64::from(count), out)
         }
         Instr::Call(number)
         | Instr::Vector(number)
         | Instr::Print(number)
-        | Instr::Open(OpenForm::Alter, number) => put_number(u64::from(number), out),
+        | Instr::Open(OpenForm::Alter, number) => put_number(b" ", u64::from(number), out),
         Instr::Open(OpenForm::Commute(callee) | OpenForm::Swap(callee), count)
         | Instr::Send(callee, count) => {
             put_callee(callee, out)?;
-            put_number(u64::from(count), out)
+            put_number(b" ", u64::from(count), out)
         }
         Instr::Pop
         | Instr::Return
@@ -97,10 +94,8 @@ fn put_operands(instr: Instr, out: &mut Vec<u8>) -> Result<(), AllocError>
 fn put_span(span: Span, out: &mut Vec<u8>) -> Result<(), AllocError>
     ensures { OnOk result (out.new.items ≡ out.old.items ++ at_span span) }
 {
-    out.extend_from_slice(b" @")?;
-    out.extend_from_slice(Buffer::new().format(span.from).as_bytes())?;
-    out.extend_from_slice(b"..")?;
-    out.extend_from_slice(Buffer::new().format(span.to).as_bytes())
+    put_number(b" @", u64::from(span.from), out)?;
+    put_number(b"..", u64::from(span.to), out)
 }
 
 /// Appends the line of a cell.
@@ -111,12 +106,11 @@ pub(crate) fn put_cell(
 ) -> Result<(), AllocError>
     ensures { OnOk result (out.new.items ≡ out.old.items ++ cell_line number cell.now) }
 {
-    put_counted(b"cell", number as u64, out)?;
+    put_number(b"cell ", number as u64, out)?;
     put_word(kind_name(cell.kind), out)?;
     put_word(cell.name.as_bytes(), out)?;
     put_value(&cell.opening, out)?;
-    out.extend_from_slice(mode_words(cell.error_mode))?;
-    Ok(out.push(b'\n')?)
+    out.extend_from_slice(cell_end(cell.error_mode))
 }
 
 /// Appends the line of a constant.
@@ -127,17 +121,9 @@ pub(crate) fn put_constant(
 ) -> Result<(), AllocError>
     ensures { OnOk result (out.new.items ≡ out.old.items ++ constant_line number value.now) }
 {
-    put_counted(b"const", number as u64, out)?;
+    put_number(b"const ", number as u64, out)?;
     put_value(value, out)?;
-    Ok(out.push(b'\n')?)
-}
-
-/// Appends a word, and a number behind it.
-fn put_counted(text: &[u8], n: u64, out: &mut Vec<u8>) -> Result<(), AllocError>
-    ensures { OnOk result (out.new.items ≡ out.old.items ++ text.now ++ number n) }
-{
-    out.extend_from_slice(text)?;
-    put_number(n, out)
+    out.extend_from_slice(b"\n")
 }
 
 /// Appends the beginning of the line of a body: what it is, its number, and of a function how many parameters it has.
@@ -151,10 +137,10 @@ fn put_head(
 {
     match kind {
         BodyKind::Function => {
-            put_counted(b"fn", number as u64, out)?;
-            put_counted(b" params", u64::from(parameters), out)
+            put_number(b"fn ", number as u64, out)?;
+            put_number(b" params ", u64::from(parameters), out)
         }
-        BodyKind::Thread => put_counted(b"thread", number as u64, out),
+        BodyKind::Thread => put_number(b"thread ", number as u64, out),
     }
 }
 
@@ -168,8 +154,8 @@ pub(crate) fn put_body(
     ensures { OnOk result (out.new.items ≡ out.old.items ++ body_line kind number body.now) }
 {
     put_head(kind, number, body.parameters(), out)?;
-    put_counted(b" locals", u64::from(body.locals()), out)?;
-    Ok(out.push(b'\n')?)
+    put_number(b" locals ", u64::from(body.locals()), out)?;
+    out.extend_from_slice(b"\n")
 }
 
 /// Appends the line of an instruction at a place of its body.
@@ -181,10 +167,9 @@ pub(crate) fn put_instr(
 ) -> Result<(), AllocError>
     ensures { OnOk result (out.new.items ≡ out.old.items ++ instr_line place instr span) }
 {
-    out.push(b' ')?;
-    put_number(place as u64, out)?;
+    put_number(b"  ", place as u64, out)?;
     put_word(instr_name(instr), out)?;
     put_operands(instr, out)?;
     put_span(span, out)?;
-    Ok(out.push(b'\n')?)
+    out.extend_from_slice(b"\n")
 }

@@ -112,6 +112,12 @@ within_push outer inner name w =
     let count : suc (length inner.locals) - length outer.locals ≡ suc (length inner.locals - length outer.locals) = omega (arith, w.0) in
     (omega (arith, w.0), ap (λ (k : ℕ). with_locals (drop k (name ∷ inner.locals)) inner) count ∙ w.1)
 
+-- behind a hidden local, which goes out of scope again
+pub unhidden : (s before : Scope) (n : ℕ) → s ≡ with_local [] before → n ≡ length before.locals → with_locals (drop (length s.locals - n) s.locals) s ≡ before
+unhidden s before n is same =
+    let count : suc (length before.locals) - length before.locals ≡ 1 = omega arith in
+    (λ i. with_locals (drop (length (is i).locals - same i) (is i).locals) (is i)) ∙ ap (λ (k : ℕ). with_locals (drop k ([] ∷ before.locals)) before) count
+
 -- ---- nodes that are lost, or have these trees
 
 pub puts_none : (a : Nodes) → Puts a a []
@@ -123,6 +129,10 @@ puts_more a b c ts us one two =
     let q = two kept in
     let p = one q.0 in
     (p.0, q.1 ∙ ap (λ (l : List Tree). l ++ us) p.1 ∙ append_assoc (map tree_of a.items.items) ts us)
+
+pub all_nil : (a : Answer Trees) → a ≡ all_after [] a
+all_nil (Ok ts) = refl
+all_nil (Err e) = refl
 
 pub bound_nil : (a : Answer Bound) → a ≡ bound_after [] a
 bound_nil (Ok b) = refl

@@ -7,11 +7,11 @@ ghost use Rattle.txs_tell.specs.Lent.{told_of};
 ghost use Rattle.txs_tell.specs.Told.{Told as PlainTold, Written};
 
 use crate::usage::{CodeUse, use_code};
+use crate::workers_play::{unread, write_answer};
 use std::alloc::{AllocError, Global};
 use std::io::{ErrorKind, Read, Write};
 use txs_tell::streams::ReadFault;
-use txs_tell::told::{SPENT, Told, UNUSABLE, complaint};
-use txs_tell::write_told;
+use txs_tell::told::Told;
 
 /// All bytes of a stream.
 ///
@@ -40,8 +40,7 @@ fn use_bytes<R: Read>(
 {
     match read_all(alloc, reader) {
         Ok(bytes) => use_code(alloc, bytes.as_slice(), wanted),
-        Err(ReadFault::Failed) => complaint(alloc, UNUSABLE, "read failed"),
-        Err(ReadFault::Memory) => Err(AllocError),
+        Err(fault) => unread(alloc, fault),
     }
 }
 
@@ -58,14 +57,6 @@ pub(crate) fn play_code<R: Read, W: Write, F: Write>(
     ensures { IfSome (R.remaining reader.old) (λ input. (t : PlainTold) × BytesTell input (code_wanted_of wanted.entry) t
         × Written (W.contents writer.old) (W.contents writer.new) (F.contents faults.old) (F.contents faults.new) t result) }
 {
-    match use_bytes(alloc, wanted, reader) {
-        Ok(told) => write_told(
-            told.output.as_slice(),
-            told.errors.as_slice(),
-            told.status,
-            writer,
-            faults,
-        ),
-        Err(_) => write_told(&[], b"out of memory\n", SPENT, writer, faults),
-    }
+    let told = use_bytes(alloc, wanted, reader);
+    write_answer(told, writer, faults)
 }

@@ -130,7 +130,11 @@ pub fn play<R: Read, W: Write, F: Write>(
         × Written (W.contents writer.old) (W.contents writer.new) (F.contents faults.old) (F.contents faults.new) t result) }
 {
     match parse_words(alloc, args) {
-        Ok(words) => play_words(alloc, &words, reader, writer, faults),
+        Ok(words) => {
+            let status = play_words(alloc, &words, reader, writer, faults);
+            drop(words);
+            status
+        }
         Err(_) => write_told(&[], b"out of memory\n", SPENT, writer, faults),
     }
 }

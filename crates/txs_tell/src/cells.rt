@@ -18,7 +18,7 @@ fn write_cell(output: &mut Vec<u8>, name: &Name, value: &Value) -> Result<(), Al
     output.extend_from_slice(name.as_bytes())?;
     output.push(b' ')?;
     write_text(value, output)?;
-    Ok(output.push(b'\n')?)
+    output.extend_from_slice(b"\n")
 }
 
 /// Appends the lines of cells.

@@ -24,7 +24,7 @@ pub(crate) fn write_line(out: &mut Vec<u8>, line: &str) -> Result<(), AllocError
     ensures kept { Extends out.old.items out.new.items }
 {
     out.extend_from_slice(line.as_bytes())?;
-    Ok(out.push(b'\n')?)
+    out.extend_from_slice(b"\n")
 }
 
 /// Appends a colon and a number.

@@ -90,35 +90,31 @@ pub fn open_state(alloc: Global, code: &Verified) -> Result<SharedState, AllocEr
 
 /// Appends the lines of cells, where they are wanted. After an error nothing is appended.
 fn tell_cells(
-    told: &mut Told,
+    output: &mut Vec<u8>,
     wanted: bool,
     cells: &[CellDefinition],
     shared: &SharedState,
 ) -> Result<(), AllocError>
     requires few { length cells.now ≤ 1000 }
     requires made { shared.now.cells ≡ cells.now }
-    ensures output { OnOk result (told.new.output.items ≡ told.old.output.items ++ cells_told wanted cells.now shared.now) }
-    ensures unchanged { OnErr result (told.new.output.items ≡ told.old.output.items) }
-    ensures errors { told.new.errors.items ≡ told.old.errors.items }
-    ensures status { told.new.status ≡ told.old.status }
+    ensures output { OnOk result (output.new.items ≡ output.old.items ++ cells_told wanted cells.now shared.now) }
+    ensures unchanged { OnErr result (output.new.items ≡ output.old.items) }
 {
     if !wanted {
         return Ok(());
     }
-    write_cells(&mut told.output, cells, shared)
+    write_cells(output, cells, shared)
 }
 
 /// Appends the lines of the events of the store's book, where they are wanted. After an error nothing is appended.
-fn tell_events(told: &mut Told, wanted: bool, shared: &SharedState) -> Result<(), AllocError>
-    ensures output { OnOk result (told.new.output.items ≡ told.old.output.items ++ events_told wanted (numbered_book shared.now 0)) }
-    ensures unchanged { OnErr result (told.new.output.items ≡ told.old.output.items) }
-    ensures errors { told.new.errors.items ≡ told.old.errors.items }
-    ensures status { told.new.status ≡ told.old.status }
+fn tell_events(output: &mut Vec<u8>, wanted: bool, shared: &SharedState) -> Result<(), AllocError>
+    ensures output { OnOk result (output.new.items ≡ output.old.items ++ events_told wanted (numbered_book shared.now 0)) }
+    ensures unchanged { OnErr result (output.new.items ≡ output.old.items) }
 {
-    if wanted {
-        write_events(&mut told.output, shared.events())?;
+    if !wanted {
+        return Ok(());
     }
-    Ok(())
+    write_events(output, shared.events())
 }
 
 /// Appends what is told behind a run: the lines of the cells, of which the state is made, and of the events of the store's book, where
@@ -138,8 +134,8 @@ pub fn tell_book(
     ensures status { told.new.status ≡ told.old.status }
 {
     let length = told.output.len();
-    tell_cells(told, wants_cells, cells, shared)?;
-    let done = tell_events(told, wants_events, shared);
+    tell_cells(&mut told.output, wants_cells, cells, shared)?;
+    let done = tell_events(&mut told.output, wants_events, shared);
     if done.is_err() {
         told.output.truncate(length);
     }

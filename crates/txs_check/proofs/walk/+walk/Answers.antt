@@ -10,10 +10,11 @@ use Rattle.txs_tree.specs.View.{mark_of, tree_of, trees_of}
 use Rattle.txs_check.specs.declared.place.Target.{Target}
 use Rattle.txs_check.specs.declared.place.Target.TheVariants.{Nearest}
 use Rattle.txs_check.specs.declared.place.Zone.{Zone}
-use Rattle.txs_check.specs.Refused.{Checked, ◌>>◌, here, inner, in_turn, turned, checked, checked_all, checked_do}
+use Rattle.txs_check.specs.declared.place.Zone.TheVariants.{InDosync}
+use Rattle.txs_check.specs.Refused.{Checked, ◌>>◌, here, inner, in_turn, turned, turned_in, checked, checked_all, checked_do}
 use Rattle.txs_check.specs.Signatures.{known_as}
 use Rattle.txs_check.proofs.Lists.{count_nodes, branches_in_turn, do_nothing, do_parts}
-use Rattle.txs_tree.proofs.Trees.{if_node, do_node, let_node, loop_node, recur_node, core_node, call_node, vector_node, println_node, update_node, send_node}
+use Rattle.txs_tree.proofs.Trees.{if_node, dosync_node, look_node, put_node, do_node, let_node, loop_node, recur_node, core_node, call_node, vector_node, println_node, update_node, send_node}
 use Rattle.txs_check.proofs.walk.+walk.Goals as goal
 
 module _ (ks : List Known) (z : Zone) (t0 : Target) where
@@ -195,3 +196,102 @@ check_node-returns-in_err-check_node-in-If-3 t c =
     let tested = c.in_ok-check_node-in-If.ensures ∙ ap (λ i. checked ks z i (tree_of a)) c.inner-inner.ensures in
     refused ∙ ap (λ w. w >> y) c.in_err-check_node-in-If-3.ensures ∙ ap (λ w. w >> in_turn false x y) tested
     ∙ sym (branches_in_turn ks z t0 (mark_of n.span n.wanted) (tree_of a) one other false turn) ∙ sym (ap (λ w. checked ks z t0 w) e)
+
+pub check_node-returns-in_ok-check_node-in-If-2 : goal.check_node-returns-in_ok-check_node-in-If-2
+check_node-returns-in_ok-check_node-in-If-2 t c =
+    let ks = known_as c.args.signatures.now in
+    let z = c.args.zone in
+    let t0 = c.args.target in
+    let n = c.args.node.now in
+    let a = c.deref.result.now in
+    let one = c.deref-then-is_turned-2.result.now in
+    let other = c.deref-then-is_turned.result.now in
+    let e = if_node n c.in-If.test c.in-If.first c.in-If.second a one other c.in-If.is c.deref.ensures c.deref-then-is_turned-2.ensures c.deref-then-is_turned.ensures in
+    let x = checked ks z t0 (tree_of one) in
+    let y = checked ks z t0 (tree_of other) in
+    let turn =
+    c.if-is_turned.ensures
+    ∙ ap (λ k. turned n.span.from c.deref-in-If.result.now.span.from k.span.from) (c.deref-in-If-2.ensures ∙ sym c.deref-then-is_turned.ensures)
+    ∙ ap (λ k. turned n.span.from k.span.from other.span.from) (c.deref-in-If.ensures ∙ sym c.deref-then-is_turned-2.ensures) in
+    let tested = c.in_ok-check_node-in-If.ensures ∙ ap (λ i. checked ks z i (tree_of a)) c.inner-inner.ensures in
+    c.check_node-then-is_turned-2.ensures ∙ ap (λ w. w >> x) c.in_ok-check_node-in-If-2.ensures ∙ ap (λ w. w >> in_turn true x y) tested
+    ∙ sym (branches_in_turn ks z t0 (mark_of n.span n.wanted) (tree_of a) one other true turn) ∙ sym (ap (λ w. checked ks z t0 w) e)
+
+pub check_node-returns-in_ok-check_node-in-If-3 : goal.check_node-returns-in_ok-check_node-in-If-3
+check_node-returns-in_ok-check_node-in-If-3 t c =
+    let ks = known_as c.args.signatures.now in
+    let z = c.args.zone in
+    let t0 = c.args.target in
+    let n = c.args.node.now in
+    let a = c.deref.result.now in
+    let one = c.deref-else-is_turned.result.now in
+    let other = c.deref-else-is_turned-2.result.now in
+    let e = if_node n c.in-If.test c.in-If.first c.in-If.second a one other c.in-If.is c.deref.ensures c.deref-else-is_turned.ensures c.deref-else-is_turned-2.ensures in
+    let x = checked ks z t0 (tree_of one) in
+    let y = checked ks z t0 (tree_of other) in
+    let turn =
+    c.if-is_turned.ensures
+    ∙ ap (λ k. turned n.span.from k.span.from c.deref-in-If-2.result.now.span.from) (c.deref-in-If.ensures ∙ sym c.deref-else-is_turned.ensures)
+    ∙ ap (λ k. turned n.span.from one.span.from k.span.from) (c.deref-in-If-2.ensures ∙ sym c.deref-else-is_turned-2.ensures) in
+    let tested = c.in_ok-check_node-in-If.ensures ∙ ap (λ i. checked ks z i (tree_of a)) c.inner-inner.ensures in
+    c.check_node-else-is_turned-2.ensures ∙ ap (λ w. w >> y) c.in_ok-check_node-in-If-3.ensures ∙ ap (λ w. w >> in_turn false x y) tested
+    ∙ sym (branches_in_turn ks z t0 (mark_of n.span n.wanted) (tree_of a) one other false turn) ∙ sym (ap (λ w. checked ks z t0 w) e)
+
+pub check_node-returns-in_err-check_node-in-If : goal.check_node-returns-in_err-check_node-in-If
+check_node-returns-in_err-check_node-in-If t c =
+    let ks = known_as c.args.signatures.now in
+    let z = c.args.zone in
+    let t0 = c.args.target in
+    let n = c.args.node.now in
+    let a = c.deref.result.now in
+    let one = c.in-If.first.value in
+    let other = c.in-If.second.value in
+    let e = if_node n c.in-If.test c.in-If.first c.in-If.second a one other c.in-If.is c.deref.ensures refl refl in
+    let rest = in_turn (turned_in (mark_of n.span n.wanted) (tree_of one) (tree_of other)) (checked ks z t0 (tree_of one)) (checked ks z t0 (tree_of other)) in
+    let refused : c.from_residual-in_err-check_node-in-If.result ≡ Err c.in_err-check_node-in-If.field-0.0 = search rules in
+    refused ∙ ap (λ w. w >> rest) (c.in_err-check_node-in-If.ensures ∙ ap (λ i. checked ks z i (tree_of a)) c.inner-inner.ensures) ∙ sym (ap (λ w. checked ks z t0 w) e)
+
+pub check_node-returns-in-Dosync : goal.check_node-returns-in-Dosync
+check_node-returns-in-Dosync t c =
+    let ks = known_as c.args.signatures.now in
+    let b = c.deref-in-Dosync.result.now in
+    let e = dosync_node c.args.node.now c.in-Dosync.body b c.in-Dosync.is c.deref-in-Dosync.ensures in
+    c.check_node-in-Dosync.ensures ∙ ap (λ i. checked ks InDosync i (tree_of b)) c.across.ensures ∙ sym (ap (λ w. checked ks c.args.zone c.args.target w) e)
+
+pub check_node-returns-in-Look : goal.check_node-returns-in-Look
+check_node-returns-in-Look t c =
+    let ks = known_as c.args.signatures.now in
+    let z = c.args.zone in
+    let t0 = c.args.target in
+    let b = c.deref-in-Look.result.now in
+    let e = look_node c.args.node.now c.in-Look.field-0 c.in-Look.cell b c.in-Look.is c.deref-in-Look.ensures in
+    c.check_node-in-Look.ensures ∙ ap (λ i. checked ks z i (tree_of b)) c.inner-inner.ensures
+    ∙ ap (λ x. x >> checked ks z (inner t0) (tree_of b)) (c.in_ok-check_here.ensures ∙ ap (λ x. here ks z t0 x) e) ∙ sym (ap (λ x. checked ks z t0 x) e)
+
+pub check_node-returns-in_err-check_node-in-Put : goal.check_node-returns-in_err-check_node-in-Put
+check_node-returns-in_err-check_node-in-Put t c =
+    let ks = known_as c.args.signatures.now in
+    let z = c.args.zone in
+    let t0 = c.args.target in
+    let b = c.deref-in-Put.result.now in
+    let v = c.in-Put.value.value in
+    let e = put_node c.args.node.now c.in-Put.field-0 c.in-Put.cell c.in-Put.value b v c.in-Put.is c.deref-in-Put.ensures refl in
+    let cell = checked ks z (inner t0) (tree_of b) in
+    let value = checked ks z (inner t0) (tree_of v) in
+    let refused : c.from_residual-in_err-check_node-in-Put.result ≡ Err c.in_err-check_node-in-Put.field-0.0 = search rules in
+    refused ∙ ap (λ x. x >> value) (c.in_err-check_node-in-Put.ensures ∙ ap (λ i. checked ks z i (tree_of b)) c.inner-inner.ensures)
+    ∙ ap (λ x. x >> (cell >> value)) (c.in_ok-check_here.ensures ∙ ap (λ x. here ks z t0 x) e) ∙ sym (ap (λ x. checked ks z t0 x) e)
+
+pub check_node-returns-in_ok-check_node-in-Put : goal.check_node-returns-in_ok-check_node-in-Put
+check_node-returns-in_ok-check_node-in-Put t c =
+    let ks = known_as c.args.signatures.now in
+    let z = c.args.zone in
+    let t0 = c.args.target in
+    let b = c.deref-in-Put.result.now in
+    let v = c.deref-in-Put-2.result.now in
+    let e = put_node c.args.node.now c.in-Put.field-0 c.in-Put.cell c.in-Put.value b v c.in-Put.is c.deref-in-Put.ensures c.deref-in-Put-2.ensures in
+    let cell = checked ks z (inner t0) (tree_of b) in
+    let value = checked ks z (inner t0) (tree_of v) in
+    c.check_node-in-Put-2.ensures ∙ ap (λ i. checked ks z i (tree_of v)) c.inner-inner.ensures
+    ∙ ap (λ x. x >> value) (c.in_ok-check_node-in-Put.ensures ∙ ap (λ i. checked ks z i (tree_of b)) c.inner-inner.ensures)
+    ∙ ap (λ x. x >> (cell >> value)) (c.in_ok-check_here.ensures ∙ ap (λ x. here ks z t0 x) e) ∙ sym (ap (λ x. checked ks z t0 x) e)

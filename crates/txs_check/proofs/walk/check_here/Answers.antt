@@ -2,7 +2,8 @@ use Rattle.std.proofs.Common.{rules, ◌≡◌, suc, length, refl, sym, ap, ◌�
 use Rattle.txs_cells.specs.declared.form.CellForm.TheVariants as form_of
 use Rattle.txs_tree.specs.Tree.{count}
 use Rattle.txs_tree.specs.View.{trees_of}
-use Rattle.txs_check.specs.Refused.{applied, calls, here, operates, recurs}
+use Rattle.txs_check.specs.declared.error.CheckErrorKind.TheVariants.{Arity}
+use Rattle.txs_check.specs.Refused.{applied, calls, here, only, operates, recurs}
 use Rattle.txs_check.specs.Signatures.{known_as}
 use Rattle.txs_check.proofs.Lists.{count_nodes}
 use Rattle.txs_tree.proofs.Trees.{recur_node, core_node, call_node, update_node, send_node}
@@ -22,7 +23,7 @@ returns-in-Core c =
     let ns = c.in-Core.args.items in
     let many : c.len-in-Core.result ≡ length ns = search rules in
     let same : c.len-in-Core.result ≡ count (trees_of ns) = many ∙ sym (count_nodes ns) in
-    c.check_operation.ensures ∙ ap (λ n. operates c.in-Core.op n c.args.node.now.span) same ∙ sym (ap (λ e. here ks c.args.zone c.args.target e) (core_node c.args.node.now c.in-Core.op c.in-Core.args ns c.in-Core.is refl))
+    c.only.ensures ∙ ap (λ b. only b Arity c.args.node.now.span) c.takes.ensures ∙ ap (λ n. operates c.in-Core.op n c.args.node.now.span) same ∙ sym (ap (λ e. here ks c.args.zone c.args.target e) (core_node c.args.node.now c.in-Core.op c.in-Core.args ns c.in-Core.is refl))
 
 pub returns-in-Call : goal.returns-in-Call
 returns-in-Call c =

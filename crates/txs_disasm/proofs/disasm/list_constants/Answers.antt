@@ -1,7 +1,7 @@
-use Rattle.std.proofs.Common.{◌++◌, ◌<◌, ◌+◌, length, drop, rules, arith}
+use Rattle.std.proofs.Common.{◌++◌, ◌<◌, ◌≤◌, ◌+◌, length, drop, rules, arith}
 use Rattle.txs_disasm.specs.Listing.{constant_line, numbered}
-use Rattle.txs_disasm.proofs.LineLemmas.{numbered-at, IsCut-here, IsCut-next, Sent-next}
-use Rattle.txs_disasm.proofs.SentLemmas.{on_err}
+use Rattle.txs_disasm.proofs.LineLemmas.{numbered-at, IsCut-here, IsCut-next, Sent-next, Sent-end}
+use Rattle.txs_disasm.proofs.SentLemmas.{on_err, Sent-none}
 use Rattle.txs_disasm.proofs.disasm.list_constants.Goals as goal
 
 pub returns-in_err-put_constant-clause-cut : goal.returns-in_err-put_constant-clause-cut
@@ -28,3 +28,13 @@ loop-i-preserved g c =
     let lt : i < length xs = search rules in
     let split = numbered-at constant_line xs i c.index-constants-i.result lt c.index-constants-i.is in
     Sent-next (g.W.Write.contents c.args.writer.now) (g.W.Write.contents c.loop-i.writer) (c.args.page.now.bytes.items ++ numbered constant_line 0 xs) c.loop-i.page.bytes.items (numbered constant_line i (drop i xs)) (constant_line i c.index-constants-i.result) (numbered constant_line (i + 1) (drop (i + 1) xs)) split c.loop-i.invariant (g.W.Write.contents c.send_long.new.writer) c.put_constant.new.out.items c.send_long.new.self.bytes.items c.in_ok-put_constant.ensures c.in_ok-send_long.ensures.sent
+
+pub loop-i-init : goal.loop-i-init
+loop-i-init g c = Sent-none _ _
+
+pub returns-clause-sent : goal.returns-clause-sent
+returns-clause-sent g c =
+    let xs = c.args.constants.now in
+    let i = c.loop-i.i in
+    let past : length xs ≤ i = search rules in
+    Sent-end constant_line xs i (g.W.Write.contents c.args.writer.now) (g.W.Write.contents c.loop-i.writer) (c.args.page.now.bytes.items ++ numbered constant_line 0 xs) c.loop-i.page.bytes.items past c.loop-i.invariant

@@ -1,8 +1,7 @@
-use Rattle.std.proofs.Common.{◌++◌, ◌<◌, ◌+◌, length, drop, rules, arith}
-use Rattle.std.proofs.lemmas.Grind.{common_steps}
+use Rattle.std.proofs.Common.{◌++◌, ◌<◌, ◌≤◌, ◌+◌, length, drop, rules, arith}
 use Rattle.txs_code.specs.declared.instr.Instr.TheVariants.{Halt}
 use Rattle.txs_disasm.specs.Listing.{instr_line, instr_lines}
-use Rattle.txs_disasm.proofs.LineLemmas.{instr_lines-at, IsCut-here, IsCut-next, Sent-next}
+use Rattle.txs_disasm.proofs.LineLemmas.{instr_lines-at, IsCut-here, IsCut-next, Sent-next, Sent-instrs_end}
 use Rattle.txs_disasm.proofs.SentLemmas.{on_err}
 use Rattle.txs_disasm.proofs.disasm.list_instrs.Goals as goal
 
@@ -41,4 +40,9 @@ loop-i-preserved g c =
     Sent-next (g.W.Write.contents c.args.writer.now) (g.W.Write.contents c.loop-i.writer) (c.args.page.now.bytes.items ++ instr_lines 0 is ss) c.loop-i.page.bytes.items (instr_lines i (drop i is) (drop i ss)) (instr_line i x y) (instr_lines (i + 1) (drop (i + 1) is) (drop (i + 1) ss)) split c.loop-i.invariant (g.W.Write.contents c.send_long.new.writer) c.put_instr.new.out.items c.send_long.new.self.bytes.items c.in_ok-put_instr.ensures c.in_ok-send_long.ensures.sent
 
 pub returns-clause-sent : goal.returns-clause-sent
-returns-clause-sent g c = grind (arith, common_steps)
+returns-clause-sent g c =
+    let is = c.args.instrs.now in
+    let ss = c.args.spans.now in
+    let i = c.loop-i.i in
+    let past : length is ≤ i = omega arith in
+    Sent-instrs_end is ss i (g.W.Write.contents c.args.writer.now) (g.W.Write.contents c.loop-i.writer) (c.args.page.now.bytes.items ++ instr_lines 0 is ss) c.loop-i.page.bytes.items past c.loop-i.invariant

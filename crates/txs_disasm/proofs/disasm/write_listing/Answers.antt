@@ -1,8 +1,17 @@
 use Rattle.txs_disasm.specs.Listing.{body_lines, cell_line, constant_line, numbered}
 use Rattle.txs_disasm.specs.declared.lines.BodyKind.TheVariants.{Function, Thread}
-use Rattle.txs_disasm.proofs.ListingLemmas.{Appends-listing, IsCut-second, IsCut-third, IsCut-fourth, IsCut-last}
+use Rattle.txs_disasm.proofs.ListingLemmas.{Appends-listing, IsCut-first, IsCut-second, IsCut-third, IsCut-fourth, IsCut-last}
 use Rattle.txs_disasm.proofs.SentLemmas.{on_err, err_maps, ok_maps}
 use Rattle.txs_disasm.proofs.disasm.write_listing.Goals as goal
+
+pub returns-in_err-list_cells-clause-cut : goal.returns-in_err-list_cells-clause-cut
+returns-in_err-list_cells-clause-cut g c =
+    let code = c.args.code.now in
+    let w = g.W.Write.contents in
+    on_err _
+    (IsCut-first (w c.args.writer.now) (w c.list_cells.new.writer)
+    (numbered cell_line 0 code.cells) (numbered constant_line 0 code.constants) (numbered (body_lines Function) 0 code.functions) (numbered (body_lines Thread) 0 code.threads)
+    c.new-page.result.bytes.items c.new-page.ensures (rw c.cells.ensures at c.in_err-list_cells.ensures.cut))
 
 pub returns-in_err-list_constants-clause-cut : goal.returns-in_err-list_constants-clause-cut
 returns-in_err-list_constants-clause-cut g c =

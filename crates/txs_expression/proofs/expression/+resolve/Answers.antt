@@ -1,4 +1,4 @@
-use Rattle.std.proofs.Common.{◌≡◌, ◌<◌, ◌≤◌, ◌+◌, ◌-◌, ◌∷◌, [], ◌++◌, ℕ, Bool, true, List, Ok, Err, length, drop, sym, ap, ◌∙◌, subst, arith}
+use Rattle.std.proofs.Common.{rules, ◌≡◌, ◌<◌, ◌≤◌, ◌+◌, ◌-◌, ◌∷◌, [], ◌++◌, ℕ, Bool, true, List, Ok, Err, length, drop, refl, sym, ap, ◌∙◌, subst, arith}
 use Rattle.std.proofs.lemmas.List.{length-map}
 use Rattle.std.proofs.lemmas.Result.{err_from_is_err_and}
 use Rattle.txs_reader.specs.declared.form.Form.{Form}
@@ -15,7 +15,7 @@ use Rattle.txs_expression.specs.Given.{row, Pushes}
 use Rattle.txs_expression.specs.Made.{Makes}
 use Rattle.txs_expand.specs.Parts.{core_form, part_form, plain, special_form}
 use Rattle.txs_expand.proofs.Rows.{roomy}
-use Rattle.txs_expression.proofs.Building.{all_end, all_step, bindings_end, bindings_step, bindings_unvalued, bound_after, bound_nil, puts_more, puts_none, within_push}
+use Rattle.txs_expression.proofs.Building.{all_end, all_nil, all_step, all_stop, bindings_end, bindings_step, bindings_unvalued, bound_after, bound_nil, puts_more, puts_none, unhidden, within_push}
 use Rattle.txs_expression.proofs.Fillings.{args_then, bound_filled, choice_filled, hidden_filled, hidden_full, hidden_stops, named_core, named_stop, narrow_ok, of_form, of_form_stops, pair_filled, pair_stops, remade, row_filled, shown, single_filled}
 use Rattle.txs_expression.proofs.expression.+resolve.Goals as goal
 
@@ -145,6 +145,11 @@ children-returns-in_ok-expression-in-Binding-clause-nodes t c =
     (bound_filled c.args.spot c.args.scope.now k.field-0 k.pairs k.forms c.bindings.new.scope c.args.parts.now c.bindings.new.values c.expression-in-Binding.new.nodes v.0 c.inner-tail.result n.0
     c.inner-tail.ensures v.1 v.2 n.1 n.2)
 
+pub children-returns-in_ok-expression-in-Binding-clause-kept : goal.children-returns-in_ok-expression-in-Binding-clause-kept
+children-returns-in_ok-expression-in-Binding-clause-kept t c =
+    let kept = c.in_ok-expression-in-Binding.ensures.kept in
+    c.truncate.ensures ∙ (λ i. with_locals (drop (length (kept i).locals - c.len-outer.ensures i) (kept i).locals) (kept i)) ∙ c.in_ok-bindings-in-Binding.ensures.outer.1
+
 -- ---- hidden locals
 
 pub children-returns-in_err-local-in-Hidden-clause-nodes : goal.children-returns-in_err-local-in-Hidden-clause-nodes
@@ -175,6 +180,14 @@ children-returns-in_ok-expression-in-Hidden-2-clause-nodes t c =
     (hidden_filled c.args.spot c.args.scope.now k.is_or k.first k.rest c.inner-value.result a.node.0 c.inner-value.ensures a.node.1 c.inner-tail.result c.hide.new.scope c.in_ok-local-in-Hidden.local c.inner-tail.ensures
     (h.2 ∙ ap (with_local []) a.kept) (subst (λ (z : Scope). length z.locals < 200) a.kept h.1)
     c.args.parts.now c.expression-in-Hidden.new.nodes c.expression-in-Hidden-2.new.nodes b.node.0 a.node.2 b.node.1 b.node.2)
+
+pub children-returns-in_ok-expression-in-Hidden-2-clause-kept : goal.children-returns-in_ok-expression-in-Hidden-2-clause-kept
+children-returns-in_ok-expression-in-Hidden-2-clause-kept t c =
+    let h = c.in_ok-local-in-Hidden.ensures in
+    let same : c.from.result ≡ c.in_ok-local-in-Hidden.local = search rules in
+    c.truncate-in-Hidden.ensures
+    ∙ unhidden c.expression-in-Hidden-2.new.scope c.expression-in-Hidden.new.scope c.from.result (c.in_ok-expression-in-Hidden-2.ensures.kept ∙ h.2) (same ∙ h.0)
+    ∙ c.in_ok-expression-in-Hidden.ensures.kept
 
 -- ---- bindings
 
@@ -225,6 +238,31 @@ bindings-returns-clause-values t c =
     (b.0, b.2 ∙ bindings_end (named (c.args.spot.room - 1)) c.loop-at.scope c.args.pairs.now c.loop-at.at b.0 c.if-at-pairs.false, b.1)
 
 -- ---- forms one after the other
+
+pub items-loop-i-init : goal.items-loop-i-init
+items-loop-i-init t c = record {
+  built = ([], puts_none c.args.nodes.now, all_nil (named_all (named (c.args.spot.room - 1)) c.args.scope.now c.args.wanted c.args.last (plain c.args.forms.now)));
+  kept = refl;
+}
+
+pub items-returns-in_err-expression-clause-nodes : goal.items-returns-in_err-expression-clause-nodes
+items-returns-in_err-expression-clause-nodes t c =
+    let p = err_from_is_err_and c.from_residual.result c.from_residual.ensures.1 in
+    let by = named (c.args.spot.room - 1) in
+    let scope = c.args.scope.now in
+    let fs = c.args.forms.now in
+    let i = c.loop-i.i in
+    let d = c.index-forms-i.result in
+    let w = flag c.args.wanted c.args.last (plain (drop (i + 1) fs)) in
+    let b = c.loop-i.invariant.built in
+    rw (p.1, p.2) (narrow_ok (c.args.ahead + length fs) c.args.spot (named_all by scope c.args.wanted c.args.last (plain fs)) (omega (arith, c.if-forms-ahead.false, c.requires.few))
+    ∙ b.2
+    ∙ all_stop by scope c.args.wanted c.args.last fs i d b.0 _ c.loop-i-test.true
+    (ap (λ (f : Form). by scope w (tree f)) (sym c.index-forms-i.is)
+    ∙ ap (λ (f : Bool). by scope f (tree d)) (sym c.flag_at-wanted.ensures)
+    ∙ ap (λ (s : Scope). by s c.flag_at-wanted.result (tree d)) (sym c.loop-i.invariant.kept)
+    ∙ ap (λ (s : Spot). named s.room c.loop-i.scope s.wanted (tree d)) (sym c.inner.ensures)
+    ∙ c.in_err-expression.ensures.node))
 
 pub items-loop-i-preserved : goal.items-loop-i-preserved
 items-loop-i-preserved t c =
