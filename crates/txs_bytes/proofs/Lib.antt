@@ -1,1 +1,2 @@
+pub mod SameLemmas
 pub mod WrittenLemmas

@@ -2,7 +2,7 @@
 use Rattle.std.proofs.Common.{◌≡◌, ℕ, zero, suc, ◌+◌, ◌<◌, ◌≤◌, List, [], ◌∷◌, ◌++◌, length, get_or, take, add-one, Option, Some, None, Result, Ok, Err, refl, sym, ap, ◌∙◌, append_assoc, subst, arith}
 use Rattle.std.specs.List.{slice_get, flat_map, AllByRecursion}
 use Rattle.std.specs.Int.{w16, w32, to_be_bytes}
-use Rattle.std.specs.Prelude.{OnOk, slice_index_or}
+use Rattle.std.specs.Prelude.{OnOk, is_ok, if◌then◌else◌, slice_index_or}
 use Rattle.std.proofs.lemmas.List.{append-nil, take_all}
 use Rattle.std.proofs.lemmas.List.Concat.{flat_map-cons}
 use Rattle.txs_value.specs.PlainValue.{PlainValue, vector, plain_row, plain_size, row_size}
@@ -102,6 +102,15 @@ pairs_done is ss i old new p l n le e =
 pub on_ok : {A E : Type 0} (r : Result A E) {P Q : Type 0} → (P → Q) → OnOk r P → OnOk r Q
 on_ok (Ok x) f h = f h
 on_ok (Err e) f h = tt
+
+-- two parts, one behind the other
+pub two_put : (old a mid b new : List ℕ) → mid ≡ old ++ a → new ≡ mid ++ b → new ≡ old ++ (a ++ b)
+two_put old a mid b new front n = n ∙ ap (λ (x : List ℕ). x ++ b) front ∙ append_assoc old a b
+
+-- the last of two parts, for which there is memory or isn't
+pub last_put : {A E : Type 0} (r : Result A E) (old a mid b new : List ℕ) → mid ≡ old ++ a → new ≡ (if is_ok r then mid ++ b else mid) → OnOk r (new ≡ old ++ (a ++ b))
+last_put (Ok x) old a mid b new front n = two_put old a mid b new front n
+last_put (Err e) old a mid b new front n = tt
 
 -- a vector, written part by part
 pub vector_put : (old mid new : List ℕ) (ds : List PlainValue) → mid ≡ old ++ 6 ∷ to_be_bytes w16 (length ds) → new ≡ mid ++ row_bytes (plain_row ds) → new ≡ old ++ value_bytes (vector (plain_row ds))

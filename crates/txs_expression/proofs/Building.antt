@@ -1,5 +1,6 @@
 -- What the resolver's loops have built, and what is left of the definition behind them.
-use Rattle.std.proofs.Common.{◌≡◌, ◌<◌, ◌≤◌, ◌+◌, ◌-◌, ℕ, suc, Bool, true, List, [], ◌∷◌, ◌++◌, Ok, Err, length, map, drop, get_or, append_assoc, append-nil, refl, sym, ap, ◌∙◌, arith}
+use Rattle.std.specs.Prelude.{OnOk}
+use Rattle.std.proofs.Common.{Result, ◌≡◌, ◌<◌, ◌≤◌, ◌+◌, ◌-◌, ℕ, suc, Bool, true, List, [], ◌∷◌, ◌++◌, Ok, Err, length, map, drop, get_or, append_assoc, append-nil, refl, sym, ap, ◌∙◌, arith}
 use Rattle.txs_reader.specs.declared.form.Form.{Form}
 use Rattle.txs_reader.specs.Tree.{tree, first, place, Trees as Forms}
 use Rattle.txs_tree.specs.Tree.{Tree, Trees, more, none}
@@ -117,6 +118,11 @@ pub unhidden : (s before : Scope) (n : ℕ) → s ≡ with_local [] before → n
 unhidden s before n is same =
     let count : suc (length before.locals) - length before.locals ≡ 1 = omega arith in
     (λ i. with_locals (drop (length (is i).locals - same i) (is i).locals) (is i)) ∙ ap (λ (k : ℕ). with_locals (drop k ([] ∷ before.locals)) before) count
+
+-- what a call keeps is kept behind what was kept
+pub then_kept : {T E A : Type 0} (r : Result T E) (x y z : A) → OnOk r (x ≡ y) → y ≡ z → OnOk r (x ≡ z)
+then_kept (Ok u) x y z h e = h ∙ e
+then_kept (Err u) x y z h e = tt
 
 -- ---- nodes that are lost, or have these trees
 

@@ -184,6 +184,26 @@ module _ (s : Spot) (scope : Scope) where
   abbrev choice_by : Bool → Answer Tree → Answer Tree → Answer Tree → Answer Tree
   choice_by turned a b c = a >>= λ test. b >>= λ one. c >>= λ other. Ok (choice_node turned test one other (spot_mark s))
 
+  choice_first : (turned : Bool) (p q o : Part) (i : Spot) (a : Answer Tree) → i ≡ spot_at (s.room - 1) s.span true → named i.room scope i.wanted (part_form i.span p) ≡ a
+      → put_together by scope s (special_form s.span (special.Choice turned p q o)) ≡ choice_by turned a (by scope s.wanted (part_form s.span q)) (by scope s.wanted (part_form s.span o))
+  choice_first turned p q o i a is h =
+      ap (λ (z : Answer Tree). choice_by turned z (by scope s.wanted (part_form s.span q)) (by scope s.wanted (part_form s.span o))) (sym (at_spot i (s.room - 1) s.span true scope p is) ∙ h)
+
+  -- the test is refused
+  pub choice_stops : (turned : Bool) (p q o : Part) (i : Spot) (e : ResolveError) → i ≡ spot_at (s.room - 1) s.span true
+      → named i.room scope i.wanted (part_form i.span p) ≡ Err e → put_together by scope s (special_form s.span (special.Choice turned p q o)) ≡ Err e
+  choice_stops turned p q o i e is h = choice_first turned p q o i (Err e) is h
+
+  -- the first branch is refused
+  pub choice_halts : (turned : Bool) (p q o : Part) (one : Scope) (i j : Spot) (x : Tree) (e : ResolveError)
+      → i ≡ spot_at (s.room - 1) s.span true → j ≡ spot_at (s.room - 1) s.span s.wanted → one ≡ scope
+      → named i.room scope i.wanted (part_form i.span p) ≡ Ok x → named j.room one j.wanted (part_form j.span q) ≡ Err e
+      → put_together by scope s (special_form s.span (special.Choice turned p q o)) ≡ Err e
+  choice_halts turned p q o one i j x e i_is j_is kept a b =
+      choice_first turned p q o i (Ok x) i_is a
+      ∙ ap (λ (z : Answer Tree). choice_by turned (Ok x) z (by scope s.wanted (part_form s.span o)))
+      (ap (λ z. by z s.wanted (part_form s.span q)) (sym kept) ∙ sym (at_spot j (s.room - 1) s.span s.wanted one q j_is) ∙ b)
+
   choice_last : (r : Result (Unit {0}) ResolveError) (turned : Bool) (p q o : Part) (p0 p2 p3 : Nodes) (x y : Tree) (c : Answer Tree) → Puts p0 p2 (x ∷ y ∷ []) → Pushes r p2 p3 c
       → Fills r (special.Choice turned p q o) p0 p3 (spot_mark s) (choice_by turned (Ok x) (Ok y) c)
   choice_last (Ok u) turned p q o p0 p2 p3 x y c put h = (
@@ -228,12 +248,19 @@ module _ (s : Spot) (scope : Scope) where
       cell_is : (o : Answer Tree) → named i.room scope i.wanted (part_form i.span (part.Written r)) ≡ o → by scope true (tree r.now) ≡ o
       cell_is o h = sym (at_spot i (s.room - 1) s.span true scope (part.Written r) i_is) ∙ h
 
+      pub cell_stops : (e : ResolveError) → named i.room scope i.wanted (part_form i.span (part.Written r)) ≡ Err e → changed_whole ≡ Err e
+      cell_stops e h =
+          changed_is ∙ ap (λ (z : Answer Tree). change_by k z (callee_of scope s (tree f.now)) (row_of scope (suc (parts (plain args.now))))) (cell_is (Err e) h)
+
       module _ (x : Tree) (a : named i.room scope i.wanted (part_form i.span (part.Written r)) ≡ Ok x) (one : Scope) (kept : one ≡ scope) where
         called_is : (o : Answer Callee) → callee_of one s (tree f.now) ≡ o → changed_whole ≡ change_by k (Ok x) o (row_of scope (suc (parts (plain args.now))))
         called_is o h =
             changed_is
             ∙ ap (λ (z : Answer Tree). change_by k z (callee_of scope s (tree f.now)) (row_of scope (suc (parts (plain args.now))))) (cell_is (Ok x) a)
             ∙ ap (λ (z : Answer Callee). change_by k (Ok x) z (row_of scope (suc (parts (plain args.now))))) (ap (λ z. callee_of z s (tree f.now)) (sym kept) ∙ h)
+
+        pub callee_stops : (e : ResolveError) → callee_of one s (tree f.now) ≡ Err e → changed_whole ≡ Err e
+        callee_stops e h = called_is (Err e) h
 
         pub args_then : (callee : Callee) (o : Answer Trees) (n : ℕ) → callee_of one s (tree f.now) ≡ Ok callee → n ≡ suc (length args.now) → row_of one n ≡ o
             → changed_whole ≡ (o >>= λ nodes. Ok (change_node k x callee nodes (spot_mark s)))
@@ -247,6 +274,20 @@ module _ (s : Spot) (scope : Scope) where
 
   abbrev let_by : Bool → Trees → Answer Tree → Answer Tree
   let_by is_loop values a = a >>= λ node. Ok (binding_node is_loop values node (spot_mark s))
+
+  -- a value or a name is refused
+  pub bound_stops : (is_loop : Bool) (pairs fs : Bor (List Form)) (e : ResolveError) → named_bindings by scope (plain pairs.now) ≡ Err e
+      → put_together by scope s (special_form s.span (special.Binding is_loop pairs fs)) ≡ Err e
+  bound_stops is_loop pairs fs e a = ap (binding_by is_loop (body (plain fs.now) s.span)) a
+
+  -- the body is refused
+  pub bound_halts : (is_loop : Bool) (pairs fs : Bor (List Form)) (one : Scope) (ts : List Tree) (i : Spot) (e : ResolveError)
+      → i ≡ spot_at (s.room - 1) s.span s.wanted → named_bindings by scope (plain pairs.now) ≡ Ok (record { values = row ts; scope = one })
+      → named i.room one i.wanted (part_form i.span (part.List kind.Do fs)) ≡ Err e
+      → put_together by scope s (special_form s.span (special.Binding is_loop pairs fs)) ≡ Err e
+  bound_halts is_loop pairs fs one ts i e i_is a b =
+      ap (binding_by is_loop (body (plain fs.now) s.span)) a
+      ∙ ap (let_by is_loop (row ts)) (sym (at_spot i (s.room - 1) s.span s.wanted one (part.List kind.Do fs) i_is) ∙ b)
 
   pub bound_filled : (is_loop : Bool) (pairs fs : Bor (List Form)) (one : Scope) (p0 p1 p2 : Nodes) (ts : List Tree) (i : Spot) (x : Tree)
       → i ≡ spot_at (s.room - 1) s.span s.wanted
@@ -278,6 +319,12 @@ module _ (s : Spot) (scope : Scope) where
   abbrev value_by : FormTree → Answer Tree → Answer Tree
   value_by forms a =
       (a >>= λ value. bound_name scope (hidden s.span) >>= λ name. Ok (one_bound value name)) >>= λ bound. by bound.scope s.wanted forms >>= λ node. Ok (binding_node false bound.values node (spot_mark s))
+
+  -- the first form is refused
+  pub hidden_unvalued : (is_or : Bool) (f : Bor Form) (rest : Bor (List Form)) (i : Spot) (e : ResolveError) → i ≡ spot_at (s.room - 1) s.span true
+      → named i.room scope i.wanted (part_form i.span (part.Written f)) ≡ Err e → put_together by scope s (special_form s.span (special.Hidden is_or f rest)) ≡ Err e
+  hidden_unvalued is_or f rest i e i_is a =
+      ap (value_by (body (first (hidden_choice is_or (plain rest.now) s.span) no_forms) s.span)) (sym (at_spot i (s.room - 1) s.span true scope (part.Written f) i_is) ∙ a)
 
   module _ (is_or : Bool) (f : Bor Form) (rest : Bor (List Form)) (i : Spot) (x : Tree) (i_is : i ≡ spot_at (s.room - 1) s.span true) (a : named i.room scope i.wanted (part_form i.span (part.Written f)) ≡ Ok x) where
     abbrev pub hidden_whole : Answer Tree

@@ -1,5 +1,7 @@
 -- The values of literals that a loop has built, and those of a vector.
-use Rattle.std.proofs.Common.{◌≡◌, ◌≢◌, ◌<◌, ◌≤◌, ◌+◌, ◌-◌, ◌==◌, ℕ, Bool, true, false, ◌||◌, nat_lt, List, [], ◌∷◌, ◌++◌, Ok, Err, length, drop, get_or, cond, refl, ap, ◌∙◌, arith, Vec, Global}
+use Rattle.std.proofs.Common.{◌≡◌, ◌≢◌, ◌<◌, ◌≤◌, ◌+◌, ◌-◌, ◌==◌, ℕ, Bool, true, false, ◌||◌, nat_lt, List, [], ◌∷◌, ◌++◌, append-nil, Result, Ok, Err, length, drop, get_or, cond, refl, ap, ◌∙◌, arith, Vec, Global}
+use Rattle.std.specs.Prelude.{IfOk}
+use Rattle.txs_expression.specs.declared.stop.Stop.{Stop}
 use Rattle.std.proofs.lemmas.Bool.Decides.{nat_tests}
 use Rattle.txs_terms.specs.declared.fault.Span.{Span}
 use Rattle.txs_value.specs.declared.value.Value.{Value}
@@ -17,7 +19,7 @@ use Rattle.txs_expression.specs.Given.{refusal_of}
 use Rattle.txs_expression.specs.Literals.{literal, literals}
 use Rattle.txs_expand.specs.Answers.{◌>>=◌, refuse}
 use Rattle.txs_expand.specs.Parts.{plain}
-use Rattle.txs_expand.proofs.Rows.{plain_at, parts_plain}
+use Rattle.txs_expand.proofs.Rows.{drop_all, plain_at, parts_plain}
 
 -- these values, and then those of the rest
 abbrev pub values_after : List Value → Answer (List Value) → Answer (List Value)
@@ -44,6 +46,15 @@ module _ (room : ℕ) (fs : List Form) (i : ℕ) (vs : List Value) where
   literals_stop d e lt h =
       let rest = literals room (plain (drop (i + 1) fs)) in
       ap (λ l. values_after vs (literals room l)) (plain_at fs i d lt) ∙ ap (λ (o : Answer Value). values_after vs (o >>= λ w. rest >>= λ ws. Ok (w ∷ ws))) h
+
+-- behind the last value
+pub values_end : (room : ℕ) (fs : List Form) (i : ℕ) (vs : List Value) → length fs ≤ i → values_after vs (literals room (plain (drop i fs))) ≡ Ok vs
+values_end room fs i vs le = ap (λ l. values_after vs (literals room (plain l))) (drop_all fs i le) ∙ ap (λ l. Ok l) (append-nil vs)
+
+-- a value without levels has no more than any number
+pub flat_low : (r : Result Value Stop) (n : ℕ) → IfOk r (λ v. depth (plain_of v) ≡ 0) → IfOk r (λ v. depth (plain_of v) ≤ n)
+flat_low (Ok v) n h = omega (arith, h)
+flat_low (Err e) n h = tt
 
 -- one value more
 pub deeper : (vs : List Value) (v : Value) (n : ℕ) → row_depth (plain_row (plains_of vs)) ≤ n → depth (plain_of v) ≤ n → row_depth (plain_row (plains_of (vs ++ v ∷ []))) ≤ n

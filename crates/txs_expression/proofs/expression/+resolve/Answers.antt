@@ -2,21 +2,22 @@ use Rattle.std.proofs.Common.{rules, ◌≡◌, ◌<◌, ◌≤◌, ◌+◌, ◌
 use Rattle.std.proofs.lemmas.List.{length-map}
 use Rattle.std.proofs.lemmas.Result.{err_from_is_err_and}
 use Rattle.txs_reader.specs.declared.form.Form.{Form}
-use Rattle.txs_reader.specs.Tree.{tree}
+use Rattle.txs_reader.specs.Tree.{tree, place}
+use Rattle.txs_expand.specs.declared.error.ResolveErrorKind.TheVariants.{BadForm}
 use Rattle.txs_tree.specs.Tree.{Tree}
 use Rattle.txs_tree.specs.View.{tree_of}
 use Rattle.txs_names.specs.Scope.{Scope, with_local, with_locals}
 use Rattle.txs_expand.specs.declared.error.ResolveError.{ResolveError}
 use Rattle.txs_expand.specs.declared.shapes.Spot.{Spot}
 use Rattle.txs_expand.specs.declared.parts.Core.TheVariants as core
-use Rattle.txs_expand.specs.Expressions.{bound_name, change_node, flag, named, named_all, named_bindings, put_together, spot_mark}
+use Rattle.txs_expand.specs.Expressions.{bound_name, change_node, changing, flag, named, named_all, named_bindings, put_together, spot_mark}
 use Rattle.txs_expression.specs.Walk.{IsWithin}
 use Rattle.txs_expression.specs.Given.{row, Pushes}
 use Rattle.txs_expression.specs.Made.{Makes}
 use Rattle.txs_expand.specs.Parts.{core_form, part_form, plain, special_form}
-use Rattle.txs_expand.proofs.Rows.{roomy}
-use Rattle.txs_expression.proofs.Building.{all_end, all_nil, all_step, all_stop, bindings_end, bindings_step, bindings_unvalued, bound_after, bound_nil, puts_more, puts_none, unhidden, within_push}
-use Rattle.txs_expression.proofs.Fillings.{args_then, bound_filled, choice_filled, hidden_filled, hidden_full, hidden_stops, named_core, named_stop, narrow_ok, of_form, of_form_stops, pair_filled, pair_stops, remade, row_filled, shown, single_filled}
+use Rattle.txs_expand.proofs.Rows.{roomless, roomy}
+use Rattle.txs_expression.proofs.Building.{all_end, all_nil, all_step, all_stop, bindings_end, bindings_odd, bindings_step, bindings_unbound, bindings_unvalued, bound_after, bound_nil, puts_more, puts_none, then_kept, unhidden, within_push}
+use Rattle.txs_expression.proofs.Fillings.{args_then, bound_filled, bound_halts, bound_stops, callee_stops, cell_stops, choice_filled, choice_halts, choice_stops, hidden_filled, hidden_full, hidden_stops, hidden_unvalued, named_core, named_stop, narrow_ok, of_form, of_form_stops, pair_filled, pair_stops, remade, row_filled, shown, single_filled}
 use Rattle.txs_expression.proofs.expression.+resolve.Goals as goal
 
 -- ---- forms
@@ -297,3 +298,127 @@ items-returns-clause-nodes t c =
           ∙ b.2 ∙ all_end by c.args.scope.now c.args.wanted c.args.last c.args.forms.now c.loop-i.i b.0 c.loop-i-test.false,
       b.1,
     )
+
+-- ---- what is refused, and what is kept
+
+pub bindings-returns-in_err-name-clause-values : goal.bindings-returns-in_err-name-clause-values
+bindings-returns-in_err-name-clause-values t c =
+    let p = err_from_is_err_and c.from_residual-in_err-name.result c.from_residual-in_err-name.ensures.1 in
+    let by = named (c.args.spot.room - 1) in
+    let d = c.index-pairs-at.result in
+    let b = c.loop-at.invariant.built in
+    let n = c.in_ok-expression.ensures.node in
+    rw (p.1, p.2) (b.2 ∙ bindings_unbound by c.loop-at.scope c.args.pairs.now c.loop-at.at b.0 c.index-pairs-at-in-loop-at.result d n.0 _ c.loop-at-test.true
+    (ap (λ (f : Form). by c.loop-at.scope true (tree f)) (sym c.index-pairs-at.is) ∙ ap (λ (s : Spot). named s.room c.loop-at.scope s.wanted (tree d)) (sym c.inner.ensures) ∙ n.1)
+    (ap (λ f. bound_name c.loop-at.scope (tree f)) (sym c.index-pairs-at-in-loop-at.is) ∙ ap (λ (s : Scope). bound_name s (tree c.index-pairs-at-in-loop-at.result)) (sym c.in_ok-expression.ensures.kept) ∙ sym c.in_err-name.ensures.name))
+
+pub bindings-returns-then-at-pairs-clause-values : goal.bindings-returns-then-at-pairs-clause-values
+bindings-returns-then-at-pairs-clause-values t c =
+    let b = c.loop-at.invariant.built in
+    let d = c.index-pairs-at-then-at-pairs.result in
+    b.2
+    ∙ bindings_odd (named (c.args.spot.room - 1)) c.loop-at.scope c.args.pairs.now c.loop-at.at b.0 d (omega (arith, c.if-at-pairs.true, c.loop-at-test.false))
+    ∙ ap (λ (f : Form). Err (record { kind = BadForm; at = place (tree f) })) (sym c.index-pairs-at-then-at-pairs.is)
+    ∙ ap (λ at. Err (record { kind = BadForm; at = at })) (sym c.span.ensures)
+    ∙ ap (λ (x : ResolveError). Err x) (sym c.refusal.ensures)
+
+pub changed-returns-then-spot-eq0-clause-node : goal.changed-returns-then-spot-eq0-clause-node
+changed-returns-then-spot-eq0-clause-node t c =
+    let s = c.args.spot in
+    roomless s (put_together (named (s.room - 1)) c.args.scope.now s (changing c.args.change (tree c.args.cell.now) (tree c.args.function.now) (plain c.args.args.now))) c.if-spot-eq0.true
+    ∙ ap (λ (x : ResolveError). Err x) (sym c.refusal.ensures)
+
+pub parted-returns-then-spot-eq0-clause-node : goal.parted-returns-then-spot-eq0-clause-node
+parted-returns-then-spot-eq0-clause-node t c =
+    let s = c.args.spot in
+    roomless s (put_together (named (s.room - 1)) c.args.scope.now s (special_form s.span c.args.special)) c.if-spot-eq0.true ∙ ap (λ (x : ResolveError). Err x) (sym c.refusal.ensures)
+
+pub parted-returns-in_err-children-clause-node : goal.parted-returns-in_err-children-clause-node
+parted-returns-in_err-children-clause-node t c =
+    let p = err_from_is_err_and c.from_residual.result c.from_residual.ensures.1 in
+    let s = c.args.spot in
+    rw (p.1, p.2) (roomy s (put_together (named (s.room - 1)) c.args.scope.now s (special_form s.span c.args.special)) c.if-spot-eq0.false ∙ c.in_err-children.ensures.nodes)
+
+pub changed-returns-in_err-expression-clause-node : goal.changed-returns-in_err-expression-clause-node
+changed-returns-in_err-expression-clause-node t c =
+    let p = err_from_is_err_and c.from_residual.result c.from_residual.ensures.1 in
+    rw (p.1, p.2) (cell_stops c.args.spot c.args.scope.now c.if-spot-eq0.false c.args.change c.args.cell c.args.function c.args.args c.inner.result c.inner.ensures _ c.in_err-expression.ensures.node)
+
+pub changed-returns-in_err-callee-clause-node : goal.changed-returns-in_err-callee-clause-node
+changed-returns-in_err-callee-clause-node t c =
+    let p = err_from_is_err_and c.from_residual-in_err-callee.result c.from_residual-in_err-callee.ensures.1 in
+    let n = c.in_ok-expression.ensures.node in
+    rw (p.1, p.2) (callee_stops c.args.spot c.args.scope.now c.if-spot-eq0.false c.args.change c.args.cell c.args.function c.args.args c.inner.result c.inner.ensures n.0 n.1 c.expression.new.scope c.in_ok-expression.ensures.kept _ (sym c.in_err-callee.ensures))
+
+pub children-returns-in_err-expression-in-Choice-clause-nodes : goal.children-returns-in_err-expression-in-Choice-clause-nodes
+children-returns-in_err-expression-in-Choice-clause-nodes t c =
+    let p = err_from_is_err_and c.from_residual-in_err-expression-in-Choice.result c.from_residual-in_err-expression-in-Choice.ensures.1 in
+    let k = c.in-Choice in
+    rw (p.1, p.2) (of_form_stops c.args.spot c.args.scope.now k.is (choice_stops c.args.spot c.args.scope.now k.field-0 k.test k.one k.other c.inner-value.result _ c.inner-value.ensures c.in_err-expression-in-Choice.ensures.node))
+
+pub children-returns-in_err-expression-in-Choice-2-clause-nodes : goal.children-returns-in_err-expression-in-Choice-2-clause-nodes
+children-returns-in_err-expression-in-Choice-2-clause-nodes t c =
+    let p = err_from_is_err_and c.from_residual-in_err-expression-in-Choice-2.result c.from_residual-in_err-expression-in-Choice-2.ensures.1 in
+    let k = c.in-Choice in
+    let a = c.in_ok-expression-in-Choice.ensures in
+    rw (p.1, p.2) (of_form_stops c.args.spot c.args.scope.now k.is (choice_halts c.args.spot c.args.scope.now k.field-0 k.test k.one k.other c.expression-in-Choice.new.scope c.inner-value.result c.inner-tail.result a.node.0 _
+    c.inner-value.ensures c.inner-tail.ensures a.kept a.node.1 c.in_err-expression-in-Choice-2.ensures.node))
+
+pub children-returns-in_err-bindings-in-Binding-clause-nodes : goal.children-returns-in_err-bindings-in-Binding-clause-nodes
+children-returns-in_err-bindings-in-Binding-clause-nodes t c =
+    let p = err_from_is_err_and c.from_residual-in_err-bindings-in-Binding.result c.from_residual-in_err-bindings-in-Binding.ensures.1 in
+    let k = c.in-Binding in
+    rw (p.1, p.2) (of_form_stops c.args.spot c.args.scope.now k.is (bound_stops c.args.spot c.args.scope.now k.field-0 k.pairs k.forms _ c.in_err-bindings-in-Binding.ensures.values))
+
+pub children-returns-in_err-expression-in-Binding-clause-nodes : goal.children-returns-in_err-expression-in-Binding-clause-nodes
+children-returns-in_err-expression-in-Binding-clause-nodes t c =
+    let p = err_from_is_err_and c.from_residual-in_err-expression-in-Binding.result c.from_residual-in_err-expression-in-Binding.ensures.1 in
+    let k = c.in-Binding in
+    let v = c.in_ok-bindings-in-Binding.ensures.values in
+    rw (p.1, p.2) (of_form_stops c.args.spot c.args.scope.now k.is (bound_halts c.args.spot c.args.scope.now k.field-0 k.pairs k.forms c.bindings.new.scope v.0 c.inner-tail.result _ c.inner-tail.ensures v.1 c.in_err-expression-in-Binding.ensures.node))
+
+pub children-returns-in_err-expression-in-Hidden-clause-nodes : goal.children-returns-in_err-expression-in-Hidden-clause-nodes
+children-returns-in_err-expression-in-Hidden-clause-nodes t c =
+    let p = err_from_is_err_and c.from_residual-in_err-expression-in-Hidden.result c.from_residual-in_err-expression-in-Hidden.ensures.1 in
+    let k = c.in-Hidden in
+    rw (p.1, p.2) (of_form_stops c.args.spot c.args.scope.now k.is (hidden_unvalued c.args.spot c.args.scope.now k.is_or k.first k.rest c.inner-value.result _ c.inner-value.ensures c.in_err-expression-in-Hidden.ensures.node))
+
+pub children-returns-in-Row-clause-kept : goal.children-returns-in-Row-clause-kept
+children-returns-in-Row-clause-kept t c =
+    c.items.ensures.kept
+
+pub children-returns-in-Single-clause-kept : goal.children-returns-in-Single-clause-kept
+children-returns-in-Single-clause-kept t c =
+    c.expression.ensures.kept
+
+pub children-returns-in_ok-expression-in-Pair-clause-kept : goal.children-returns-in_ok-expression-in-Pair-clause-kept
+children-returns-in_ok-expression-in-Pair-clause-kept t c =
+    then_kept c.expression-in-Pair-2.result _ _ _ c.expression-in-Pair-2.ensures.kept c.in_ok-expression-in-Pair.ensures.kept
+
+pub children-returns-in_ok-expression-in-Choice-2-clause-kept : goal.children-returns-in_ok-expression-in-Choice-2-clause-kept
+children-returns-in_ok-expression-in-Choice-2-clause-kept t c =
+    then_kept c.expression-in-Choice-3.result _ _ _ c.expression-in-Choice-3.ensures.kept (c.in_ok-expression-in-Choice-2.ensures.kept ∙ c.in_ok-expression-in-Choice.ensures.kept)
+
+pub changed-returns-clause-kept : goal.changed-returns-clause-kept
+changed-returns-clause-kept t c =
+    c.in_ok-items.ensures.kept ∙ c.in_ok-expression.ensures.kept
+
+pub bindings-returns-clause-outer : goal.bindings-returns-clause-outer
+bindings-returns-clause-outer t c =
+    c.loop-at.invariant.within
+
+pub items-returns-clause-kept : goal.items-returns-clause-kept
+items-returns-clause-kept t c =
+    c.loop-i.invariant.kept
+
+pub parted-returns-clause-kept : goal.parted-returns-clause-kept
+parted-returns-clause-kept t c =
+    c.in_ok-children.ensures.kept
+
+pub expression-returns-in-Parted-clause-kept : goal.expression-returns-in-Parted-clause-kept
+expression-returns-in-Parted-clause-kept t c =
+    c.parted.ensures.kept
+
+pub expression-returns-in-Changing-clause-kept : goal.expression-returns-in-Changing-clause-kept
+expression-returns-in-Changing-clause-kept t c =
+    c.changed.ensures.kept

@@ -12,7 +12,7 @@ use Rattle.txs_expression.specs.Literals.{literal, literals}
 use Rattle.txs_expand.specs.Parts.{plain}
 use Rattle.txs_expression.proofs.Stops.{failed}
 use Rattle.txs_expand.proofs.Rows.{then_err, then_ok}
-use Rattle.txs_expression.proofs.Literals.{values_after, literals_step, literals_stop, deeper, square_roomless, square_wide, square_fits}
+use Rattle.txs_expression.proofs.Literals.{flat_low, values_after, values_end, literals_step, literals_stop, deeper, square_roomless, square_wide, square_fits}
 use Rattle.txs_expression.proofs.values.+literal.Goals.{literal-then-room-eq0-via-then-room-eq0, literal-then-room-eq0-via-else-room-eq0+then-len-gt-MOST_ITEMS}
 use Rattle.txs_expression.proofs.values.+literal.Goals as goal
 
@@ -70,3 +70,20 @@ literals-loop-form-preserved t c =
       low = subst (λ ws. row_depth (plain_row (plains_of ws)) ≤ c.args.room) (sym c.in_ok-push.ensures.items) (deeper vs v c.args.room c.loop-form.invariant.low c.in_ok-value.ensures.depth);
       so_many = omega (arith, ap length c.in_ok-push.ensures.items, length-append vs (v ∷ []), c.loop-form.invariant.so_many);
     }
+
+pub literals-returns-clause-values : goal.literals-returns-clause-values
+literals-returns-clause-values t c =
+    c.loop-form.invariant.same ∙ values_end c.args.room c.args.forms.now c.loop-form.form-index c.loop-form.values.items (omega (arith, c.loop-form-test.false))
+
+pub literals-returns-clause-depth : goal.literals-returns-clause-depth
+literals-returns-clause-depth t c =
+    c.loop-form.invariant.low
+
+pub literal-returns-in_default-clause-depth : goal.literal-returns-in_default-clause-depth
+literal-returns-in_default-clause-depth t c =
+    flat_low c.scalar.result c.args.room c.scalar.ensures.flat
+
+pub literal-returns-in_ok-from_vec-in-Group-Square-default-default-clause-depth : goal.literal-returns-in_ok-from_vec-in-Group-Square-default-default-clause-depth
+literal-returns-in_ok-from_vec-in-Group-Square-default-default-clause-depth t c =
+    let deep = subst (λ ds. row_depth (plain_row ds) ≤ c.args.room - 1) (sym c.in_ok-from_vec-in-Group-Square-default-default.ensures) c.in_ok-items-in-Group-Square-default-default.ensures.depth in
+    omega (arith, c.if-room-eq0.false, deep)
