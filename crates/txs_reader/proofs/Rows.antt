@@ -1,11 +1,11 @@
 -- The row of forms that openings divide.
-use Rattle.std.proofs.Common.{◌≡◌, ℕ, suc, ◌+◌, ◌-◌, ◌≤◌, List, [], ◌∷◌, ◌++◌, length, length-drop, take, drop, refl, sym, ap, ◌∙◌, arith}
+use Rattle.std.proofs.Common.{◌≡◌, ℕ, suc, ◌+◌, ◌-◌, ◌≤◌, List, [], ◌∷◌, ◌++◌, length, length-drop, take, drop, refl, sym, ap, subst, ◌∙◌, arith}
 use Rattle.std.proofs.lemmas.List.{take_all, take-append-le, drop-append-le, take-append-drop, drop-drop, drop-take, length-take-le, take-map, length-map}
 use Rattle.txs_reader.specs.declared.open_form.OpenForm.{OpenForm}
 use Rattle.txs_reader.specs.declared.form.Form.{Form}
 use Rattle.txs_reader.specs.Rows.{before_all, divided}
 use Rattle.txs_reader.specs.Tree.{Tree, tree, trees}
-use Rattle.txs_reader.specs.Script.{Open, opened}
+use Rattle.txs_reader.specs.Script.{Open, opened, Holds}
 
 pub before_all-push : (os : List OpenForm) (o : OpenForm) → before_all (os ++ o ∷ []) ≡ before_all os + o.before
 before_all-push [] o = omega arith
@@ -74,3 +74,8 @@ alone os new o ts start is count none =
     let less : start - o.before ≡ before_all new = omega (arith, sum) in
     let few : length (drop (before_all new) ts) ≤ o.before = omega (arith, sum, length-drop (before_all new) ts, length-drop start ts, ap length none) in
     ap (λ (n : ℕ). drop n ts) less ∙ sym (take_all o.before (drop (before_all new) ts) few)
+
+-- where nothing is open, all forms of the row are whole
+pub all_whole : (bytes rest : List ℕ) (os : List OpenForm) (ts : List Tree) (start : ℕ) → Holds bytes (divided os ts) (drop start ts) rest → length os ≡ 0 → start ≡ before_all os → rest ≡ [] → Holds bytes [] ts []
+all_whole bytes rest [] ts start h none count ends = subst (λ (n : ℕ). Holds bytes [] (drop n ts) []) count (subst (λ (bs : List ℕ). Holds bytes [] (drop start ts) bs) ends h)
+all_whole bytes rest (o ∷ os) ts start h none count ends = absurd (omega (arith, none))

@@ -1,6 +1,9 @@
 use Rattle.std.proofs.Common.{arith, refl, ◌≤◌, length}
-use Rattle.txs_reader.specs.Script.{no_text}
+use Rattle.txs_reader.specs.Script.{no_text, too_long}
 use Rattle.txs_reader.proofs.reader.read_script.Goals as goal
+
+pub returns-then-bytes-gt-MOST_SCRIPT-clause-stops : goal.returns-then-bytes-gt-MOST_SCRIPT-clause-stops
+returns-then-bytes-gt-MOST_SCRIPT-clause-stops c = λ other. rw c.span_of.ensures (too_long (omega arith) refl refl)
 
 pub returns-in-Err-clause-stops : goal.returns-in-Err-clause-stops
 returns-in-Err-clause-stops c = λ other.
