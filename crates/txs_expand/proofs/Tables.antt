@@ -75,9 +75,29 @@ module _ (scope : Scope) (s : Spot) where
   list_table name head args is =
       by_head name head args s.span is ∙ sym (by_head name (leaf (symbol (form_name name)) s.span) args s.span (form_found name))
 
+  pub list_empty : (fs : List Form) → length fs ≡ 0 → refuse BadForm s.span ≡ core_of scope s (expand_once (group Round (plain fs) s.span))
+  list_empty [] none = refl
+  list_empty (f ∷ fs) none = absurd (omega (arith, none))
+
+  -- a list at whose head stands no form's name
+  pub list_called : (head : FormTree) (args : Forms) → form_at head ≡ None → core_of scope s (expand_once (group Round (first head args) s.span)) ≡ list_core None scope s head args
+  list_called head args none =
+      ap (λ o. core_of scope s (or_same (expansion_by o args s.span) (group Round (first head args) s.span))) none
+      ∙ ap (λ o. list_core o scope s head args) none
+
   pub block_some : (fs : List Form) → (length fs ≡ 0 → ⊥) → Ok (parted (row sequence.Do (plain fs))) ≡ table kind.Do scope s (plain fs)
   block_some [] some = absurd (some refl)
   block_some (f ∷ fs) some = refl
+
+  pub choice_none : (turned : Bool) (fs : List Form) → length fs ≡ 0 → refuse BadForm s.span ≡ table (choice_name turned) scope s (plain fs)
+  choice_none false [] none = refl
+  choice_none true [] none = refl
+  choice_none turned (f ∷ fs) none = absurd (omega (arith, none))
+
+  pub choice_one : (turned : Bool) (t : Form) (fs : List Form) → length fs ≡ 0 → refuse BadForm s.span ≡ table (choice_name turned) scope s (plain (t ∷ fs))
+  choice_one false t [] none = refl
+  choice_one true t [] none = refl
+  choice_one turned t (f ∷ fs) none = absurd (omega (arith, none))
 
   pub choice_many : (turned : Bool) (t o : Form) (fs : List Form) → 1 < length fs → refuse BadForm s.span ≡ table (choice_name turned) scope s (plain (t ∷ o ∷ fs))
   choice_many turned t o [] lt = absurd (omega (arith, lt))

@@ -2,9 +2,19 @@ use Rattle.std.proofs.Common.{◌∷◌, List, Ok, sym, ap, ◌∙◌, arith}
 use Rattle.txs_reader.specs.declared.form.Form.{Form}
 use Rattle.txs_reader.specs.Tree.{Tree as FormTree, tree}
 use Rattle.txs_expand.specs.Expressions.{choice, parted}
-use Rattle.txs_expand.specs.Parts.{choice_name, plain, table}
-use Rattle.txs_expand.proofs.Tables.{choice_few, choice_many}
+use Rattle.txs_expand.specs.Parts.{choice_name, plain, table, told}
+use Rattle.txs_expand.proofs.Tables.{choice_few, choice_many, choice_none, choice_one}
 use Rattle.txs_expand.proofs.plans.either.Goals as goal
+
+pub returns-in_err-test-clause-core : goal.returns-in_err-test-clause-core
+returns-in_err-test-clause-core c scope s =
+    ap (told s) c.from_residual.ensures ∙ choice_none scope s c.args.turned c.args.args.now c.in_err-test.ensures.cases
+
+pub returns-in_err-one-clause-core : goal.returns-in_err-one-clause-core
+returns-in_err-one-clause-core c scope s =
+    ap (told s) c.from_residual-in_err-one.ensures
+    ∙ choice_one scope s c.args.turned c.in_ok-test.test.now c.in_ok-test.behind.now c.in_err-one.ensures.cases
+    ∙ sym (ap (λ (l : List Form). table (choice_name c.args.turned) scope s (plain l)) c.in_ok-test.ensures.cases.0)
 
 pub returns-then-rest-gt1-clause-core : goal.returns-then-rest-gt1-clause-core
 returns-then-rest-gt1-clause-core c scope s =
