@@ -1,8 +1,8 @@
-use Rattle.std.proofs.Common.{◌≡◌, ◌≢◌, ℕ, ◌+◌, ◌-◌, ◌<◌, get_or, length, sym, subst, ap, ◌∙◌, arith, length-drop}
+use Rattle.std.proofs.Common.{◌≡◌, ◌≢◌, ◌∷◌, ℕ, List, ◌+◌, ◌-◌, ◌<◌, drop, get_or, length, sym, subst, ap, ◌∙◌, arith, length-drop}
 use Rattle.std.specs.Prelude.{string_bytes}
 use Rattle.txs_reader.specs.Escapes.{TextUpTo}
-use Rattle.txs_reader.proofs.Escapes.{plain_run, plain_rest, mark_small, mark_at, backslash, byte_of, head_of_rest, escape_end, escape_more}
-use Rattle.txs_reader.proofs.Steps.{text_unclosed, text_bad_escape}
+use Rattle.txs_reader.proofs.Escapes.{plain_run, plain_rest, mark_small, mark_at, backslash, byte_of, head_of_rest, escape_end, escape_more, text_begins}
+use Rattle.txs_reader.proofs.Steps.{front, text_unclosed, text_bad_escape}
 use Rattle.txs_reader.proofs.quoted.read_quoted.Goals as goal
 
 pub returns-in-None-clause-err : goal.returns-in-None-clause-err
@@ -49,3 +49,56 @@ loop-len-preserved c =
       small = subst (λ (i : ℕ). get_or bytes i 0 < 128) place (subst (λ (b : ℕ). b < 128) (byte_of bytes c.rest_at-in-loop-len.result.now end (len - 1) c.rest_at-in-loop-len.ensures) ends.small);
       so_far = subst (λ (i : ℕ). TextUpTo bytes c.args.at i (string_bytes c.push.new.self)) next more;
     }
+
+pub loop-len-init : goal.loop-len-init
+loop-len-init c =
+    let bytes = c.args.script.now in
+    let at = c.args.at in
+    record {
+      within = c.requires.inside;
+      small = subst (λ (b : ℕ). b < 128) (sym c.requires.quote) (omega arith);
+      so_far = subst (λ (out : List ℕ). TextUpTo bytes at (at + 1) out) (sym c.requires.empty) (text_begins bytes at (front bytes at c.requires.inside ∙ ap (λ (b : ℕ). b ∷ drop (at + 1) bytes) c.requires.quote));
+    }
+
+pub loop-len-smaller : goal.loop-len-smaller
+loop-len-smaller c =
+    let bytes = c.args.script.now in
+    let end = c.loop-len.last + 1 + c.in-Some.len in
+    let run = plain_run bytes c.args.at _ c.in-Some.len _ _ _ c.loop-len.invariant.so_far c.rest_at.ensures c.in-Some.ensures.some.0 c.in-Some.ensures.some.1 c.in_ok-push_between.ensures in
+    let other : get_or bytes end 0 ≢ 34 = λ e. c.if-byte_at-eq34.false (c.byte_at.ensures ∙ e) in
+    let begins : get_or c.rest_at-in-loop-len.result.now 0 0 ≡ 92 = rw c.rest_at-in-loop-len.ensures (head_of_rest bytes end run.inside ∙ backslash _ run.stops other) in
+    let ends = escape_end c.rest_at-in-loop-len.result.now c.in-Some-read_escape.escape.value c.in-Some-read_escape.escape.len begins c.in-Some-read_escape.ensures.some in
+    omega (arith, ends.long, c.loop-len.invariant.within)
+
+pub push_between-requires-clause-within : goal.push_between-requires-clause-within
+push_between-requires-clause-within c = omega (arith, length-drop (c.loop-len.last + 1) c.args.script.now, ap length c.rest_at.ensures, c.in-Some.ensures.some.1)
+
+pub push_between-requires-clause-front : goal.push_between-requires-clause-front
+push_between-requires-clause-front c = c.loop-len.invariant.small
+
+pub byte_at-requires : goal.byte_at-requires
+byte_at-requires c = omega (arith, length-drop (c.loop-len.last + 1) c.args.script.now, ap length c.rest_at.ensures, c.in-Some.ensures.some.1)
+
+pub rest_at-requires-in-loop-len : goal.rest_at-requires-in-loop-len
+rest_at-requires-in-loop-len c = omega (arith, length-drop (c.loop-len.last + 1) c.args.script.now, ap length c.rest_at.ensures, c.in-Some.ensures.some.1)
+
+pub read_escape-requires-clause-some : goal.read_escape-requires-clause-some
+read_escape-requires-clause-some c =
+    omega (arith, length-drop (c.loop-len.last + 1 + c.in-Some.len) c.args.script.now, ap length c.rest_at-in-loop-len.ensures, length-drop (c.loop-len.last + 1) c.args.script.now, ap length c.rest_at.ensures, c.in-Some.ensures.some.1)
+
+pub overflow_add-end-in-loop-len : goal.overflow_add-end-in-loop-len
+overflow_add-end-in-loop-len c = omega (arith, length-drop (c.loop-len.last + 1) c.args.script.now, ap length c.rest_at.ensures, c.in-Some.ensures.some.1)
+
+pub overflow_add-last-in-Some-read_escape : goal.overflow_add-last-in-Some-read_escape
+overflow_add-last-in-Some-read_escape c =
+    let bytes = c.args.script.now in
+    let end = c.loop-len.last + 1 + c.in-Some.len in
+    let run = plain_run bytes c.args.at _ c.in-Some.len _ _ _ c.loop-len.invariant.so_far c.rest_at.ensures c.in-Some.ensures.some.0 c.in-Some.ensures.some.1 c.in_ok-push_between.ensures in
+    let other : get_or bytes end 0 ≢ 34 = λ e. c.if-byte_at-eq34.false (c.byte_at.ensures ∙ e) in
+    let begins : get_or c.rest_at-in-loop-len.result.now 0 0 ≡ 92 = rw c.rest_at-in-loop-len.ensures (head_of_rest bytes end run.inside ∙ backslash _ run.stops other) in
+    let ends = escape_end c.rest_at-in-loop-len.result.now c.in-Some-read_escape.escape.value c.in-Some-read_escape.escape.len begins c.in-Some-read_escape.ensures.some in
+    let size : length c.rest_at-in-loop-len.result.now ≡ length bytes - end = ap length c.rest_at-in-loop-len.ensures ∙ length-drop end bytes in
+    omega (arith, ends.within, size, run.inside)
+
+pub span_of-requires-in-None-read_escape-clause-small : goal.span_of-requires-in-None-read_escape-clause-small
+span_of-requires-in-None-read_escape-clause-small c = omega (arith, length-drop (c.loop-len.last + 1) c.args.script.now, ap length c.rest_at.ensures, c.in-Some.ensures.some.1)
