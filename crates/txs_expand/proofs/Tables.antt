@@ -1,6 +1,7 @@
 -- What a list is, by the name at its head and by how many parts it has.
 use Rattle.std.proofs.Common.{◌≡◌, ◌≤◌, ◌<◌, ◌%◌, ◌&&◌, ℕ, zero, suc, Bool, true, false, List, [], ◌∷◌, ◌++◌, Option, Some, None, Ok, if◌then◌else◌, length, nat_lt, refl, sym, ap, subst, ◌∙◌, arith}
 use Rattle.txs_terms.specs.declared.fault.Span.{Span}
+use Rattle.txs_cells.specs.declared.form.CellForm.{CellForm}
 use Rattle.txs_cells.specs.declared.form.CellForm.TheVariants as on_cell
 use Rattle.txs_cells.specs.declared.form.LookForm.{LookForm}
 use Rattle.txs_cells.specs.declared.form.PutForm.{PutForm}
@@ -141,6 +142,15 @@ module _ (scope : Scope) (s : Spot) where
   logic_one is_or e (f ∷ fs) one = absurd (omega (arith, one))
 
 -- ---- forms on cells
+
+-- a form on a cell has a cell
+pub family_none : (form : Option CellForm) (at : Span) (fs : List Form) → length fs ≡ 0 → refuse BadForm at ≡ of_family form at (plain fs)
+family_none None at [] none = refl
+family_none (Some (on_cell.Look form)) at [] none = refl
+family_none (Some (on_cell.Put form)) at [] none = refl
+family_none (Some (on_cell.Update form)) at [] none = refl
+family_none (Some on_cell.Send) at [] none = refl
+family_none form at (f ∷ fs) none = absurd (omega (arith, none))
 
 pub looks_far : (form : LookForm) (at : Span) (r : FormTree) (fs : List Form) → (length fs ≡ 0 → ⊥) → refuse BadForm at ≡ of_family (Some (on_cell.Look form)) at (first r (plain fs))
 looks_far form at r [] some = absurd (some refl)
