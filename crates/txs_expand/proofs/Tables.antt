@@ -19,7 +19,7 @@ use Rattle.txs_expand.specs.declared.shapes.Spot.{Spot}
 use Rattle.txs_expand.specs.Answers.{refuse}
 use Rattle.txs_expand.specs.Expansions.{body, expand_once, expansion, expansion_by, form_at, hidden, is_even, is_zero, list, or_same, three, two}
 use Rattle.txs_expand.specs.Expressions.{Answer, Core, parted, row, choice, binding, all_but_last, core_of, folds, is_chain, last_of, list_core, of_family, operands, special}
-use Rattle.txs_expand.specs.Parts.{choice_name, first_or_nil, hidden_choice, logic_name, plain, table}
+use Rattle.txs_expand.specs.Parts.{choice_name, first_or_nil, guard_name, hidden_choice, logic_name, plain, table}
 use Rattle.txs_expand.proofs.Rows.{parts_plain}
 
 form_found : (f : FormName) → with_name form_name (form_name f) form_names ≡ Some f
@@ -89,6 +89,15 @@ module _ (scope : Scope) (s : Spot) where
   pub block_some : (fs : List Form) → (length fs ≡ 0 → ⊥) → Ok (parted (row sequence.Do (plain fs))) ≡ table kind.Do scope s (plain fs)
   block_some [] some = absurd (some refl)
   block_some (f ∷ fs) some = refl
+
+  pub guard_none : (turned : Bool) (fs : List Form) → length fs ≡ 0 → refuse BadForm s.span ≡ table (guard_name turned) scope s (plain fs)
+  guard_none false [] none = refl
+  guard_none true [] none = refl
+  guard_none turned (f ∷ fs) none = absurd (omega (arith, none))
+
+  pub cond_one : (t : Form) (fs : List Form) → length fs ≡ 0 → refuse BadForm s.span ≡ table kind.Cond scope s (plain (t ∷ fs))
+  cond_one t [] none = refl
+  cond_one t (f ∷ fs) none = absurd (omega (arith, none))
 
   pub choice_none : (turned : Bool) (fs : List Form) → length fs ≡ 0 → refuse BadForm s.span ≡ table (choice_name turned) scope s (plain fs)
   choice_none false [] none = refl
