@@ -1,4 +1,4 @@
-use Rattle.std.proofs.Common.{◌≡◌, ◌-◌, List, [], ◌∷◌, ◌++◌, sym, subst, rules, arith}
+use Rattle.std.proofs.Common.{◌≡◌, ◌-◌, List, [], ◌∷◌, ◌++◌, refl, sym, subst, rules, arith}
 use Rattle.std.proofs.lemmas.Result.{err_from_is_err_and}
 use Rattle.std.proofs.lemmas.List.{map_push}
 use Rattle.txs_value.specs.PlainValue.{PlainValue}
@@ -61,4 +61,13 @@ pub value_behind-returns-in-Cell : goal.value_behind-returns-in-Cell
 value_behind-returns-in-Cell t c = rw c.in-Cell.is c.cell_at.ensures
 
 pub values_at-room_for-requires : goal.values_at-room_for-requires
-values_at-room_for-requires t c = search rules
+values_at-room_for-requires t c = omega arith
+
+pub value_behind-returns-in-Nil : goal.value_behind-returns-in-Nil
+value_behind-returns-in-Nil t c = rw c.in-Nil.is refl
+
+pub value_behind-returns-in-False : goal.value_behind-returns-in-False
+value_behind-returns-in-False t c = rw c.in-False.is refl
+
+pub value_behind-returns-in-True : goal.value_behind-returns-in-True
+value_behind-returns-in-True t c = rw c.in-True.is refl
