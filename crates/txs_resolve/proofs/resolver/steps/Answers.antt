@@ -3,6 +3,7 @@ use Rattle.std.proofs.lemmas.Result.{err_from_is_err_and}
 use Rattle.txs_reader.specs.declared.form.Form.{Form}
 use Rattle.txs_reader.specs.Tree.{tree, trees}
 use Rattle.txs_expand.specs.Answers.{◌>>=◌}
+use Rattle.txs_expand.proofs.Rows.{drop_all}
 use Rattle.txs_expand.specs.Expressions.{Answer}
 use Rattle.txs_resolve.specs.Memory.{FirstResolves}
 use Rattle.txs_resolve.specs.Names.{State, step, steps}
@@ -12,6 +13,9 @@ use Rattle.txs_resolve.proofs.resolver.steps.Goals as goal
 
 trees_at : (fs : List Form) (i : ℕ) (d : Form) → i < length fs → trees (drop i fs) ≡ tree (get_or fs i d) ∷ trees (drop (i + 1) fs)
 trees_at fs i d lt = ap trees (drop-cons fs i d lt) ∙ ap (λ (k : ℕ). tree (get_or fs i d) ∷ trees (drop k fs)) (sym (add-one i))
+
+pub loop-form-init : goal.loop-form-init
+loop-form-init c = record { state = refl; kept = c.requires; wants = λ w. w }
 
 pub loop-form-preserved : goal.loop-form-preserved
 loop-form-preserved c =
@@ -49,3 +53,7 @@ returns-in_err-step-clause-memory c =
     let there = trees_at fs i f c.loop-form-test.true ∙ ap (λ (x : Form). tree x ∷ rest) (sym c.form-item.is) in
     let p = err_from_is_err_and c.from_residual.result c.from_residual.ensures.1 in
     rw (p.1, p.2) (λ e. c.loop-form.invariant.wants (subst (FirstResolves s) (sym there) (wanted_at c.in_err-step.field-0.0 _ (step s (tree f)) c.in_err-step.ensures.state e)))
+
+pub returns-clause-state : goal.returns-clause-state
+returns-clause-state c =
+    c.loop-form.invariant.state ∙ ap (λ (l : List Form). steps (state_of c.loop-form.script) (trees l)) (drop_all c.args.forms.now c.loop-form.form-index c.loop-form-test.false)
