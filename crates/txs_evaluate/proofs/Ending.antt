@@ -1,6 +1,7 @@
 -- How a transaction of a thread ends: what the parts give is what its dosync means.
-use Rattle.std.proofs.Common.{◌≡◌, ℕ, zero, suc, ◌==◌, ◌&&◌, Bool, true, false, if◌then◌else◌, List, [], ◌∷◌, Option, Some, None, Result, Ok, Err, MatchResult, is_some, refl, sym, ap, ◌∙◌, subst}
+use Rattle.std.proofs.Common.{◌≡◌, ℕ, zero, suc, ◌==◌, ◌&&◌, Bool, true, false, if◌then◌else◌, List, [], ◌∷◌, ◌++◌, map, Option, Some, None, Result, Ok, Err, MatchResult, is_some, refl, sym, ap, ◌∙◌, subst}
 use Rattle.std.proofs.lemmas.Bool.{false≢true}
+use Rattle.std.proofs.lemmas.List.{map-append}
 use Rattle.txs_asks.specs.Ask.{Writes, same_writes, same_actions}
 use Rattle.txs_asks.specs.SeenEvent.{SeenEvent}
 use Rattle.txs_asks.specs.declared.event.EventKind.{EventKind}
@@ -18,6 +19,7 @@ use Rattle.txs_tree.specs.View.{functions_of}
 use Rattle.txs_eval_work.specs.Views.{PlainView, plain_view, plain_world, world_of}
 use Rattle.txs_evaluate.specs.declared.closing.Closing.TheVariants.{Committed, Stopped}
 use Rattle.txs_evaluate.specs.declared.seen.Seen.{Seen}
+use Rattle.txs_evaluate.specs.declared.state.Progress.{Progress}
 use Rattle.txs_evaluate.specs.declared.state.State.{State}
 use Rattle.txs_evaluate.specs.declared.state.Transacted.{Transacted}
 use Rattle.txs_eval_work.specs.declared.stop.ThreadStop.{ThreadStop}
@@ -203,6 +205,12 @@ module _ (x : Setting) (m : Mark) (body : Tree) (env : List Value) (t : ThreadSt
 pub noted : (b : Bool) → b ≡ true → (v : Value) (t u : ThreadState) (res : Result Value ThreadStop) → MatchResult res (λ w. (w ≡ v) × (u ≡ t)) (λ y. y ≡ Memory) → Gives false res u (meant b v t)
 noted b is v t u (Ok w) h = ap (λ k. meant k v t) is ∙ ap (λ z. Completes z t) (sym h.0) ∙ ap (λ s. Completes w s) (sym h.1)
 noted b is v t u (Err y) h = subst (λ z. Stops false z u (meant b v t)) (sym h) tt
+
+-- one run more
+pub noted_more : (p : Progress) (r : Transacted) (txs : List Transacted) → txs ≡ p.txs.items ++ r ∷ [] → record { todo = (thread_state p).todo; printed = (thread_state p).printed; txs = map tx_run txs } ≡ with_tx (tx_run r) (thread_state p)
+noted_more p r txs e =
+    let made : List TxRun → ThreadState = λ (l : List TxRun). record { todo = (thread_state p).todo; printed = (thread_state p).printed; txs = l } in
+    ap made (ap (map tx_run) e ∙ map-append tx_run p.txs.items (r ∷ []))
 
 -- a stop of the body or a commute
 pub end_stops : (k : EventKind) (span : Span) (y : ThreadStop) (t : ThreadState) (c : Completion ThreadState (TxRun × Writes)) → Stops false y t c → Stops false (end_stop k y) t (closes k span c)

@@ -1,5 +1,5 @@
 -- A node by how it is evaluated: what is sound of its parts, how many they are, and what it means.
-use Rattle.std.proofs.Common.{◌≡◌, ℕ, ◌+◌, ◌*◌, ◌<◌, List, Option, None, Result, Ok, Err, MatchResult, refl, sym, ap, ◌∙◌, subst, arith}
+use Rattle.std.proofs.Common.{◌≡◌, ℕ, ◌+◌, ◌*◌, ◌<◌, List, Option, None, Result, Ok, Err, MatchResult, OnOk, refl, sym, ap, ◌∙◌, subst, arith}
 use Rattle.txs_value.specs.declared.value.Value.{Value}
 use Rattle.txs_tree.specs.Known.{Known}
 use Rattle.txs_tree.specs.Meaning.{Completion, Completes}
@@ -30,6 +30,15 @@ copied x (Err y) v st c h g = subst (λ z. StepsOn (is_on x.world) (Err z) (part
 pub stepped : (x : Setting) (r : Result Value ThreadStop) (s : Result Step ThreadStop) (st : State) (c : Completion (Part x.world) Value) → s ≡ step_of r → Yields x r st c → Steps x s st c
 stepped x (Ok v) s st c is h = subst (λ z. Steps x z st c) (sym is) h
 stepped x (Err y) s st c is h = subst (λ z. Steps x z st c) (sym is) h
+
+-- what holds whatever is given holds where a value is given
+pub kept_by : {V P : Type 0} (r : Result V ThreadStop) → P → OnOk r P
+kept_by (Ok v) h = h
+kept_by (Err y) h = tt
+
+pub kept_as : (P : Type 0) (r : Result Value ThreadStop) (s : Result Step ThreadStop) → s ≡ step_of r → OnOk r P → OnOk s P
+kept_as P (Ok v) s is h = subst (λ z. OnOk z P) (sym is) h
+kept_as P (Err y) s is h = subst (λ z. OnOk z P) (sym is) tt
 
 -- ---- parts that all come first
 

@@ -1,5 +1,5 @@
 use Rattle.std.proofs.Common.{rules, suc, ◌≡◌, ◌+◌, ◌-◌, ◌*◌, ◌<◌, ◌≤◌, true, false, [], ◌∷◌, ◌++◌, length, take, drop, Ok, Err, None, Some, OnOk, MatchResult, is_some, option_copied, Vec, Global, zero-add, sym, ap, ◌∙◌, subst, subst₂, refl, arith}
-use Rattle.std.proofs.lemmas.List.{drop_all, length_push, length-drop}
+use Rattle.std.proofs.lemmas.List.{append-nil, drop_all, length_push, length-drop}
 use Rattle.txs_asks.specs.Ask.{Writes}
 use Rattle.txs_asks.specs.SeenEvent.{home}
 use Rattle.txs_frame.specs.Frame.{phase_work, set_writes}
@@ -9,7 +9,7 @@ use Rattle.txs_value.specs.Limits.{reruns}
 use Rattle.txs_terms.specs.Places.{nth}
 use Rattle.txs_value.specs.declared.value.CellId.{CellId}
 use Rattle.txs_value.specs.declared.value.Value.{Value}
-use Rattle.txs_evaluate.specs.Evaluated.{ReadyIn, Runs, SoundCommutes, body_means, part, is_on, forms_in, calls_in, Yields, GivesAll, Steps, means, all_mean, do_means, let_means, locals_mean, loop_means, turns_mean, form_means, inside_means, outside_means, update_means, swap_means, applied, redone_means, final_means, dosync_means, transacting, at_end, eat_means, ended, end_stop, thread_state}
+use Rattle.txs_evaluate.specs.Evaluated.{ReadyIn, Runs, SoundCommutes, body_means, part, is_on, forms_in, calls_in, Yields, GivesAll, Steps, means, all_mean, do_means, let_means, locals_mean, if_means, strict_means, loop_means, turns_mean, form_means, inside_means, outside_means, update_means, swap_means, applied, redone_means, final_means, dosync_means, transacting, at_end, eat_means, ended, end_stop, thread_state}
 use Rattle.txs_eval_work.specs.Worked.{Stops, Gives, Told, tx_state}
 use Rattle.txs_tree.specs.Meaning.{Completes, result_of}
 use Rattle.txs_evaluate.specs.Setting.{callable, zone_in, zone_on, on_view}
@@ -23,11 +23,11 @@ use Rattle.txs_evaluate.proofs.Acting.{acted_inside, acted_outside, sound_at, re
 use Rattle.txs_evaluate.proofs.Called.{in_room, room, room-deeper, room_on, depth_left, is_function, as_many, called_body, pure_here}
 use Rattle.txs_evaluate.proofs.Counting.{item_smaller, nodes-some, nodes-last}
 use Rattle.txs_evaluate.proofs.Ending.{body_stop, body_done, body_keeps, ended_unrun, ended_closed, ends_viewed, ends_unviewed, end_stops, running, joined, begun}
-use Rattle.txs_evaluate.proofs.Evaluation.{StopsAt, collects-start, rebound, stops_steps, stops_gives, local_done, all_more, all_stop, do_stop, do_done, locals_more, locals_stop, let_stop, let_done, loop_stop, loop_done, turn_value, turn_stop, turn_recur, take_kept, called, if_goes, args_stop, acted, const_done}
+use Rattle.txs_evaluate.proofs.Evaluation.{StopsAt, collects, collects-start, cell_stop, if_stop, strict_stop, strict_done, rebound, stops_steps, stops_gives, local_done, all_more, all_stop, do_stop, do_done, locals_more, locals_stop, let_stop, let_done, loop_stop, loop_done, turn_value, turn_stop, turn_recur, take_kept, called, if_goes, args_stop, acted, const_done}
 use Rattle.txs_evaluate.proofs.Forms.{untaken_inside, untaken_outside, uneaten_outside, gives_at, reset_eaten, send_home, updates_ref, update_takes, update_unbegun, update_stop, update_done, update_inside, called_alone, core_done, vector_done, call_done, print_done, swap_stop, swap_done, put_inside, send_inside, put_outside, update_outside, put_takes, look_inside, look_outside, send_outside}
 use Rattle.txs_evaluate.proofs.Recurs.{recurs_many, never_recurs}
 use Rattle.txs_tree.proofs.Soundness.{SoundAll-from, SoundLet-from, SoundDo-parts, count-from}
-use Rattle.txs_evaluate.proofs.Shaping.{copied, stepped, strict_sound, strict_smaller, strict_finishes, strict_whole, form_sound, form_smaller, form_whole}
+use Rattle.txs_evaluate.proofs.Shaping.{kept_by, kept_as, copied, stepped, strict_sound, strict_smaller, strict_finishes, strict_whole, form_sound, form_smaller, form_whole}
 use Rattle.txs_evaluate.specs.Shapes.{IsShape, form_of_act}
 use Rattle.txs_eval_work.specs.declared.stop.ThreadStop.TheVariants.{Memory}
 use Rattle.txs_evaluate.proofs.evaluate.+evaluate.Goals as goal
@@ -937,3 +937,139 @@ act_outside-returns-in-Send t c =
     (c.send_at.ensures after) in
     λ wanted. subst (λ a. Gives false r after (outside_means x a (mark_of c.args.span wanted) c.args.value.now vs before)) (sym c.in-Send.is)
     (send_outside x (mark_of c.args.span wanted) c.args.value.now before cell r after callee vs told given)
+
+-- ---- what is kept, and what goes on as it is
+
+pub evaluate-returns-in_err-value-clause-value : goal.evaluate-returns-in_err-value-clause-value
+evaluate-returns-in_err-value-clause-value t c =
+    let x = c.args.context.now in
+    let y = c.in_err-value.field-0.0 in
+    let out = c.evaluate_tail.new.state in
+    stops_gives (λ v. v) (is_on x.world) c.from_residual.result y (part x.world out) (means x (tree_of c.args.node.now) c.args.locals.now.items c.args.state.now) (search rules) c.in_err-value.ensures.value
+
+pub evaluate-returns-clause-value : goal.evaluate-returns-clause-value
+evaluate-returns-clause-value t c =
+    let x = c.args.context.now in
+    subst (λ s. Steps x (Ok s) c.evaluate_tail.new.state (means x (tree_of c.args.node.now) c.args.locals.now.items c.args.state.now)) c.in-Value.is c.in_ok-value.ensures.value
+
+pub evaluate-returns-clause-kept : goal.evaluate-returns-clause-kept
+evaluate-returns-clause-kept t c = c.in_ok-value.ensures.kept
+
+pub evaluate_if-returns-in_err-value-clause-value : goal.evaluate_if-returns-in_err-value-clause-value
+evaluate_if-returns-in_err-value-clause-value t c =
+    let x = c.args.context.now in
+    let y = c.in_err-value.field-0.0 in
+    let test = tree_of c.args.test.now in
+    let yes = tree_of c.args.yes.now in
+    let no = tree_of c.args.no.now in
+    let env = c.args.locals.now.items in
+    let out = c.evaluate.new.state in
+    stops_steps (is_on x.world) c.from_residual.result y (part x.world out) (if_means x test yes no env c.args.state.now) (search rules) (if_stop x test yes no env c.args.state.now y out c.in_err-value.ensures.value)
+
+pub evaluate_if-returns-then-other-clause-value : goal.evaluate_if-returns-then-other-clause-value
+evaluate_if-returns-then-other-clause-value t c =
+    let x = c.args.context.now in
+    let other : true ≡ is_false c.in_ok-value.value = search rules in
+    if_goes x (tree_of c.args.test.now) (tree_of c.args.yes.now) (tree_of c.args.no.now) c.args.locals.now.items c.args.state.now c.in_ok-value.value true c.evaluate.new.locals.items c.evaluate.new.state c.evaluate_tail.new.state c.evaluate_tail.result c.in_ok-value.ensures.value other c.in_ok-value.ensures.kept c.evaluate_tail.ensures.value
+
+pub evaluate_if-returns-then-other-clause-kept : goal.evaluate_if-returns-then-other-clause-kept
+evaluate_if-returns-then-other-clause-kept t c =
+    subst (λ l. OnOk c.evaluate_tail.result (c.evaluate_tail.new.locals.items ≡ l)) c.in_ok-value.ensures.kept c.evaluate_tail.ensures.kept
+
+pub evaluate_if-returns-clause-kept : goal.evaluate_if-returns-clause-kept
+evaluate_if-returns-clause-kept t c =
+    subst (λ l. OnOk c.evaluate_tail-2.result (c.evaluate_tail-2.new.locals.items ≡ l)) c.in_ok-value.ensures.kept c.evaluate_tail-2.ensures.kept
+
+pub evaluate_strict-returns-in_err-values-clause-value : goal.evaluate_strict-returns-in_err-values-clause-value
+evaluate_strict-returns-in_err-values-clause-value t c =
+    let x = c.args.context.now in
+    let y = c.in_err-values.field-0.0 in
+    let es = trees_of c.args.args.now in
+    let env = c.args.locals.now.items in
+    let out = c.evaluate_all.new.state in
+    stops_steps (is_on x.world) c.from_residual.result y (part x.world out) (strict_means x c.args.strict c.args.span es env c.args.state.now) (search rules)
+    (strict_stop x c.args.strict c.args.span es env c.args.state.now out (λ (vs : Vec Value Global). vs.items) y c.in_err-values.ensures.value)
+
+pub evaluate_strict-returns-clause-value : goal.evaluate_strict-returns-clause-value
+evaluate_strict-returns-clause-value t c =
+    strict_done c.args.context.now c.args.strict c.args.span (trees_of c.args.args.now) c.args.locals.now.items c.args.state.now c.evaluate_all.new.state c.in_ok-values.values.items c.finish.new.state c.finish.result c.in_ok-values.ensures.value c.finish.ensures
+
+pub evaluate_strict-returns-clause-kept : goal.evaluate_strict-returns-clause-kept
+evaluate_strict-returns-clause-kept t c = kept_by c.finish.result c.in_ok-values.ensures.kept
+
+pub evaluate_form-returns-in_err-cell-clause-value : goal.evaluate_form-returns-in_err-cell-clause-value
+evaluate_form-returns-in_err-cell-clause-value t c =
+    let x = c.args.context.now in
+    let m = mark_of c.args.span c.args.wanted in
+    let cell = tree_of c.args.cell.now in
+    let args = trees_of c.args.args.now in
+    let env = c.args.locals.now.items in
+    let y = c.in_err-cell.field-0.0 in
+    let out = c.evaluate.new.state in
+    stops_steps (is_on x.world) c.from_residual.result y (part x.world out) (form_means x c.args.act m cell args env c.args.state.now) (search rules) (cell_stop x c.args.act m cell args env c.args.state.now y out c.in_err-cell.ensures.value)
+
+pub evaluate_form-returns-in-Some-clause-kept : goal.evaluate_form-returns-in-Some-clause-kept
+evaluate_form-returns-in-Some-clause-kept t c = kept_by c.as_step.result (c.in_ok-args.ensures.kept ∙ c.in_ok-cell.ensures.kept)
+
+pub evaluate_form-returns-clause-kept : goal.evaluate_form-returns-clause-kept
+evaluate_form-returns-clause-kept t c = kept_by c.as_step-in-None.result (c.in_ok-args.ensures.kept ∙ c.in_ok-cell.ensures.kept)
+
+pub evaluate_tail-returns-in-If-clause-kept : goal.evaluate_tail-returns-in-If-clause-kept
+evaluate_tail-returns-in-If-clause-kept t c = c.evaluate_if.ensures.kept
+
+pub evaluate_tail-returns-in-Do-clause-kept : goal.evaluate_tail-returns-in-Do-clause-kept
+evaluate_tail-returns-in-Do-clause-kept t c = c.evaluate_do.ensures.kept
+
+pub evaluate_tail-returns-in-Let-clause-kept : goal.evaluate_tail-returns-in-Let-clause-kept
+evaluate_tail-returns-in-Let-clause-kept t c = c.evaluate_let.ensures.kept
+
+pub evaluate_tail-returns-in-Loop-clause-kept : goal.evaluate_tail-returns-in-Loop-clause-kept
+evaluate_tail-returns-in-Loop-clause-kept t c = c.evaluate_loop.ensures.kept
+
+pub evaluate_tail-returns-in-Strict-clause-kept : goal.evaluate_tail-returns-in-Strict-clause-kept
+evaluate_tail-returns-in-Strict-clause-kept t c = c.evaluate_strict.ensures.kept
+
+pub evaluate_tail-returns-in-Dosync-clause-kept : goal.evaluate_tail-returns-in-Dosync-clause-kept
+evaluate_tail-returns-in-Dosync-clause-kept t c = c.evaluate_dosync.ensures.kept
+
+pub evaluate_tail-returns-in-Form-clause-kept : goal.evaluate_tail-returns-in-Form-clause-kept
+evaluate_tail-returns-in-Form-clause-kept t c = c.evaluate_form.ensures.kept
+
+pub evaluate_dosync-returns-then-is_some-clause-kept : goal.evaluate_dosync-returns-then-is_some-clause-kept
+evaluate_dosync-returns-then-is_some-clause-kept t c = kept_as (c.evaluate.new.locals.items ≡ c.args.locals.now.items) c.evaluate.result c.as_step.result c.as_step.ensures c.evaluate.ensures.kept
+
+pub evaluate_dosync-returns-clause-kept : goal.evaluate_dosync-returns-clause-kept
+evaluate_dosync-returns-clause-kept t c = kept_as (c.eat_dosync.new.locals.items ≡ c.args.locals.now.items) c.eat_dosync.result c.as_step-2.result c.as_step-2.ensures c.eat_dosync.ensures.kept
+
+pub eat_dosync-returns-clause-kept : goal.eat_dosync-returns-clause-kept
+eat_dosync-returns-clause-kept t c = kept_by c.close.result c.in-Ok.ensures.kept
+
+pub evaluate_all-returns-clause-kept : goal.evaluate_all-returns-clause-kept
+evaluate_all-returns-clause-kept t c = c.loop-node.invariant.0
+
+pub evaluate_all-returns-clause-value : goal.evaluate_all-returns-clause-value
+evaluate_all-returns-clause-value t c =
+    let n = c.args.context.now in
+    let vs = c.loop-node.values.items in
+    let now = part n.world c.loop-node.state in
+    let end = drop_all c.loop-node.node-index c.args.nodes.now c.loop-node-test.false in
+    c.loop-node.invariant.3 ∙ ap (λ ns. collects (forms_in n) (calls_in n) n.turns (is_on n.world) vs (trees_of ns) c.args.locals.now.items now) end ∙ ap (λ ws. Completes ws now) (append-nil vs)
+
+pub bind_locals-returns-clause-kept : goal.bind_locals-returns-clause-kept
+bind_locals-returns-clause-kept t c = c.loop-node.invariant.0
+
+pub bind_locals-returns-clause-count : goal.bind_locals-returns-clause-count
+bind_locals-returns-clause-count t c =
+    let end = ap (λ ns. count (trees_of ns)) (drop_all c.loop-node.node-index c.args.nodes.now c.loop-node-test.false) in
+    omega (arith, end, c.loop-node.invariant.1)
+
+pub bind_locals-returns-clause-value : goal.bind_locals-returns-clause-value
+bind_locals-returns-clause-value t c =
+    let n = c.args.context.now in
+    let vs = c.loop-node.locals.items in
+    let end = drop_all c.loop-node.node-index c.args.nodes.now c.loop-node-test.false in
+    c.loop-node.invariant.3 ∙ ap (λ ns. locals_mean n (trees_of ns) vs c.loop-node.state) end ∙ ap (λ ws. Completes ws (part n.world c.loop-node.state)) (append-nil vs)
+
+pub apply_on-returns : goal.apply_on-returns
+apply_on-returns t c =
+    subst (λ vs. Told c.apply_callee.result (applied c.args.context.now c.args.callee vs c.args.span)) c.in_ok-values.ensures c.apply_callee.ensures
