@@ -1,18 +1,22 @@
--- A form that is no list, as a definition's form and at the top level, and a list by the form at its head.
-use Rattle.std.proofs.Common.{◌≡◌, ◌∷◌, ℕ, ℤ, Bool, List, Option, None, Err, refl, sym, ap, ◌∙◌, subst}
+-- A form that is no list, as a definition's form and at the top level, a list by the form at its head, and a script by its steps.
+use Rattle.std.proofs.Common.{◌≡◌, ◌∷◌, ℕ, ℤ, Bool, List, Option, None, Ok, Err, refl, sym, ap, ◌∙◌, subst}
 use Rattle.txs_terms.specs.declared.fault.Span.{Span}
 use Rattle.txs_names.specs.declared.names.FormName.{FormName}
 use Rattle.txs_reader.specs.declared.form.Bracket.TheVariants.{Round}
 use Rattle.txs_reader.specs.declared.form.Form.{Form, Nil, Truth, Number, Text, Keyword, Symbol}
-use Rattle.txs_reader.specs.Tree.{Leaf, nil, truth, number, text, keyword, symbol, leaf, group, tree}
+use Rattle.txs_reader.specs.Tree.{Tree, Leaf, nil, truth, number, text, keyword, symbol, leaf, group, tree}
 use Rattle.txs_reader.proofs.Trees.{tree-Nil, tree-Truth, tree-Number, tree-Text, tree-Keyword, tree-Symbol}
 use Rattle.txs_expand.specs.declared.error.ResolveErrorKind.TheVariants.{BadForm}
+use Rattle.txs_expand.specs.declared.error.ResolveError.{ResolveError}
 use Rattle.txs_expand.specs.Expansions.{form_at}
+use Rattle.txs_expand.specs.Expressions.{Answer}
+use Rattle.txs_expand.specs.Answers.{◌>>=◌}
+use Rattle.txs_expand.specs.Namespace.{behind_namespace}
 use Rattle.txs_expand.specs.Parts.{plain}
 use Rattle.txs_expression.specs.declared.stop.Stop.{Stop}
 use Rattle.txs_expression.specs.declared.stop.Stop.TheVariants.{Refused}
-use Rattle.txs_resolve.specs.Given.{Leaves}
-use Rattle.txs_resolve.specs.Names.{State, defining_of, only_literal, step, top_level}
+use Rattle.txs_resolve.specs.Given.{Ends, Leaves}
+use Rattle.txs_resolve.specs.Names.{State, defining_of, named_script, nothing, only_literal, program, step, steps, top_level}
 
 -- ---- forms without parts
 
@@ -45,3 +49,13 @@ leaf_step s now f x at r e is = subst (λ (y : Stop). Leaves (Err y) now (step s
 -- what a list at the top level is, by the form at its head
 pub listed : (s : State) (span : Span) (forms : List Form) (head : Form) (parts : List Form) (o : Option FormName) → forms ≡ head ∷ parts → o ≡ form_at (tree head) → top_level o s span (plain parts) ≡ step s (group Round (plain forms) span)
 listed s span forms head parts o e f = ap (λ x. top_level x s span (plain parts)) f ∙ sym (ap (λ l. step s (group Round (plain l) span)) e)
+
+-- ---- a script
+
+module _ (forms : List Tree) (start : State) (rest : List Tree) (begun : start ≡ nothing) (behind : rest ≡ behind_namespace forms) where
+  pub script_as : (a : Answer State) → steps start rest ≡ a → named_script forms ≡ (a >>= λ s. Ok (program s))
+  script_as a e =
+      ap (λ (x : Answer State). x >>= λ s. Ok (program s)) (ap (λ (s : State). steps s (behind_namespace forms)) (sym begun) ∙ ap (steps start) (sym behind) ∙ e)
+
+  pub script_refused : (stop : Stop) (now : State) (e : ResolveError) → Ends {A = State} (Err stop) now (steps start rest) → stop ≡ Refused e → named_script forms ≡ Err e
+  script_refused stop now e h is = script_as (Err e) (subst (λ (x : Stop). Ends {A = State} (Err x) now (steps start rest)) is h)
