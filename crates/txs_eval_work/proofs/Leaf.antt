@@ -1,7 +1,7 @@
 -- Lists by ascending number, and lists that are the same, item by item.
 use Rattle.std.proofs.Common.{◌≡◌, ℕ, zero, suc, ◌+◌, ◌<◌, ◌≤◌, ◌==◌, nat_lt, Bool, true, false, ◌&&◌, if◌then◌else◌, List, [], ◌∷◌, length, get_or, drop, set, Ok, Err, refl, sym, ap, ◌∙◌, subst, arith}
 use Rattle.std.specs.List.{insert}
-use Rattle.std.proofs.lemmas.List.{drop_more}
+use Rattle.std.proofs.lemmas.List.{drop_all, drop_more, get_or_default}
 use Rattle.std.proofs.Math.Bool.{and-false}
 use Rattle.std.proofs.lemmas.Bool.{eq-eqb, ne_eqb, le-ltb, lt-ltb, false≢true}
 use Rattle.txs_asks.specs.Ask.{Writes, with_write, same_cell, same_value, same_values, same_action, same_actions, same_writes}
@@ -110,3 +110,24 @@ other_writes (v ∷ vs) (w ∷ ws) h =
 
 pub merged_next : (now others : Writes) (i : ℕ) (x : CellId × Value) → i < length others → x ≡ get_or others i x → merged now (drop i others) ≡ merged (with_write now x.0 x.1) (drop (i + 1) others)
 merged_next now others i x lt is = ap (λ l. merged now l) (drop_more others i x lt ∙ ap (λ y. y ∷ drop (i + 1) others) (sym is))
+
+-- ---- two lists of one length, item by item
+
+-- an item that is read once more
+pub read_again : {X : Type 0} (xs : List X) (i : ℕ) (x z : X) → i < length xs → z ≡ get_or xs i z → z ≡ get_or xs i x
+read_again xs i x z lt is = is ∙ get_or_default xs i z x lt
+
+-- a test of two items, told of what they are
+pub test_of : {X : Type 0} (f : X → X → Bool) (b : Bool) (v x w y : X) → v ≡ x → w ≡ y → b ≡ f x y → b ≡ f v w
+test_of f b v x w y e g h = h ∙ ap (λ z. f z y) (sym e) ∙ ap (λ z. f v z) (sym g)
+
+module _ {X : Type 0} (each : X → X → Bool → Bool) (all : List X → List X → Bool) (xs ys : List X) (long : length xs ≡ length ys) (i : ℕ) where
+  pub same_next : ((v w : X) (vs ws : List X) → all (v ∷ vs) (w ∷ ws) ≡ each v w (all vs ws)) → (x y : X) → i < length xs → x ≡ get_or xs i x → y ≡ get_or ys i y
+      → all (drop i xs) (drop i ys) ≡ each x y (all (drop (i + 1) xs) (drop (i + 1) ys))
+  same_next more x y lt ex ey =
+      ap (λ l. all l (drop i ys)) (drop_more xs i x lt ∙ ap (λ z. z ∷ drop (i + 1) xs) (sym ex))
+      ∙ ap (λ l. all (x ∷ drop (i + 1) xs) l) (drop_more ys i y (subst (λ n. i < n) long lt) ∙ ap (λ z. z ∷ drop (i + 1) ys) (sym ey))
+      ∙ more x y (drop (i + 1) xs) (drop (i + 1) ys)
+
+  pub same_end : length xs ≤ i → all (drop i xs) (drop i ys) ≡ all [] []
+  same_end le = ap (λ l. all l (drop i ys)) (drop_all i xs le) ∙ ap (λ l. all [] l) (drop_all i ys (subst (λ n. n ≤ i) long le))
