@@ -9,11 +9,11 @@ use Rattle.txs_value.specs.Limits.{reruns}
 use Rattle.txs_terms.specs.Places.{nth}
 use Rattle.txs_value.specs.declared.value.CellId.{CellId}
 use Rattle.txs_value.specs.declared.value.Value.{Value}
-use Rattle.txs_evaluate.specs.Evaluated.{ReadyIn, Runs, SoundCommutes, body_means, part, is_on, forms_in, calls_in, Yields, GivesAll, Steps, means, all_mean, do_means, let_means, locals_mean, if_means, strict_means, loop_means, turns_mean, form_means, inside_means, outside_means, update_means, swap_means, applied, redone_means, final_means, dosync_means, transacting, at_end, eat_means, ended, end_stop, thread_state}
+use Rattle.txs_evaluate.specs.Evaluated.{Finishes, ReadyIn, Runs, SoundCommutes, body_means, part, is_on, forms_in, calls_in, Yields, GivesAll, Steps, means, all_mean, do_means, let_means, locals_mean, if_means, strict_means, loop_means, turns_mean, form_means, inside_means, outside_means, update_means, swap_means, applied, redone_means, final_means, dosync_means, transacting, at_end, eat_means, ended, end_stop, thread_state}
 use Rattle.txs_eval_work.specs.Worked.{Stops, Gives, Told, tx_state}
 use Rattle.txs_tree.specs.Meaning.{Completes, result_of}
 use Rattle.txs_evaluate.specs.Setting.{callable, zone_in, zone_on, on_view}
-use Rattle.txs_tree.specs.Sound.{SoundCall, SoundCallee, SoundTree, SoundDo, SoundLet, nodes, nodes_in, in_thread, in_dosync}
+use Rattle.txs_tree.specs.Sound.{SoundCall, SoundCallee, SoundTree, SoundAll, SoundDo, SoundLet, nodes, nodes_in, in_thread, in_dosync}
 use Rattle.txs_tree.specs.Thread.{reads, sends}
 use Rattle.txs_tree.specs.Transaction.{merged}
 use Rattle.txs_tree.specs.Tree.{count}
@@ -1073,3 +1073,94 @@ bind_locals-returns-clause-value t c =
 pub apply_on-returns : goal.apply_on-returns
 apply_on-returns t c =
     subst (λ vs. Told c.apply_callee.result (applied c.args.context.now c.args.callee vs c.args.span)) c.in_ok-values.ensures c.apply_callee.ensures
+
+-- ---- what the calls need, and that they come to an end
+
+pub evaluate-evaluate_tail-requires : goal.evaluate-evaluate_tail-requires
+evaluate-evaluate_tail-requires t c =
+    let smaller : 16 * nodes (tree_of c.args.node.now) < 16 * nodes (tree_of c.args.node.now) + 1 = omega arith in
+    (search (rules, in_room c.args.context.now _ _ smaller), record { tail = None; sound = c.requires })
+
+pub evaluate_if-evaluate-requires : goal.evaluate_if-evaluate-requires
+evaluate_if-evaluate-requires t c =
+    let a = nodes (tree_of c.args.test.now) in
+    let b = nodes (tree_of c.args.yes.now) in
+    let d = nodes (tree_of c.args.no.now) in
+    let smaller : 16 * a + 1 < 16 * (a + (b + d)) + 2 = omega arith in
+    (search (rules, in_room c.args.context.now _ _ smaller), c.requires.test)
+
+pub evaluate_if-evaluate_tail-requires : goal.evaluate_if-evaluate_tail-requires
+evaluate_if-evaluate_tail-requires t c =
+    let a = nodes (tree_of c.args.test.now) in
+    let b = nodes (tree_of c.args.yes.now) in
+    let d = nodes (tree_of c.args.no.now) in
+    let smaller : 16 * nodes (tree_of c.args.no.now) < 16 * (a + (b + d)) + 2 = omega arith in
+    (search (rules, in_room c.args.context.now _ _ smaller), record { tail = c.requires.branches.tail; sound = subst (λ l. SoundTree (callable c.args.context.now) (zone_in c.args.context.now) (length l) c.requires.branches.tail (tree_of c.args.no.now)) (sym c.in_ok-value.ensures.kept) c.requires.branches.sound.1 })
+
+pub evaluate_if-evaluate_tail-requires-2 : goal.evaluate_if-evaluate_tail-requires-2
+evaluate_if-evaluate_tail-requires-2 t c =
+    let a = nodes (tree_of c.args.test.now) in
+    let b = nodes (tree_of c.args.yes.now) in
+    let d = nodes (tree_of c.args.no.now) in
+    let smaller : 16 * nodes (tree_of c.args.yes.now) < 16 * (a + (b + d)) + 2 = omega arith in
+    (search (rules, in_room c.args.context.now _ _ smaller), record { tail = c.requires.branches.tail; sound = subst (λ l. SoundTree (callable c.args.context.now) (zone_in c.args.context.now) (length l) c.requires.branches.tail (tree_of c.args.yes.now)) (sym c.in_ok-value.ensures.kept) c.requires.branches.sound.0 })
+
+pub evaluate_strict-evaluate_all-requires : goal.evaluate_strict-evaluate_all-requires
+evaluate_strict-evaluate_all-requires t c =
+    let smaller : 16 * nodes_in (trees_of c.args.args.now) + 2 < 16 * nodes_in (trees_of c.args.args.now) + 4 = omega arith in
+    (search (rules, in_room c.args.context.now _ _ smaller), c.requires.args)
+
+pub evaluate_strict-finish-requires : goal.evaluate_strict-finish-requires
+evaluate_strict-finish-requires t c =
+    let x = c.args.context.now in
+    let smaller : room x + 3 < room x + (16 * nodes_in (trees_of c.args.args.now) + 4) = omega arith in
+    (search (rules, smaller), subst (λ k. Finishes x c.args.strict k) (sym c.in_ok-values.ensures.count) c.requires.finishes)
+
+pub evaluate_form-evaluate-requires : goal.evaluate_form-evaluate-requires
+evaluate_form-evaluate-requires t c =
+    let a = nodes (tree_of c.args.cell.now) in
+    let b = nodes_in (trees_of c.args.args.now) in
+    let smaller : 16 * a + 1 < 16 * (a + b) + 10 = omega arith in
+    (search (rules, in_room c.args.context.now _ _ smaller), c.requires.cell)
+
+pub evaluate_form-evaluate_all-requires : goal.evaluate_form-evaluate_all-requires
+evaluate_form-evaluate_all-requires t c =
+    let a = nodes (tree_of c.args.cell.now) in
+    let b = nodes_in (trees_of c.args.args.now) in
+    let smaller : 16 * b + 2 < 16 * (a + b) + 10 = omega arith in
+    (search (rules, in_room c.args.context.now _ _ smaller), subst (λ l. SoundAll (callable c.args.context.now) (zone_in c.args.context.now) (length l) (trees_of c.args.args.now)) (sym c.in_ok-cell.ensures.kept) c.requires.args)
+
+pub evaluate_tail-evaluate_if-requires : goal.evaluate_tail-evaluate_if-requires
+evaluate_tail-evaluate_if-requires t c =
+    let n = c.args.node.now in
+    let is = subst (λ s. IsShape s (mark_of n.span n.wanted) (tree_of n)) c.in-If.is c.shape_of.ensures in
+    let sound = subst (λ e. SoundTree (callable c.args.context.now) (zone_in c.args.context.now) (length c.args.locals.now.items) c.requires.tail e) is c.requires.sound in
+    let smaller : 16 * (nodes (tree_of c.in-If.test.now) + (nodes (tree_of c.in-If.yes.now) + nodes (tree_of c.in-If.no.now))) + 2 < 16 * nodes (tree_of n) = omega (arith, ap nodes is) in
+    (search (rules, in_room c.args.context.now _ _ smaller), (sound.0, record { tail = c.requires.tail; sound = (sound.1, sound.2) }))
+
+pub eat_dosync-run_body-requires : goal.eat_dosync-run_body-requires
+eat_dosync-run_body-requires t c =
+    let smaller : 16 * nodes (tree_of c.args.dosync.body.now) + 2 < 16 * nodes (tree_of c.args.dosync.body.now) + 9 = omega arith in
+    (search (rules, in_room c.args.context.now _ _ smaller), c.requires)
+
+pub evaluate_dosync-eat_dosync-requires : goal.evaluate_dosync-eat_dosync-requires
+evaluate_dosync-eat_dosync-requires t c =
+    let smaller : 16 * nodes (tree_of c.args.dosync.body.now) + 9 < 16 * nodes (tree_of c.args.dosync.body.now) + 10 = omega arith in
+    (search (rules, in_room c.args.context.now _ _ smaller), c.requires)
+
+pub update_inside-apply_on-requires : goal.update_inside-apply_on-requires
+update_inside-apply_on-requires t c =
+    let x = c.args.context.now in
+    let smaller : room x + 2 < room x + 3 = omega arith in
+    (search (rules, smaller), subst (λ l. SoundCallee (callable x) c.args.callee (suc (length l))) (sym c.as_slice.ensures.value) c.requires.callee)
+
+pub swap-apply_on-requires : goal.swap-apply_on-requires
+swap-apply_on-requires t c =
+    let smaller : room c.args.context.now + 2 < room c.args.context.now + 4 = omega arith in
+    (search (rules, smaller), c.requires)
+
+pub apply_on-apply_callee-requires : goal.apply_on-apply_callee-requires
+apply_on-apply_callee-requires t c =
+    let x = c.args.context.now in
+    let smaller : room x + 1 < room x + 2 = omega arith in
+    (search (rules, smaller), subst (λ vs. SoundCallee (callable x) c.args.callee (length vs)) (sym c.in_ok-values.ensures) c.requires)
