@@ -758,3 +758,121 @@ emit_bound-returns t c =
     ∙ ap (λ x. emits b (around (at.depth + count ts) at.height at.base at.start) x) c.in_ok-depth.ensures.code
     ∙ bound_made ts b c.args.span at (emission c.args.to.now))
     c.emit.ensures
+
+pub emit-constant-requires : goal.emit-constant-requires
+emit-constant-requires t c = omega (arith, nodes_positive (tree_of c.args.node.now), c.requires.few_constants)
+
+pub emit-overflow_add-at : goal.emit-overflow_add-at
+emit-overflow_add-at t c = omega (arith, c.requires.low)
+
+pub emit-overflow_add-at-in-Local : goal.emit-overflow_add-at-in-Local
+emit-overflow_add-at-in-Local t c = omega (arith, c.requires.low)
+
+pub emit-overflow_add-at-in-Call : goal.emit-overflow_add-at-in-Call
+emit-overflow_add-at-in-Call t c = omega (arith, c.requires.low)
+
+pub emit-overflow_add-at-in-Vector : goal.emit-overflow_add-at-in-Vector
+emit-overflow_add-at-in-Vector t c = omega (arith, c.requires.low)
+
+pub emit-overflow_add-at-in-Println : goal.emit-overflow_add-at-in-Println
+emit-overflow_add-at-in-Println t c = omega (arith, c.requires.low)
+
+pub emit_all-loop-arg-init : goal.emit_all-loop-arg-init
+emit_all-loop-arg-init t c = record {
+  made = refl;
+  part = c.requires.part;
+  few_constants = c.requires.few_constants;
+  few_instrs = c.requires.few_instrs;
+  low = c.requires.low;
+}
+
+pub emit_all-overflow_add-height : goal.emit_all-overflow_add-height
+emit_all-overflow_add-height t c = omega (arith, c.loop-arg.invariant.low)
+
+pub emit_applied-emit_all-requires : goal.emit_applied-emit_all-requires
+emit_applied-emit_all-requires t c = (omega arith, (c.requires.part, (c.requires.few_constants, (c.requires.few_instrs, c.requires.low))))
+
+pub emit_applied-returns : goal.emit_applied-returns
+emit_applied-returns t c =
+    subst (λ l. OnOk c.put.result (emission c.put.new.self ≡ l))
+    (ap (λ f. with_instr c.args.instr c.args.span f) (c.rise.ensures ∙ ap (λ f. with_room c.args.room f) c.in_ok-emit_all.ensures))
+    c.put.ensures
+
+pub emit_bound-emit_let-requires : goal.emit_bound-emit_let-requires
+emit_bound-emit_let-requires t c = (omega arith, (c.requires.part, (omega (arith, c.requires.few_constants), (omega (arith, c.requires.few_instrs), omega (arith, c.requires.low)))))
+
+pub emit_do-overflow_sub-left : goal.emit_do-overflow_sub-left
+emit_do-overflow_sub-left t c = omega (arith, c.loop-item.invariant.left, c.loop-item-test.true)
+
+pub emit_dosync-emit_then-requires : goal.emit_dosync-emit_then-requires
+emit_dosync-emit_then-requires t c =
+    let l = ap (λ (x : Emission). length x.instrs) c.in_ok-put.ensures in
+    let k = ap (λ (x : Emission). length x.constants) c.in_ok-put.ensures in
+    let o = put_instrs instr.TxBegin c.args.span (emission c.args.to.now) in
+    (omega arith, (c.requires.part, (omega (arith, k, c.requires.few_constants), (omega (arith, l, o, c.requires.few_instrs), omega (arith, c.requires.low)))))
+
+pub emit_if-emit-requires : goal.emit_if-emit-requires
+emit_if-emit-requires t c = (omega arith, (c.requires.test, (omega (arith, c.requires.few_constants), (omega (arith, c.requires.few_instrs), omega (arith, c.requires.low)))))
+
+pub emit_let-loop-value-init : goal.emit_let-loop-value-init
+emit_let-loop-value-init t c = record {
+  made = refl;
+  part = c.requires.part;
+  few_constants = c.requires.few_constants;
+  few_instrs = c.requires.few_instrs;
+  low = c.requires.low;
+  locals = refl;
+}
+
+pub emit_let-returns-clause-locals : goal.emit_let-returns-clause-locals
+emit_let-returns-clause-locals t c =
+    let e = ap count (nothing_left c.args.values.now c.loop-value.value-index c.loop-value-test.false) in
+    omega (arith, e, c.loop-value.invariant.locals)
+
+pub emit_loop-emit_let-requires : goal.emit_loop-emit_let-requires
+emit_loop-emit_let-requires t c = (omega arith, (c.requires.part, (omega (arith, c.requires.few_constants), (omega (arith, c.requires.few_instrs), omega (arith, c.requires.low)))))
+
+pub emit_put-emit-requires : goal.emit_put-emit-requires
+emit_put-emit-requires t c = (omega arith, (c.requires.cell, (omega (arith, c.requires.few_constants), (omega (arith, c.requires.few_instrs), omega (arith, c.requires.low)))))
+
+pub emit_put-overflow_add-height : goal.emit_put-overflow_add-height
+emit_put-overflow_add-height t c = omega (arith, c.requires.low)
+
+pub emit_put-returns : goal.emit_put-returns
+emit_put-returns t c =
+    subst (λ l. OnOk c.emit_then.result (emission c.emit_then.new.to ≡ l))
+    (ap (λ f. with_instr c.args.instr c.args.span (emits (tree_of c.args.value.now) (above c.args.at) f)) c.in_ok-emit.ensures)
+    c.emit_then.ensures
+
+pub emit_recur-emit_all-requires : goal.emit_recur-emit_all-requires
+emit_recur-emit_all-requires t c = (omega arith, (c.requires.part, (omega (arith, c.requires.few_constants), (omega (arith, c.requires.few_instrs), omega (arith, c.requires.low)))))
+
+pub emit_recur-overflow_add-at : goal.emit_recur-overflow_add-at
+emit_recur-overflow_add-at t c = omega (arith, c.requires.low)
+
+pub emit_send-emit-requires : goal.emit_send-emit-requires
+emit_send-emit-requires t c = (omega arith, (c.requires.cell, (omega (arith, c.requires.few_constants), (omega (arith, c.requires.few_instrs), omega (arith, c.requires.low)))))
+
+pub emit_send-overflow_add-height : goal.emit_send-overflow_add-height
+emit_send-overflow_add-height t c = omega (arith, c.requires.low)
+
+pub emit_send-returns : goal.emit_send-returns
+emit_send-returns t c =
+    subst (λ l. OnOk c.emit_applied.result (emission c.emit_applied.new.to ≡ l))
+    (ap (λ f. with_instr c.args.instr c.args.span (with_room 0 (emits_all (trees_of c.args.args.now) (above c.args.at) f))) c.in_ok-emit.ensures)
+    c.emit_applied.ensures
+
+pub emit_then-emit-requires : goal.emit_then-emit-requires
+emit_then-emit-requires t c = (omega arith, (c.requires.part, (c.requires.few_constants, (c.requires.few_instrs, c.requires.low))))
+
+pub emit_then-returns : goal.emit_then-returns
+emit_then-returns t c =
+    subst (λ l. OnOk c.put.result (emission c.put.new.self ≡ l))
+    (ap (λ f. with_instr c.args.instr c.args.span f) c.in_ok-emit.ensures)
+    c.put.ensures
+
+pub emit_update-emit-requires : goal.emit_update-emit-requires
+emit_update-emit-requires t c = (omega arith, (c.requires.cell, (omega (arith, c.requires.few_constants), (omega (arith, c.requires.few_instrs), omega (arith, c.requires.low)))))
+
+pub emit_update-overflow_add-height : goal.emit_update-overflow_add-height
+emit_update-overflow_add-height t c = omega (arith, c.requires.low)
