@@ -1,4 +1,4 @@
-use Rattle.std.proofs.Common.{◌≡◌, ◌∙◌, ℕ, Result, Ok, Err, None, ap, sym, subst}
+use Rattle.std.proofs.Common.{◌≡◌, ◌∙◌, ℕ, Result, Ok, Err, None, Some, ◌⊎◌, inl, inr, ap, sym, subst}
 use Rattle.std.specs.Prelude.{IfErr, IfOk}
 use Rattle.txs_asks.specs.declared.ask.Ask.{Ask}
 use Rattle.txs_asks.specs.declared.ask.Ask.TheVariants as ask
@@ -59,3 +59,24 @@ returns-in-Take-clause-ask c = ap (asked c.args.tx.now c.args.at c.args.view c.a
 pub returns-in_ok-copy_value-in-Reset-clause-ask : goal.returns-in_ok-copy_value-in-Reset-clause-ask
 returns-in_ok-copy_value-in-Reset-clause-ask c =
     ap (ask.CloseAt c.in-Reset.cell None) c.in_ok-copy_value-in-Reset.ensures ∙ ap (asked c.args.tx.now c.args.at c.args.view c.args.frame.now) (sym c.in-Reset.is)
+
+pub returns-in_err-copy_value-in-Reset-clause-memory : goal.returns-in_err-copy_value-in-Reset-clause-memory
+returns-in_err-copy_value-in-Reset-clause-memory c =
+    of_error c.from_residual-in_err-copy_value-in-Reset.result (subst AskWantsMemory (sym c.in-Reset.is) tt)
+
+pub returns-in_ok-copy_value-in-Close-clause-ask : goal.returns-in_ok-copy_value-in-Close-clause-ask
+returns-in_ok-copy_value-in-Close-clause-ask c =
+    ap (ask.CloseAt c.in-Close.cell (Some c.in-Close.at)) c.in_ok-copy_value-in-Close.ensures ∙ ap (asked c.args.tx.now c.args.at c.args.view c.args.frame.now) (sym c.in-Close.is)
+
+pub returns-in_err-copy_value-in-Close-clause-memory : goal.returns-in_err-copy_value-in-Close-clause-memory
+returns-in_err-copy_value-in-Close-clause-memory c =
+    of_error c.from_residual-in_err-copy_value-in-Close.result (subst AskWantsMemory (sym c.in-Close.is) tt)
+
+-- from either of two
+either : {A B C : Type 0} → (A → C) → (B → C) → A ⊎ B → C
+either f g (inl a) = f a
+either f g (inr b) = g b
+
+pub returns-in-Ensure-clause-ask : goal.returns-in-Ensure-clause-ask
+returns-in-Ensure-clause-ask c =
+    either (λ h. ap (asked c.args.tx.now c.args.at c.args.view c.args.frame.now) (sym h.1)) (λ h. ap (asked c.args.tx.now c.args.at c.args.view c.args.frame.now) (sym h.2)) c.in-Ensure.is
