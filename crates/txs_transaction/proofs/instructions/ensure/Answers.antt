@@ -1,4 +1,4 @@
-use Rattle.std.proofs.Common.{◌≡◌, ◌∙◌, ◌∷◌, ◌++◌, [], Option, None, Some, Ok, sym, ap, true}
+use Rattle.std.proofs.Common.{◌≡◌, ◌∙◌, ◌∷◌, ◌++◌, [], None, Some, Ok, sym, ap, true}
 use Rattle.txs_asks.specs.Ask.{buffered}
 use Rattle.txs_body.specs.Values.{but_last, last_of}
 use Rattle.txs_cells.specs.Forms.{rule, cell_of}

@@ -1,4 +1,4 @@
-use Rattle.std.proofs.Common.{◌≡◌, ◌∙◌, ◌∷◌, ◌++◌, [], List, Option, None, Some, Ok, refl, sym, ap, true}
+use Rattle.std.proofs.Common.{◌≡◌, ◌∙◌, ◌∷◌, ◌++◌, [], List, Option, None, Ok, refl, sym, ap, true}
 use Rattle.txs_body.specs.Values.{below, last_of, under}
 use Rattle.txs_cells.specs.Forms.{rule, cell_of}
 use Rattle.txs_cells.specs.declared.form.CellForm.TheVariants as form
