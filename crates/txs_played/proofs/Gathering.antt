@@ -35,10 +35,12 @@ use Rattle.txs_shared.specs.SharedState.{PlainShared, shared_of}
 use Rattle.txs_replay.specs.Goes.{GoesTo}
 use Rattle.txs_replay.specs.Laws.{entries_of, IsRunTo, ReplayRuns}
 use Rattle.txs_replay.specs.Replay.{entry_of, Replays, AreReplayed}
+use Rattle.txs_replay.specs.declared.kept.Kept.{Kept}
 use Rattle.txs_machine.specs.Agents.{agents_of, AgentHasDone, NeverEnds, ExplainsAgent, AreExplainedBy}
 use Rattle.txs_machine.specs.RunOver.{RunOver, IsLimited, AskedOn, AtFullBook, books_of, places_of}
 use Rattle.txs_machine.specs.Schedule.{HasDone, ExplainsSo, HasPrintedLeast, ExplainsThread, IsExplainedBy}
 use Rattle.txs_machine.specs.declared.player.Place.{Place}
+use Rattle.txs_machine.specs.declared.run_error.RunError.TheVariants as run_error
 use Rattle.txs_machine.specs.declared.schedule.ThreadReport.{ThreadReport}
 use Rattle.txs_machine.proofs.Explaining.{Known, part_explained, part_printed, code_at, length_map, books_stand}
 use Rattle.txs_machine.proofs.Together.{agent_at, agent_acts}
@@ -394,6 +396,14 @@ as_many_agents code s ps rs made rep = as_many s (drop s.threads ps) rs rep ∙ 
 pub other_limit : (code : PlainCode) (limit : ℕ) (s : PlainShared) (k : ℕ) (p : PlainPlayed) → (p.actor.limit ≡ limit → ⊥) → IsPlayer code limit s k p → ⊥
 other_limit code limit s k p n h = n h.limited
 
+-- want of memory is no mismatch
+pub other_error : run_error.Memory ≡ run_error.JournalMismatch → ⊥
+other_error e = cc
+
+-- they aren't the players where one isn't
+pub not_players : (code : PlainCode) (limit : ℕ) (s : PlainShared) (ps : List PlainPlayed) (n : ℕ) (p : PlainPlayed) → n < length ps → p ≡ get_or ps n p → (IsPlayer code limit s n p → ⊥) → (ArePlayers code limit s 0 ps → ArePlayers code limit s n (drop n ps)) → ArePlayers code limit s 0 ps → ⊥
+not_players code limit s ps n p within read isnt to h = isnt (subst (ArePlayers code limit s n) (drop_read ps n p within read) (to h)).0
+
 -- one player more
 pub players_next : (code : PlainCode) (limit : ℕ) (s : PlainShared) (ps : List PlainPlayed) (n : ℕ) (p : PlainPlayed) → n < length ps → p ≡ get_or ps n p → IsPlayer code limit s n p → AreWhole (drop n ps) → (ArePlayers code limit s 0 ps → ArePlayers code limit s n (drop n ps)) → (ArePlayers code limit s n (drop n ps) → ArePlayers code limit s 0 ps)
     → AreWhole (drop (n + 1) ps) × (ArePlayers code limit s 0 ps → ArePlayers code limit s (n + 1) (drop (n + 1) ps)) × (ArePlayers code limit s (n + 1) (drop (n + 1) ps) → ArePlayers code limit s 0 ps)
@@ -420,3 +430,7 @@ reports_more s [] [] p r h e = (e, tt)
 reports_more s [] (y ∷ rs) p r h e = absurd h
 reports_more s (x ∷ ps) [] p r h e = absurd h
 reports_more s (x ∷ ps) (y ∷ rs) p r h e = (h.0, reports_more s ps rs p r h.1 e)
+
+-- as many as there were actors
+pub kept_few : (ks : List (List Kept)) (ps : List PlainPlayed) → ks ≡ kept_by ps → length ps ≤ 65536 → length ks ≤ 65536
+kept_few ks ps e h = omega (arith, ap length e, length_map (λ (p : PlainPlayed). p.kept) ps, h)

@@ -1,5 +1,6 @@
 -- A function that a send names, where the code comes to it, is pure; and just these functions are marked.
-use Rattle.std.proofs.Common.{◌≡◌, ◌<◌, ◌+◌, ◌⊎◌, ◌↔◌, inl, inr, ℕ, zero, suc, Bool, true, false, nat_eq, nat_lt, List, [], ◌∷◌, length, get_or, set, replicate, Option, Some, None, refl, sym, ap, subst, ◌∙◌, arith}
+use Rattle.std.proofs.Common.{◌≡◌, ◌<◌, ◌+◌, ◌⊎◌, ◌↔◌, inl, inr, ℕ, zero, suc, Bool, true, false, nat_eq, nat_lt, List, [], ◌∷◌, length, get_or, replicate, Option, Some, None, refl, sym, ap, subst, ◌∙◌, arith}
+use Rattle.std.proofs.lemmas.Bool.{false≢true}
 use Rattle.std.proofs.lemmas.Bool.Decides.{nat_tests}
 use Rattle.txs_asks.specs.declared.ask.Reply.{Reply}
 use Rattle.txs_asks.specs.declared.ask.Reply.TheVariants as reply
@@ -154,7 +155,7 @@ nth_read [] i x d h e = absurd (omega (arith, h))
 nth_read (y ∷ xs) zero x d h e = ap Some (sym e)
 nth_read (y ∷ xs) (suc i) x d h e = nth_read xs i x d (omega (arith, h)) e
 
-read : {A : Type 0} (xs : List A) (i : ℕ) (d : A) → i < length xs → nth xs i ≡ Some (get_or xs i d)
+pub read : {A : Type 0} (xs : List A) (i : ℕ) (d : A) → i < length xs → nth xs i ≡ Some (get_or xs i d)
 read [] i d h = absurd (omega (arith, h))
 read (y ∷ xs) zero d h = refl
 read (y ∷ xs) (suc i) d h = read xs i d (omega (arith, h))
@@ -263,6 +264,14 @@ place_unsent is places at a none = record { many = refl; marked = λ f. ((λ e. 
     from : (f : ℕ) → (nth a f ≡ Some true) ⊎ IsSentAt is places at f → nth a f ≡ Some true
     from f (inl e) = e
     from f (inr s) = absurd (none s.mark s.marked)
+
+-- nothing is sent before the first place
+pub before_none : (is : List Instr) (places : Marks) (a : List Bool) → MarksMore (IsSentBefore is places 0) a a
+before_none is places a = record { many = refl; marked = λ f. ((λ e. inl e), from f) }
+  where
+    from : (f : ℕ) → (nth a f ≡ Some true) ⊎ IsSentBefore is places 0 f → nth a f ≡ Some true
+    from f (inl e) = e
+    from f (inr s) = absurd (omega (arith, s.within))
 
 -- ---- the places of a body
 
@@ -376,3 +385,23 @@ has_none bs f k e = (
   (λ t. absurd (grind (arith, nat_tests, e, t))),
   (λ x. (let below : f < length bs = subst (λ m. f < m) (parameters_many bs) (nth_within (parameters_of bs) f k x) in grind (arith, nat_tests, below))),
 )
+
+-- ---- what is told of a callee
+
+-- a place that is read
+pub marked_so : (ms : List Bool) (f : ℕ) (d : Bool) → f < length ms → (get_or ms f d ≡ true) ↔ (nth ms f ≡ Some true)
+marked_so ms f d h = ((λ t. read ms f d h ∙ ap Some t), (λ e. is_so (get_or ms f d) (sym (read ms f d h) ∙ e)))
+  where
+    is_so : (b : Bool) → Some b ≡ Some true → b ≡ true
+    is_so b e = cc
+
+-- and one that isn't there
+pub unmarked_so : (ms : List Bool) (f : ℕ) → nat_lt f (length ms) ≡ false → (nat_lt f (length ms) ≡ true) ↔ (nth ms f ≡ Some true)
+unmarked_so ms f e = ((λ t. absurd (false≢true (sym e ∙ t))), (λ x. (let below : f < length ms = nth_within ms f true x in grind (arith, nat_tests, below))))
+
+-- a marked function takes so many values where it has so many parameters
+pub takes_then : (code : PlainCode) (ms : List Bool) (f n : ℕ) (r : Bool) → AreCallees code ms → nth ms f ≡ Some true → ((r ≡ true) ↔ (nth (parameters_of code.functions) f ≡ Some n)) → (r ≡ true) ↔ (IsCallee code f × (nth (parameters_of code.functions) f ≡ Some n))
+takes_then code ms f n r all is h = ((λ t. ((all f).0 is, h.0 t)), (λ x. h.1 x.1))
+
+pub takes_else : (code : PlainCode) (ms : List Bool) (f n : ℕ) (r : Bool) → r ≡ false → AreCallees code ms → (nth ms f ≡ Some true → ⊥) → (r ≡ true) ↔ (IsCallee code f × (nth (parameters_of code.functions) f ≡ Some n))
+takes_else code ms f n r e all isnt = ((λ t. absurd (false≢true (sym e ∙ t))), (λ x. absurd (isnt ((all f).1 x.0))))

@@ -1,4 +1,5 @@
 use Rattle.std.proofs.Common.{◌≡◌, ◌<◌, length, get_or, refl, rules, Some, None, Option}
+use Rattle.std.proofs.lemmas.Bool.{false≢true}
 use Rattle.txs_verify.specs.declared.walk.Mark.{Mark}
 use Rattle.txs_played.proofs.Sent.{mark_read, no_mark}
 use Rattle.txs_played.proofs.callees.is_marked.Goals as goal
@@ -17,4 +18,4 @@ returns-in-None c =
     let none : Option Mark = None in
     let within : c.args.at < length ms = search rules in
     let read : none ≡ get_or ms c.args.at none = search rules in
-    ((λ t. cc), (λ x. no_mark ms c.args.at x.0 (mark_read ms c.args.at none within read) x.1))
+    ((λ t. absurd (false≢true t)), (λ x. no_mark ms c.args.at x.0 (mark_read ms c.args.at none within read) x.1))

@@ -1,6 +1,9 @@
 use Rattle.std.proofs.Common.{◌≡◌, true, false, rules}
-use Rattle.txs_played.proofs.Sent.{place_sent, place_unsent}
+use Rattle.txs_played.proofs.Sent.{place_sent, place_unsent, read}
 use Rattle.txs_played.proofs.callees.mark_place.Goals as goal
+
+pub mark_sent-requires : goal.mark_sent-requires
+mark_sent-requires c = λ f e. c.requires.sends c.args.at f _ (read c.args.instrs.now c.args.at _ c.requires.within) e
 
 pub returns-then-marked : goal.returns-then-marked
 returns-then-marked c =

@@ -1,8 +1,9 @@
 use Rattle.std.proofs.Common.{◌≡◌, inl, inr, refl, true, false}
+use Rattle.txs_played.proofs.Gathering.{other_error}
 use Rattle.txs_played.proofs.parts.check_actors.Goals as goal
 
 pub returns-then-not-are_whole : goal.returns-then-not-are_whole
-returns-then-not-are_whole c = record { made = tt; each = tt; played = tt; few = tt; differs = λ e made players. cc; refusals = inr refl }
+returns-then-not-are_whole c = record { made = tt; each = tt; played = tt; few = tt; differs = λ e made players. absurd (other_error e); refusals = inr refl }
 
 pub returns-then-not-is_made_for : goal.returns-then-not-is_made_for
 returns-then-not-is_made_for c = record {

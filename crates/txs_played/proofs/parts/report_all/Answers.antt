@@ -1,5 +1,7 @@
-use Rattle.std.proofs.Common.{◌≡◌, ◌<◌, ◌+◌, ◌++◌, ◌∷◌, [], length, take, get_or, rules, sym, subst}
+use Rattle.std.proofs.Common.{◌≡◌, ◌≤◌, ◌<◌, ◌+◌, ◌++◌, ◌∷◌, [], List, length, take, get_or, rules, sym, subst, arith}
+use Rattle.std.proofs.lemmas.List.{take_all}
 use Rattle.txs_played.specs.Gather.{AreReportsOf}
+use Rattle.txs_played.specs.Played.{PlainPlayed}
 use Rattle.txs_machine.proofs.Playing.{taken_read}
 use Rattle.txs_played.proofs.Gathering.{reports_more}
 use Rattle.txs_played.proofs.parts.report_all.Goals as goal
@@ -21,3 +23,10 @@ loop-one-preserved c =
       told = subst (λ l. AreReportsOf s (take (i + 1) ps) l) (sym pushed)
           (subst (λ l. AreReportsOf s l (rs ++ r ∷ [])) (sym (taken_read ps i p within read)) (reports_more s (take i ps) rs p r c.loop-one.invariant.told c.in_ok-told.ensures));
     }
+
+pub returns : goal.returns
+returns c =
+    let ps = c.args.played.now in
+    let i = c.loop-one.one-index in
+    let past : length ps ≤ i = omega arith in
+    subst (λ (l : List PlainPlayed). AreReportsOf c.args.shared.now l c.loop-one.reports.items) (take_all i ps past) c.loop-one.invariant.told

@@ -1,5 +1,8 @@
 use Rattle.std.proofs.Common.{◌≡◌, ◌↔◌, true, rules, subst}
+use Rattle.std.proofs.lemmas.Bool.{false≢true}
+use Rattle.txs_played.specs.Played.{PlainPlayed}
 use Rattle.txs_played.specs.Callees.{HandsOutSent}
+use Rattle.txs_played.proofs.Noting.{none_told}
 use Rattle.txs_played.proofs.Sent.{hands_sent}
 use Rattle.txs_played.proofs.played.Played.may_answer.Goals as goal
 
@@ -16,3 +19,8 @@ returns-then-may_answer-clause-hands_out c =
 
 pub returns-else-may_answer-clause-exactly : goal.returns-else-may_answer-clause-exactly
 returns-else-may_answer-clause-exactly c = search rules
+
+pub returns-in-None-clause-exactly : goal.returns-in-None-clause-exactly
+returns-in-None-clause-exactly c =
+    let before : PlainPlayed = record { code = c.self.inside.code.now; actor = c.self.inside.actor; kept = c.self.inside.kept; stopped = c.self.inside.stopped; lost = c.self.inside.lost } in
+    ((λ t. absurd (false≢true t)), (λ h. absurd (none_told before c.args.self.now c.self.inside.asked c.args.reply.now c.self.view_is c.self.invariant.0.1 c.in-None.is h)))
