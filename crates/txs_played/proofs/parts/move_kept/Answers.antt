@@ -10,7 +10,7 @@ moved_on ks later x p rest more all e f g h = ap (λ l. l ++ kept_by more) e ∙
 pub loop-one-preserved : goal.loop-one-preserved
 loop-one-preserved c =
     let rest : c.loop-one.one-iterator.rest.items ≡ c.in-Some.one ∷ c.next.new.self.rest.items = search rules in
-    let pushed : c.push_reserved.new.self.items ≡ c.loop-one.kept.items ++ c.into_kept.result ∷ [] = search rules in
+    let pushed : c.push_reserved.new.self.items ≡ c.loop-one.kept.items ++ c.into_kept.result ∷ [] = c.push_reserved.ensures.items in
     record {
       room = search rules;
       many = search rules;

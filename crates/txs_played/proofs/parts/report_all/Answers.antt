@@ -14,9 +14,9 @@ loop-one-preserved c =
     let p = c.one-item.result in
     let rs = c.loop-one.reports.items in
     let r = c.in_ok-told.told in
-    let within : i < length ps = search rules in
-    let read : p ≡ get_or ps i p = search rules in
-    let pushed : c.push_reserved.new.self.items ≡ rs ++ r ∷ [] = search rules in
+    let within : i < length ps = c.loop-one-test.true in
+    let read : p ≡ get_or ps i p = c.one-item.is in
+    let pushed : c.push_reserved.new.self.items ≡ rs ++ r ∷ [] = c.push_reserved.ensures.items in
     record {
       room = search rules;
       many = search rules;
