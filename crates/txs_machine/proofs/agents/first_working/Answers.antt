@@ -1,4 +1,4 @@
-use Rattle.std.proofs.Common.{◌≡◌, ◌<◌, length, get_or, rules, sym, subst}
+use Rattle.std.proofs.Common.{◌≡◌, ◌<◌, length, get_or, sym, subst}
 use Rattle.txs_machine.specs.Running.{AreIdle}
 use Rattle.txs_machine.proofs.Playing.{nth_read, taken_read}
 use Rattle.txs_machine.proofs.Working.{attends_has, works_at, idle_more}
@@ -8,23 +8,23 @@ pub is_working-requires : goal.is_working-requires
 is_working-requires c =
     let xs = c.args.agents.now in
     let x = c.index-agents-i.result in
-    let within : c.loop-i.i < length xs = search rules in
-    let read : x ≡ get_or xs c.loop-i.i x = search rules in
+    let within : c.loop-i.i < length xs = c.loop-i-test.true in
+    let read : x ≡ get_or xs c.loop-i.i x = c.index-agents-i.is in
     attends_has c.args.code.now c.args.shared.now c.requires.attending.0 c.requires.attending.1 c.loop-i.i xs x c.requires.of c.requires.attending.2 (nth_read xs c.loop-i.i x within read)
 
 pub returns-then-is_working-clause-working : goal.returns-then-is_working-clause-working
 returns-then-is_working-clause-working c =
     let xs = c.args.agents.now in
     let x = c.index-agents-i.result in
-    let within : c.loop-i.i < length xs = search rules in
-    let read : x ≡ get_or xs c.loop-i.i x = search rules in
-    works_at c.args.code.now c.args.shared.now c.loop-i.i xs x c.requires.of (nth_read xs c.loop-i.i x within read) (search rules) (search rules)
+    let within : c.loop-i.i < length xs = c.loop-i-test.true in
+    let read : x ≡ get_or xs c.loop-i.i x = c.index-agents-i.is in
+    works_at c.args.code.now c.args.shared.now c.loop-i.i xs x c.requires.of (nth_read xs c.loop-i.i x within read) (c.is_working.ensures.unended c.if-is_working.true) (c.is_working.ensures.yes c.if-is_working.true)
 
 pub loop-i-preserved : goal.loop-i-preserved
 loop-i-preserved c =
     let xs = c.args.agents.now in
     let x = c.index-agents-i.result in
-    let within : c.loop-i.i < length xs = search rules in
-    let read : x ≡ get_or xs c.loop-i.i x = search rules in
+    let within : c.loop-i.i < length xs = c.loop-i-test.true in
+    let read : x ≡ get_or xs c.loop-i.i x = c.index-agents-i.is in
     subst (AreIdle c.args.code.now c.args.shared.now) (sym (taken_read xs c.loop-i.i x within read))
-    (idle_more c.args.code.now c.args.shared.now _ x c.requires.of c.loop-i.invariant (λ e. search (rules, e)))
+    (idle_more c.args.code.now c.args.shared.now _ x c.requires.of c.loop-i.invariant (c.is_working.ensures.no c.if-is_working.false))

@@ -1,5 +1,7 @@
-use Rattle.std.proofs.Common.{◌≡◌, ◌+◌, ◌++◌, ◌∷◌, List, [], length, get_or, take, true, false, rules, refl, sym, subst, arith}
+use Rattle.std.proofs.Common.{◌≡◌, ◌+◌, ◌++◌, ◌∷◌, List, [], length, get_or, take, true, false, rules, refl, sym, ap, subst, ◌∙◌, arith}
 use Rattle.txs_cells.specs.Forms.{same_kind}
+use Rattle.txs_cells.specs.declared.cell.CellDefinition.{CellDefinition}
+use Rattle.txs_code.specs.PlainCode.{PlainCode}
 use Rattle.txs_value.specs.declared.value.CellId.{CellId}
 use Rattle.txs_value.specs.declared.value.CellKind.TheVariants.{Agent}
 use Rattle.txs_actor.specs.PlainActor.{agents_from}
@@ -13,7 +15,8 @@ pub returns-then-not-is_agent : goal.returns-then-not-is_agent
 returns-then-not-is_agent c =
     let cells = c.args.code.now.cells in
     let d = c.index-cells-cell.result in
-    let read : d ≡ get_or cells c.args.cell d = search rules in
+    let same : c.cells-cells.result.now ≡ cells = c.cells-cells.ensures ∙ ap (λ (x : PlainCode). x.cells) c.code.ensures.value in
+    let read : d ≡ get_or cells c.args.cell d = c.index-cells-cell.is ∙ ap (λ (l : List CellDefinition). get_or l c.args.cell d) same in
     let other : same_kind d.kind Agent ≡ false = search rules in
     subst (λ (gs : List CellId). AreOpenedFor c.args.code.now c.args.max_steps c.args.threads gs c.args.agents.now.items) (sym (agents_same cells c.args.cell d c.requires.there read other)) c.requires.opened
 
@@ -37,7 +40,8 @@ agent-requires c =
     let cells = c.args.code.now.cells in
     let xs = c.args.agents.now.items in
     let d = c.index-cells-cell.result in
-    let read : d ≡ get_or cells c.args.cell d = search rules in
+    let same : c.cells-cells.result.now ≡ cells = c.cells-cells.ensures ∙ ap (λ (x : PlainCode). x.cells) c.code.ensures.value in
+    let read : d ≡ get_or cells c.args.cell d = c.index-cells-cell.is ∙ ap (λ (l : List CellDefinition). get_or l c.args.cell d) same in
     let kind : same_kind d.kind Agent ≡ true = search rules in
     let len : c.len.result ≡ length xs = search rules in
     (agent_placed c.args.code.now c.args.max_steps c.args.threads c.args.cell xs d c.requires.there read kind c.requires.many c.len.result len c.requires.opened).acts
@@ -48,14 +52,15 @@ returns c =
     let cells = c.args.code.now.cells in
     let xs = c.args.agents.now.items in
     let d = c.index-cells-cell.result in
-    let read : d ≡ get_or cells c.args.cell d = search rules in
+    let same : c.cells-cells.result.now ≡ cells = c.cells-cells.ensures ∙ ap (λ (x : PlainCode). x.cells) c.code.ensures.value in
+    let read : d ≡ get_or cells c.args.cell d = c.index-cells-cell.is ∙ ap (λ (l : List CellDefinition). get_or l c.args.cell d) same in
     let kind : same_kind d.kind Agent ≡ true = search rules in
     let len : c.len.result ≡ length xs = search rules in
     let g : CellId = record { kind = Agent; number = c.args.cell } in
     let k = c.args.threads + c.len.result in
     let x : AgentPlayer = record { agent = g; player = record { actor = c.in_ok-actor.actor; trace = c.new.result } } in
     let new = c.in_ok-actor.ensures.new in
-    let pushed : c.push_reserved.new.self.items ≡ xs ++ x ∷ [] = search rules in
+    let pushed : c.push_reserved.new.self.items ≡ xs ++ x ∷ [] = c.push_reserved.ensures.items ∙ ap (λ (l : List AgentPlayer). l ++ x ∷ []) c.reserve.ensures.items in
     let at : IsAgentAt code g k = agent_placed code c.args.max_steps c.args.threads c.args.cell xs d c.requires.there read kind c.requires.many c.len.result len c.requires.opened in
     let gs = agents_from 0 (take c.args.cell cells) in
     subst (λ (hs : List CellId). AreOpenedFor code c.args.max_steps c.args.threads hs c.push_reserved.new.self.items) (sym (agents_next cells c.args.cell d c.requires.there read kind))

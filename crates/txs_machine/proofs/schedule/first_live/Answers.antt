@@ -1,6 +1,8 @@
-use Rattle.std.proofs.Common.{◌≡◌, ◌+◌, length, rules, subst, inl, inr, arith}
+use Rattle.std.proofs.Common.{◌≡◌, ◌+◌, List, length, rules, sym, subst, inl, inr, arith}
 use Rattle.txs_machine.specs.Playing.{AllEnded, IsUnended}
-use Rattle.txs_machine.specs.Running.{IsWorking}
+use Rattle.txs_machine.specs.Agents.{agents_of}
+use Rattle.txs_machine.specs.Running.{AreAttending, IsWorking}
+use Rattle.txs_machine.specs.declared.player.AgentPlayer.{AgentPlayer}
 use Rattle.txs_machine.proofs.Working.{thread_there}
 use Rattle.txs_machine.proofs.schedule.first_live.Goals as goal
 
@@ -19,3 +21,10 @@ returns-in-Some-first_working-clause-live c =
 
 pub returns-in-None-clause-ended : goal.returns-in-None-clause-ended
 returns-in-None-clause-ended c e = subst AllEnded c.as_slice.ensures.value (c.in_default.ensures.ended (search rules))
+
+pub first_working-requires-clause-attending : goal.first_working-requires-clause-attending
+first_working-requires-clause-attending c =
+    let code = c.args.code.now in
+    let limit = c.requires.playing.0 in
+    let k = length code.threads in
+    (limit, k, subst (λ (xs : List AgentPlayer). AreAttending code limit c.args.shared.now.taken k (agents_of code) xs) (sym c.as_slice-2.ensures.value) c.requires.playing.1.agents)

@@ -7,8 +7,8 @@ pub returns-then-is_none-clause-unended : goal.returns-then-is_none-clause-unend
 returns-then-is_none-clause-unended c =
     let xs = c.args.players.now in
     let a = c.index-players-k.result in
-    let within : c.loop-k.k < length xs = search rules in
-    let read : a ≡ get_or xs c.loop-k.k a = search rules in
+    let within : c.loop-k.k < length xs = c.loop-k-test.true in
+    let read : a ≡ get_or xs c.loop-k.k a = c.index-players-k.is in
     let none : a.actor.outcome ≡ None = search rules in
     unended_at xs c.loop-k.k a (nth_read xs c.loop-k.k a within read) none
 
@@ -16,7 +16,7 @@ pub loop-k-preserved : goal.loop-k-preserved
 loop-k-preserved c =
     let xs = c.args.players.now in
     let a = c.index-players-k.result in
-    let within : c.loop-k.k < length xs = search rules in
-    let read : a ≡ get_or xs c.loop-k.k a = search rules in
+    let within : c.loop-k.k < length xs = c.loop-k-test.true in
+    let read : a ≡ get_or xs c.loop-k.k a = c.index-players-k.is in
     let some : a.actor.outcome ≡ None → ⊥ = λ e. search (rules, e) in
     subst AllEnded (sym (taken_read xs c.loop-k.k a within read)) (ended_more _ a c.loop-k.invariant some)

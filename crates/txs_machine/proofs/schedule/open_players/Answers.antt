@@ -1,4 +1,6 @@
-use Rattle.std.proofs.Common.{◌≡◌, ◌<◌, ◌≤◌, ◌+◌, ◌++◌, ◌∷◌, ℕ, [], length, take, rules, sym, ap, subst, arith}
+use Rattle.std.proofs.Common.{◌≡◌, ◌<◌, ◌≤◌, ◌+◌, ◌++◌, ◌∷◌, ℕ, [], List, length, take, rules, sym, ap, subst, ◌∙◌, arith}
+use Rattle.txs_cells.specs.declared.cell.CellDefinition.{CellDefinition}
+use Rattle.txs_code.specs.PlainCode.{PlainCode}
 use Rattle.txs_actor.proofs.Following.{actors_run}
 use Rattle.txs_actor.specs.PlainActor.{agents_from}
 use Rattle.txs_actor.specs.Turns.{IsNew}
@@ -26,7 +28,7 @@ loop-k-preserved c =
     let players = c.loop-k.players.threads.items in
     let new = c.in_ok-actor.ensures.new in
     let x : Player = record { actor = a; trace = c.new.result } in
-    let pushed : c.push_reserved.new.self.items ≡ players ++ x ∷ [] = search rules in
+    let pushed : c.push_reserved.new.self.items ≡ players ++ x ∷ [] = c.push_reserved.ensures.items in
     let many = c.loop-k.invariant.many in
     let there : k < length code.threads = search rules in
     let stands = standing_of typed_stands code c.rooms.result.0.now c.rooms.result.1.now k c.rooms.ensures there in
@@ -54,12 +56,17 @@ loop-cell-init c =
       agents = subst (AreOpenedFor c.args.code.now c.args.max_steps c.args.threads []) (sym i.none) (record { attending = tt; opened = tt });
     }
 
+pub open_next-requires-clause-there : goal.open_next-requires-clause-there
+open_next-requires-clause-there c =
+    let same : c.cells-cells.result.now ≡ c.args.code.now.cells = c.cells-cells.ensures ∙ ap (λ (x : PlainCode). x.cells) c.code.ensures.value in
+    subst (λ (l : List CellDefinition). c.loop-cell.cell < length l) same c.loop-cell-test.true
+
 pub returns : goal.returns
 returns c =
     let code = c.args.code.now in
     let i = c.loop-cell.invariant in
     let xs = i.threads in
-    let same : c.cells-cells.result.now ≡ code.cells = search rules in
+    let same : c.cells-cells.result.now ≡ code.cells = c.cells-cells.ensures ∙ ap (λ (x : PlainCode). x.cells) c.code.ensures.value in
     let len = ap length same in
     let past : length code.cells ≤ c.loop-cell.cell = omega (arith, len) in
     let whole : take c.loop-cell.cell code.cells ≡ code.cells = take_whole code.cells c.loop-cell.cell past in

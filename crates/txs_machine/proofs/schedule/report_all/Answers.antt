@@ -1,4 +1,7 @@
-use Rattle.std.proofs.Common.{◌≡◌, ◌<◌, ◌+◌, ◌++◌, ◌∷◌, [], length, take, get_or, rules, sym, subst, ap, ◌∙◌}
+use Rattle.std.proofs.Common.{◌≡◌, ◌≤◌, ◌<◌, ◌+◌, ◌++◌, ◌∷◌, [], List, length, take, get_or, rules, sym, subst, ap, ◌∙◌, arith}
+use Rattle.std.proofs.lemmas.List.{take_all}
+use Rattle.txs_machine.specs.declared.player.AgentPlayer.{AgentPlayer}
+use Rattle.txs_machine.specs.declared.player.Player.{Player}
 use Rattle.txs_machine.specs.Playing.{AreReported}
 use Rattle.txs_machine.specs.Running.{attendants}
 use Rattle.txs_machine.proofs.Playing.{taken_read, reported_more, attendants_append}
@@ -11,9 +14,9 @@ loop-player-preserved c =
     let x = c.player-item.result in
     let rs = c.loop-player.threads.items in
     let r = c.in_ok-told.told in
-    let within : i < length xs = search rules in
-    let read : x ≡ get_or xs i x = search rules in
-    let pushed : c.push_reserved.new.self.items ≡ rs ++ r ∷ [] = search rules in
+    let within : i < length xs = c.loop-player-test.true in
+    let read : x ≡ get_or xs i x = c.player-item.is in
+    let pushed : c.push_reserved.new.self.items ≡ rs ++ r ∷ [] = c.push_reserved.ensures.items in
     record {
       room = search rules;
       many = search rules;
@@ -28,9 +31,9 @@ loop-agent-preserved c =
     let x = c.agent-item.result in
     let rs = c.loop-agent.agents.items in
     let r = c.in_ok-ran.ran in
-    let within : i < length xs = search rules in
-    let read : x ≡ get_or xs i x = search rules in
-    let pushed : c.push_reserved-in-loop-agent.new.self.items ≡ rs ++ r ∷ [] = search rules in
+    let within : i < length xs = c.loop-agent-test.true in
+    let read : x ≡ get_or xs i x = c.agent-item.is in
+    let pushed : c.push_reserved-in-loop-agent.new.self.items ≡ rs ++ r ∷ [] = c.push_reserved-in-loop-agent.ensures.items in
     record {
       room = search rules;
       many = search rules;
@@ -38,3 +41,17 @@ loop-agent-preserved c =
           (subst (λ l. AreReported l (rs ++ r ∷ [])) (sym (ap attendants (taken_read xs i x within read) ∙ attendants_append (take i xs) x))
           (reported_more (attendants (take i xs)) rs x.player r c.loop-agent.invariant.told c.in_ok-ran.ensures));
     }
+
+pub returns-clause-threads : goal.returns-clause-threads
+returns-clause-threads c =
+    let xs = c.args.players.now in
+    let i = c.loop-player.player-index in
+    let past : length xs ≤ i = omega arith in
+    subst (λ (l : List Player). AreReported l c.loop-player.threads.items) (take_all i xs past) c.loop-player.invariant.told
+
+pub returns-clause-agents : goal.returns-clause-agents
+returns-clause-agents c =
+    let xs = c.args.attending.now in
+    let i = c.loop-agent.agent-index in
+    let past : length xs ≤ i = omega arith in
+    subst (λ (l : List AgentPlayer). AreReported (attendants l) c.loop-agent.agents.items) (take_all i xs past) c.loop-agent.invariant.told
