@@ -1,11 +1,26 @@
-use Rattle.std.proofs.Common.{◌≤◌, ◌++◌, ◌∙◌, [], List, length, rules, arith, refl, sym, ap}
-use Rattle.std.proofs.lemmas.Grind.{common_steps}
-use Rattle.std.proofs.lemmas.List.{append-nil, drop_all}
+use Rattle.std.proofs.Common.{◌≡◌, ◌≤◌, ◌<◌, ◌+◌, ◌++◌, ◌∷◌, ◌∙◌, [], ℕ, suc, List, length, get_or, drop, rules, arith, refl, sym, ap, append_assoc}
+use Rattle.std.proofs.lemmas.List.{append-nil, drop_all, drop_more}
 use Rattle.txs_shared.specs.SharedState.{newest_of}
-use Rattle.txs_tell.specs.CellLines.{cell_lines}
+use Rattle.txs_tell.specs.CellLines.{cell_line, cell_lines}
 use Rattle.txs_value.proofs.PrintedLemmas.{Extends-after}
+use Rattle.txs_value.specs.declared.value.CellId.{CellId}
+use Rattle.txs_value.specs.declared.value.Value.{Value}
 use Rattle.txs_cells.specs.declared.cell.CellDefinition.{CellDefinition}
 use Rattle.txs_tell.proofs.cells.append_cells.Goals as goal
+
+-- one more line, before those to come
+lines_more : (w : CellId → Value) (ds : List CellDefinition) (i : ℕ) (d : CellDefinition) (v : Value) (out new all : List ℕ) → i < length ds → d ≡ get_or ds i d → v ≡ w (record { kind = d.kind; number = i })
+    → new ≡ out ++ cell_line d.name v → out ++ cell_lines w i (drop i ds) ≡ all → new ++ cell_lines w (i + 1) (drop (i + 1) ds) ≡ all
+lines_more w ds i d v out new all l e is h so_far =
+    let next : i + 1 ≡ suc i = omega arith in
+    let rest = drop (i + 1) ds in
+    ap (λ (xs : List ℕ). xs ++ cell_lines w (i + 1) rest) h
+    ∙ append_assoc out (cell_line d.name v) (cell_lines w (i + 1) rest)
+    ∙ ap (λ (x : Value). out ++ (cell_line d.name x ++ cell_lines w (i + 1) rest)) is
+    ∙ ap (λ (n : ℕ). out ++ (cell_line d.name (w (record { kind = d.kind; number = i })) ++ cell_lines w n rest)) next
+    ∙ ap (λ (x : CellDefinition). out ++ cell_lines w i (x ∷ rest)) e
+    ∙ ap (λ (xs : List CellDefinition). out ++ cell_lines w i xs) (sym (drop_more ds i d l))
+    ∙ so_far
 
 pub returns-in_err-write_cell-clause-kept : goal.returns-in_err-write_cell-clause-kept
 returns-in_err-write_cell-clause-kept c =
@@ -15,8 +30,13 @@ returns-in_err-write_cell-clause-kept c =
 pub loop-i-preserved : goal.loop-i-preserved
 loop-i-preserved c =
     let so_far = c.loop-i.invariant.kept in
+    let ds = c.args.cells.now in
+    let i = c.loop-i.i in
+    let d = c.index-cells-i.result in
+    let within : i < length ds = search rules in
+    let read : d ≡ get_or ds i d = search rules in
     record {
-      lines = grind (arith, common_steps, c.loop-i.invariant.lines);
+      lines = lines_more (newest_of c.args.shared.now) ds i d c.newest.result.now c.loop-i.output.items c.write_cell.new.output.items _ within read c.newest.ensures c.in_ok-write_cell.ensures.ok c.loop-i.invariant.lines;
       kept = Extends-after c.args.output.now.items so_far.more c.loop-i.output.items c.write_cell.new.output.items so_far.is c.write_cell.ensures.kept;
     }
 
