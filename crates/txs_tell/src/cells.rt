@@ -5,6 +5,7 @@ ghost use Rattle.txs_value.specs.Printed.{Extends};
 ghost use Rattle.txs_shared.specs.SharedState.{newest_of};
 ghost use Rattle.txs_tell.specs.CellLines.{cell_line, cell_lines};
 
+use crate::explain::write_both;
 use std::alloc::AllocError;
 use txs_cells::CellDefinition;
 use txs_shared::SharedState;
@@ -15,8 +16,7 @@ fn write_cell(output: &mut Vec<u8>, name: &Name, value: &Value) -> Result<(), Al
     ensures ok { OnOk result (output.new.items ≡ output.old.items ++ cell_line name.now value.now) }
     ensures kept { Extends output.old.items output.new.items }
 {
-    output.extend_from_slice(name.as_bytes())?;
-    output.push(b' ')?;
+    write_both(output, name.as_bytes(), b" ")?;
     write_text(value, output)?;
     output.extend_from_slice(b"\n")
 }

@@ -1,7 +1,7 @@
 //! What stands behind a line on the standard error where it is explained: the place in the script, the line
 //! of the script with carets below it, and what to do.
 
-ghost use Rattle.std.specs.Prelude.{◌≡◌, ◌∷◌, ◌++◌, [], decimal, OnErr, OnOk};
+ghost use Rattle.std.specs.Prelude.{◌≡◌, ◌∷◌, ◌++◌, decimal, OnErr, OnOk};
 ghost use Rattle.txs_value.specs.Printed.{Extends};
 ghost use Rattle.txs_tell.specs.Explained.{place_line, shown_where, explained};
 
@@ -18,13 +18,13 @@ pub struct Script<'a> {
     pub file: Option<&'a str>,
 }
 
-/// Appends a line.
-pub(crate) fn write_line(out: &mut Vec<u8>, line: &str) -> Result<(), AllocError>
-    ensures ok { OnOk result (out.new.items ≡ out.old.items ++ (line.now ++ 10 ∷ [])) }
+/// Appends two texts, one behind the other.
+pub(crate) fn write_both(out: &mut Vec<u8>, first: &[u8], second: &[u8]) -> Result<(), AllocError>
+    ensures ok { OnOk result (out.new.items ≡ out.old.items ++ (first.now ++ second.now)) }
     ensures kept { Extends out.old.items out.new.items }
 {
-    out.extend_from_slice(line.as_bytes())?;
-    out.extend_from_slice(b"\n")
+    out.extend_from_slice(first)?;
+    out.extend_from_slice(second)
 }
 
 /// Appends a colon and a number.
@@ -46,7 +46,7 @@ fn write_place(out: &mut Vec<u8>, file: &str, text: &[u8], offset: usize) -> Res
     out.extend_from_slice(file.as_bytes())?;
     write_part(out, place.line)?;
     write_part(out, place.column)?;
-    Ok(out.push(b'\n')?)
+    out.extend_from_slice(b"\n")
 }
 
 /// Appends the lines that show a place, if there is one.
@@ -78,7 +78,7 @@ fn append_explained(
     ensures kept { Extends out.old.items out.new.items }
 {
     write_shown(out, file, text, at)?;
-    write_line(out, advice)
+    write_both(out, advice.as_bytes(), b"\n")
 }
 
 /// Appends what explains a line: a place of the script, if the line has one, as the file's name, line and

@@ -10,7 +10,7 @@ ghost use Rattle.txs_tell.specs.Told.{ScriptTells, Wanted};
 use crate::advice::{
     OF_JOURNAL, OF_LIST, OF_MEMORY, OF_STEPS, of_check, of_fault, of_read, of_resolve,
 };
-use crate::explain::{Script, write_explained, write_line};
+use crate::explain::{Script, write_both, write_explained};
 use itoa::Buffer;
 use std::alloc::{AllocError, Global};
 use txs_asks::Outcome;
@@ -52,7 +52,7 @@ struct Refusal {
     number: u8,
     name: &'static str,
     at: Span,
-    advice: &'static str,
+    advice: Option<&'static str>,
 }
 
 /// What is done with a script.
@@ -109,7 +109,7 @@ pub fn complaint(alloc: Global, status: u8, line: &str) -> Result<Told, AllocErr
     ensures status { IfOk result (λ t. t.status ≡ status) }
 {
     let mut errors = Vec::new(alloc);
-    write_line(&mut errors, line)?;
+    write_both(&mut errors, line.as_bytes(), b"\n")?;
     Ok(Told {
         output: Vec::new(alloc),
         errors,
@@ -155,8 +155,7 @@ fn refusal_line(line: &mut Vec<u8>, number: u8, name: &str, at: Span) -> Result<
     ensures { OnOk result (line.new.items ≡ line.old.items ++ refusal_line number name.now at) }
 {
     write_number(line, b"refused ", u32::from(number))?;
-    line.push(b' ')?;
-    line.extend_from_slice(name.as_bytes())?;
+    write_both(line, b" ", name.as_bytes())?;
     write_place(line, at)
 }
 
@@ -184,19 +183,19 @@ fn refusal_of(error: &CompileError) -> Option<Refusal>
             number: e.kind.number(),
             name: e.kind.name(),
             at: e.at,
-            advice: of_read(e.kind)?,
+            advice: of_read(e.kind),
         }),
         CompileError::Resolve(e) => Some(Refusal {
             number: e.kind.number(),
             name: e.kind.name(),
             at: e.at,
-            advice: of_resolve(e.kind)?,
+            advice: of_resolve(e.kind),
         }),
         CompileError::Check(e) => Some(Refusal {
             number: e.kind.number(),
             name: e.kind.name(),
             at: e.at,
-            advice: of_check(e.kind)?,
+            advice: of_check(e.kind),
         }),
         CompileError::Memory => None,
     }
@@ -210,9 +209,12 @@ pub fn refused(alloc: Global, script: Script<'_>, error: &CompileError) -> Resul
     let Some(refusal) = refusal_of(error) else {
         return Err(AllocError);
     };
+    let Some(advice) = refusal.advice else {
+        return Err(AllocError);
+    };
     let mut errors = Vec::new(alloc);
     refusal_line(&mut errors, refusal.number, refusal.name, refusal.at)?;
-    explain(&mut errors, script, Some(refusal.at), refusal.advice)?;
+    explain(&mut errors, script, Some(refusal.at), advice)?;
     Ok(Told {
         output: Vec::new(alloc),
         errors,
@@ -260,8 +262,7 @@ fn write_failed(
     ensures { OnOk result ((line : List ℕ) × IsLesson (script_of script.entry) (failed_line (front_of front.entry) fault) (Some fault.span) line × (errors.new.items ≡ errors.old.items ++ line)) }
 {
     write_front(errors, front)?;
-    errors.extend_from_slice(b" failed: ")?;
-    errors.extend_from_slice(fault.kind.name().as_bytes())?;
+    write_both(errors, b" failed: ", fault.kind.name().as_bytes())?;
     write_place(errors, fault.span)?;
     explain(errors, script, Some(fault.span), of_fault(fault.kind))
 }
@@ -277,9 +278,8 @@ fn write_stopped(
     ensures { OnOk result ((line : List ℕ) × IsLesson (script_of script.entry) (stopped_line (front_of front.entry) why.now) None line × (errors.new.items ≡ errors.old.items ++ line)) }
 {
     write_front(errors, front)?;
-    errors.extend_from_slice(b" stopped: ")?;
-    errors.extend_from_slice(why)?;
-    errors.push(b'\n')?;
+    write_both(errors, b" stopped: ", why)?;
+    errors.extend_from_slice(b"\n")?;
     explain(errors, script, None, advice)
 }
 

@@ -1,9 +1,9 @@
 use Rattle.std.proofs.Common.{◌≡◌, ◌++◌, ◌∙◌, ℕ, List, Option, Some, sym, ap, refl, subst₂}
 use Rattle.txs_tell.specs.Lent.{script_of}
-use Rattle.txs_tell.specs.Lines.{IsLesson, lesson_of, refusal_line, refused_line, refused_place}
+use Rattle.txs_tell.specs.Lines.{IsLesson, refusal_line, refused_line, refused_place}
 use Rattle.txs_tell.specs.Told.{of_refused}
 use Rattle.txs_terms.specs.declared.fault.Span.{Span}
-use Rattle.txs_tell.proofs.Lessons.{is_refusal_line, line_told}
+use Rattle.txs_tell.proofs.Lessons.{begun_told, is_refusal_line}
 use Rattle.txs_tell.proofs.told.refused.Goals as goal
 
 pub returns : goal.returns
@@ -13,10 +13,10 @@ returns c =
     let of = c.in-Some.ensures in
     let r = c.in-Some.refusal in
     let line = refusal_line r.number r.name.now r.at in
-    let lesson : List ℕ = lesson_of script.file script.text (Some r.at) (Some r.advice.now) in
+    let begun = c.refusal_line.new.line.items in
     let errors = c.explain.new.errors.items in
-    let is : errors ≡ line ++ lesson = c.in_ok-explain.ensures ∙ ap (λ (l : List ℕ). l ++ lesson) (c.in_ok-refusal_line.ensures ∙ ap (λ (l : List ℕ). l ++ line) c.new-errors.ensures.items) in
+    let is : begun ≡ line = c.in_ok-refusal_line.ensures ∙ ap (λ (l : List ℕ). l ++ line) c.new-errors.ensures.items in
     let told : IsLesson script (refused_line e) (refused_place e) errors =
-    subst₂ (λ (l : List ℕ) (at : Option Span). IsLesson script l at errors) (sym of.line) (sym of.place) (line_told script line (Some r.at) errors r.advice.now (is_refusal_line r.number r.name.now r.at) is)
+    subst₂ (λ (l : List ℕ) (at : Option Span). IsLesson script l at errors) (sym of.line) (sym of.place) (begun_told script line (Some r.at) begun errors _ (is_refusal_line r.number r.name.now r.at) is c.in_ok-explain.ensures)
     in
     λ wanted. of_refused wanted e of.told c.requires c.new.ensures.items told refl

@@ -1,4 +1,4 @@
-use Rattle.std.proofs.Common.{◌≡◌, ◌++◌, ℕ, List, None, Some, rules}
+use Rattle.std.proofs.Common.{◌≡◌, ◌++◌, ◌∙◌, ℕ, List, None, Some, ap, append_assoc, codes, sym}
 use Rattle.txs_tell.specs.Lent.{front_of, script_of}
 use Rattle.txs_tell.specs.Lines.{IsLesson, lesson_of, stopped_line}
 use Rattle.txs_tell.proofs.Fronts.{on_ok}
@@ -12,9 +12,11 @@ returns c =
     let why = c.args.why.now in
     let old = c.args.errors.now.items in
     let begun = c.write_front.new.line.items in
-    let ended = c.push.new.self.items in
+    let ended = c.extend_from_slice.new.self.items in
     let new = c.explain.new.errors.items in
     let advice = c.args.advice.now in
-    let written : ended ≡ stopped_line begun why = search rules in
+    let word = codes " stopped: " in
+    let said = c.in_ok-write_both.ensures.ok ∙ sym (append_assoc begun word why) in
+    let written : ended ≡ stopped_line begun why = c.in_ok-extend_from_slice.ensures.items ∙ ap (λ (l : List ℕ). l ++ codes "\n") said in
     on_ok c.explain.result (new ≡ ended ++ lesson_of script.file script.text None (Some advice)) ((line : List ℕ) × IsLesson script (stopped_line front why) None line × (new ≡ old ++ line))
     (stopped_behind script why front old begun ended new advice c.in_ok-write_front.ensures written) c.explain.ensures

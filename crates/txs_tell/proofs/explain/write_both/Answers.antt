@@ -1,6 +1,5 @@
-use Rattle.std.proofs.Common.{◌∷◌, ◌++◌, ◌∙◌, [], ℕ, List, ap}
 use Rattle.txs_value.proofs.PrintedLemmas.{Extends-after, Extends-by, ended_by}
-use Rattle.txs_tell.proofs.explain.write_line.Goals as goal
+use Rattle.txs_tell.proofs.explain.write_both.Goals as goal
 
 pub returns-in_err-extend_from_slice-clause-kept :
     goal.returns-in_err-extend_from_slice-clause-kept
@@ -9,9 +8,8 @@ returns-in_err-extend_from_slice-clause-kept c =
 
 pub returns-clause-ok : goal.returns-clause-ok
 returns-clause-ok c =
-    let old = c.args.out.now.items in
-    ended_by c.extend_from_slice-2.result old c.args.line.now c.extend_from_slice.new.self.items (10 ∷ []) c.extend_from_slice-2.new.self.items
-    (c.in_ok-extend_from_slice.ensures.items ∙ ap (λ (l : List ℕ). old ++ l) c.as_bytes.ensures.value) c.extend_from_slice-2.ensures.items
+    ended_by c.extend_from_slice-2.result c.args.out.now.items c.args.first.now c.extend_from_slice.new.self.items c.args.second.now c.extend_from_slice-2.new.self.items c.in_ok-extend_from_slice.ensures.items
+    c.extend_from_slice-2.ensures.items
 
 pub returns-clause-kept : goal.returns-clause-kept
 returns-clause-kept c =
