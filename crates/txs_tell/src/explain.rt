@@ -33,8 +33,7 @@ fn write_part(out: &mut Vec<u8>, number: usize) -> Result<(), AllocError>
     ensures kept { Extends out.old.items out.new.items }
 {
     let mut buffer = Buffer::new();
-    out.push(b':')?;
-    out.extend_from_slice(buffer.format(number).as_bytes())
+    write_both(out, b":", buffer.format(number).as_bytes())
 }
 
 /// Appends the line that names a place: the file, the line and the column, both from 1.

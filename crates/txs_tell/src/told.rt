@@ -137,8 +137,7 @@ fn write_number(line: &mut Vec<u8>, before: &[u8], number: u32) -> Result<(), Al
     ensures { OnOk result (line.new.items ≡ line.old.items ++ (before.now ++ decimal number)) }
 {
     let mut buffer = Buffer::new();
-    line.extend_from_slice(before)?;
-    line.extend_from_slice(buffer.format(number).as_bytes())
+    write_both(line, before, buffer.format(number).as_bytes())
 }
 
 /// Appends where a line ends with a place.
@@ -165,10 +164,7 @@ fn write_front(line: &mut Vec<u8>, front: Front<'_>) -> Result<(), AllocError>
 {
     match front {
         Front::Thread(k) => write_number(line, b"thread ", u32::from(k)),
-        Front::Agent(name) => {
-            line.extend_from_slice(b"agent ")?;
-            line.extend_from_slice(name)
-        }
+        Front::Agent(name) => write_both(line, b"agent ", name),
     }
 }
 
