@@ -238,14 +238,9 @@ pub fn wrong_list(alloc: Global, list: Script<'_>, wrong: WrongPlay) -> Result<T
     ensures errors { IfOk result (λ t. IsLesson (script_of list.entry) (codes "wrong list\n") (list_place wrong) t.errors.items) }
     ensures status { IfOk result (λ t. t.status ≡ 2) }
 {
-    let mut errors = Vec::new(alloc);
-    errors.extend_from_slice(b"wrong list\n")?;
-    explain(&mut errors, list, list_place(wrong), OF_LIST)?;
-    Ok(Told {
-        output: Vec::new(alloc),
-        errors,
-        status: UNUSABLE,
-    })
+    let mut told = complaint(alloc, UNUSABLE, "wrong list")?;
+    explain(&mut told.errors, list, list_place(wrong), OF_LIST)?;
+    Ok(told)
 }
 
 /// Appends the line of one that failed, and what explains it.

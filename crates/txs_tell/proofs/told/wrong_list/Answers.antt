@@ -1,4 +1,4 @@
-use Rattle.std.proofs.Common.{◌≡◌, ◌++◌, ◌∙◌, ℕ, List, Option, codes, ap, subst}
+use Rattle.std.proofs.Common.{Option, codes, subst}
 use Rattle.txs_tell.specs.Lent.{script_of}
 use Rattle.txs_tell.specs.Lines.{IsLesson}
 use Rattle.txs_terms.specs.declared.fault.Span.{Span}
@@ -9,7 +9,6 @@ pub returns-clause-errors : goal.returns-clause-errors
 returns-clause-errors c =
     let list = script_of c.args.list in
     let line = codes "wrong list\n" in
-    let begun = c.extend_from_slice.new.self.items in
+    let begun = c.in_ok-told.told.errors.items in
     let errors = c.explain.new.errors.items in
-    let is : begun ≡ line = c.in_ok-extend_from_slice.ensures.items ∙ ap (λ (l : List ℕ). l ++ line) c.new-errors.ensures.items in
-    subst (λ (at : Option Span). IsLesson list line at errors) c.list_place.ensures (begun_told list line c.list_place.result begun errors _ (λ e. cc) is c.in_ok-explain.ensures)
+    subst (λ (at : Option Span). IsLesson list line at errors) c.list_place.ensures (begun_told list line c.list_place.result begun errors _ (λ e. cc) c.in_ok-told.ensures.errors c.in_ok-explain.ensures)
