@@ -3,4 +3,5 @@ pub mod Begun
 pub mod Fronts
 pub mod Lessons
 pub mod OfAgents
+mod There
 pub mod Threads

@@ -38,10 +38,8 @@ pub fn read_bytes<R: Read>(alloc: Global, reader: &mut R) -> Result<Vec<u8>, Rea
     let mut front = reader.take(MAX_BYTES);
     match front.read_to_end(&mut bytes) {
         Ok(_) => Ok(bytes),
-        Err(e) => Err(match e.kind() {
-            ErrorKind::OutOfMemory => ReadFault::Memory,
-            _ => ReadFault::Failed,
-        }),
+        Err(e) if e.kind() == ErrorKind::OutOfMemory => Err(ReadFault::Memory),
+        Err(_) => Err(ReadFault::Failed),
     }
 }
 

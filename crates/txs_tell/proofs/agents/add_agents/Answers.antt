@@ -1,10 +1,20 @@
-use Rattle.std.proofs.Common.{◌≡◌, ◌≤◌, ◌<◌, ◌++◌, ◌∙◌, ℕ, List, [], length, drop, get_or, rules, refl, sym, ap, subst, append_assoc}
+use Rattle.std.proofs.Common.{◌≡◌, ◌≤◌, ◌<◌, ◌++◌, ◌∙◌, ℕ, List, [], length, drop, get_or, rules, true, refl, sym, ap, subst, append_assoc}
 use Rattle.std.proofs.lemmas.List.{append-nil, drop_all}
+use Rattle.txs_book.specs.Book.{has_cell}
+use Rattle.txs_book.specs.Served.{cells_of}
 use Rattle.txs_cells.specs.declared.cell.CellDefinition.{CellDefinition}
 use Rattle.txs_tell.specs.AgentLines.{AreAgentsTold, failure_of, named_from, status_of_agents}
 use Rattle.txs_tell.specs.Lent.{script_of}
 use Rattle.txs_tell.proofs.OfAgents.{left_more, lines_more, status_of_more}
+use Rattle.txs_tell.proofs.There.{there}
 use Rattle.txs_tell.proofs.agents.add_agents.Goals as goal
+
+pub add_cell-requires-clause-there : goal.add_cell-requires-clause-there
+add_cell-requires-clause-there c =
+    let n = c.loop-number.number in
+    let d = c.index-cells-number.result in
+    let within : n < length c.args.cells.now = search rules in
+    subst (λ (ds : List CellDefinition). has_cell (cells_of ds) (record { kind = d.kind; number = n }) ≡ true) (sym c.requires.made) (there c.args.cells.now n d within c.index-cells-number.is)
 
 pub loop-number-preserved : goal.loop-number-preserved
 loop-number-preserved c =

@@ -1,11 +1,14 @@
-use Rattle.std.proofs.Common.{◌≡◌, ◌≤◌, ◌<◌, ◌+◌, ◌++◌, ◌∷◌, ◌∙◌, [], ℕ, suc, List, length, get_or, drop, rules, arith, refl, sym, ap, append_assoc}
+use Rattle.std.proofs.Common.{◌≡◌, ◌≤◌, ◌<◌, ◌+◌, ◌++◌, ◌∷◌, ◌∙◌, [], ℕ, suc, List, length, get_or, drop, rules, arith, refl, sym, ap, append_assoc, subst, true}
 use Rattle.std.proofs.lemmas.List.{append-nil, drop_all, drop_more}
+use Rattle.txs_book.specs.Book.{has_cell}
+use Rattle.txs_book.specs.Served.{cells_of}
 use Rattle.txs_shared.specs.SharedState.{newest_of}
 use Rattle.txs_tell.specs.CellLines.{cell_line, cell_lines}
 use Rattle.txs_value.proofs.PrintedLemmas.{Extends-after}
 use Rattle.txs_value.specs.declared.value.CellId.{CellId}
 use Rattle.txs_value.specs.declared.value.Value.{Value}
 use Rattle.txs_cells.specs.declared.cell.CellDefinition.{CellDefinition}
+use Rattle.txs_tell.proofs.There.{there}
 use Rattle.txs_tell.proofs.cells.append_cells.Goals as goal
 
 -- one more line, before those to come
@@ -21,6 +24,13 @@ lines_more w ds i d v out new all l e is h so_far =
     ∙ ap (λ (x : CellDefinition). out ++ cell_lines w i (x ∷ rest)) e
     ∙ ap (λ (xs : List CellDefinition). out ++ cell_lines w i xs) (sym (drop_more ds i d l))
     ∙ so_far
+
+pub newest-requires : goal.newest-requires
+newest-requires c =
+    let i = c.loop-i.i in
+    let d = c.index-cells-i.result in
+    let within : i < length c.args.cells.now = search rules in
+    subst (λ (ds : List CellDefinition). has_cell (cells_of ds) (record { kind = d.kind; number = i }) ≡ true) (sym c.requires.made) (there c.args.cells.now i d within c.index-cells-i.is)
 
 pub returns-in_err-write_cell-clause-kept : goal.returns-in_err-write_cell-clause-kept
 returns-in_err-write_cell-clause-kept c =
