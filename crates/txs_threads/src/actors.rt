@@ -61,38 +61,8 @@ fn actor_at(
     Actor::agent(alloc, code, agent, number, max_steps)
 }
 
-/// Adds the actor with this number, which may make so many steps.
-#[tactic(auto, using(txs_played::proofs::Playing::renewed))]
-fn open_one<'a>(
-    actors: &mut Actors<Played<'a>>,
-    alloc: Global,
-    code: &'a Verified,
-    callees: &'a [bool],
-    agents: &[CellId],
-    threads: u16,
-    number: u16,
-    max_steps: u64,
-) -> Result<(), AllocError>
-    requires callees { AreCallees code.now callees.now }
-    requires agents { agents.now ≡ agents_of code.now }
-    requires many { threads ≡ length code.now.threads }
-    requires there { number < threads + length agents.now }
-{
-    let actor = actor_at(alloc, code, agents, threads, number, max_steps)?;
-    let played = Played::new(alloc, code, callees, actor, max_steps);
-    actors.add(agents, threads, number, played);
-    Ok(())
-}
-
-/// How many actors there are, of so many threads and of these agents.
-fn how_many(threads: u16, agents: &[CellId]) -> u16
-    requires { threads + length agents.now ≤ 65535 }
-    ensures { result ≡ threads + length agents.now }
-{
-    threads + agents.len() as u16
-}
-
 /// All actors, before their first turns, the last one first: those of threads are ready, and those of agents are parked, since nothing waits for them yet.
+#[tactic(auto, using(txs_played::proofs::Playing::renewed))]
 pub(crate) fn open_all<'a>(
     actors: &mut Actors<Played<'a>>,
     alloc: Global,
@@ -107,13 +77,13 @@ pub(crate) fn open_all<'a>(
     requires many { threads ≡ length code.now.threads }
     requires few { length code.now.threads + length code.now.cells ≤ 65535 }
 {
-    let many = how_many(threads, agents);
+    let many = threads + agents.len() as u16;
     actors.make_room(usize::from(many), code.code().cells().len())?;
     for k in 0..many {
         let number = many - 1 - k;
-        open_one(
-            actors, alloc, code, callees, agents, threads, number, max_steps,
-        )?;
+        let actor = actor_at(alloc, code, agents, threads, number, max_steps)?;
+        let played = Played::new(alloc, code, callees, actor, max_steps);
+        actors.add(agents, threads, number, played);
     }
     Ok(())
 }

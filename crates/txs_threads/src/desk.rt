@@ -118,14 +118,14 @@ impl<P: Player> Actors<P> {
     fn rest(&mut self, agent: Option<CellId>, played: P) -> bool
         ensures { self.new.ready.items ≡ self.old.ready.items }
     {
-        match agent {
-            Some(agent) if usize::from(agent.number) < self.parked.len() => {
-                let number = usize::from(agent.number);
-                drop(mem::replace(&mut self.parked[number], Some(played)));
-            }
-            _ => {
-                let _ = self.down.push(played);
-            }
+        let place = match agent {
+            Some(agent) => usize::from(agent.number),
+            None => usize::MAX,
+        };
+        if place < self.parked.len() {
+            drop(mem::replace(&mut self.parked[place], Some(played)));
+        } else {
+            let _ = self.down.push(played);
         }
         self.live = self.live.saturating_sub(1);
         self.live == 0
@@ -172,9 +172,12 @@ pub struct Desk<P> {
     pub actors: Actors<P>,
 }
 
-/// Wakes the agents to which an event sent actions: whether one was parked.
-fn wake_by<P: Player>(actors: &mut Actors<P>, event: &Event) -> bool {
-    match &event.kind {
+/// Wakes the agents to which the store's event at this place sent actions, if there is one: whether one was parked.
+fn wake_by<P: Player>(actors: &mut Actors<P>, events: &[Event], at: usize) -> bool {
+    if at >= events.len() {
+        return false;
+    }
+    match &events[at].kind {
         EventKind::Send { action } => actors.wake(usize::from(action.agent.number)),
         EventKind::Commit { sends, .. } => {
             let mut woke = false;
@@ -212,18 +215,8 @@ impl<P: Player> Desk<P> {
     {
         let before = self.server.shared.events().len();
         let served = self.server.serve(actor, ask);
-        let woke = self.wake(before);
+        let woke = wake_by(&mut self.actors, self.server.shared.events(), before);
         Step { served, woke }
-    }
-
-    /// Wakes the agents to which the store's event at this place sent actions, if there is one: whether one was parked.
-    fn wake(&mut self, at: usize) -> bool
-        ensures { self.new.server ≡ self.old.server }
-    {
-        match self.server.shared.events().get(at) {
-            Some(event) => wake_by(&mut self.actors, event),
-            None => false,
-        }
     }
 
     /// The next actor that is ready. What is shared stays as it is.

@@ -29,19 +29,14 @@ fn play_one<P: Player>(server: &mut Server, played: &mut P) -> bool {
     }
 }
 
-/// An ask of each actor that hasn't ended: whether one of them goes on.
-fn play_round<P: Player>(server: &mut Server, actors: &mut [P]) -> bool {
-    let mut more = false;
-    for one in actors.iter_mut() {
-        more |= play_one(server, one);
-    }
-    more
-}
-
 /// Rounds of one ask of each actor that hasn't ended, until none goes on.
 fn play_rounds<P: Player>(server: &mut Server, actors: &mut [P]) {
     for _ in 0..u64::MAX {
-        if !play_round(server, actors) {
+        let mut more = false;
+        for one in actors.iter_mut() {
+            more |= play_one(server, one);
+        }
+        if !more {
             return;
         }
     }

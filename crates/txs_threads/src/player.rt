@@ -30,15 +30,6 @@ pub trait Player: Drop {
     fn hear(&mut self, served: Option<Served>) -> Next;
 }
 
-/// What an actor does after a reply that its ask may have.
-fn next_after(reply: &Reply) -> Next {
-    match reply {
-        Reply::Retry(_) => Next::Again,
-        Reply::Idle => Next::Idle,
-        _ => Next::GoesOn,
-    }
-}
-
 impl<'a> Player for Played<'a> {
     fn place(&self) -> u16 {
         self.number()
@@ -59,7 +50,11 @@ impl<'a> Player for Played<'a> {
             drop(reply);
             return Next::Broken;
         }
-        let next = next_after(&reply);
+        let next = match &reply {
+            Reply::Retry(_) => Next::Again,
+            Reply::Idle => Next::Idle,
+            _ => Next::GoesOn,
+        };
         self.answer(number, at, reply);
         next
     }

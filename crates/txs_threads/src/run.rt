@@ -45,14 +45,6 @@ enum Standing {
     Rests(Option<CellId>),
 }
 
-/// Whether it is an ask for an atom's book.
-fn is_of_atom(ask: &Ask) -> bool {
-    matches!(
-        ask,
-        Ask::OpenAt { .. } | Ask::CloseAt { .. } | Ask::Broke { .. }
-    )
-}
-
 /// What lies under the lock, to serve an ask. Most asks are short, so a worker that finds the lock held looks again for a while before
 /// it sleeps. One that swaps an atom sleeps at once: the more of them are about, the more swaps meet an atom that has changed, and are made again.
 fn lock_for<'a, R: Wait, P: Player>(
@@ -60,7 +52,7 @@ fn lock_for<'a, R: Wait, P: Player>(
     desk: &'a Mutex<Desk<P>>,
     ask: &Ask,
 ) -> MutexGuard<'a, Desk<P>> {
-    if is_of_atom(ask) {
+    if let Ask::OpenAt { .. } | Ask::CloseAt { .. } | Ask::Broke { .. } = ask {
         return desk.lock(rt);
     }
     for _ in 0..LOOKS {
@@ -156,25 +148,8 @@ fn serve_ask<R: Wait, P: Player, G: Gate>(
     after_answer(next, agent, left)
 }
 
-/// Turns an actor so often at most, up to its next ask, which is served. Nothing where its worker turns it on.
-fn turn_once<R: Wait, P: Player, G: Gate>(
-    rt: &R,
-    desk: &Mutex<Desk<P>>,
-    to: &Sender<Option<P>>,
-    gate: &G,
-    played: &mut P,
-    budget: u64,
-    left: &mut u32,
-) -> Option<Standing> {
-    gate.pass(played.place(), Moment::Local);
-    match played.run(budget) {
-        Some(Turn::Went) => None,
-        Some(Turn::Asks(ask)) => serve_ask(rt, desk, to, gate, played, ask, left),
-        Some(Turn::Ended(_)) | None => Some(Standing::Rests(None)),
-    }
-}
-
-/// Runs an actor up to so many asks, to a retry, until nothing waits for it, or to its end.
+/// Runs an actor up to so many asks, each of which is served, to a retry, until nothing waits for it, or to its end. It is turned so often at once as the gate
+/// allows, and no further than to its next ask.
 fn play<R: Wait, P: Player, G: Gate>(
     rt: &R,
     desk: &Mutex<Desk<P>>,
@@ -185,29 +160,21 @@ fn play<R: Wait, P: Player, G: Gate>(
     let budget = gate.most_turns().max(1);
     let mut left = ASKS;
     for _ in rt.forever() {
-        if let Some(standing) = turn_once(rt, desk, to, gate, played, budget, &mut left) {
+        gate.pass(played.place(), Moment::Local);
+        let standing = match played.run(budget) {
+            Some(Turn::Went) => None,
+            Some(Turn::Asks(ask)) => serve_ask(rt, desk, to, gate, played, ask, &mut left),
+            Some(Turn::Ended(_)) | None => Some(Standing::Rests(None)),
+        };
+        if let Some(standing) = standing {
             return standing;
         }
     }
     Standing::Rests(None)
 }
 
-/// Parks an agent's actor, or puts an actor down; or hands it on where something waits for its agent by now: whether none is live any more.
-fn rest<R: Wait, P: Player>(
-    rt: &R,
-    desk: &Mutex<Desk<P>>,
-    to: &Sender<Option<P>>,
-    agent: Option<CellId>,
-    played: P,
-) -> bool {
-    let rests = desk.lock(rt).rest(agent, played);
-    match rests {
-        Ok(last) => last,
-        Err(played) => hand_on(rt, desk, to, played),
-    }
-}
-
-/// Receives an actor, runs it for a while, and settles what becomes of it: whether none is live any more.
+/// Receives an actor, runs it for a while, and settles what becomes of it: whether none is live any more. One that rests is parked or put down; or handed on,
+/// where something waits for its agent by now.
 fn work_on<R: Wait, P: Player, G: Gate>(
     rt: &R,
     desk: &Mutex<Desk<P>>,
@@ -220,7 +187,13 @@ fn work_on<R: Wait, P: Player, G: Gate>(
     };
     match play(rt, desk, to, gate, &mut played) {
         Standing::GoesOn => hand_on(rt, desk, to, played),
-        Standing::Rests(agent) => rest(rt, desk, to, agent, played),
+        Standing::Rests(agent) => {
+            let rests = desk.lock(rt).rest(agent, played);
+            match rests {
+                Ok(last) => last,
+                Err(played) => hand_on(rt, desk, to, played),
+            }
+        }
     }
 }
 
@@ -355,6 +328,34 @@ fn run_actors<R: Threads + Wait + Sync, G: Gate>(
     }
 }
 
+/// Runs the actors of a code, one of each thread and one of each agent, by so many workers; an actor makes no more than `max_steps` steps.
+fn run_all<R: Threads + Wait + Sync, G: Gate>(
+    rt: &R,
+    alloc: Global,
+    code: &Verified,
+    workers: usize,
+    max_steps: u64,
+    gate: &G,
+) -> Result<Gathered, RunError>
+    requires few { length code.now.threads + length code.now.cells ≤ 65535 }
+    requires workers { workers ≤ 64 }
+    ensures left { IfOk result (λ g. IsLeft code.now max_steps g.shared g.report.threads.items g.report.agents.items) }
+    ensures refusals { IfErr result (λ e. (e ≡ NoThread) ⊎ (e ≡ JournalMismatch) ⊎ (e ≡ Memory)) }
+{
+    let agents = agents_in(alloc, code)?;
+    let callees = sent_functions(alloc, code)?;
+    run_actors(
+        rt,
+        alloc,
+        code,
+        callees.as_slice(),
+        agents.as_slice(),
+        workers,
+        max_steps,
+        gate,
+    )
+}
+
 /// Runs all threads and agents of the code by so many workers, each on a thread of its own, until each thread has ended and nothing waits for an
 /// agent that goes on. An actor makes no more than `max_steps` steps; it stays with its worker for 64 asks, and is handed on where its transaction runs again.
 ///
@@ -385,16 +386,5 @@ pub fn run_threads<R: Threads + Wait + Sync, G: Gate>(
     if workers == 0 || workers > 64 {
         return Err(RunError::NoThread);
     }
-    let agents = agents_in(alloc, code)?;
-    let callees = sent_functions(alloc, code)?;
-    run_actors(
-        rt,
-        alloc,
-        code,
-        callees.as_slice(),
-        agents.as_slice(),
-        workers,
-        max_steps,
-        gate,
-    )
+    run_all(rt, alloc, code, workers, max_steps, gate)
 }

@@ -1,4 +1,4 @@
-use Rattle.std.proofs.Common.{List, rules, subst, sym, ap, length, ◌∙◌}
+use Rattle.std.proofs.Common.{List, rules, inl, refl, subst, sym, ap, length, ◌∙◌}
 use Rattle.txs_value.specs.declared.value.CellId.{CellId}
 use Rattle.txs_played.specs.Gather.{AllHaveDone, AllHaveAttended}
 use Rattle.txs_shared.specs.SharedState.{PlainShared}
@@ -40,3 +40,6 @@ returns-then-is_whole-clause-left c =
       all_explained = g.ensures.all_explained;
     } in
     left
+
+pub returns-clause-refusals : goal.returns-clause-refusals
+returns-clause-refusals c = inl refl
