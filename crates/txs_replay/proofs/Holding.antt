@@ -1,10 +1,10 @@
 -- The actor that is noted for a number is the first that has it next, or it isn't next of that actor.
-use Rattle.std.proofs.Common.{◌≡◌, ◌≢◌, ◌<◌, ◌≤◌, ◌+◌, ◌==◌, ◌⊎◌, inl, inr, ℕ, zero, suc, Bool, true, false, List, [], ◌∷◌, length, take, set, get_or, Some, if◌then◌else◌, refl, sym, ap, subst, ◌∙◌, arith}
+use Rattle.std.proofs.Common.{◌≡◌, ◌≢◌, ◌<◌, ◌≤◌, ◌+◌, ◌==◌, ◌⊎◌, inl, inr, ℕ, zero, suc, Bool, true, false, List, [], ◌∷◌, length, take, drop, set, get_or, Option, Some, if◌then◌else◌, refl, sym, ap, subst, ◌∙◌, arith}
 use Rattle.txs_replay.specs.Holders.{has_number, NoneBetween, AreFirstFrom, AreFirst, IsNoted, IsPut}
 use Rattle.txs_replay.specs.Replay.{is_next, holder_from}
 use Rattle.txs_replay.specs.declared.kept.Kept.{Kept}
 use Rattle.std.proofs.lemmas.Bool.Decides.{eqb_tells}
-use Rattle.std.proofs.lemmas.List.{get_or-set_same, get_or-set_other}
+use Rattle.std.proofs.lemmas.List.{get_or-set_same, get_or-set_other, drop_more}
 
 abbrev is_true : Bool → Type 0
 is_true true = Unit {0}
@@ -145,3 +145,11 @@ pub read_or : (rests : List (List Kept)) (a : ℕ) (ks : List Kept) → a < leng
 read_or [] a ks l e = absurd (omega (arith, l))
 read_or (r ∷ rs) zero ks l e = e
 read_or (r ∷ rs) (suc a) ks l e = read_or rs a ks (omega (arith, l)) e
+
+-- an actor that hasn't it next is passed over
+pub seek_more : (rests : List (List Kept)) (a i : ℕ) (ks : List Kept) (x : Option ℕ) → a < length rests → ks ≡ get_or rests a ks → is_next i ks ≡ false → holder_from a i (drop a rests) ≡ x → holder_from (a + 1) i (drop (a + 1) rests) ≡ x
+seek_more rests a i ks x within is other h =
+    let later = drop (a + 1) rests in
+    let split : drop a rests ≡ ks ∷ later = drop_more rests a ks within ∙ ap (λ k. k ∷ later) (sym is) in
+    let next : suc a ≡ a + 1 = omega arith in
+    ap (λ n. holder_from n i later) (sym next) ∙ ap (λ b. if b then Some a else holder_from (suc a) i later) (sym other) ∙ ap (λ l. holder_from a i l) (sym split) ∙ h

@@ -1,4 +1,5 @@
 mod Comparing
 mod Holding
 pub mod Replaying
+mod Serving
 pub mod Steps

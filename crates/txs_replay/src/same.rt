@@ -151,8 +151,7 @@ fn same_kind(a: &EventKind, b: &EventKind) -> bool
                 sends: xs1,
             },
         ) => {
-            *p == *p1
-                && *q == *q1
+            (*p == *p1) & (*q == *q1)
                 && same_writes(ws.as_slice(), ws1.as_slice())
                 && same_actions(xs.as_slice(), xs1.as_slice())
         }
@@ -167,9 +166,9 @@ fn same_kind(a: &EventKind, b: &EventKind) -> bool
                 cell: d,
                 commute: y,
             },
-        ) => *p == *q && *c == *d && *x == *y,
+        ) => (*p == *q) & (*c == *d) & (*x == *y),
         (EventKind::Fail { at: p, view: q }, EventKind::Fail { at: p1, view: q1 }) => {
-            *p == *p1 && *q == *q1
+            (*p == *p1) & (*q == *q1)
         }
         (
             EventKind::Refused {
@@ -182,7 +181,7 @@ fn same_kind(a: &EventKind, b: &EventKind) -> bool
                 view: q1,
                 agent: h,
             },
-        ) => *p == *p1 && *q == *q1 && *g == *h,
+        ) => (*p == *p1) & (*q == *q1) & (*g == *h),
         (EventKind::Send { action: x }, EventKind::Send { action: y }) => same_action(x, y),
         (EventKind::SendRefused { agent: g }, EventKind::SendRefused { agent: h }) => *g == *h,
         (
@@ -196,7 +195,7 @@ fn same_kind(a: &EventKind, b: &EventKind) -> bool
                 number: m,
                 new: y,
             },
-        ) => *g == *h && *n == *m && same_new(x, y),
+        ) => (*g == *h) & (*n == *m) && same_new(x, y),
         (EventKind::Swap { new: v }, EventKind::Swap { new: w }) => same(v, w),
         (EventKind::Broke { at: p }, EventKind::Broke { at: q }) => *p == *q,
         _ => false,

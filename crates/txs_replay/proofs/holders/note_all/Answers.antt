@@ -1,4 +1,6 @@
-use Rattle.std.proofs.Common.{rules, ◌<◌, length}
+use Rattle.std.proofs.Common.{rules, ◌<◌, ◌≤◌, length, subst, arith}
+use Rattle.std.proofs.lemmas.List.{take_all}
+use Rattle.txs_replay.specs.Holders.{IsNoted}
 use Rattle.txs_replay.proofs.Holding.{noted_more, noted_none}
 use Rattle.txs_replay.proofs.holders.note_all.Goals as goal
 
@@ -10,3 +12,9 @@ loop-place-preserved c =
 
 pub loop-place-init : goal.loop-place-init
 loop-place-init c = noted_none c.args.actor c.args.firsts.now.items
+
+pub returns : goal.returns
+returns c =
+    let ks = c.args.entries.now in
+    let past : length ks ≤ c.loop-place.place = omega (arith, c.loop-place-test.false, c.len-place-end.ensures) in
+    subst (λ l. IsNoted l c.args.actor c.args.firsts.now.items c.loop-place.firsts.items) (take_all c.loop-place.place ks past) c.loop-place.invariant
