@@ -17,24 +17,19 @@ use txs_played::{Gathered, Played, gather};
 use txs_shared::SharedState;
 use txs_value::CellId;
 
-/// Turns an actor up to its next ask, which is served and answered, or to its end: whether it goes on. One that has ended stays as it is.
-fn play_one<P: Player>(server: &mut Server, played: &mut P) -> bool {
-    match played.run(u64::MAX) {
-        Some(Turn::Went) => true,
-        Some(Turn::Asks(ask)) => {
-            let served = server.serve(played.place(), ask);
-            matches!(played.hear(served), Next::GoesOn | Next::Again)
-        }
-        Some(Turn::Ended(_)) | None => false,
-    }
-}
-
-/// Rounds of one ask of each actor that hasn't ended, until none goes on.
+/// Rounds of one ask of each actor that hasn't ended, until none goes on: each is turned up to its next ask, which is served and answered, or to its end.
 fn play_rounds<P: Player>(server: &mut Server, actors: &mut [P]) {
     for _ in 0..u64::MAX {
         let mut more = false;
         for one in actors.iter_mut() {
-            more |= play_one(server, one);
+            match one.run(u64::MAX) {
+                Some(Turn::Went) => more = true,
+                Some(Turn::Asks(ask)) => {
+                    let served = server.serve(one.place(), ask);
+                    more |= matches!(one.hear(served), Next::GoesOn | Next::Again);
+                }
+                Some(Turn::Ended(_)) | None => {}
+            }
         }
         if !more {
             return;

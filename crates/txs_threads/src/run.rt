@@ -173,31 +173,8 @@ fn play<R: Wait, P: Player, G: Gate>(
     Standing::Rests(None)
 }
 
-/// Receives an actor, runs it for a while, and settles what becomes of it: whether none is live any more. One that rests is parked or put down; or handed on,
-/// where something waits for its agent by now.
-fn work_on<R: Wait, P: Player, G: Gate>(
-    rt: &R,
-    desk: &Mutex<Desk<P>>,
-    to: &Sender<Option<P>>,
-    from: &Receiver<Option<P>>,
-    gate: &G,
-) -> bool {
-    let Ok(Some(mut played)) = from.recv(rt) else {
-        return true;
-    };
-    match play(rt, desk, to, gate, &mut played) {
-        Standing::GoesOn => hand_on(rt, desk, to, played),
-        Standing::Rests(agent) => {
-            let rests = desk.lock(rt).rest(agent, played);
-            match rests {
-                Ok(last) => last,
-                Err(played) => hand_on(rt, desk, to, played),
-            }
-        }
-    }
-}
-
-/// One worker: receives actors, runs them and hands them on, until none is live.
+/// One worker: receives actors and runs each for a while, until none is live. Those that go on are handed on, and those that rest are parked or put down; or
+/// handed on, where something waits for their agent by now.
 fn work<R: Wait, P: Player, G: Gate>(
     rt: &R,
     desk: &Mutex<Desk<P>>,
@@ -206,7 +183,20 @@ fn work<R: Wait, P: Player, G: Gate>(
     gate: &G,
 ) {
     for _ in rt.forever() {
-        if work_on(rt, desk, to, from, gate) {
+        let Ok(Some(mut played)) = from.recv(rt) else {
+            break;
+        };
+        let last = match play(rt, desk, to, gate, &mut played) {
+            Standing::GoesOn => hand_on(rt, desk, to, played),
+            Standing::Rests(agent) => {
+                let rests = desk.lock(rt).rest(agent, played);
+                match rests {
+                    Ok(last) => last,
+                    Err(played) => hand_on(rt, desk, to, played),
+                }
+            }
+        };
+        if last {
             break;
         }
     }
