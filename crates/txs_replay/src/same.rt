@@ -1,4 +1,5 @@
-//! Equality of replies and of events.
+//! Equality of replies and of events. All parts of two of one kind are compared, and not only those before the first that differ: most are equal, and else all
+//! ends there.
 
 ghost use Rattle.std.specs.Prelude.{◌≡◌, ◌↔◌, IsTrue};
 ghost use Rattle.txs_runs.specs.Told.{IsExchanged};
@@ -27,10 +28,10 @@ fn same_values(a: &[Value], b: &[Value]) -> bool
 fn same_action(a: &Action, b: &Action) -> bool
     ensures { IsTrue result ↔ (a.now ≡ b.now) }
 {
-    a.agent == b.agent
-        && a.callee == b.callee
-        && same_values(a.args.as_slice(), b.args.as_slice())
-        && a.span == b.span
+    (a.agent == b.agent)
+        & (a.callee == b.callee)
+        & same_values(a.args.as_slice(), b.args.as_slice())
+        & (a.span == b.span)
 }
 
 /// Whether two lists of actions are equal.
@@ -52,7 +53,7 @@ fn same_actions(a: &[Action], b: &[Action]) -> bool
 fn same_write(a: &(CellId, Value), b: &(CellId, Value)) -> bool
     ensures { IsTrue result ↔ (a.now ≡ b.now) }
 {
-    a.0 == b.0 && same(&a.1, &b.1)
+    (a.0 == b.0) & same(&a.1, &b.1)
 }
 
 /// Whether two lists of writes are equal.
@@ -95,7 +96,7 @@ pub(crate) fn same_reply(a: &Reply, b: &Reply) -> bool
             _ => false,
         },
         Reply::Views(p, vs) => match b {
-            Reply::Views(q, ws) => *p == *q && same_values(vs.as_slice(), ws.as_slice()),
+            Reply::Views(q, ws) => (*p == *q) & same_values(vs.as_slice(), ws.as_slice()),
             _ => false,
         },
         Reply::Done => matches!(b, Reply::Done),
@@ -120,11 +121,11 @@ pub(crate) fn same_reply(a: &Reply, b: &Reply) -> bool
                 number: m,
                 action: y,
                 state: w,
-            } => *n == *m && same_action(x, y) && same(v, w),
+            } => (*n == *m) & same_action(x, y) & same(v, w),
             _ => false,
         },
         Reply::Opened(p, v) => match b {
-            Reply::Opened(q, w) => *p == *q && same(v, w),
+            Reply::Opened(q, w) => (*p == *q) & same(v, w),
             _ => false,
         },
         Reply::Idle | Reply::Full | Reply::Memory => false,
@@ -151,9 +152,10 @@ fn same_kind(a: &EventKind, b: &EventKind) -> bool
                 sends: xs1,
             },
         ) => {
-            (*p == *p1) & (*q == *q1)
-                && same_writes(ws.as_slice(), ws1.as_slice())
-                && same_actions(xs.as_slice(), xs1.as_slice())
+            (*p == *p1)
+                & (*q == *q1)
+                & same_writes(ws.as_slice(), ws1.as_slice())
+                & same_actions(xs.as_slice(), xs1.as_slice())
         }
         (
             EventKind::Retry {
@@ -195,7 +197,7 @@ fn same_kind(a: &EventKind, b: &EventKind) -> bool
                 number: m,
                 new: y,
             },
-        ) => (*g == *h) & (*n == *m) && same_new(x, y),
+        ) => (*g == *h) & (*n == *m) & same_new(x, y),
         (EventKind::Swap { new: v }, EventKind::Swap { new: w }) => same(v, w),
         (EventKind::Broke { at: p }, EventKind::Broke { at: q }) => *p == *q,
         _ => false,
