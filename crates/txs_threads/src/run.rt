@@ -17,7 +17,7 @@ use crate::gate::{Gate, Moment, kind_of};
 use crate::left::gather_left;
 use crate::player::{Next, Player};
 use crossbeam_channel::{Receiver, Sender};
-use std::alloc::{AllocError, Global};
+use std::alloc::Global;
 use std::hint::spin_loop;
 use std::sync::{Mutex, MutexGuard, Wait};
 use std::thread;
@@ -258,32 +258,6 @@ fn run_desk<R: Threads + Wait + Sync, P: Player + Send, G: Gate>(
     Err(RunError::NoThread)
 }
 
-/// What lies under the lock before anything was done.
-fn open_desk<'a>(
-    alloc: Global,
-    code: &'a Verified,
-    callees: &'a [bool],
-    agents: &[CellId],
-    threads: u16,
-    max_steps: u64,
-) -> Result<Desk<Played<'a>>, AllocError>
-    requires callees { AreCallees code.now callees.now }
-    requires agents { agents.now ≡ agents_of code.now }
-    requires many { threads ≡ length code.now.threads }
-    requires few { length code.now.threads + length code.now.cells ≤ 65535 }
-{
-    let shared = SharedState::open(alloc, code.code().cells(), threads)?;
-    let mut desk = Desk::new(alloc, shared);
-    let actors = &mut desk.actors;
-    match open_all(actors, alloc, code, callees, agents, threads, max_steps) {
-        Ok(()) => Ok(desk),
-        Err(refused) => {
-            drop(desk);
-            Err(refused)
-        }
-    }
-}
-
 /// Runs the actors of a code, whose actions call these functions and whose agents are these, by so many workers; an actor makes no more than `max_steps`
 /// steps.
 fn run_actors<R: Threads + Wait + Sync, G: Gate>(
@@ -305,9 +279,16 @@ fn run_actors<R: Threads + Wait + Sync, G: Gate>(
 {
     let threads = code.code().threads().len();
     let room = threads + agents.len() + workers + 1;
-    let desk = open_desk(alloc, code, callees, agents, threads as u16, max_steps)?;
+    let threads = threads as u16;
+    let shared = SharedState::open(alloc, code.code().cells(), threads)?;
+    let mut desk = Desk::new(alloc, shared);
+    let actors = &mut desk.actors;
+    let opened = open_all(actors, alloc, code, callees, agents, threads, max_steps);
     let desk = Mutex::new(desk);
-    let ran = run_desk(rt, alloc, &desk, room, gate, workers);
+    let ran = match opened {
+        Ok(()) => run_desk(rt, alloc, &desk, room, gate, workers),
+        Err(_) => Err(RunError::Memory),
+    };
     let desk = desk.into_inner();
     match ran {
         Ok(()) => gather_left(alloc, code, agents, max_steps, desk),

@@ -9,5 +9,5 @@ use Rattle.txs_threads.proofs.run.run_actors.Goals as goal
 pub run_desk-ran-requires-send-P : goal.run_desk-ran-requires-send-P
 run_desk-ran-requires-send-P g c κs lives = param_send 1 _ (arg_send _ Exit.no _ (played_send (record { mir = erased; lft = _ })))
 
-pub returns-in-Ok-clause-refusals : goal.returns-in-Ok-clause-refusals
-returns-in-Ok-clause-refusals g c = still_refused c.gather_left.result c.gather_left.ensures.refusals (λ e h. inr h)
+pub returns-in-Ok-ran-clause-refusals : goal.returns-in-Ok-ran-clause-refusals
+returns-in-Ok-ran-clause-refusals g c = still_refused c.gather_left.result c.gather_left.ensures.refusals (λ e h. inr h)
