@@ -10,7 +10,7 @@ use Rattle.txs_value.specs.declared.value.CellId.{CellId}
 use Rattle.txs_value.specs.declared.value.CellKind.{CellKind}
 use Rattle.txs_value.specs.declared.value.CellKind.TheVariants.{Ref}
 use Rattle.txs_value.specs.declared.value.Value.{Value}
-use Rattle.txs_frame.specs.Frame.{Work, with_cell, with_cells, has_number, outside_of, is_set, is_commuted, commuted, set_writes, set_ref, ensure_ref, commute_ref, SetAnswers}
+use Rattle.txs_frame.specs.Frame.{Work, no_work, with_cell, with_cells, has_number, outside_of, is_set, is_commuted, commuted, set_writes, set_ref, ensure_ref, commute_ref, SetAnswers}
 use Rattle.txs_frame.specs.declared.frame.Commute.{Commute}
 use Rattle.txs_frame.specs.declared.frame.SetError.{SetError}
 use Rattle.txs_frame.specs.declared.frame.SetError.TheVariants.{SetAfterCommute, Memory}
@@ -53,6 +53,14 @@ pub missing : (os : List Own) (k : ℕ) (r : Result ℕ ℕ) (i : ℕ) → IsPla
 missing os k r i p e =
     let q : IsPlaceOf number_of os k (Err i) = subst (IsPlaceOf number_of os k) e p in
     q.is
+
+-- a frame of which all is cleared
+pub emptied : (os : List Own) (es : List CellId) (cs : List Commute) (ss : List Action) → os ≡ [] → es ≡ [] → cs ≡ [] → ss ≡ [] → work_of os es cs ss ≡ no_work
+emptied os es cs ss o e c s =
+    ap (λ (x : List Own). work_of x es cs ss) o
+    ∙ ap (λ (x : List CellId). work_of [] x cs ss) e
+    ∙ ap (λ (x : List Commute). work_of [] [] x ss) c
+    ∙ ap (λ (x : List Action). work_of [] [] [] x) s
 
 -- ---- a ref is ensured
 

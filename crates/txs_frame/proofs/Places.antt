@@ -1,12 +1,13 @@
 -- Places in lists by ascending number.
-use Rattle.std.proofs.Common.{◌≡◌, ◌≢◌, ℕ, zero, suc, ◌<◌, ◌≤◌, ◌==◌, Bool, true, false, if◌then◌else◌, List, [], ◌∷◌, length, set, get_or, Some, None, Result, Ok, Err, refl, sym, ap, subst, ◌∙◌, arith}
-use Rattle.std.specs.Prelude.{nat_lt, insert, is_some}
+use Rattle.std.proofs.Common.{◌≡◌, ◌≢◌, ℕ, zero, suc, ◌<◌, ◌≤◌, ◌==◌, Bool, true, false, if◌then◌else◌, List, [], ◌∷◌, ◌++◌, length, take, set, get_or, Some, None, Result, Ok, Err, refl, sym, ap, subst, ◌∙◌, arith}
+use Rattle.std.specs.Prelude.{nat_lt, drop, insert, is_some}
 use Rattle.std.specs.List.{slice_get}
 use Rattle.std.specs.List.Sorted.{IsSearchInRange, IsBinarySearchResult, IsNonDecreasingBy}
 use Rattle.std.specs.Ordering.{nat_cmp, ordering_index}
 use Rattle.std.proofs.lemmas.Bool.{lt-ltb, le-ltb, ltb-true, ltb-false, eq-eqb, eqb-true, eqb-false, ne_eqb, true≢false, false≢true}
 use Rattle.std.proofs.lemmas.Bool.Decides.{nat_tests}
 use Rattle.std.proofs.lemmas.Cmp.{ranked}
+use Rattle.std.proofs.lemmas.List.{take_all, drop_all}
 use Rattle.txs_value.specs.declared.value.CellId.{CellId}
 use Rattle.txs_frame.specs.Frame.{with_cell}
 use Rattle.txs_frame.specs.Kept.{Ascends, item_of, with_item, IsPlaceOf, cell_number}
@@ -186,3 +187,9 @@ pub get_there : {X : Type 0} (xs : List X) (i : ℕ) (d : X) → i < length xs �
 get_there [] i d lt = absurd (omega (arith, lt))
 get_there (x ∷ xs) zero d lt = refl
 get_there (x ∷ xs) (suc i) d lt = get_there xs i d (omega (arith, lt))
+
+-- what is put behind all others
+pub insert_last : {X : Type 0} (xs : List X) (i : ℕ) (y : X) → i ≡ length xs → xs ++ y ∷ [] ≡ insert xs i y
+insert_last xs i y e =
+    let le : length xs ≤ i = omega (arith, e) in
+    sym (ap (λ zs. zs ++ y ∷ drop i xs) (take_all i xs le) ∙ ap (λ zs. xs ++ y ∷ zs) (drop_all i xs le))

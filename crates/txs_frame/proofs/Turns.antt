@@ -21,7 +21,8 @@ not_only_commuted h (inl e) = ap only_commuted e
 not_only_commuted h (inr e) = ap only_commuted e
 
 module _ {X : Type 0} (xs : List X) (i : ℕ) (x : X) (lt : i < length xs) (is : x ≡ get_or xs i x) where
-  one_more : take (i + 1) xs ≡ take i xs ++ x ∷ []
+  -- one item more
+  pub one_more : take (i + 1) xs ≡ take i xs ++ x ∷ []
   one_more = take_more xs i x lt ∙ ap (λ y. take i xs ++ y ∷ []) (sym is)
 
 module _ (f : How → Bool) (os : List Own) (i : ℕ) (o : Own) (lt : i < length os) (is : o ≡ get_or os i o) where

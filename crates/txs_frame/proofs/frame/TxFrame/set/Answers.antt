@@ -3,7 +3,7 @@ use Rattle.std.proofs.lemmas.Result.{err_from_is_err_and}
 use Rattle.txs_frame.specs.Frame.{set_ref}
 use Rattle.txs_frame.specs.declared.own.How.TheVariants as how
 use Rattle.txs_frame.specs.declared.own.Own.{Own}
-use Rattle.txs_frame.specs.Kept.{number_of, IsPlaceOf, was_commuted_if, how_at, put_at, work_of}
+use Rattle.txs_frame.specs.Kept.{number_of, IsKept, IsPlaceOf, was_commuted_if, how_at, put_at, work_of}
 use Rattle.txs_frame.proofs.Frames.{set_call, set_call_refused, answers_set, answers_refused, answers_memory}
 use Rattle.txs_frame.proofs.frame.TxFrame.set.Goals as goal
 
@@ -54,3 +54,8 @@ returns c =
     let so = sym (c.was_commuted.ensures ∙ ap was_commuted_if came) ∙ c.if-was_commuted.false in
     let done = set_call os s.ensured.items s.commutes.items s.sends.items c.self.invariant c.args.cell c.requires c.args.value place p so c.put.new.own.items c.in_ok-put.ensures.put in
     answers_set _ c.args.self.now _ (ap (set_ref c.args.cell c.args.value) (sym c.self.view_is) ∙ done.0)
+
+pub invariant_of-self : goal.invariant_of-self
+invariant_of-self c =
+    let s = c.self.inside in
+    subst (λ (os : List Own). IsKept os s.ensured.items s.commutes.items) (sym c.in_err-put.ensures.kept) c.self.invariant

@@ -1,5 +1,5 @@
 use Rattle.std.proofs.Common.{◌≡◌, ap, sym, ◌∙◌, List, ◌++◌, take, get_or}
-use Rattle.std.proofs.lemmas.List.{take_more}
+use Rattle.std.proofs.lemmas.List.{take_all, take_more}
 use Rattle.txs_value.specs.declared.value.CellId.{CellId}
 use Rattle.txs_value.specs.declared.value.CellKind.TheVariants.{Ref}
 use Rattle.txs_frame.specs.Frame.{Work, commutes_of, by_ref}
@@ -20,3 +20,6 @@ loop-cell-preserved c =
     ∙ ap (λ (xs : List Commute). xs ++ commutes_of d.number cs) c.loop-cell.invariant
     ∙ sym (by_ref_more (take i ds) d cs)
     ∙ ap (λ (xs : List CellId). by_ref xs cs) (sym (take_more ds i none c.loop-cell-test.true))
+
+pub returns : goal.returns
+returns c = c.loop-cell.invariant ∙ ap (λ (ds : List CellId). by_ref ds c.args.self.now.commutes) (take_all c.loop-cell.cell-index c.args.cells.now c.loop-cell-test.false)

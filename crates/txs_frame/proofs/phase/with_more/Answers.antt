@@ -1,0 +1,31 @@
+use Rattle.std.proofs.Common.{◌∙◌, ◌++◌, ◌∷◌, [], List, ap, arith, sym, length, length-append, take}
+use Rattle.std.proofs.lemmas.List.{take_all}
+use Rattle.txs_value.specs.declared.value.Value.{Value}
+use Rattle.txs_frame.proofs.Turns.{one_more}
+use Rattle.txs_frame.proofs.phase.with_more.Goals as goal
+
+pub loop-value-init : goal.loop-value-init
+loop-value-init c =
+    let put = c.push_reserved.ensures in
+    let items = put.items ∙ ap (λ (xs : List Value). xs ++ c.args.first ∷ []) c.in_ok-all.ensures.items in
+    let room = put.capacity ∙ c.in_ok-all.ensures.exact in
+    record { many = ap length items; room = omega (arith, room); same = items }
+
+pub loop-value-preserved : goal.loop-value-preserved
+loop-value-preserved c =
+    let h = c.loop-value in
+    let vs : List Value = c.args.more.now in
+    let i = h.value-index in
+    let first = c.args.first in
+    let v : Value = c.in_ok-copy_value.field-0 in
+    let put = c.push_reserved-in-loop-value.ensures in
+    let before = h.invariant.many in
+    let many = ap length put.items ∙ length-append h.all.items (v ∷ []) in
+    record {
+      many = omega (arith, before, many);
+      room = put.capacity ∙ h.invariant.room;
+      same = put.items ∙ ap (λ (xs : List Value). xs ++ v ∷ []) h.invariant.same ∙ ap (λ (x : Value). first ∷ (take i vs ++ x ∷ [])) c.in_ok-copy_value.ensures ∙ ap (λ (xs : List Value). first ∷ xs) (sym (one_more vs i c.value-item.result c.loop-value-test.true c.value-item.is));
+    }
+
+pub returns : goal.returns
+returns c = let l = c.loop-value in l.invariant.same ∙ ap (λ (xs : List Value). c.args.first ∷ xs) (take_all l.value-index c.args.more.now c.loop-value-test.false)
