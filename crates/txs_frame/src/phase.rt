@@ -1,6 +1,6 @@
 //! The commute phase at the end of a transaction.
 
-ghost use Rattle.std.specs.Prelude.{◌≡◌, ◌<◌, ◌∷◌, true, is_some, length, IfOk};
+ghost use Rattle.std.specs.Prelude.{◌≡◌, ◌<◌, true, is_some, length, IfOk};
 ghost use Rattle.txs_asks.specs.Ask.{buffered, with_write};
 ghost use Rattle.txs_frame.specs.Frame.{commuted, phase_work};
 ghost use Rattle.txs_frame.specs.Kept.{Ascends, IsPlaceOf, item_of};
@@ -68,18 +68,6 @@ fn viewed(values: &[(CellId, Value)], number: u16) -> Result<Value, AllocError>
         Ok(i) => copy_value(&values[i].1),
         Err(_) => Ok(Value::Nil),
     }
-}
-
-/// A value, and copies of others behind it.
-fn with_more(alloc: Global, first: Value, more: &[Value]) -> Result<Vec<Value>, AllocError>
-    ensures { IfOk result (λ all. all.items ≡ first ∷ more.now) }
-{
-    let mut all = Vec::with_capacity(alloc, more.len() + 1)?;
-    all.push_reserved(first);
-    for value in more {
-        all.push_reserved(copy_value(value)?);
-    }
-    Ok(all)
 }
 
 /// These refs with their values, which both lists share.
@@ -171,8 +159,13 @@ impl Phase {
         ensures { IfOk result (λ vs. vs.items ≡ next_arguments self.now.work self.now.values) }
     {
         let commute = &self.work[self.next];
-        let value = viewed(self.values.as_slice(), commute.cell.number)?;
-        with_more(self.alloc, value, commute.args.as_slice())
+        let args = commute.args.as_slice();
+        let mut all = Vec::with_capacity(self.alloc, args.len() + 1)?;
+        all.push_reserved(viewed(self.values.as_slice(), commute.cell.number)?);
+        for value in args {
+            all.push_reserved(copy_value(value)?);
+        }
+        Ok(all)
     }
 
     /// The next commute's callee has given this value, which is its ref's from now on.
