@@ -105,6 +105,18 @@ next_fits s cells threads slots bs views tries book i b g is h has at there =
     let most : length s.book ≤ most_events = subst (λ (u : PlainStore). length u.book ≤ most_events) is h.legal.few in
     fits_next b.acts (omega (arith, acts, few, most))
 
+-- it has run no more than there may be events
+pub acts_few : (s : PlainStore) (cells : List StoreCell) (threads : ℕ) (slots : List Slot) (bs : List Inbox) (views tries : List ℕ) (book : List Event) (g : CellId) → store_with cells threads book (taken_of (plain_inboxes bs)) ≡ s
+    → IsKept cells threads slots (plain_inboxes bs) views tries book → has_agent s.cells g ≡ true → (get_or (plain_inboxes bs) g.number no_inbox).acts ≤ most_events
+acts_few s cells threads slots bs views tries book g is h has =
+    let in_cells = agent_in cells g (subst (λ (u : PlainStore). has_agent u.cells g ≡ true) (sym is) has) in
+    let many = h.as_many in
+    let below : g.number < length (plain_inboxes bs) = omega (arith, in_cells, many) in
+    let acts : (get_or (plain_inboxes bs) g.number no_inbox).acts ≡ (mail_after cells book g.number).acts = ap (λ (p : PlainInbox). p.acts) (h.mail g.number below) in
+    let few = few_acts cells book g.number in
+    let most : length book ≤ most_events = h.legal.few in
+    omega (arith, acts, few, most)
+
 -- where its first action is taken, it is there, and the agent hasn't failed
 pub taken_stands : (s : PlainStore) (cells : List StoreCell) (threads : ℕ) (slots : List Slot) (bs : List Inbox) (views tries : List ℕ) (book : List Event) (i : ℕ) (b : Inbox) (g : CellId) → store_with cells threads book (taken_of (plain_inboxes bs)) ≡ s
     → IsKept cells threads slots (plain_inboxes bs) views tries book → has_agent s.cells g ≡ true → i ≡ g.number → b ≡ get_or bs i b → IsMailbox b.mailbox.plain → is_taken s.taken g ≡ true

@@ -1,8 +1,8 @@
 //! The newest values of cells, and the lists of what an event writes.
 
-ghost use Rattle.std.specs.Prelude.{◌≡◌, ◌<◌, ◌≤◌, ◌++◌, ◌∷◌, [], length, set, true, IfOk, OnOk};
+ghost use Rattle.std.specs.Prelude.{◌≡◌, ◌≤◌, ◌++◌, ◌∷◌, [], length, true, IfOk, OnOk};
 ghost use Rattle.txs_book.specs.Book.{cells_in};
-ghost use Rattle.txs_world.specs.Kept.{slot_of, open_slots, put_all, all_below};
+ghost use Rattle.txs_world.specs.Kept.{open_slots, put_all, all_below};
 ghost use Rattle.txs_world.specs.Store.{are_apart, merged};
 ghost use Rattle.txs_world.specs.Places.{place_of, Ascend, is_first};
 
@@ -30,17 +30,6 @@ pub(crate) fn open_slots(alloc: Global, cells: &[StoreCell]) -> Result<Vec<Slot>
     Ok(slots)
 }
 
-/// Puts a value into the slot of a cell. The event that wrote it is the last of so many.
-fn put(slots: &mut Vec<Slot>, number: u16, value: Value, events: u32)
-    requires { number < length slots.old.items }
-    ensures { slots.new.items ≡ set slots.old.items number (slot_of value events) }
-{
-    slots[usize::from(number)] = Slot {
-        value,
-        written: events,
-    };
-}
-
 /// Puts what an event wrote into the slots. The event is the last of so many.
 #[inline(always)]
 pub(crate) fn put_all(slots: &mut Vec<Slot>, writes: &mut Vec<(CellId, Value)>, events: u32)
@@ -48,7 +37,10 @@ pub(crate) fn put_all(slots: &mut Vec<Slot>, writes: &mut Vec<(CellId, Value)>, 
     ensures { slots.new.items ≡ put_all events slots.old.items writes.old.items }
 {
     while let Some((cell, value)) = writes.pop() {
-        put(slots, cell.number, value, events);
+        slots[usize::from(cell.number)] = Slot {
+            value,
+            written: events,
+        };
     }
 }
 

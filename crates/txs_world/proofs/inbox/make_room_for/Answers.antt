@@ -50,3 +50,10 @@ returns-clause-same c = c.loop-action.invariant.same
 
 pub returns-in_err-reserve_at-clause-same : goal.returns-in_err-reserve_at-clause-same
 returns-in_err-reserve_at-clause-same c = c.reserve_at.ensures.same ∙ c.loop-action.invariant.same
+
+pub index-inbox-requires : goal.index-inbox-requires
+index-inbox-requires c =
+    let in_bs = below_at _ c.args.actions.now c.loop-action.action-index c.action-item.result c.loop-action-test.true c.action-item.is c.loop-action.invariant.places in
+    let is = c.from-place.ensures in
+    let size = c.loop-action.inboxes.ok.0 in
+    omega (arith, in_bs, is, size)

@@ -37,3 +37,10 @@ overflow_add-index_mut c =
     let many = promised_at _ _ c.args.actions.now i a lt c.action-item.is inv.promised in
     let few = sent_few a.agent.number i c.args.actions.now in
     omega (arith, was, many, few, lt, end)
+
+pub index_mut-requires : goal.index_mut-requires
+index_mut-requires c =
+    let in_bs = below_at _ c.args.actions.now c.loop-action.action-index c.action-item.result c.loop-action-test.true c.action-item.is c.loop-action.invariant.places in
+    let is = c.from-place.ensures in
+    let size = c.loop-action.inboxes.ok.0 in
+    omega (arith, in_bs, is, size)

@@ -1,4 +1,4 @@
-use Rattle.std.proofs.Common.{◌≡◌, ◌<◌, ◌+◌, ◌∙◌, drop, length, refl, set, subst, sym, true}
+use Rattle.std.proofs.Common.{◌≡◌, ◌<◌, ◌+◌, ◌∙◌, drop, length, refl, set, subst, sym, true, arith}
 use Rattle.std.proofs.lemmas.List.{length-set}
 use Rattle.txs_world.specs.Inboxes.{all_sent_below}
 use Rattle.txs_world.specs.declared.inbox.Inbox.{Inbox}
@@ -19,3 +19,10 @@ loop-action-preserved c =
       same = same_plain bs c.from-place.result old b c.index_mut.ensures.value refl ∙ inv.same;
       promised = none_next bs (set bs c.from-place.result b) c.from-place.result b c.args.actions.now i a c.loop-action-test.true c.action-item.is in_bs refl c.from-place.ensures refl inv.promised;
     }
+
+pub index_mut-requires : goal.index_mut-requires
+index_mut-requires c =
+    let in_bs = below_at _ c.args.actions.now c.loop-action.action-index c.action-item.result c.loop-action-test.true c.action-item.is c.loop-action.invariant.places in
+    let is = c.from-place.ensures in
+    let size = c.loop-action.inboxes.ok.0 in
+    omega (arith, in_bs, is, size)

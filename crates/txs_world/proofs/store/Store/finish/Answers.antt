@@ -8,7 +8,7 @@ use Rattle.txs_world.specs.Store.{PlainStore, store_with}
 use Rattle.txs_world.proofs.Answering.{acted_full, acted_not, acted_so, has_room}
 use Rattle.txs_world.proofs.Kept.{acted_on, agent_in, same_stands, state_below}
 use Rattle.txs_world.proofs.Mailing.{many_inboxes, taken_at}
-use Rattle.txs_world.proofs.Storing.{over, unstored}
+use Rattle.txs_world.proofs.Storing.{over, unstored, acts_few}
 use Rattle.txs_world.proofs.store.Store.finish.Goals as goal
 
 pub put_all-requires : goal.put_all-requires
@@ -77,3 +77,13 @@ returns-then-is_full c = acted_full c.args.self.now c.args.actor c.args.agent c.
 
 pub invariant_of-self : goal.invariant_of-self
 invariant_of-self c = c.self.invariant
+
+pub add-requires : goal.add-requires
+add-requires c = subst (λ (s : PlainStore). length s.book < most_events) (sym c.self.view_is) (has_room c.is_full.result (length c.args.self.now.book) most_events c.is_full.ensures c.if-is_full.false)
+
+pub finish_at-requires-clause-few : goal.finish_at-requires-clause-few
+unfolding most_events
+finish_at-requires-clause-few c =
+    let x = c.self.inside in
+    let few = acts_few c.args.self.now x.cells x.threads x.slots.items x.inboxes.items x.journal.views.items x.journal.tries.items x.journal.book.items c.args.agent c.self.view_is c.self.invariant c.requires.agent in
+    omega (arith, few)

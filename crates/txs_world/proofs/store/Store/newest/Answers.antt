@@ -1,5 +1,9 @@
 use Rattle.txs_world.specs.Inboxes.{plain_inboxes}
 use Rattle.txs_world.proofs.Storing.{newest_read}
+use Rattle.std.proofs.Common.{◌≡◌, arith, subst, sym, true}
+use Rattle.txs_book.specs.Book.{has_cell}
+use Rattle.txs_world.specs.Store.{PlainStore}
+use Rattle.txs_world.proofs.Kept.{cell_in}
 use Rattle.txs_world.proofs.store.Store.newest.Goals as goal
 
 pub returns : goal.returns
@@ -7,3 +11,12 @@ returns c =
     let x = c.self.inside in
     newest_read c.args.self.now x.cells x.threads x.slots.items (plain_inboxes x.inboxes.items) x.journal.views.items x.journal.tries.items x.journal.book.items c.from.result c.index.result.now c.args.cell
     c.self.view_is c.self.invariant c.requires c.from.ensures c.index.ensures
+
+pub index-requires : goal.index-requires
+index-requires c =
+    let x = c.self.inside in
+    let in_cells = cell_in x.cells c.args.cell (subst (λ (s : PlainStore). has_cell s.cells c.args.cell ≡ true) (sym c.self.view_is) c.requires) in
+    let many = c.self.invariant.many in
+    let is = c.from.ensures in
+    let size = x.slots.ok.0 in
+    omega (arith, in_cells, many, is, size)

@@ -95,3 +95,6 @@ pub put_at-requires-clause-room : goal.put_at-requires-clause-room
 put_at-requires-clause-room c =
     let room = c.in-Ok.ensures.room in
     subst (λ (a : Action). 0 < get_or (rooms c.ready_at.new.inboxes.items) a.agent.number 0) (sym c.in-Ok.ensures.copy) (omega (arith, room))
+
+pub add-requires : goal.add-requires
+add-requires c = subst (λ (s : PlainStore). length s.book < most_events) (sym c.self.view_is) (has_room c.is_full.result (length c.args.self.now.book) most_events c.is_full.ensures c.if-is_full.false)

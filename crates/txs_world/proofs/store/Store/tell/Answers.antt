@@ -48,3 +48,6 @@ returns c =
       | in-Ok w ↦ subst (λ p. Replies s (adds a d r s.book) p t) (sym w.result-is) (told s t a d r c.requires.told room (stored s x.cells x.threads book more bs bs (event_of a d) c.self.view_is w.in-Ok.ensures.added refl))
       | in-Err w ↦ subst (λ p. Replies s (adds a d r s.book) p t) (sym w.result-is) (told_not s t a d r c.requires.told room (unstored s x.cells x.threads book more bs bs c.self.view_is w.in-Err.ensures.same refl))
     ]
+
+pub add-requires : goal.add-requires
+add-requires c = subst (λ (s : PlainStore). length s.book < most_events) (sym c.self.view_is) (has_room c.is_full.result (length c.args.self.now.book) most_events c.is_full.ensures c.if-is_full.false)

@@ -92,3 +92,6 @@ returns-in-Err-add c =
     let now = plain_inboxes c.prepare.new.inboxes.items in
     told_not s (store_with x.cells x.threads c.add.new.self.book.items (taken_of now)) c.args.actor (Commit c.args.at c.args.view c.args.writes c.args.sends) reply.Done tt c.requires.room
     (unstored s x.cells x.threads x.journal.book.items c.add.new.self.book.items (plain_inboxes x.inboxes.items) now c.self.view_is c.in-Err-add.ensures.same c.prepare.ensures.same)
+
+pub add-requires : goal.add-requires
+add-requires c = subst (λ (s : PlainStore). length s.book < most_events) (sym c.self.view_is) c.requires.room
