@@ -218,7 +218,10 @@ impl TxFrame {
         let mut cells = Vec::new(self.alloc);
         for own in &self.own {
             match own.how {
-                How::Commuted => cells.push(ref_cell(own.number))?,
+                How::Commuted => cells.push(CellId {
+                    kind: CellKind::Ref,
+                    number: own.number,
+                })?,
                 How::Set | How::Both => {}
             }
         }
@@ -252,7 +255,11 @@ impl TxFrame {
         for own in &self.own {
             match own.how {
                 How::Set | How::Both => {
-                    writes.push_reserved((ref_cell(own.number), copy_value(&own.value)?));
+                    let cell = CellId {
+                        kind: CellKind::Ref,
+                        number: own.number,
+                    };
+                    writes.push_reserved((cell, copy_value(&own.value)?));
                 }
                 How::Commuted => {}
             }
@@ -288,16 +295,6 @@ fn find_ref(refs: &[CellId], number: u16) -> Result<usize, usize>
     ensures { IsPlaceOf cell_number refs.now number result }
 {
     refs.binary_search_by_key(&number, |c| c.number)
-}
-
-/// The ref with this number.
-fn ref_cell(number: u16) -> CellId
-    ensures { result ≡ record { kind = a_ref; number = number } }
-{
-    CellId {
-        kind: CellKind::Ref,
-        number,
-    }
 }
 
 /// Adds the commutes of the ref with this number once more, in order.

@@ -1,8 +1,8 @@
-use Rattle.std.proofs.Common.{ap, sym, ◌∙◌, List, Vec, Global, [], ◌∷◌, ◌++◌, take}
+use Rattle.std.proofs.Common.{ap, sym, ◌∙◌, List, Vec, Global, [], ◌∷◌, ◌++◌}
 use Rattle.std.proofs.lemmas.List.{take_all}
 use Rattle.txs_value.specs.declared.value.CellId.{CellId}
 use Rattle.txs_frame.specs.Frame.{commuted}
-use Rattle.txs_frame.specs.Kept.{cells_by, only_commuted}
+use Rattle.txs_frame.specs.Kept.{cells_by, only_commuted, ref_cell}
 use Rattle.txs_frame.proofs.Frames.{commuted_is}
 use Rattle.txs_frame.proofs.Turns.{cells_join, cells_stay, not_only_commuted}
 use Rattle.txs_frame.proofs.frame.TxFrame.commuted.Goals.{in-Commuted+in_ok-push-in-Commuted, in-Set}
@@ -22,11 +22,10 @@ loop-own-preserved c =
     let os = c.deref-own-items.result.now in
     let i = c.loop-own.own-index in
     let o = c.own-item.result in
-    let before : List CellId = cells_by only_commuted (take i os) in
     elim c.match-own.branch [
       | in-Commuted+in_ok-push-in-Commuted w ↦
-          ap (λ (v : Vec CellId Global). v.items) w.cells-is ∙ w.in_ok-push-in-Commuted.ensures.items ∙ ap (λ (x : List CellId). x ++ w.ref_cell.result ∷ []) c.loop-own.invariant
-          ∙ ap (λ (x : CellId). before ++ x ∷ []) w.ref_cell.ensures ∙ sym (cells_join only_commuted os i o c.loop-own-test.true c.own-item.is (ap only_commuted w.in-Commuted.is))
+          ap (λ (v : Vec CellId Global). v.items) w.cells-is ∙ w.in_ok-push-in-Commuted.ensures.items ∙ ap (λ (x : List CellId). x ++ ref_cell o.number ∷ []) c.loop-own.invariant
+          ∙ sym (cells_join only_commuted os i o c.loop-own-test.true c.own-item.is (ap only_commuted w.in-Commuted.is))
       | in-Set w ↦
           ap (λ (v : Vec CellId Global). v.items) w.cells-is ∙ c.loop-own.invariant ∙ sym (cells_stay only_commuted os i o c.loop-own-test.true c.own-item.is (not_only_commuted o.how w.in-Set.is))
     ]

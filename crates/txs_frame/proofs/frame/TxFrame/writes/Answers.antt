@@ -29,13 +29,13 @@ loop-own-preserved c =
     elim c.match-own.branch [
       | in-Set+in_ok-copy_value-in-Set w ↦
           let put = w.push_reserved.ensures in
-          let x : CellId × Value = (w.ref_cell.result, w.in_ok-copy_value-in-Set.field-0) in
+          let x : CellId × Value = (ref_cell o.number, w.in_ok-copy_value-in-Set.field-0) in
           let items : c.match-own.writes.items ≡ h.writes.items ++ x ∷ [] = ap (λ (v : Vec (CellId × Value) Global). v.items) w.writes-is ∙ put.items in
           let many : length c.match-own.writes.items ≡ length h.writes.items + 1 = ap length items ∙ length-append h.writes.items (x ∷ []) in
           record {
             few = omega (arith, few, many);
             room = ap (λ (v : Vec (CellId × Value) Global). vec_capacity v) w.writes-is ∙ put.capacity ∙ h.invariant.room;
-            built = items ∙ ap (λ (ws : Writes). ws ++ x ∷ []) h.invariant.built ∙ ap (λ (d : CellId). before ++ (d, x.1) ∷ []) w.ref_cell.ensures
+            built = items ∙ ap (λ (ws : Writes). ws ++ x ∷ []) h.invariant.built
                 ∙ ap (λ (v : Value). before ++ (ref_cell o.number, v) ∷ []) w.in_ok-copy_value-in-Set.ensures
                 ∙ sym (writes_join was_set os h.own-index o c.loop-own-test.true c.own-item.is (was_set_so o.how w.in-Set.is));
           }
