@@ -14,3 +14,6 @@ returns-in_ok-reserve-in-Err-clause-put c =
     ∙ ap (λ (xs : List Own). xs ++ c.args.item ∷ []) c.in_ok-reserve-in-Err.ensures.items
     ∙ insert_last os c.in-Err.i c.args.item (c.if-i-len.true ∙ c.len.ensures ∙ c.args.own.now.ok.0)
     ∙ ap (λ (p : Result ℕ ℕ). put_at os p c.args.item) (sym c.in-Err.is)
+
+pub returns-in-Ok-clause-put : goal.returns-in-Ok-clause-put
+returns-in-Ok-clause-put c = ap (λ (p : Result ℕ ℕ). put_at c.args.own.now.items p c.args.item) (sym c.in-Ok.is)

@@ -1,4 +1,5 @@
-use Rattle.std.proofs.Common.{◌≡◌, ap, subst, sym, ◌∙◌, List, ◌++◌, ◌∷◌, []}
+use Rattle.std.proofs.Common.{◌≡◌, ap, subst, sym, ◌∙◌, List, ◌++◌, ◌∷◌, [], length}
+use Rattle.std.specs.List.Sorted.{IsSearchInRange}
 use Rattle.txs_frame.specs.Frame.{commute_ref}
 use Rattle.txs_frame.specs.declared.frame.Commute.{Commute}
 use Rattle.txs_frame.specs.declared.own.Own.{Own}
@@ -39,3 +40,9 @@ invariant_of-self-in_err-put c =
     let s = c.self.inside in
     let reserved = subst (λ (cs : List Commute). IsKept s.own.items s.ensured.items cs) (sym c.in_ok-reserve.ensures.items) c.self.invariant in
     subst (λ (os : List Own). IsKept os s.ensured.items c.reserve.new.self.items) (sym c.in_err-put.ensures.kept) reserved
+
+pub put-requires : goal.put-requires
+put-requires c = (subst (λ (x : List Own). IsPlaceOf number_of x c.args.cell.number c.find-place.result) c.as_slice.ensures.value c.find-place.ensures).within
+
+pub how_at-requires : goal.how_at-requires
+how_at-requires c = subst (λ (x : List Own). IsSearchInRange c.find-place.result (length x)) (sym c.as_slice-2.ensures.value) (subst (λ (x : List Own). IsPlaceOf number_of x c.args.cell.number c.find-place.result) c.as_slice.ensures.value c.find-place.ensures).within

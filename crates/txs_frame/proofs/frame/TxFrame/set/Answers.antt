@@ -1,4 +1,5 @@
-use Rattle.std.proofs.Common.{◌≡◌, refl, ap, subst, sym, ◌∙◌, List, Err}
+use Rattle.std.proofs.Common.{◌≡◌, refl, ap, subst, sym, ◌∙◌, List, Err, length}
+use Rattle.std.specs.List.Sorted.{IsSearchInRange}
 use Rattle.std.proofs.lemmas.Result.{err_from_is_err_and}
 use Rattle.txs_frame.specs.Frame.{set_ref}
 use Rattle.txs_frame.specs.declared.own.How.TheVariants as how
@@ -59,3 +60,9 @@ pub invariant_of-self : goal.invariant_of-self
 invariant_of-self c =
     let s = c.self.inside in
     subst (λ (os : List Own). IsKept os s.ensured.items s.commutes.items) (sym c.in_err-put.ensures.kept) c.self.invariant
+
+pub put-requires : goal.put-requires
+put-requires c = (subst (λ (x : List Own). IsPlaceOf number_of x c.args.cell.number c.find-place.result) c.as_slice.ensures.value c.find-place.ensures).within
+
+pub how_at-requires : goal.how_at-requires
+how_at-requires c = subst (λ (x : List Own). IsSearchInRange c.find-place.result (length x)) (sym c.as_slice-2.ensures.value) (subst (λ (x : List Own). IsPlaceOf number_of x c.args.cell.number c.find-place.result) c.as_slice.ensures.value c.find-place.ensures).within

@@ -3,7 +3,8 @@ use Rattle.std.specs.Prelude.{drop}
 use Rattle.std.proofs.lemmas.List.{append-nil, take_all, drop_more}
 use Rattle.txs_asks.specs.Ask.{Writes, buffered}
 use Rattle.txs_value.specs.declared.value.Value.{Value}
-use Rattle.txs_frame.specs.Phase.{PlainPhase, next_arguments, value_or_nil}
+use Rattle.txs_frame.specs.Phase.{PlainPhase, next_arguments, value_or_nil, write_number}
+use Rattle.txs_frame.specs.Kept.{Ascends}
 use Rattle.txs_frame.specs.declared.frame.Commute.{Commute}
 use Rattle.txs_frame.proofs.Phasing.{some_left}
 use Rattle.txs_frame.proofs.Turns.{one_more}
@@ -51,3 +52,6 @@ returns c =
     ∙ ap (λ (xs : List Value). c.push_reserved.new.self.items ++ xs) (take_all l.value-index c.as_slice-args.result.now c.loop-value-test.false ∙ c.as_slice-args.ensures)
     ∙ ap (λ (xs : List Value). xs ++ k.args) first
     ∙ ap (λ (js : List Commute). next_arguments js c.args.self.now.values) (sym e ∙ ap (λ (p : PlainPhase). p.work) c.self.view_is)
+
+pub viewed-requires : goal.viewed-requires
+viewed-requires c = subst (Ascends write_number 0) (sym c.as_slice.ensures.value) c.self.invariant.ascends
