@@ -1,4 +1,7 @@
-use Rattle.std.proofs.Common.{◌≤◌, arith, length, rules, subst, sym}
+use Rattle.std.proofs.Common.{◌≤◌, List, arith, length, rules, subst, sym}
+use Rattle.std.proofs.lemmas.List.{take_all}
+use Rattle.txs_book.specs.Stands.{AreCounted}
+use Rattle.txs_book.specs.declared.cell.StoreCell.{StoreCell}
 use Rattle.txs_book.proofs.Counting.{counted_next, one_few}
 use Rattle.txs_book.proofs.cell.count_agents.Goals as goal
 
@@ -13,3 +16,8 @@ loop-cell-preserved c =
       counted = counted_next c.args.cells.now h.cell-index c.cell-item.result h.before.items c.push_reserved.new.self.items h.agents c.agents_in-agents.result c.loop-cell-test.true c.cell-item.is c.push_reserved.ensures.items c.agents_in-agents.ensures h.invariant.counted;
       few = omega (arith, few, one, c.agents_in-agents.ensures);
     }
+
+pub returns : goal.returns
+returns c =
+    let h = c.loop-cell in
+    subst (λ (cells : List StoreCell). AreCounted cells h.before.items h.agents) (take_all h.cell-index c.args.cells.now c.loop-cell-test.false) h.invariant.counted

@@ -1,7 +1,8 @@
 use Rattle.std.proofs.Common.{◌∙◌, Bool, ap, length}
+use Rattle.std.proofs.lemmas.List.{take_all}
 use Rattle.txs_value.specs.declared.value.CellKind.{CellKind}
 use Rattle.txs_value.specs.declared.value.Value.{Value}
-use Rattle.txs_book.specs.Served.{cell_of}
+use Rattle.txs_book.specs.Served.{cell_of, cells_of}
 use Rattle.txs_book.specs.declared.cell.StoreCell.{StoreCell}
 use Rattle.txs_book.proofs.Lists.{map_next, one_more}
 use Rattle.txs_book.proofs.cell.open_cells.Goals as goal
@@ -24,3 +25,8 @@ loop-definition-preserved c =
       room = put.ensures.capacity ∙ h.invariant.room;
       built = map_next cell_of c.args.definitions.now h.definition-index d h.cells.items put.new.self.items s c.loop-definition-test.true c.definition-item.is h.invariant.built put.ensures.items (ap (λ o. cell d.kind o c.continues.result) v.ensures ∙ ap (cell d.kind d.opening) c.continues.ensures);
     }
+
+pub returns : goal.returns
+returns c =
+    let h = c.loop-definition in
+    h.invariant.built ∙ ap cells_of (take_all h.definition-index c.args.definitions.now c.loop-definition-test.false)
