@@ -1,8 +1,8 @@
 //! Nodes of what is resolved: of forms without parts, and of special forms by the nodes of their parts.
 
-ghost use Rattle.std.specs.Prelude.{◌≡◌, ◌<◌, ◌≤◌, ◌+◌, ◌-◌, [], ◌∷◌, ◌++◌, List, false, true, is_some, length, map, Ok, IfOk, IfSome, OnSome};
+ghost use Rattle.std.specs.Prelude.{◌≡◌, ◌<◌, ◌≤◌, ◌+◌, ◌-◌, [], ◌∷◌, ◌++◌, List, false, true, is_some, length, map, Ok, IfOk, IfSome};
 ghost use Rattle.txs_expand.specs.Expressions.{change_node, choice_node, single_node, leaf_node, binding_node, sequence_node, spot_mark, symbol_node};
-ghost use Rattle.txs_expression.specs.Given.{row, IsBehind, Pushes, Puts, Shows};
+ghost use Rattle.txs_expression.specs.Given.{row, Pushes, Puts, Shows};
 ghost use Rattle.txs_expression.specs.Made.{couple_node, simple_tree, with_room, IsMade, IsSimple, Makes};
 ghost use Rattle.txs_expand.specs.Parts.{seen, whole_leaf, WholeFits};
 ghost use Rattle.txs_names.specs.Scope.{meaning};
@@ -66,13 +66,6 @@ pub enum Simple<'s> {
     Truth,
 }
 
-/// The branches of a choice, or another two nodes.
-#[derive(Drop)]
-struct Branches {
-    one: Box<Node>,
-    other: Box<Node>,
-}
-
 /// What a name is as a value: a local, a constant or a cell.
 fn symbol<'s>(scope: &'s Scope<'_>, name: &Name, spot: Spot) -> Result<Simple<'s>, ResolveError>
     ensures value { seen (λ x. simple_tree x (spot_mark spot)) result ≡ symbol_node (meaning name.now scope.now) (with_room spot) }
@@ -121,26 +114,20 @@ fn simple_kind(simple: Simple<'_>) -> Result<NodeKind, Stop>
     }
 }
 
-/// The node of this kind at this spot, behind these nodes; none where there is no kind, or no memory for the node.
-fn try_push(nodes: &mut Vec<Node>, spot: Spot, kind: Option<NodeKind>) -> Option<()>
-    ensures { (t : Tree) → IfSome kind (λ k. kind_tree k (spot_mark spot) ≡ t) → OnSome result (IsBehind nodes.old.items nodes.new.items t) }
-{
-    let kind = kind?;
-    let node = Node {
-        kind,
-        span: spot.span,
-        wanted: spot.wanted,
-    };
-    nodes.push(node).ok()
-}
-
 /// The node of this kind at this spot, behind these nodes, which are lost where memory was wanted for the kind or is for
 /// the node.
 fn push(nodes: &mut Nodes, spot: Spot, kind: Option<NodeKind>)
     ensures { (t : Tree) → IfSome kind (λ k. kind_tree k (spot_mark spot) ≡ t) → Puts nodes.old nodes.new (t ∷ []) }
 {
-    if try_push(&mut nodes.items, spot, kind).is_some() {
-        return;
+    if let Some(kind) = kind {
+        let node = Node {
+            kind,
+            span: spot.span,
+            wanted: spot.wanted,
+        };
+        if nodes.items.push(node).ok().is_some() {
+            return;
+        }
     }
     nodes.lost = true;
 }
@@ -174,14 +161,14 @@ fn boxed_last(alloc: Global, nodes: &mut Vec<Node>) -> Result<Box<Node>, AllocEr
     }
 }
 
-/// The branches, which are the last two of the nodes.
-fn last_two(alloc: Global, nodes: &mut Vec<Node>) -> Result<Branches, AllocError>
+/// The last two of the nodes, such as the branches of a choice, in their order.
+fn last_two(alloc: Global, nodes: &mut Vec<Node>) -> Result<(Box<Node>, Box<Node>), AllocError>
     requires { 2 ≤ length nodes.old.items }
-    ensures { IfOk result (λ b. nodes.old.items ≡ nodes.new.items ++ b.one.value ∷ b.other.value ∷ []) }
+    ensures { IfOk result (λ b. nodes.old.items ≡ nodes.new.items ++ b.0.value ∷ b.1.value ∷ []) }
 {
     let other = boxed_last(alloc, nodes)?;
     let one = boxed_last(alloc, nodes)?;
-    Ok(Branches { one, other })
+    Ok((one, other))
 }
 
 /// The kind of a choice by a test, of these three nodes. Turned, the second branch is the one of a true test.
@@ -189,9 +176,8 @@ fn choice_kind(alloc: Global, turned: bool, parts: &mut Vec<Node>) -> Result<Nod
     requires { length parts.old.items ≡ 3 }
     ensures { IfOk result (λ k. (x y z : ANode) (m : Mark) → parts.old.items ≡ x ∷ y ∷ z ∷ [] → kind_tree k m ≡ choice_node turned (tree_of x) (tree_of y) (tree_of z) m) }
 {
-    let branches = last_two(alloc, parts)?;
+    let (one, other) = last_two(alloc, parts)?;
     let test = boxed_last(alloc, parts)?;
-    let Branches { one, other } = branches;
     if turned {
         return Ok(NodeKind::If(test, other, one));
     }
@@ -234,7 +220,7 @@ fn couple_kind(alloc: Global, couple: Couple, parts: Vec<Node>) -> Result<NodeKi
     match couple {
         Couple::Core(op) => Ok(NodeKind::Core(op, parts)),
         Couple::Put(form) => {
-            let Branches { one, other } = last_two(alloc, &mut parts)?;
+            let (one, other) = last_two(alloc, &mut parts)?;
             Ok(NodeKind::Put(form, one, other))
         }
     }

@@ -23,19 +23,19 @@ chosen turned m ns a b t x y z h =
 pub returns-then-turned : goal.returns-then-turned
 returns-then-turned c x y z m is =
     let test = c.in_ok-test.test in
-    let one = c.in_ok-branches.branches.one in
-    let other = c.in_ok-branches.branches.other in
+    let one = c.in_ok-one.one in
+    let other = c.in_ok-one.other in
     if_tree test other one m
     ∙ ap (λ b. choice_node b (tree_of test.value) (tree_of one.value) (tree_of other.value) m) (sym c.if-turned.true)
     ∙ chosen c.args.turned m c.boxed_last.new.nodes.items one.value other.value test.value x y z
-    (sym (c.in_ok-branches.ensures ∙ ap (λ l. l ++ one.value ∷ other.value ∷ []) c.in_ok-test.ensures) ∙ is)
+    (sym (c.in_ok-one.ensures ∙ ap (λ l. l ++ one.value ∷ other.value ∷ []) c.in_ok-test.ensures) ∙ is)
 
 pub returns : goal.returns
 returns c x y z m is =
     let test = c.in_ok-test.test in
-    let one = c.in_ok-branches.branches.one in
-    let other = c.in_ok-branches.branches.other in
+    let one = c.in_ok-one.one in
+    let other = c.in_ok-one.other in
     if_tree test one other m
     ∙ ap (λ b. choice_node b (tree_of test.value) (tree_of one.value) (tree_of other.value) m) (sym c.if-turned.false)
     ∙ chosen c.args.turned m c.boxed_last.new.nodes.items one.value other.value test.value x y z
-    (sym (c.in_ok-branches.ensures ∙ ap (λ l. l ++ one.value ∷ other.value ∷ []) c.in_ok-test.ensures) ∙ is)
+    (sym (c.in_ok-one.ensures ∙ ap (λ l. l ++ one.value ∷ other.value ∷ []) c.in_ok-test.ensures) ∙ is)
