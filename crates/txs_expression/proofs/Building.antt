@@ -124,6 +124,11 @@ pub then_kept : {T E A : Type 0} (r : Result T E) (x y z : A) → OnOk r (x ≡ 
 then_kept (Ok u) x y z h e = h ∙ e
 then_kept (Err u) x y z h e = tt
 
+-- what isn't touched is kept
+pub kept_here : {T E A : Type 0} (r : Result T E) (x : A) → OnOk r (x ≡ x)
+kept_here (Ok u) x = refl
+kept_here (Err u) x = tt
+
 -- ---- nodes that are lost, or have these trees
 
 pub puts_none : (a : Nodes) → Puts a a []

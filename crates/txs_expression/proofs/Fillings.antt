@@ -368,3 +368,8 @@ pub narrow_ok : (n : ℕ) (s : Spot) (a : Answer Trees) → n ≤ 65535 → narr
 narrow_ok n s a le = ap (λ b. cond b (refuse TooMany s.span) a) (small n le) where
   small : (n : ℕ) → n ≤ 65535 → nat_lt 65535 n ≡ false
   small n le = grind (arith, nat_tests)
+
+pub narrow_wide : (n : ℕ) (s : Spot) (a : Answer Trees) → 65535 < n → narrow n s a ≡ refuse TooMany s.span
+narrow_wide n s a lt = ap (λ b. cond b (refuse TooMany s.span) a) (wide n lt) where
+  wide : (n : ℕ) → 65535 < n → nat_lt 65535 n ≡ true
+  wide n lt = grind (arith, nat_tests)

@@ -1,5 +1,5 @@
 -- The values of literals that a loop has built, and those of a vector.
-use Rattle.std.proofs.Common.{◌≡◌, ◌≢◌, ◌<◌, ◌≤◌, ◌+◌, ◌-◌, ◌==◌, ℕ, Bool, true, false, ◌||◌, nat_lt, List, [], ◌∷◌, ◌++◌, append-nil, Result, Ok, Err, length, drop, get_or, cond, refl, ap, ◌∙◌, arith, Vec, Global}
+use Rattle.std.proofs.Common.{◌≡◌, ◌≢◌, ◌<◌, ◌≤◌, ◌+◌, ◌-◌, ◌==◌, ℕ, Bool, true, false, ◌||◌, nat_lt, List, [], ◌∷◌, ◌++◌, append-nil, Option, Some, None, Result, Ok, Err, length, drop, get_or, cond, refl, sym, ap, ◌∙◌, arith, Vec, Global}
 use Rattle.std.specs.Prelude.{IfOk}
 use Rattle.txs_expression.specs.declared.stop.Stop.{Stop}
 use Rattle.std.proofs.lemmas.Bool.Decides.{nat_tests}
@@ -97,6 +97,26 @@ module _ (room : ℕ) (form : Form) (v : Vec Form Global) (at : Span) (is : form
       ∙ ap (λ b. vector_of at b (literals (room - 1) (plain v.items))) (not_more 65535 (length v.items) few)
 
 -- ---- what is refused of literals
+
+refused_behind : (a : Answer Value) (b : Answer (List Value)) → None ≡ refusal_of a → refusal_of (a >>= λ v. b >>= λ vs. Ok (v ∷ vs)) ≡ refusal_of b
+refused_behind (Ok v) (Ok vs) h = refl
+refused_behind (Ok v) (Err e) h = refl
+refused_behind (Err e) b h = absurd cc
+
+refused_first : (a : Answer Value) (b : Answer (List Value)) (e : ResolveError) → Some e ≡ refusal_of a → Some e ≡ refusal_of (a >>= λ v. b >>= λ vs. Ok (v ∷ vs))
+refused_first (Ok v) b e h = absurd cc
+refused_first (Err x) b e h = h
+
+module _ (room : ℕ) (fs : List Form) (i : ℕ) (d : Form) (lt : i < length fs) where
+  -- nothing is refused of the next form
+  pub fits_step : None ≡ refusal_of (literal room (tree (get_or fs i d))) → refusal_of (literals room (plain (drop i fs))) ≡ refusal_of (literals room (plain (drop (i + 1) fs)))
+  fits_step h =
+      ap (λ l. refusal_of (literals room l)) (plain_at fs i d lt) ∙ refused_behind (literal room (tree (get_or fs i d))) (literals room (plain (drop (i + 1) fs))) h
+
+  -- the next form is refused
+  pub fits_stop : (e : ResolveError) → Some e ≡ refusal_of (literal room (tree (get_or fs i d))) → Some e ≡ refusal_of (literals room (plain (drop i fs)))
+  fits_stop e h =
+      refused_first (literal room (tree (get_or fs i d))) (literals room (plain (drop (i + 1) fs))) e h ∙ sym (ap (λ l. refusal_of (literals room l)) (plain_at fs i d lt))
 
 pub fitting_whole : (a : Answer (List Value)) → refusal_of (a >>= λ vs. Ok (Vector (plains_of vs))) ≡ refusal_of a
 fitting_whole (Ok vs) = refl

@@ -1,4 +1,4 @@
-use Rattle.std.proofs.Common.{rules, ◌≡◌, ◌<◌, ◌≤◌, ◌+◌, ◌-◌, ◌∷◌, [], ◌++◌, ℕ, Bool, true, List, Ok, Err, length, drop, refl, sym, ap, ◌∙◌, subst, arith}
+use Rattle.std.proofs.Common.{rules, ◌≡◌, ◌<◌, ◌≤◌, ◌+◌, ◌-◌, ◌*◌, ◌∷◌, [], ◌++◌, ℕ, Bool, true, List, Ok, Err, length, drop, refl, sym, ap, ◌∙◌, subst, arith}
 use Rattle.std.proofs.lemmas.List.{length-map}
 use Rattle.std.proofs.lemmas.Result.{err_from_is_err_and}
 use Rattle.txs_reader.specs.declared.form.Form.{Form}
@@ -14,10 +14,10 @@ use Rattle.txs_expand.specs.Expressions.{bound_name, change_node, changing, flag
 use Rattle.txs_expression.specs.Walk.{IsWithin}
 use Rattle.txs_expression.specs.Given.{row, Pushes}
 use Rattle.txs_expression.specs.Made.{Makes}
-use Rattle.txs_expand.specs.Parts.{core_form, part_form, plain, special_form}
+use Rattle.txs_expand.specs.Parts.{CoreFits, PartFits, SpecialFits, core_form, part_form, plain, special_form}
 use Rattle.txs_expand.proofs.Rows.{roomless, roomy}
-use Rattle.txs_expression.proofs.Building.{all_end, all_nil, all_step, all_stop, bindings_end, bindings_odd, bindings_step, bindings_unbound, bindings_unvalued, bound_after, bound_nil, puts_more, puts_none, then_kept, unhidden, within_push}
-use Rattle.txs_expression.proofs.Fillings.{args_then, bound_filled, bound_halts, bound_stops, callee_stops, cell_stops, choice_filled, choice_halts, choice_stops, hidden_filled, hidden_full, hidden_stops, hidden_unvalued, named_core, named_stop, narrow_ok, of_form, of_form_stops, pair_filled, pair_stops, remade, row_filled, shown, single_filled}
+use Rattle.txs_expression.proofs.Building.{all_end, all_nil, all_step, all_stop, bindings_end, bindings_odd, bindings_step, bindings_unbound, bindings_unvalued, bound_after, bound_nil, kept_here, puts_more, puts_none, then_kept, unhidden, within_push}
+use Rattle.txs_expression.proofs.Fillings.{args_then, bound_filled, bound_halts, bound_stops, callee_stops, cell_stops, choice_filled, choice_halts, choice_stops, hidden_filled, hidden_full, hidden_stops, hidden_unvalued, named_core, named_stop, narrow_ok, narrow_wide, of_form, of_form_stops, pair_filled, pair_stops, remade, row_filled, shown, single_filled}
 use Rattle.txs_expression.proofs.expression.+resolve.Goals as goal
 
 -- ---- forms
@@ -422,3 +422,69 @@ expression-returns-in-Parted-clause-kept t c =
 pub expression-returns-in-Changing-clause-kept : goal.expression-returns-in-Changing-clause-kept
 expression-returns-in-Changing-clause-kept t c =
     c.changed.ensures.kept
+
+-- ---- what the calls need, and that they come to an end
+
+pub expression-returns-in-Whole-clause-kept : goal.expression-returns-in-Whole-clause-kept
+expression-returns-in-Whole-clause-kept t c = kept_here c.push_whole.result c.args.scope.now
+
+pub children-expression-requires : goal.children-expression-requires
+children-expression-requires t c =
+    let fits = subst (SpecialFits c.args.scope.now) c.in-Single.is c.requires.fits in
+    let low : 4 * c.inner-only.result.room + 3 < t = omega (arith, c.decreases, c.requires.room, ap (λ (s : Spot). s.room) c.inner-only.ensures) in
+    (low, fits)
+
+pub children-expression-requires-in-Pair : goal.children-expression-requires-in-Pair
+children-expression-requires-in-Pair t c =
+    let fits = subst (SpecialFits c.args.scope.now) c.in-Pair.is c.requires.fits in
+    let low : 4 * c.inner-value.result.room + 3 < t = omega (arith, c.decreases, c.requires.room, ap (λ (s : Spot). s.room) c.inner-value.ensures) in
+    (low, fits)
+
+pub children-expression-requires-in-Pair-2 : goal.children-expression-requires-in-Pair-2
+children-expression-requires-in-Pair-2 t c =
+    let low : 4 * c.inner-value.result.room + 3 < t = omega (arith, c.decreases, c.requires.room, ap (λ (s : Spot). s.room) c.inner-value.ensures) in
+    (low, tt)
+
+pub children-expression-requires-in-Choice : goal.children-expression-requires-in-Choice
+children-expression-requires-in-Choice t c =
+    let fits = subst (SpecialFits c.args.scope.now) c.in-Choice.is c.requires.fits in
+    let low : 4 * c.inner-value.result.room + 3 < t = omega (arith, c.decreases, c.requires.room, ap (λ (s : Spot). s.room) c.inner-value.ensures) in
+    (low, fits.0)
+
+pub children-expression-requires-in-Choice-2 : goal.children-expression-requires-in-Choice-2
+children-expression-requires-in-Choice-2 t c =
+    let fits = subst (SpecialFits c.args.scope.now) c.in-Choice.is c.requires.fits in
+    let low : 4 * c.inner-tail.result.room + 3 < t = omega (arith, c.decreases, c.requires.room, ap (λ (s : Spot). s.room) c.inner-tail.ensures) in
+    (low, subst (λ z. PartFits z c.in-Choice.one) (sym c.in_ok-expression-in-Choice.ensures.kept) fits.1)
+
+pub children-expression-requires-in-Choice-3 : goal.children-expression-requires-in-Choice-3
+children-expression-requires-in-Choice-3 t c =
+    let fits = subst (SpecialFits c.args.scope.now) c.in-Choice.is c.requires.fits in
+    let low : 4 * c.inner-tail.result.room + 3 < t = omega (arith, c.decreases, c.requires.room, ap (λ (s : Spot). s.room) c.inner-tail.ensures) in
+    (low, subst (λ z. PartFits z c.in-Choice.other) (sym (c.in_ok-expression-in-Choice-2.ensures.kept ∙ c.in_ok-expression-in-Choice.ensures.kept)) fits.2)
+
+pub children-expression-requires-in-Binding : goal.children-expression-requires-in-Binding
+children-expression-requires-in-Binding t c =
+    let low : 4 * c.inner-tail.result.room + 3 < t = omega (arith, c.decreases, c.requires.room, ap (λ (s : Spot). s.room) c.inner-tail.ensures) in
+    (low, tt)
+
+pub expression-push_whole-requires : goal.expression-push_whole-requires
+expression-push_whole-requires t c = subst (CoreFits c.args.scope.now) c.in-Whole.is c.in_ok-spot.ensures.fits
+
+pub expression-parted-requires : goal.expression-parted-requires
+expression-parted-requires t c =
+    let low : 4 * c.in_ok-spot.spot.room + 2 < t = omega (arith, c.decreases, ap (λ (s : Spot). s.room) c.in_ok-spot.ensures.spot) in
+    (low, subst (CoreFits c.args.scope.now) c.in-Parted.is c.in_ok-spot.ensures.fits)
+
+pub bindings-push-requires : goal.bindings-push-requires
+bindings-push-requires t c = c.in_ok-name.ensures.room
+
+pub items-returns-then-forms-ahead-clause-nodes : goal.items-returns-then-forms-ahead-clause-nodes
+items-returns-then-forms-ahead-clause-nodes t c =
+    narrow_wide (c.args.ahead + length c.args.forms.now) c.args.spot (named_all (named (c.args.spot.room - 1)) c.args.scope.now c.args.wanted c.args.last (plain c.args.forms.now)) (omega (arith, c.if-forms-ahead.true, c.requires.few))
+    ∙ ap (λ (x : ResolveError). Err x) (sym c.refusal.ensures)
+
+pub expression-changed-requires : goal.expression-changed-requires
+expression-changed-requires t c =
+    let low : 4 * c.in_ok-spot.spot.room + 2 < t = omega (arith, c.decreases, ap (λ (s : Spot). s.room) c.in_ok-spot.ensures.spot) in
+    (low, tt)

@@ -20,6 +20,10 @@ chosen turned m ns a b t x y z h =
     ∙ ap (λ (n : Node). choice_node turned (tree_of x) (tree_of n) (tree_of b) m) e.1
     ∙ ap (λ (n : Node). choice_node turned (tree_of x) (tree_of y) (tree_of n) m) e.2
 
+pub boxed_last-requires : goal.boxed_last-requires
+boxed_last-requires c =
+    omega (arith, c.requires, ap length c.in_ok-one.ensures, length-append c.last_two.new.nodes.items (c.in_ok-one.one.value ∷ c.in_ok-one.other.value ∷ []))
+
 pub returns-then-turned : goal.returns-then-turned
 returns-then-turned c x y z m is =
     let test = c.in_ok-test.test in

@@ -1,4 +1,5 @@
 use Rattle.std.proofs.Common.{◌≡◌, IfSome, subst, sym, ◌∙◌}
+use Rattle.std.proofs.lemmas.Bool.{false≢true}
 use Rattle.txs_tree.specs.View.{kind_tree}
 use Rattle.txs_tree.specs.declared.node.Node.{Node}
 use Rattle.txs_expand.specs.Expressions.{spot_mark}
@@ -15,4 +16,4 @@ returns-then-is_some c t made kept =
     (kept, put_behind before now t (was_some c.ok.result (IsBehind before now t) (sym c.is_some.ensures ∙ c.if-is_some.true) put))
 
 pub returns : goal.returns
-returns c t made kept = absurd cc
+returns c t made kept = absurd (false≢true (sym kept))

@@ -4,6 +4,7 @@ use Rattle.txs_value.specs.declared.value.Value.{Value}
 use Rattle.txs_value.specs.declared.value.Value.TheVariants.{Vector}
 use Rattle.txs_value.specs.PlainValue.{PlainValue, row_depth, plain_row}
 use Rattle.txs_value.specs.View.{plains_of}
+use Rattle.txs_value.proofs.ItemsLemmas.{length-plains_of}
 use Rattle.txs_reader.specs.declared.form.Bracket.TheVariants.{Square}
 use Rattle.txs_reader.specs.declared.form.Form.{Group, the_lemmas}
 use Rattle.txs_reader.specs.Tree.{tree}
@@ -87,3 +88,11 @@ pub literal-returns-in_ok-from_vec-in-Group-Square-default-default-clause-depth 
 literal-returns-in_ok-from_vec-in-Group-Square-default-default-clause-depth t c =
     let deep = subst (λ ds. row_depth (plain_row ds) ≤ c.args.room - 1) (sym c.in_ok-from_vec-in-Group-Square-default-default.ensures) c.in_ok-items-in-Group-Square-default-default.ensures.depth in
     omega (arith, c.if-room-eq0.false, deep)
+
+pub literal-from_vec-requires : goal.literal-from_vec-requires
+literal-from_vec-requires t c =
+    let forms = c.in-Group-Square-default-default.forms in
+    let made = c.in_ok-items-in-Group-Square-default-default in (
+      omega (arith, length-plains_of made.items.items, made.ensures.len, ap length c.deref.ensures.value, c.len.ensures, forms.ok, c.if-len-gt-MOST_ITEMS.false),
+      omega (arith, made.ensures.depth, c.requires, c.if-room-eq0.false),
+    )
