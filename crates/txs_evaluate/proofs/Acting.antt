@@ -1,10 +1,10 @@
 -- What the evaluator's parts give is what the meaning says: forms on cells, and the ends of transactions.
-use Rattle.std.proofs.Common.{◌≡◌, ℕ, zero, suc, ◌+◌, ◌<◌, ◌==◌, Bool, true, false, if◌then◌else◌, List, [], ◌∷◌, ◌++◌, length, get_or, drop, Some, None, Result, Ok, Err, MatchResult, refl, sym, ap, ◌∙◌, subst, arith}
+use Rattle.std.proofs.Common.{◌≡◌, ℕ, zero, suc, ◌+◌, ◌<◌, ◌==◌, Bool, true, false, if◌then◌else◌, List, [], ◌∷◌, ◌++◌, length, get_or, drop, Some, None, Result, Ok, Err, MatchResult, refl, sym, ap, ◌∙◌, subst, arith, Option}
 use Rattle.std.proofs.lemmas.List.{drop_more}
 use Rattle.txs_asks.specs.Ask.{Writes, buffered, with_write}
 use Rattle.txs_frame.specs.Frame.{Work, commuted, set_writes, commutes_of, by_ref, phase_work}
 use Rattle.txs_frame.specs.declared.frame.Commute.{Commute}
-use Rattle.txs_evaluate.specs.Evaluated.{part, is_on, Yields, SoundCommutes, acts, act_means, inside_means, outside_means, quiet, redone_means, final_means, thread_state}
+use Rattle.txs_evaluate.specs.Evaluated.{part, is_on, Yields, SoundCommutes, acts, applied, act_means, inside_means, outside_means, quiet, redone_means, final_means, thread_state}
 use Rattle.txs_eval_work.specs.Worked.{Stops, Gives, Told, ToldOf, tx_state}
 use Rattle.txs_tree.specs.Known.{Known}
 use Rattle.txs_tree.specs.Meaning.{Completion, Completes, bind, Applies, Effects, apply, call_at}
@@ -13,7 +13,7 @@ use Rattle.txs_tree.specs.Sound.{SoundCallee, SoundFunctions}
 use Rattle.txs_tree.specs.Transaction.{value_or, valued, merged, redone, commute_writes, final_writes}
 use Rattle.txs_tree.specs.Tree.{Mark}
 use Rattle.txs_tree.specs.View.{functions_of}
-use Rattle.txs_eval_work.specs.Views.{PlainView, world_of}
+use Rattle.txs_eval_work.specs.Views.{PlainView, or_nil, world_of}
 use Rattle.txs_evaluate.specs.declared.shape.Act.{Act}
 use Rattle.txs_evaluate.specs.declared.state.State.{State}
 use Rattle.txs_eval_work.specs.declared.stop.ThreadStop.{ThreadStop}
@@ -97,6 +97,23 @@ module _ (x : Setting) (span : Span) (cs : List Commute) (i : ℕ) (c : Commute)
 
   pub redone_more : (us : Writes) → redone_means x span (c ∷ []) ws ≡ Completes us tt → redone_means x span (drop i cs) ws ≡ redone_means x span (drop (i + 1) cs) us
   redone_more us h = redone_next ∙ ap (λ d. bind d (λ vs t. redone (quiet x span) (drop (i + 1) cs) vs t)) h
+
+nil_same : (o : Option Value) → or_nil o ≡ value_or o Nil
+nil_same None = refl
+nil_same (Some v) = refl
+
+-- one commute, whose callee stops or gives this
+module _ (x : Setting) (span : Span) (c : Commute) (ws : Writes) where
+  abbrev begun_with : Value
+  begun_with = value_or (buffered ws c.cell.number) Nil
+
+  pub redone_unmade : (v : Value) (y : ThreadStop) → v ≡ or_nil (buffered ws c.cell.number) → Told {A = Value} (Err y) (applied x c.callee (v ∷ c.args) span) → Told {A = Writes} (Err y) (redone_means x span (c ∷ []) ws)
+  redone_unmade v y is h =
+      stops_bind true y tt (applied x c.callee (begun_with ∷ c.args) span) (λ w t. Completes (with_write ws c.cell w) t) (subst (λ u. Told {A = Value} (Err y) (applied x c.callee (u ∷ c.args) span)) (is ∙ nil_same (buffered ws c.cell.number)) h)
+
+  pub redone_made : (v w : Value) (now : Writes) → v ≡ or_nil (buffered ws c.cell.number) → applied x c.callee (v ∷ c.args) span ≡ Completes w tt → now ≡ with_write ws c.cell w → redone_means x span (c ∷ []) ws ≡ Completes now tt
+  redone_made v w now is made put =
+      ap (λ d. bind d (λ u t. Completes (with_write ws c.cell u) t)) (ap (λ u. applied x c.callee (u ∷ c.args) span) (sym (is ∙ nil_same (buffered ws c.cell.number))) ∙ made) ∙ ap (λ us. Completes us tt) (sym put)
 
 -- the commutes of the phase are among all
 pub phase_sound : (ks : List Known) (w : Work) (cs : List Commute) → cs ≡ phase_work w → SoundCommutes ks w.commutes → SoundCommutes ks cs

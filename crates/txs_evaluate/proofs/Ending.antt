@@ -10,7 +10,7 @@ use Rattle.txs_evaluate.specs.Evaluated.{Yields, Ate, EatsNone, BodyStops, Runs,
 use Rattle.txs_eval_work.specs.Worked.{Stops, Gives, Told, ToldOf, tx_state}
 use Rattle.txs_evaluate.specs.Events.{seen_event}
 use Rattle.txs_tree.specs.Meaning.{Completion, Completes, Recurs, Faults, Retries, Waits, OutOfTurns, Invalid, bind, closed, Applies, apply, eval}
-use Rattle.txs_evaluate.specs.Setting.{Setting, callable, on_view}
+use Rattle.txs_evaluate.specs.Setting.{Setting, callable, on_view, zone_on}
 use Rattle.txs_tree.specs.Sound.{SoundFunctions, SoundTree, in_dosync}
 use Rattle.txs_tree.specs.Thread.{TxRun, ThreadState, Transacting, over, faultless, faulted, meant, with_tx, run_of, ends_tx, is_retry, eats_tx}
 use Rattle.txs_tree.specs.Transaction.{TxState, tx_start, final_writes}
@@ -297,6 +297,11 @@ module _ (d : Transacting) (f : Applies ThreadState) where
   eats_none k Memory t u h = absurd h
 
 -- ---- a dosync in a transaction, or outside
+
+-- where a transaction runs
+pub zone_running : (o : Option PlainView) → is_on o ≡ true → zone_on o ≡ in_dosync
+zone_running None on = absurd (false≢true on)
+zone_running (Some r) on = refl
 
 pub running : (o : Option RefView) (q : Option PlainView) → plain_world o ≡ q → is_on q ≡ is_some o
 running None q is = ap is_on (sym is)

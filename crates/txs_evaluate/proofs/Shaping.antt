@@ -1,5 +1,7 @@
 -- A node by how it is evaluated: what is sound of its parts, how many they are, and what it means.
 use Rattle.std.proofs.Common.{◌≡◌, ℕ, ◌+◌, ◌*◌, ◌<◌, List, Option, None, Result, Ok, Err, MatchResult, OnOk, refl, sym, ap, ◌∙◌, subst, arith}
+use Rattle.std.specs.Prelude.{IsErrAnd}
+use Rattle.std.proofs.lemmas.Result.{err_from_is_err_and}
 use Rattle.txs_value.specs.declared.value.Value.{Value}
 use Rattle.txs_tree.specs.Known.{Known}
 use Rattle.txs_tree.specs.Meaning.{Completion, Completes}
@@ -31,10 +33,20 @@ pub stepped : (x : Setting) (r : Result Value ThreadStop) (s : Result Step Threa
 stepped x (Ok v) s st c is h = subst (λ z. Steps x z st c) (sym is) h
 stepped x (Err y) s st c is h = subst (λ z. Steps x z st c) (sym is) h
 
+-- a stop that is handed on
+pub halted : {A : Type 0} (r : Result A ThreadStop) (y : ThreadStop) → IsErrAnd r (λ e. e ≡ y) → r ≡ Err y
+halted r y h =
+    let p = err_from_is_err_and r h in
+    p.1 ∙ ap (λ (e : ThreadStop). Err e) p.2
+
 -- what holds whatever is given holds where a value is given
 pub kept_by : {V P : Type 0} (r : Result V ThreadStop) → P → OnOk r P
 kept_by (Ok v) h = h
 kept_by (Err y) h = tt
+
+pub kept_then : {V : Type 0} (P Q : Type 0) (r : Result V ThreadStop) → OnOk r P → (P → Q) → OnOk r Q
+kept_then P Q (Ok v) h go = go h
+kept_then P Q (Err y) h go = tt
 
 pub kept_as : (P : Type 0) (r : Result Value ThreadStop) (s : Result Step ThreadStop) → s ≡ step_of r → OnOk r P → OnOk s P
 kept_as P (Ok v) s is h = subst (λ z. OnOk z P) (sym is) h

@@ -90,6 +90,9 @@ pub(crate) fn close<'a>(
     match closes_as(kind, last, run.work.done.sends()) {
         Closing::Refused => thread.refuse(run, span),
         Closing::Committed => thread.note(run),
-        Closing::Stopped(stop) => Err(stop),
+        Closing::Stopped(stop) => {
+            drop(run);
+            Err(stop)
+        }
     }
 }

@@ -542,14 +542,20 @@ fn run_body<'a>(
     let inner = context.on(world);
     let copies = copy_locals(alloc, locals.as_slice())?;
     let mut state = State::new(alloc, &[]);
-    let result = evaluate(alloc, &inner, dosync.body, locals, &mut state)?;
-    Ok(Transacted {
-        body: dosync.body,
-        locals: Listed::from_vec(copies),
-        wanted: dosync.wanted,
-        result,
-        work: state.into_tx(),
-    })
+    match evaluate(alloc, &inner, dosync.body, locals, &mut state) {
+        Ok(value) => Ok(Transacted {
+            body: dosync.body,
+            locals: Listed::from_vec(copies),
+            wanted: dosync.wanted,
+            result: value,
+            work: state.into_tx(),
+        }),
+        Err(stop) => {
+            drop(state);
+            drop(copies);
+            Err(stop)
+        }
+    }
 }
 
 /// The final writes: each ref that was set has its value, each other commuted ref what its commutes make of the world.

@@ -102,7 +102,13 @@ impl<'a> Progress<'a> {
     pub(crate) fn note(&mut self, run: Transacted<'a>) -> Result<Value, ThreadStop>
         ensures { MatchResult result (λ v. (v ≡ run.entry.result) × (thread_state self.new ≡ with_tx (tx_run run.entry) (thread_state self.old))) (λ y. y ≡ Memory) }
     {
-        let value = copy_value(&run.result)?;
+        let value = match copy_value(&run.result) {
+            Ok(value) => value,
+            Err(_) => {
+                drop(run);
+                return Err(ThreadStop::Memory);
+            }
+        };
         self.txs.push(run)?;
         Ok(value)
     }

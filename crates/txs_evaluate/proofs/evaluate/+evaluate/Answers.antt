@@ -1,6 +1,6 @@
 use Rattle.std.proofs.Common.{rules, suc, ◌≡◌, ◌+◌, ◌-◌, ◌*◌, ◌<◌, ◌≤◌, true, false, [], ◌∷◌, ◌++◌, length, take, drop, Ok, Err, None, Some, OnOk, MatchResult, is_some, option_copied, Vec, Global, zero-add, sym, ap, ◌∙◌, subst, subst₂, refl, arith}
-use Rattle.std.proofs.lemmas.List.{append-nil, drop_all, length_push, length-drop}
-use Rattle.txs_asks.specs.Ask.{Writes}
+use Rattle.std.proofs.lemmas.List.{append-nil, drop_all, length_push, length-drop, take_all}
+use Rattle.txs_asks.specs.Ask.{Writes, buffered}
 use Rattle.txs_asks.specs.SeenEvent.{home}
 use Rattle.txs_frame.specs.Frame.{phase_work, set_writes}
 use Rattle.txs_operations.specs.Core.{is_false}
@@ -18,16 +18,16 @@ use Rattle.txs_tree.specs.Thread.{reads, sends}
 use Rattle.txs_tree.specs.Transaction.{merged}
 use Rattle.txs_tree.specs.Tree.{count}
 use Rattle.txs_tree.specs.View.{tree_of, trees_of, mark_of, function_of, functions_of}
-use Rattle.txs_eval_work.specs.Views.{PlainView, plain_view, plain_world}
-use Rattle.txs_evaluate.proofs.Acting.{acted_inside, acted_outside, sound_at, redone_stop, redone_more, phase_sound, finals_stop, finals_done}
+use Rattle.txs_eval_work.specs.Views.{PlainView, or_nil, plain_view, plain_world}
+use Rattle.txs_evaluate.proofs.Acting.{redone_made, redone_unmade, acted_inside, acted_outside, sound_at, redone_stop, redone_more, phase_sound, finals_stop, finals_done}
 use Rattle.txs_evaluate.proofs.Called.{in_room, room, room-deeper, room_on, depth_left, is_function, as_many, called_body, pure_here}
 use Rattle.txs_evaluate.proofs.Counting.{item_smaller, nodes-some, nodes-last}
-use Rattle.txs_evaluate.proofs.Ending.{body_stop, body_done, body_keeps, ended_unrun, ended_closed, ends_viewed, ends_unviewed, end_stops, running, joined, begun}
+use Rattle.txs_evaluate.proofs.Ending.{zone_running, body_stop, body_done, body_keeps, ended_unrun, ended_closed, ends_viewed, ends_unviewed, end_stops, running, joined, begun}
 use Rattle.txs_evaluate.proofs.Evaluation.{StopsAt, collects, collects-start, cell_stop, if_stop, strict_stop, strict_done, rebound, stops_steps, stops_gives, local_done, all_more, all_stop, do_stop, do_done, locals_more, locals_stop, let_stop, let_done, loop_stop, loop_done, turn_value, turn_stop, turn_recur, take_kept, called, if_goes, args_stop, acted, const_done}
 use Rattle.txs_evaluate.proofs.Forms.{untaken_inside, untaken_outside, uneaten_outside, gives_at, reset_eaten, send_home, updates_ref, update_takes, update_unbegun, update_stop, update_done, update_inside, called_alone, core_done, vector_done, call_done, print_done, swap_stop, swap_done, put_inside, send_inside, put_outside, update_outside, put_takes, look_inside, look_outside, send_outside}
 use Rattle.txs_evaluate.proofs.Recurs.{recurs_many, never_recurs}
 use Rattle.txs_tree.proofs.Soundness.{SoundAll-from, SoundLet-from, SoundDo-parts, count-from}
-use Rattle.txs_evaluate.proofs.Shaping.{kept_by, kept_as, copied, stepped, strict_sound, strict_smaller, strict_finishes, strict_whole, form_sound, form_smaller, form_whole}
+use Rattle.txs_evaluate.proofs.Shaping.{halted, kept_by, kept_then, kept_as, copied, stepped, strict_sound, strict_smaller, strict_finishes, strict_whole, form_sound, form_smaller, form_whole}
 use Rattle.txs_evaluate.specs.Shapes.{IsShape, form_of_act}
 use Rattle.txs_eval_work.specs.declared.stop.ThreadStop.TheVariants.{Memory}
 use Rattle.txs_evaluate.proofs.evaluate.+evaluate.Goals as goal
@@ -49,7 +49,7 @@ pub call-run_turns-requires : goal.call-run_turns-requires
 call-run_turns-requires t c =
     let s = c.args.context.now in
     let fun = function_of c.function-function.result.now in
-    let number : c.from.result ≡ c.args.number = search rules in
+    let number : c.from.result ≡ c.args.number = c.from.ensures in
     let there : nth (functions_of s.functions) c.args.number ≡ Some fun = subst (λ f. nth (functions_of s.functions) f ≡ Some fun) number c.function-function.ensures.value in
     let left = depth_left s c.args.number (length c.args.values.items) c.requires in
     let sound = called_body s c.args.number (length c.args.values.items) c.requires fun c.function-function.ensures.sound there in
@@ -62,7 +62,7 @@ call-returns t c =
     let s = c.args.context.now in
     let fun = function_of c.function-function.result.now in
     let vs = c.args.values.items in
-    let number : c.from.result ≡ c.args.number = search rules in
+    let number : c.from.result ≡ c.args.number = c.from.ensures in
     let there : nth (functions_of s.functions) c.args.number ≡ Some fun = subst (λ f. nth (functions_of s.functions) f ≡ Some fun) number c.function-function.ensures.value in
     let left = depth_left s c.args.number (length vs) c.requires in
     let as_given : length vs ≡ length vs - 0 = omega arith in
@@ -93,7 +93,7 @@ evaluate_all-returns-in_err-value-clause-value t c =
     let y = c.in_err-value.field-0.0 in
     let rest = all_stop n c.args.nodes.now c.loop-node.node-index c.node-item.result c.loop-node-test.true c.node-item.is c.args.locals.now.items c.loop-node.locals.items c.loop-node.state out c.loop-node.invariant.0 c.loop-node.values.items y c.in_err-value.ensures.value in
     let whole = subst (λ m. StopsAt n y out m) (sym c.loop-node.invariant.3) rest in
-    let err : c.from_residual.result ≡ Err y = search rules in
+    let err : c.from_residual.result ≡ Err y = halted c.from_residual.result y c.from_residual.ensures.1 in
     subst (λ r. GivesAll n (λ (v : Vec Value Global). v.items) r out (all_mean n (trees_of c.args.nodes.now) c.args.locals.now.items c.args.state.now)) (sym err) whole
 
 pub evaluate_all-loop-node-preserved : goal.evaluate_all-loop-node-preserved
@@ -134,7 +134,7 @@ evaluate_do-returns-in_err-evaluate_all-clause-value t c =
     let out = c.evaluate_all.new.state in
     let y = c.in_err-evaluate_all.field-0.0 in
     let whole : c.args.nodes.now ≡ c.in-Some.before.now ++ c.in-Some.last.now ∷ [] = c.in-Some.ensures.cases.0 in
-    let stopped : c.from_residual.result ≡ Err y = search rules in
+    let stopped : c.from_residual.result ≡ Err y = halted c.from_residual.result y c.from_residual.ensures.1 in
     stops_steps (is_on n.world) c.from_residual.result y (part n.world out) (do_means n (trees_of c.args.nodes.now) env c.args.state.now) stopped
     (do_stop n c.in-Some.before.now c.args.nodes.now c.in-Some.last.now env c.args.state.now whole (λ (vs : Vec Value Global). vs.items) y out c.in_err-evaluate_all.ensures.value)
 
@@ -204,7 +204,7 @@ run_turns-returns-in_err-value-clause-value t c =
     let many : length (drop b now) ≡ d = length-drop b now ∙ ap (λ l. l - b) c.loop-turn.invariant.1 in
     let y = c.in_err-value.field-0.0 in
     let rest = turn_stop n body b d k m (take b old) now out later left c.loop-turn.invariant.0 many y c.in_err-value.ensures.value in
-    stops_gives (λ v. v) (is_on n.world) c.from_residual.result y (part n.world later) (turns_mean n n.turns d body (take b old) (drop b old) c.args.state.now) (search rules) (subst (λ w. StopsAt n y later w) (sym c.loop-turn.invariant.2) rest)
+    stops_gives (λ v. v) (is_on n.world) c.from_residual.result y (part n.world later) (turns_mean n n.turns d body (take b old) (drop b old) c.args.state.now) (halted c.from_residual.result y c.from_residual.ensures.1) (subst (λ w. StopsAt n y later w) (sym c.loop-turn.invariant.2) rest)
 
 pub run_turns-returns-in-Value-clause-value : goal.run_turns-returns-in-Value-clause-value
 run_turns-returns-in-Value-clause-value t c =
@@ -272,7 +272,7 @@ bind_locals-returns-in_err-value-clause-value t c =
     let now = c.loop-node.locals.items in
     let rest = locals_stop n c.args.nodes.now c.loop-node.node-index c.node-item.result c.loop-node-test.true c.node-item.is now now c.loop-node.state out refl y c.in_err-value.ensures.value in
     let whole = subst (λ m. StopsAt n y out m) (sym c.loop-node.invariant.3) rest in
-    stops_gives _ (is_on n.world) c.from_residual.result y (part n.world out) (locals_mean n (trees_of c.args.nodes.now) c.args.locals.now.items c.args.state.now) (search rules) whole
+    stops_gives _ (is_on n.world) c.from_residual.result y (part n.world out) (locals_mean n (trees_of c.args.nodes.now) c.args.locals.now.items c.args.state.now) (halted c.from_residual.result y c.from_residual.ensures.1) whole
 
 pub bind_locals-loop-node-preserved : goal.bind_locals-loop-node-preserved
 bind_locals-loop-node-preserved t c =
@@ -300,7 +300,7 @@ evaluate_let-returns-in_err-bind_locals-clause-value t c =
     let es = trees_of c.args.nodes.now in
     let body = tree_of c.args.body.now in
     let out = c.bind_locals.new.state in
-    stops_steps (is_on c.args.context.now.world) c.from_residual.result y (part c.args.context.now.world out) (let_means c.args.context.now es body c.args.locals.now.items c.args.state.now) (search rules)
+    stops_steps (is_on c.args.context.now.world) c.from_residual.result y (part c.args.context.now.world out) (let_means c.args.context.now es body c.args.locals.now.items c.args.state.now) (halted c.from_residual.result y c.from_residual.ensures.1)
     (let_stop c.args.context.now es body c.args.locals.now.items c.args.state.now y out c.in_err-bind_locals.ensures.value)
 
 pub evaluate_loop-bind_locals-requires : goal.evaluate_loop-bind_locals-requires
@@ -315,7 +315,7 @@ evaluate_loop-returns-in_err-bind_locals-clause-value t c =
     let es = trees_of c.args.nodes.now in
     let body = tree_of c.args.body.now in
     let out = c.bind_locals.new.state in
-    stops_steps (is_on c.args.context.now.world) c.from_residual.result y (part c.args.context.now.world out) (loop_means c.args.context.now es body c.args.locals.now.items c.args.state.now) (search rules)
+    stops_steps (is_on c.args.context.now.world) c.from_residual.result y (part c.args.context.now.world out) (loop_means c.args.context.now es body c.args.locals.now.items c.args.state.now) (halted c.from_residual.result y c.from_residual.ensures.1)
     (loop_stop c.args.context.now es body c.args.locals.now.items c.args.state.now y out c.in_err-bind_locals.ensures.value)
 
 pub run_turns-returns-in-Value-clause-kept : goal.run_turns-returns-in-Value-clause-kept
@@ -330,7 +330,7 @@ act_inside-returns-in_err-cell t c =
     let y = c.in_err-cell.field-0.0 in
     let before = tx_state c.args.tx.now in
     let told = subst (λ f. Told {A = CellId} (Err y) (result_of (cell_of (rule f) true c.args.value.now) c.args.span tt)) c.form.ensures c.in_err-cell.ensures in
-    stops_gives (λ v. v) true c.from_residual.result y before (inside_means x r c.args.act m c.args.value.now c.args.args.items before) (search rules) (untaken_inside x r m c.args.value.now before c.args.act c.args.args.items y c.requires told)
+    stops_gives (λ v. v) true c.from_residual.result y before (inside_means x r c.args.act m c.args.value.now c.args.args.items before) (halted c.from_residual.result y c.from_residual.ensures.1) (untaken_inside x r m c.args.value.now before c.args.act c.args.args.items y c.requires told)
 
 pub act_outside-returns-in_err-cell : goal.act_outside-returns-in_err-cell
 act_outside-returns-in_err-cell t c =
@@ -338,7 +338,7 @@ act_outside-returns-in_err-cell t c =
     let y = c.in_err-cell.field-0.0 in
     let before = thread_state c.args.thread.now in
     let told = subst (λ f. Told {A = CellId} (Err y) (result_of (cell_of (rule f) false c.args.value.now) c.args.span tt)) c.form.ensures c.in_err-cell.ensures in
-    λ wanted. stops_gives (λ v. v) false c.from_residual.result y before (outside_means x c.args.act (mark_of c.args.span wanted) c.args.value.now c.args.args.items before) (search rules)
+    λ wanted. stops_gives (λ v. v) false c.from_residual.result y before (outside_means x c.args.act (mark_of c.args.span wanted) c.args.value.now c.args.args.items before) (halted c.from_residual.result y c.from_residual.ensures.1)
     (untaken_outside x (mark_of c.args.span wanted) c.args.value.now before c.args.act c.args.args.items y c.requires told)
 
 pub act_outside-returns-in_err-event : goal.act_outside-returns-in_err-event
@@ -348,7 +348,7 @@ act_outside-returns-in_err-event t c =
     let before = thread_state c.args.thread.now in
     let after = thread_state c.eat.new.self in
     let told = subst (λ f. Told (Ok c.in_ok-cell.cell) (result_of (cell_of (rule f) false c.args.value.now) c.args.span tt)) c.form.ensures c.in_ok-cell.ensures in
-    let stopped : c.from_residual-in_err-event.result ≡ Err y = search rules in
+    let stopped : c.from_residual-in_err-event.result ≡ Err y = halted c.from_residual-in_err-event.result y c.from_residual-in_err-event.ensures.1 in
     λ wanted. stops_gives (λ v. v) false c.from_residual-in_err-event.result y after (outside_means x c.args.act (mark_of c.args.span wanted) c.args.value.now c.args.args.items before) stopped
     (uneaten_outside x (mark_of c.args.span wanted) c.args.value.now before c.in_ok-cell.cell after c.args.act c.args.args.items y c.home.result c.home.ensures c.requires told c.in_err-event.ensures)
 
@@ -379,7 +379,7 @@ evaluate_form-returns-in_err-args-clause-value t c =
     let v = c.in_ok-cell.cell in
     let y = c.in_err-args.field-0.0 in
     let out2 = c.evaluate_all.new.state in
-    stops_steps (is_on x.world) c.from_residual-in_err-args.result y (part x.world out2) (form_means x c.args.act m cell args env out) (search rules)
+    stops_steps (is_on x.world) c.from_residual-in_err-args.result y (part x.world out2) (form_means x c.args.act m cell args env out) (halted c.from_residual-in_err-args.result y c.from_residual-in_err-args.ensures.1)
     (args_stop x c.args.act m cell args env out v out1 c.in_ok-cell.ensures.value c.evaluate.new.locals.items c.in_ok-cell.ensures.kept (λ (vs : Vec Value Global). vs.items) y out2 c.in_err-args.ensures.value)
 
 pub evaluate_if-returns-clause-value : goal.evaluate_if-returns-clause-value
@@ -660,38 +660,35 @@ finish-returns-in-Println t c =
     let after = record before { thread = record before.thread { printed = c.print_line.new.printed } } in
     print_done c.args.context.now c.args.strict c.args.span c.args.values.items before c.print_line.result c.as_step-in-Println.result c.as_step-in-Println.ensures c.print_line.new.printed.items c.in-Println.is c.requires after refl c.print_line.ensures
 
-pub run_body-returns-in_err-result-clause-value : goal.run_body-returns-in_err-result-clause-value
-run_body-returns-in_err-result-clause-value t c =
+pub run_body-returns-in-Err-clause-value : goal.run_body-returns-in-Err-clause-value
+run_body-returns-in-Err-clause-value t c =
     let x = c.args.context.now in
     let body = tree_of c.args.dosync.body.now in
     let env = c.args.locals.now.items in
     let w = plain_view c.args.world in
-    let y = c.in_err-result.field-0.0 in
-    let stopped : c.from_residual-in_err-result.result ≡ Err y = search rules in
-    let stops = body_stop x c.on-inner.result w c.on-inner.ensures body env c.new-state.result c.new-state.ensures.tx y c.evaluate.new.state c.in_err-result.ensures.value in
-    subst (λ q. Runs q (mark_of c.args.dosync.span c.args.dosync.wanted) body env (body_means x body env w)) (sym stopped) stops
+    body_stop x c.on-inner.result w c.on-inner.ensures body env c.new-state.result c.new-state.ensures.tx c.in-Err.stop c.evaluate.new.state c.in-Err.ensures.value
 
-pub run_body-returns-clause-value : goal.run_body-returns-clause-value
-run_body-returns-clause-value t c =
+pub run_body-returns-in-Ok-clause-value : goal.run_body-returns-in-Ok-clause-value
+run_body-returns-in-Ok-clause-value t c =
     let x = c.args.context.now in
     let m = mark_of c.args.dosync.span c.args.dosync.wanted in
     let body = tree_of c.args.dosync.body.now in
     let env = c.args.locals.now.items in
     let w = plain_view c.args.world in
-    let v = c.in_ok-result.result in
+    let v = c.in-Ok.value in
     let copied : c.from_vec.result ≡ env = search rules in (
-      body_done x c.on-inner.result w c.on-inner.ensures body env c.new-state.result c.new-state.ensures.tx v c.evaluate.new.state c.in_ok-result.ensures.value ∙ ap (λ k. Completes v (tx_state k)) (sym c.into_tx.ensures),
+      body_done x c.on-inner.result w c.on-inner.ensures body env c.new-state.result c.new-state.ensures.tx v c.evaluate.new.state c.in-Ok.ensures.value ∙ ap (λ k. Completes v (tx_state k)) (sym c.into_tx.ensures),
       ap (λ l. record { body = body; locals = l; wanted = m.wanted; result = v; state = tx_state c.into_tx.result }) copied,
     )
 
-pub run_body-returns-clause-sound : goal.run_body-returns-clause-sound
-run_body-returns-clause-sound t c =
+pub run_body-returns-in-Ok-clause-sound : goal.run_body-returns-in-Ok-clause-sound
+run_body-returns-in-Ok-clause-sound t c =
     let x = c.args.context.now in
     let body = tree_of c.args.dosync.body.now in
     let env = c.args.locals.now.items in
     let w = plain_view c.args.world in
-    let v = c.in_ok-result.result in
-    let keeps = body_keeps x c.on-inner.result w c.on-inner.ensures body env c.new-state.result c.new-state.ensures.tx c.is_sound.ensures (length env) v c.evaluate.new.state c.requires c.in_ok-result.ensures.value in
+    let v = c.in-Ok.value in
+    let keeps = body_keeps x c.on-inner.result w c.on-inner.ensures body env c.new-state.result c.new-state.ensures.tx c.is_sound.ensures (length env) v c.evaluate.new.state c.requires c.in-Ok.ensures.value in
     subst (λ k. SoundCommutes (callable x) k.done.commutes) (sym c.into_tx.ensures) keeps
 
 pub eat_dosync-returns-in-None-clause-value : goal.eat_dosync-returns-in-None-clause-value
@@ -728,7 +725,7 @@ eat_dosync-returns-in_err-event-clause-value t c =
     let body = tree_of c.args.dosync.body.now in
     let env = c.args.locals.now.items in
     let y = c.in_err-event.field-0.0 in
-    stops_gives (λ v. v) false c.from_residual.result y (thread_state c.end_of_tx.new.self) (eat_means x (suc reruns) m body env (thread_state c.args.thread.now)) (search rules) (c.in_err-event.ensures (transacting x m body env) (at_end x m.span) refl)
+    stops_gives (λ v. v) false c.from_residual.result y (thread_state c.end_of_tx.new.self) (eat_means x (suc reruns) m body env (thread_state c.args.thread.now)) (halted c.from_residual.result y c.from_residual.ensures.1) (c.in_err-event.ensures (transacting x m body env) (at_end x m.span) refl)
 
 pub update_inside-returns-in_err-value : goal.update_inside-returns-in_err-value
 update_inside-returns-in_err-value t c =
@@ -738,7 +735,7 @@ update_inside-returns-in_err-value t c =
     let y = c.in_err-value.field-0.0 in
     let before = tx_state c.args.tx.now in
     let after = tx_state c.begin_update.new.self in
-    stops_gives (λ v. v) true c.from_residual.result y after (update_means x r c.args.form c.args.callee c.args.cell c.args.args.items m before) (search rules)
+    stops_gives (λ v. v) true c.from_residual.result y after (update_means x r c.args.form c.args.callee c.args.cell c.args.args.items m before) (halted c.from_residual.result y c.from_residual.ensures.1)
     (update_unbegun x c.is_sound.ensures r c.args.form c.args.callee c.args.cell c.args.args.items m y before after c.in_err-value.ensures)
 
 pub update_inside-returns-in_err-new : goal.update_inside-returns-in_err-new
@@ -751,7 +748,7 @@ update_inside-returns-in_err-new t c =
     let before = tx_state c.args.tx.now in
     let after = tx_state c.begin_update.new.self in
     let told = subst (λ us. Told {A = Value} (Err y) (applied x c.args.callee (v ∷ us) c.args.span)) c.as_slice.ensures.value c.in_err-new.ensures in
-    stops_gives (λ v. v) true c.from_residual-in_err-new.result y after (update_means x r c.args.form c.args.callee c.args.cell c.args.args.items m before) (search rules)
+    stops_gives (λ v. v) true c.from_residual-in_err-new.result y after (update_means x r c.args.form c.args.callee c.args.cell c.args.args.items m before) (halted c.from_residual-in_err-new.result y c.from_residual-in_err-new.ensures.1)
     (update_stop x c.is_sound.ensures r c.args.form c.args.callee c.args.cell c.args.args.items m before after v c.requires.callee c.in_ok-value.ensures y told)
 
 pub update_inside-returns : goal.update_inside-returns
@@ -791,13 +788,13 @@ pub swap-returns-in_err-world : goal.swap-returns-in_err-world
 swap-returns-in_err-world t c =
     let x = c.args.context.now in
     let y = c.in_err-world.field-0.0 in
-    let stopped : c.from_residual.result ≡ Err y = search rules in
+    let stopped : c.from_residual.result ≡ Err y = halted c.from_residual.result y c.from_residual.ensures.1 in
     λ book before after eaten is. stops_gives (λ v. v) false c.from_residual.result y after (swap_means x c.args.callee c.args.cell c.args.args.now c.args.span before) stopped
     (swap_stop x c.is_sound.ensures c.args.callee c.args.cell c.args.args.now c.args.span before after book y is (c.in_err-world.ensures book before after eaten))
 
 pub swap-returns-in_err-value : goal.swap-returns-in_err-value
 swap-returns-in_err-value t c =
-    let stopped : c.from_residual-in_err-value.result ≡ Err Memory = search rules in
+    let stopped : c.from_residual-in_err-value.result ≡ Err Memory = halted c.from_residual-in_err-value.result Memory c.from_residual-in_err-value.ensures.1 in
     λ book before after eaten is. stops_gives (λ v. v) false c.from_residual-in_err-value.result Memory after (swap_means c.args.context.now c.args.callee c.args.cell c.args.args.now c.args.span before) stopped tt
 
 pub swap-returns : goal.swap-returns
@@ -854,7 +851,7 @@ final_writes-returns-in_err-redo t c =
     let w = c.args.done.now in
     let r = plain_view c.args.world in
     let y = c.in_err-redo.field-0.0 in
-    stops_gives (λ (us : Vec (CellId × Value) Global). us.items) true c.from_residual-in_err-redo.result y tt (final_means x w r c.args.span) (search rules)
+    stops_gives (λ (us : Vec (CellId × Value) Global). us.items) true c.from_residual-in_err-redo.result y tt (final_means x w r c.args.span) (halted c.from_residual-in_err-redo.result y c.from_residual-in_err-redo.ensures.1)
     (finals_stop x c.args.span w r c.in_ok-writes.writes.items c.in_ok-writes.ensures y c.in_err-redo.ensures)
 
 pub final_writes-returns : goal.final_writes-returns
@@ -881,7 +878,7 @@ redo-returns-in_err-redo_one t c =
     let cs = c.as_slice-commutes.result.now in
     let y = c.in_err-redo_one.field-0.0 in
     let rest = redone_stop x c.args.span cs c.loop-commute.commute-index c.commute-item.result c.loop-commute-test.true c.commute-item.is c.loop-commute.writes.items y c.in_err-redo_one.ensures in
-    stops_gives _ true c.from_residual-in_err-redo_one.result y tt (redone_means x c.args.span (phase_work c.args.done.now) c.args.writes.now.items) (search rules) (subst (λ q. Told {A = Writes} (Err y) q) (sym c.loop-commute.invariant) rest)
+    stops_gives _ true c.from_residual-in_err-redo_one.result y tt (redone_means x c.args.span (phase_work c.args.done.now) c.args.writes.now.items) (halted c.from_residual-in_err-redo_one.result y c.from_residual-in_err-redo_one.ensures.1) (subst (λ q. Told {A = Writes} (Err y) q) (sym c.loop-commute.invariant) rest)
 
 pub redo-loop-commute-preserved : goal.redo-loop-commute-preserved
 redo-loop-commute-preserved t c =
@@ -945,7 +942,7 @@ evaluate-returns-in_err-value-clause-value t c =
     let x = c.args.context.now in
     let y = c.in_err-value.field-0.0 in
     let out = c.evaluate_tail.new.state in
-    stops_gives (λ v. v) (is_on x.world) c.from_residual.result y (part x.world out) (means x (tree_of c.args.node.now) c.args.locals.now.items c.args.state.now) (search rules) c.in_err-value.ensures.value
+    stops_gives (λ v. v) (is_on x.world) c.from_residual.result y (part x.world out) (means x (tree_of c.args.node.now) c.args.locals.now.items c.args.state.now) (halted c.from_residual.result y c.from_residual.ensures.1) c.in_err-value.ensures.value
 
 pub evaluate-returns-clause-value : goal.evaluate-returns-clause-value
 evaluate-returns-clause-value t c =
@@ -964,7 +961,7 @@ evaluate_if-returns-in_err-value-clause-value t c =
     let no = tree_of c.args.no.now in
     let env = c.args.locals.now.items in
     let out = c.evaluate.new.state in
-    stops_steps (is_on x.world) c.from_residual.result y (part x.world out) (if_means x test yes no env c.args.state.now) (search rules) (if_stop x test yes no env c.args.state.now y out c.in_err-value.ensures.value)
+    stops_steps (is_on x.world) c.from_residual.result y (part x.world out) (if_means x test yes no env c.args.state.now) (halted c.from_residual.result y c.from_residual.ensures.1) (if_stop x test yes no env c.args.state.now y out c.in_err-value.ensures.value)
 
 pub evaluate_if-returns-then-other-clause-value : goal.evaluate_if-returns-then-other-clause-value
 evaluate_if-returns-then-other-clause-value t c =
@@ -987,7 +984,7 @@ evaluate_strict-returns-in_err-values-clause-value t c =
     let es = trees_of c.args.args.now in
     let env = c.args.locals.now.items in
     let out = c.evaluate_all.new.state in
-    stops_steps (is_on x.world) c.from_residual.result y (part x.world out) (strict_means x c.args.strict c.args.span es env c.args.state.now) (search rules)
+    stops_steps (is_on x.world) c.from_residual.result y (part x.world out) (strict_means x c.args.strict c.args.span es env c.args.state.now) (halted c.from_residual.result y c.from_residual.ensures.1)
     (strict_stop x c.args.strict c.args.span es env c.args.state.now out (λ (vs : Vec Value Global). vs.items) y c.in_err-values.ensures.value)
 
 pub evaluate_strict-returns-clause-value : goal.evaluate_strict-returns-clause-value
@@ -1006,7 +1003,7 @@ evaluate_form-returns-in_err-cell-clause-value t c =
     let env = c.args.locals.now.items in
     let y = c.in_err-cell.field-0.0 in
     let out = c.evaluate.new.state in
-    stops_steps (is_on x.world) c.from_residual.result y (part x.world out) (form_means x c.args.act m cell args env c.args.state.now) (search rules) (cell_stop x c.args.act m cell args env c.args.state.now y out c.in_err-cell.ensures.value)
+    stops_steps (is_on x.world) c.from_residual.result y (part x.world out) (form_means x c.args.act m cell args env c.args.state.now) (halted c.from_residual.result y c.from_residual.ensures.1) (cell_stop x c.args.act m cell args env c.args.state.now y out c.in_err-cell.ensures.value)
 
 pub evaluate_form-returns-in-Some-clause-kept : goal.evaluate_form-returns-in-Some-clause-kept
 evaluate_form-returns-in-Some-clause-kept t c = kept_by c.as_step.result (c.in_ok-args.ensures.kept ∙ c.in_ok-cell.ensures.kept)
@@ -1164,3 +1161,100 @@ apply_on-apply_callee-requires t c =
     let x = c.args.context.now in
     let smaller : room x + 1 < room x + 2 = omega arith in
     (search (rules, smaller), subst (λ vs. SoundCallee (callable x) c.args.callee (length vs)) (sym c.in_ok-values.ensures) c.requires)
+
+pub act_outside-reset_at-requires : goal.act_outside-reset_at-requires
+act_outside-reset_at-requires t c =
+    let ready = subst (λ a. ReadyIn (callable c.args.context.now) in_thread a (length c.args.args.items)) c.in-Put.is c.requires in
+    ready.1
+
+pub finish-call-requires : goal.finish-call-requires
+finish-call-requires t c =
+    let x = c.args.context.now in
+    let smaller : room x < t = omega (arith, c.decreases) in
+    (smaller, subst (λ s. Finishes x s (length c.args.values.items)) c.in-Call.is c.requires)
+
+pub eat_dosync-final_writes-last-requires : goal.eat_dosync-final_writes-last-requires
+eat_dosync-final_writes-last-requires t c =
+    let smaller : room c.args.context.now + 5 < t = omega (arith, c.decreases) in
+    (smaller, c.in-Ok.ensures.sound)
+
+pub evaluate_dosync-evaluate-requires : goal.evaluate_dosync-evaluate-requires
+evaluate_dosync-evaluate-requires t c =
+    let x = c.args.context.now in
+    let body = tree_of c.args.dosync.body.now in
+    let on : is_some c.world.result ≡ true = search rules in
+    let inside = running c.world.result x.world c.world.ensures ∙ on in
+    let smaller : room x + (16 * nodes body + 1) < t = omega (arith, c.decreases) in
+    (smaller, subst (λ z. SoundTree (callable x) z (length c.args.locals.now.items) None body) (sym (zone_running x.world inside)) c.requires)
+
+pub evaluate_tail-evaluate_dosync-requires : goal.evaluate_tail-evaluate_dosync-requires
+evaluate_tail-evaluate_dosync-requires t c =
+    let x = c.args.context.now in
+    let n = c.args.node.now in
+    let is = subst (λ s. IsShape s (mark_of n.span n.wanted) (tree_of n)) c.in-Dosync.is c.shape_of.ensures in
+    let sound = subst (λ e. SoundTree (callable x) (zone_in x) (length c.args.locals.now.items) c.requires.tail e) is c.requires.sound in
+    let smaller : room x + (16 * nodes (tree_of c.in-Dosync.body.now) + 10) < t = omega (arith, c.decreases, ap nodes is) in
+    (smaller, sound)
+
+pub bind_locals-loop-node-init : goal.bind_locals-loop-node-init
+bind_locals-loop-node-init t c =
+    let locals = c.args.locals.now.items in
+    (take_all (length locals) locals (omega arith), refl, c.requires, refl)
+
+pub run_turns-loop-turn-init : goal.run_turns-loop-turn-init
+run_turns-loop-turn-init t c =
+    let n = c.args.context.now in
+    let b = c.args.before in
+    let old = c.args.locals.now.items in
+    let all : n.turns ≡ n.turns - 0 = omega arith in
+    (refl, refl, ap (λ k. turns_mean n k (length old - b) (tree_of c.args.body.now) (take b old) (drop b old) c.args.state.now) all)
+
+pub evaluate_tail-returns-in-Const-clause-kept : goal.evaluate_tail-returns-in-Const-clause-kept
+evaluate_tail-returns-in-Const-clause-kept t c = kept_by c.copy_step.result refl
+
+pub evaluate_tail-returns-in-Local-clause-kept : goal.evaluate_tail-returns-in-Local-clause-kept
+evaluate_tail-returns-in-Local-clause-kept t c = kept_by c.copy_step-in-Local.result refl
+
+pub evaluate_let-returns-clause-kept : goal.evaluate_let-returns-clause-kept
+evaluate_let-returns-clause-kept t c =
+    let old = c.args.locals.now.items in
+    let bound = c.bind_locals.new.locals.items in
+    let given = c.evaluate_tail-given in
+    let b = c.len-before.result in
+    let place : b ≡ length old = search rules in
+    kept_then (given.new.locals.items ≡ bound) (c.truncate.new.self.items ≡ old) given.result given.ensures.kept (λ same. c.truncate.ensures.items ∙ ap (λ l. take b l) same ∙ ap (λ k. take k bound) place ∙ c.in_ok-bind_locals.ensures.kept)
+
+pub evaluate_loop-returns-clause-kept : goal.evaluate_loop-returns-clause-kept
+evaluate_loop-returns-clause-kept t c =
+    let old = c.args.locals.now.items in
+    let bound = c.bind_locals.new.locals.items in
+    let given = c.run_turns-given in
+    let b = c.len-before.result in
+    let place : b ≡ length old = search rules in
+    kept_as (c.truncate.new.self.items ≡ old) given.result c.as_step.result c.as_step.ensures
+    (kept_then (take b given.new.locals.items ≡ take b bound) (c.truncate.new.self.items ≡ old) given.result given.ensures.kept (λ same. c.truncate.ensures.items ∙ same ∙ ap (λ k. take k bound) place ∙ c.in_ok-bind_locals.ensures.kept))
+
+pub redo_one-returns : goal.redo_one-returns
+redo_one-returns t c =
+    let x = c.args.context.now in
+    let commute = c.args.commute.now in
+    let v = c.in_ok-value.value in
+    let w = c.in_ok-new.new in
+    let made = subst (λ us. applied x commute.callee (v ∷ us) c.args.span ≡ Completes w tt) c.as_slice-args.ensures c.in_ok-new.ensures in
+    let began = c.in_ok-value.ensures ∙ ap (λ l. or_nil (buffered l commute.cell.number)) c.as_slice.ensures.value in
+    redone_made x c.args.span commute c.args.writes.now.items v w c.put_write.new.writes.items began made c.in_ok-put_write.ensures
+
+pub redo_one-returns-in_err-new : goal.redo_one-returns-in_err-new
+redo_one-returns-in_err-new t c =
+    let x = c.args.context.now in
+    let commute = c.args.commute.now in
+    let writes = c.args.writes.now.items in
+    let v = c.in_ok-value.value in
+    let y = c.in_err-new.field-0.0 in
+    let told = subst (λ us. Told {A = Value} (Err y) (applied x commute.callee (v ∷ us) c.args.span)) c.as_slice-args.ensures c.in_err-new.ensures in
+    let began = c.in_ok-value.ensures ∙ ap (λ l. or_nil (buffered l commute.cell.number)) c.as_slice.ensures.value in
+    let r = c.from_residual-in_err-new in
+    stops_gives _ true r.result y tt (redone_means x c.args.span (commute ∷ []) writes) (halted r.result y r.ensures.1) (redone_unmade x c.args.span commute writes v y began told)
+
+pub run_body-returns-in-Ok-clause-kept : goal.run_body-returns-in-Ok-clause-kept
+run_body-returns-in-Ok-clause-kept t c = c.in-Ok.ensures.kept

@@ -1,7 +1,19 @@
 use Rattle.std.proofs.Common.{ap}
 use Rattle.txs_tree.specs.View.{tree_of, trees_of}
-use Rattle.txs_tree.proofs.Trees.{do_node, let_node, loop_node, recur_node, core_node, call_node, vector_node, println_node, put_node, update_node, send_node}
+use Rattle.txs_tree.proofs.Trees.{const_node, local_node, if_node, dosync_node, do_node, let_node, loop_node, recur_node, core_node, call_node, vector_node, println_node, put_node, update_node, send_node}
 use Rattle.txs_evaluate.proofs.shape.shape_of.Goals as goal
+
+pub returns-in-Const : goal.returns-in-Const
+returns-in-Const c = const_node c.args.node.now c.in-Const.value c.in-Const.is
+
+pub returns-in-Local : goal.returns-in-Local
+returns-in-Local c = local_node c.args.node.now c.in-Local.place c.in-Local.is
+
+pub returns-in-If : goal.returns-in-If
+returns-in-If c = if_node c.args.node.now c.in-If.test c.in-If.yes c.in-If.no c.deref.result.now c.deref-in-If.result.now c.deref-in-If-2.result.now c.in-If.is c.deref.ensures c.deref-in-If.ensures c.deref-in-If-2.ensures
+
+pub returns-in-Dosync : goal.returns-in-Dosync
+returns-in-Dosync c = dosync_node c.args.node.now c.in-Dosync.body c.deref-in-Dosync.result.now c.in-Dosync.is c.deref-in-Dosync.ensures
 
 pub returns-in-Do : goal.returns-in-Do
 returns-in-Do c = do_node c.args.node.now c.in-Do.items c.deref-in-Do.result.now c.in-Do.is c.deref-in-Do.ensures.value
