@@ -1,5 +1,5 @@
 -- The values of literals that a loop has built, and those of a vector.
-use Rattle.std.proofs.Common.{◌≡◌, ◌≢◌, ◌<◌, ◌≤◌, ◌+◌, ◌-◌, ◌==◌, ℕ, Bool, true, false, ◌||◌, nat_lt, List, [], ◌∷◌, ◌++◌, append-nil, Option, Some, None, Result, Ok, Err, length, drop, get_or, cond, refl, sym, ap, ◌∙◌, arith, Vec, Global}
+use Rattle.std.proofs.Common.{◌≡◌, ◌≢◌, ◌<◌, ◌≤◌, ◌+◌, ◌-◌, ◌==◌, ℕ, Bool, true, false, ◌||◌, nat_lt, List, [], ◌∷◌, ◌++◌, append-nil, Some, None, Result, Ok, Err, length, drop, get_or, cond, refl, sym, ap, ◌∙◌, arith, Vec, Global}
 use Rattle.std.specs.Prelude.{IfOk}
 use Rattle.txs_expression.specs.declared.stop.Stop.{Stop}
 use Rattle.std.proofs.lemmas.Bool.Decides.{nat_tests}

@@ -488,3 +488,8 @@ pub expression-changed-requires : goal.expression-changed-requires
 expression-changed-requires t c =
     let low : 4 * c.in_ok-spot.spot.room + 2 < t = omega (arith, c.decreases, ap (λ (s : Spot). s.room) c.in_ok-spot.ensures.spot) in
     (low, tt)
+
+pub children-expression-requires-in-Hidden : goal.children-expression-requires-in-Hidden
+children-expression-requires-in-Hidden t c =
+    let low : 4 * c.inner-value.result.room + 3 < t = omega (arith, c.decreases, c.requires.room, ap (λ (s : Spot). s.room) c.inner-value.ensures) in
+    (low, tt)
