@@ -9,7 +9,7 @@ use Rattle.txs_value.specs.Limits.{reruns}
 use Rattle.txs_terms.specs.Places.{nth}
 use Rattle.txs_value.specs.declared.value.CellId.{CellId}
 use Rattle.txs_value.specs.declared.value.Value.{Value}
-use Rattle.txs_evaluate.specs.Evaluated.{Finishes, ReadyIn, Runs, SoundCommutes, body_means, part, is_on, forms_in, calls_in, Yields, GivesAll, Steps, means, all_mean, do_means, let_means, locals_mean, if_means, strict_means, loop_means, turns_mean, form_means, inside_means, outside_means, update_means, swap_means, applied, redone_means, final_means, dosync_means, transacting, at_end, eat_means, ended, end_stop, thread_state}
+use Rattle.txs_evaluate.specs.Evaluated.{Finishes, ReadyIn, SoundCommutes, part, is_on, forms_in, calls_in, Yields, GivesAll, Steps, means, all_mean, do_means, let_means, locals_mean, if_means, strict_means, loop_means, turns_mean, form_means, inside_means, outside_means, update_means, swap_means, applied, redone_means, final_means, dosync_means, transacting, at_end, eat_means, ended, end_stop, thread_state}
 use Rattle.txs_eval_work.specs.Worked.{Stops, Gives, Told, tx_state}
 use Rattle.txs_tree.specs.Meaning.{Completes, result_of}
 use Rattle.txs_evaluate.specs.Setting.{callable, zone_in, zone_on, on_view}
@@ -1258,3 +1258,9 @@ redo_one-returns-in_err-new t c =
 
 pub run_body-returns-in-Ok-clause-kept : goal.run_body-returns-in-Ok-clause-kept
 run_body-returns-in-Ok-clause-kept t c = c.in-Ok.ensures.kept
+
+pub redo_one-apply_on-requires : goal.redo_one-apply_on-requires
+redo_one-apply_on-requires t c =
+    let x = c.args.context.now in
+    let smaller : room x + 2 < t = omega (arith, c.decreases) in
+    (smaller, subst (λ us. SoundCallee (callable x) c.args.commute.now.callee (suc (length us))) (sym c.as_slice-args.ensures) c.requires)
