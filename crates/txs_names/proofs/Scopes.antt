@@ -52,3 +52,7 @@ outermost f count len xs le =
     let both : take (min count len) xs ≡ take len (take count xs) =
     sym (take-take (min count len) count xs (omega arith)) ∙ ap (λ (k : ℕ). take k (take count xs)) least ∙ take_min len (take count xs) in
     ap (λ l. reverse (map f l)) both ∙ ap reverse (sym (take-map f len (take count xs))) ∙ reverse_take len names
+
+-- so many names are held
+pub held : {X : Type 0} (f : X → List ℕ) (count : ℕ) (xs : List X) → count ≤ length xs → length (reverse (map f (take count xs))) ≡ count
+held f count xs le = length-reverse (map f (take count xs)) ∙ length-map (take count xs) f ∙ length-take-le count xs le
