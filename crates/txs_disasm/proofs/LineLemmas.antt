@@ -1,6 +1,7 @@
 -- Lines of a listing, one more at a time, and what a writer got of them.
 use Rattle.std.proofs.Common.{◌≡◌, ℕ, zero, suc, ◌<◌, ◌≤◌, ◌+◌, List, [], ◌∷◌, ◌++◌, length, drop, get_or, refl, sym, ap, ◌∙◌, append_assoc, length-append, add-one, arith, subst}
-use Rattle.std.specs.Prelude.{Option, slice_index_or}
+use Rattle.std.specs.Prelude.{IsTrue, OnErr, OnOk, Option, Result, Ok, Err, is_ok, slice_index_or}
+use Rattle.std.proofs.lemmas.Bool.{false≢true}
 use Rattle.std.proofs.Math.Seq.{drop-cons}
 use Rattle.std.proofs.lemmas.List.{append-nil, drop_all}
 use Rattle.txs_terms.specs.declared.fault.Span.{Span}
@@ -28,14 +29,9 @@ instr_lines-suc (b ∷ is) [] p i a s lt lt2 = absurd (omega (arith, lt2))
 instr_lines-suc (b ∷ is) (t ∷ ss) p zero a s lt lt2 = refl
 instr_lines-suc (b ∷ is) (t ∷ ss) p (suc i) a s lt lt2 = instr_lines-suc is ss p i a s (omega (arith, lt)) (omega (arith, lt2))
 
-pub instr_lines-at : (is : List Instr) (ss : List Span) (i : ℕ) (a : Instr) (s : Span) (x : Instr) (y : Span) → i < length is → length ss ≡ length is → x ≡ slice_index_or is i a → y ≡ slice_index_or ss i s
-    → instr_lines i (drop i is) (drop i ss) ≡ instr_line i x y ++ instr_lines (i + 1) (drop (i + 1) is) (drop (i + 1) ss)
-instr_lines-at is ss i a s x y lt n ex ey =
-    let rest = instr_lines (suc i) (drop (suc i) is) (drop (suc i) ss) in
-    rw add-one
-    (instr_lines-suc is ss i i a s lt (omega (arith, n, lt))
-    ∙ ap (λ z. instr_line i z (slice_index_or ss i s) ++ rest) (sym ex)
-    ∙ ap (λ z. instr_line i x z ++ rest) (sym ey))
+pub instr_lines-at : (is : List Instr) (ss : List Span) (i : ℕ) (a : Instr) (s : Span) → i < length is → length ss ≡ length is
+    → instr_lines i (drop i is) (drop i ss) ≡ instr_line i (slice_index_or is i a) (slice_index_or ss i s) ++ instr_lines (i + 1) (drop (i + 1) is) (drop (i + 1) ss)
+instr_lines-at is ss i a s lt n = rw add-one (instr_lines-suc is ss i i a s lt (omega (arith, n, lt)))
 
 pub body_line-some : (kind : BodyKind) (k : ℕ) (b : CodeBody) → 0 < length (body_line kind k b)
 body_line-some Function k b = omega arith
@@ -55,17 +51,31 @@ module _ (a b : Option (List ℕ)) (all page left line rest : List ℕ) (split :
   pub IsCut-on : (c : Option (List ℕ)) → IsCut b c (page ++ line) → IsCut a c all
   IsCut-on c k = IsCut-after a b c all ((page ++ line) ++ rest) joined (IsCut-longer b c (page ++ line) rest k)
 
-  -- the next line stands on the page, and some of the page may have been written
-  pub Sent-next : (c : Option (List ℕ)) (new after : List ℕ) → new ≡ page ++ line → Sent b c new after → Sent a c all (after ++ rest)
-  Sent-next c new after e t = Sent-on c after (subst (λ l. Sent b c l after) e t)
-
-  -- the page couldn't be written
-  pub IsCut-next : (c : Option (List ℕ)) (new : List ℕ) → new ≡ page ++ line → IsCut b c new → IsCut a c all
-  IsCut-next c new e k = IsCut-on c (subst (λ l. IsCut b c l) e k)
-
   -- there was no memory for the next line
   pub IsCut-here : 0 < length line → IsCut a b all
   IsCut-here some = record { left = (page ++ line) ++ rest; some = rw (length-append (page ++ line) rest, length-append page line) (omega (arith, some)); sent = joined }
+
+  module _ {A E : Type 0} (c : Option (List ℕ)) (new : List ℕ) where
+    -- the next line stands on the page, and some of the page may have been written
+    pub Sent-line : (put : Result A E) (after : List ℕ) → IsTrue (is_ok put) → OnOk put (new ≡ page ++ line) → Sent b c new after → Sent a c all (after ++ rest)
+    Sent-line (Ok x) after ok e t = Sent-on c after (subst (λ l. Sent b c l after) e t)
+    Sent-line (Err x) after ok e t = absurd (false≢true ok)
+
+    -- there was no memory for the next line, or the page couldn't be written
+    pub IsCut-line : (put : Result A E) → 0 < length line → OnOk put (new ≡ page ++ line) → OnOk put (IsCut b c new) → OnErr put (c ≡ b) → IsCut a c all
+    IsCut-line (Ok x) some e k h = IsCut-on c (subst (λ l. IsCut b c l) e k)
+    IsCut-line (Err x) some e k h = subst (λ d. IsCut a d all) (sym h) (IsCut-here some)
+
+-- the line of a body stands on the page, and those of its instructions come behind it
+module _ (a b : Option (List ℕ)) (all page left line instrs rest : List ℕ) (split : left ≡ (line ++ instrs) ++ rest) (so_far : Sent a b all (page ++ left)) (c : Option (List ℕ)) (mid : List ℕ) (put : mid ≡ page ++ line) where
+  both : mid ++ instrs ≡ page ++ (line ++ instrs)
+  both = ap (λ l. l ++ instrs) put ∙ append_assoc page line instrs
+
+  pub IsCut-body : IsCut b c (mid ++ instrs) → IsCut a c all
+  IsCut-body k = IsCut-on a b all page left (line ++ instrs) rest split so_far c (subst (λ l. IsCut b c l) both k)
+
+  pub Sent-body : (after : List ℕ) → Sent b c (mid ++ instrs) after → Sent a c all (after ++ rest)
+  Sent-body after t = Sent-on a b all page left (line ++ instrs) rest split so_far c after (subst (λ l. Sent b c l after) both t)
 
 -- behind the last of a list no lines are to come
 pub Sent-end : {A : Type 0} (lines : ℕ → A → List ℕ) (xs : List A) (i : ℕ) (a b : Option (List ℕ)) (all page : List ℕ) → length xs ≤ i → Sent a b all (page ++ numbered lines i (drop i xs)) → Sent a b all page

@@ -1,5 +1,5 @@
 -- How what a writer got of some bytes grows, from page to page and from line to line.
-use Rattle.std.proofs.Common.{◌≡◌, ℕ, List, [], ◌++◌, drop, take, refl, sym, ap, ◌∙◌, append_assoc, append-nil, length-append, arith, subst}
+use Rattle.std.proofs.Common.{◌≡◌, ℕ, ◌+◌, ◌<◌, ◌≤◌, List, [], ◌++◌, length, length-drop, drop, take, refl, sym, ap, ◌∙◌, append_assoc, append-nil, length-append, arith, subst}
 use Rattle.std.specs.Prelude.{Option, Result, Ok, Err, OnOk, OnErr}
 use Rattle.std.proofs.lemmas.List.{take-append-drop}
 use Rattle.std.proofs.KnownBytes.{Appends-nil, Appends-trans}
@@ -41,6 +41,10 @@ IsCut-longer a b all more k = record {
 -- one write took so many bytes of what was left
 pub Sent-took : (a b c : Option (List ℕ)) (all mid left : List ℕ) (n : ℕ) → left ≡ drop n mid → Sent a b all mid → Appends b c (take n mid) → Sent a c all left
 Sent-took a b c all mid left n e s p = Sent-trans a b c all mid left s (record { bytes = take n mid; got = p; whole = sym (take-append-drop n mid) ∙ ap (λ l. take n mid ++ l) (sym e) })
+
+-- and less is left, or it may be interrupted less often
+pub took_less : (mid left : List ℕ) (n p q : ℕ) → left ≡ drop n mid → n ≤ length mid → q < n + p → length left + q < length mid + p
+took_less mid left n p q e le lt = rw (e, length-drop n mid) (omega (arith, le, lt))
 
 -- ---- of an answer
 

@@ -1,8 +1,7 @@
 //! The listing, written.
 
-ghost use Rattle.std.specs.Prelude.{◌≡◌, ◌<◌, ◌++◌, length, slice_index_or, OnErr, OnOk};
+ghost use Rattle.std.specs.Prelude.{◌≡◌, ◌++◌, length, OnErr, OnOk};
 ghost use Rattle.std.specs.Io.KnownBytes.{Appends};
-ghost use Rattle.txs_code.specs.declared.instr.Instr.TheVariants as instr;
 ghost use Rattle.txs_disasm.specs.Listing.{body_lines, cell_line, constant_line, instr_lines, listing, numbered};
 ghost use Rattle.txs_disasm.specs.Sent.{IsCut, Sent};
 
@@ -26,8 +25,8 @@ fn list_cells<W: Write>(
     ensures cut { OnErr result (IsCut (W.contents writer.old) (W.contents writer.new) (page.old.bytes.items ++ numbered cell_line 0 cells.now)) }
 {
     for (i, cell) in cells.iter().enumerate() {
-        put_cell(i, cell, &mut page.bytes)?;
-        page.send_long(writer)?;
+        let put = put_cell(i, cell, &mut page.bytes);
+        page.send_line(put, writer)?;
     }
     Ok(())
 }
@@ -42,26 +41,10 @@ fn list_constants<W: Write>(
     ensures cut { OnErr result (IsCut (W.contents writer.old) (W.contents writer.new) (page.old.bytes.items ++ numbered constant_line 0 constants.now)) }
 {
     for (i, constant) in constants.iter().enumerate() {
-        put_constant(i, constant, &mut page.bytes)?;
-        page.send_long(writer)?;
+        let put = put_constant(i, constant, &mut page.bytes);
+        page.send_line(put, writer)?;
     }
     Ok(())
-}
-
-/// The instruction at a place.
-fn instr_at(instrs: &[Instr], place: usize) -> Instr
-    requires { place < length instrs.now }
-    ensures { result ≡ slice_index_or instrs.now place instr.Halt }
-{
-    instrs[place]
-}
-
-/// The span at a place.
-fn span_at(spans: &[Span], place: usize) -> Span
-    requires { place < length spans.now }
-    ensures { result ≡ slice_index_or spans.now place (record { from = 0; to = 0 }) }
-{
-    spans[place]
 }
 
 /// Writes the lines of a body's instructions.
@@ -76,28 +59,13 @@ fn list_instrs<W: Write>(
     ensures cut { OnErr result (IsCut (W.contents writer.old) (W.contents writer.new) (page.old.bytes.items ++ instr_lines 0 instrs.now spans.now)) }
 {
     for i in 0..instrs.len() {
-        put_instr(i, instr_at(instrs, i), span_at(spans, i), &mut page.bytes)?;
-        page.send_long(writer)?;
+        let put = put_instr(i, instrs[i], spans[i], &mut page.bytes);
+        page.send_line(put, writer)?;
     }
     Ok(())
 }
 
-/// Writes the lines of a body.
-fn list_body<W: Write>(
-    kind: BodyKind,
-    number: usize,
-    body: &Body,
-    page: &mut Page,
-    writer: &mut W,
-) -> Result<(), WriteFault>
-    ensures sent { OnOk result (Sent (W.contents writer.old) (W.contents writer.new) (page.old.bytes.items ++ body_lines kind number body.now) page.new.bytes.items) }
-    ensures cut { OnErr result (IsCut (W.contents writer.old) (W.contents writer.new) (page.old.bytes.items ++ body_lines kind number body.now)) }
-{
-    put_body(kind, number, body, &mut page.bytes)?;
-    list_instrs(body.instrs(), body.spans(), page, writer)
-}
-
-/// Writes the lines of bodies.
+/// Writes the lines of bodies, and behind that of each those of its instructions.
 fn list_bodies<W: Write>(
     kind: BodyKind,
     bodies: &[Body],
@@ -108,7 +76,8 @@ fn list_bodies<W: Write>(
     ensures cut { OnErr result (IsCut (W.contents writer.old) (W.contents writer.new) (page.old.bytes.items ++ numbered (body_lines kind) 0 bodies.now)) }
 {
     for (i, body) in bodies.iter().enumerate() {
-        list_body(kind, i, body, page, writer)?;
+        put_body(kind, i, body, &mut page.bytes)?;
+        list_instrs(body.instrs(), body.spans(), page, writer)?;
     }
     Ok(())
 }

@@ -3,7 +3,7 @@
 ghost use Rattle.std.specs.Prelude.{◌≡◌, ◌++◌, decimal, OnOk};
 ghost use Rattle.txs_value.specs.Printed.{printed};
 ghost use Rattle.txs_value.specs.View.{plain_of};
-ghost use Rattle.txs_disasm.specs.Listing.{at_span, body_head, body_line, callee_words, cell_line, constant_line, instr_line, operands, word};
+ghost use Rattle.txs_disasm.specs.Listing.{at_span, body_line, callee_words, cell_line, constant_line, instr_line, operands, word};
 
 use crate::names::{cell_end, instr_name, kind_name};
 use itoa::Buffer;
@@ -34,14 +34,6 @@ fn put_number(text: &[u8], n: u64, out: &mut Vec<u8>) -> Result<(), AllocError>
 {
     out.extend_from_slice(text)?;
     out.extend_from_slice(Buffer::new().format(n).as_bytes())
-}
-
-/// Appends a value behind a space, as `println` writes it.
-fn put_value(value: &Value, out: &mut Vec<u8>) -> Result<(), AllocError>
-    ensures { OnOk result (out.new.items ≡ out.old.items ++ word (printed (plain_of value.now))) }
-{
-    out.push(b' ')?;
-    write_text(value, out)
 }
 
 /// Appends a callee.
@@ -109,7 +101,8 @@ pub(crate) fn put_cell(
     put_number(b"cell ", number as u64, out)?;
     put_word(kind_name(cell.kind), out)?;
     put_word(cell.name.as_bytes(), out)?;
-    put_value(&cell.opening, out)?;
+    out.push(b' ')?;
+    write_text(&cell.opening, out)?;
     out.extend_from_slice(cell_end(cell.error_mode))
 }
 
@@ -122,26 +115,9 @@ pub(crate) fn put_constant(
     ensures { OnOk result (out.new.items ≡ out.old.items ++ constant_line number value.now) }
 {
     put_number(b"const ", number as u64, out)?;
-    put_value(value, out)?;
+    out.push(b' ')?;
+    write_text(value, out)?;
     out.extend_from_slice(b"\n")
-}
-
-/// Appends the beginning of the line of a body: what it is, its number, and of a function how many parameters it has.
-fn put_head(
-    kind: BodyKind,
-    number: usize,
-    parameters: u8,
-    out: &mut Vec<u8>,
-) -> Result<(), AllocError>
-    ensures { OnOk result (out.new.items ≡ out.old.items ++ body_head kind number parameters) }
-{
-    match kind {
-        BodyKind::Function => {
-            put_number(b"fn ", number as u64, out)?;
-            put_number(b" params ", u64::from(parameters), out)
-        }
-        BodyKind::Thread => put_number(b"thread ", number as u64, out),
-    }
 }
 
 /// Appends the line of a body.
@@ -153,7 +129,13 @@ pub(crate) fn put_body(
 ) -> Result<(), AllocError>
     ensures { OnOk result (out.new.items ≡ out.old.items ++ body_line kind number body.now) }
 {
-    put_head(kind, number, body.parameters(), out)?;
+    match kind {
+        BodyKind::Function => {
+            put_number(b"fn ", number as u64, out)?;
+            put_number(b" params ", u64::from(body.parameters()), out)?;
+        }
+        BodyKind::Thread => put_number(b"thread ", number as u64, out)?,
+    }
     put_number(b" locals ", u64::from(body.locals()), out)?;
     out.extend_from_slice(b"\n")
 }

@@ -1,12 +1,12 @@
 //! Bytes on their way to a writer.
 
-ghost use Rattle.std.specs.Prelude.{◌≡◌, ◌+◌, ◌<◌, ◌≤◌, [], drop, length, take, IfErr, IfOk, OnErr, OnOk};
+ghost use Rattle.std.specs.Prelude.{◌≡◌, ◌+◌, ◌<◌, ◌≤◌, [], drop, is_ok, length, take, IfErr, IfOk, IsTrue, OnErr, OnOk};
 ghost use Rattle.std.specs.Io.KnownBytes.{Appends, Keeps};
 ghost use Rattle.txs_disasm.specs.Sent.{IsCut, Sent};
 ghost use Rattle.txs_disasm.specs.declared.fault.WriteFault.TheVariants as fault;
 
 use crate::fault::WriteFault;
-use std::alloc::Global;
+use std::alloc::{AllocError, Global};
 use std::io::{ErrorKind, Write};
 
 /// So many interrupted writes are a fault.
@@ -106,11 +106,19 @@ impl Page {
         Ok(())
     }
 
-    /// Writes what stands on the page, and empties it, once it is long.
-    pub(crate) fn send_long<W: Write>(&mut self, writer: &mut W) -> Result<(), WriteFault>
+    /// Goes on behind a line that was put on the page, if there was memory for it: writes what stands on the page, and empties it,
+    /// once it is long.
+    pub(crate) fn send_line<W: Write>(
+        &mut self,
+        put: Result<(), AllocError>,
+        writer: &mut W,
+    ) -> Result<(), WriteFault>
+        ensures put { OnOk result (IsTrue (is_ok put)) }
         ensures sent { OnOk result (Sent (W.contents writer.old) (W.contents writer.new) self.old.bytes.items self.new.bytes.items) }
-        ensures cut { OnErr result (IsCut (W.contents writer.old) (W.contents writer.new) self.old.bytes.items) }
+        ensures cut { OnErr result (OnOk put (IsCut (W.contents writer.old) (W.contents writer.new) self.old.bytes.items)) }
+        ensures kept { OnErr put (W.contents writer.new ≡ W.contents writer.old) }
     {
+        put?;
         if self.bytes.len() < LONG_PAGE {
             return Ok(());
         }

@@ -1,25 +1,17 @@
 use Rattle.std.proofs.Common.{◌++◌, ◌<◌, ◌≤◌, ◌+◌, length, drop, rules, arith}
 use Rattle.txs_disasm.specs.Listing.{constant_line, numbered}
-use Rattle.txs_disasm.proofs.LineLemmas.{numbered-at, IsCut-here, IsCut-next, Sent-next, Sent-end}
+use Rattle.txs_disasm.proofs.LineLemmas.{numbered-at, IsCut-line, Sent-line, Sent-end}
 use Rattle.txs_disasm.proofs.SentLemmas.{on_err, Sent-none}
 use Rattle.txs_disasm.proofs.disasm.list_constants.Goals as goal
 
-pub returns-in_err-put_constant-clause-cut : goal.returns-in_err-put_constant-clause-cut
-returns-in_err-put_constant-clause-cut g c =
+pub returns-in_err-send_line-clause-cut : goal.returns-in_err-send_line-clause-cut
+returns-in_err-send_line-clause-cut g c =
     let xs = c.args.constants.now in
     let i = c.loop-i.i in
     let lt : i < length xs = search rules in
     let split = numbered-at constant_line xs i c.index-constants-i.result lt c.index-constants-i.is in
     let some : 0 < length (constant_line i c.index-constants-i.result) = omega arith in
-    on_err _ (IsCut-here (g.W.Write.contents c.args.writer.now) (g.W.Write.contents c.loop-i.writer) (c.args.page.now.bytes.items ++ numbered constant_line 0 xs) c.loop-i.page.bytes.items (numbered constant_line i (drop i xs)) (constant_line i c.index-constants-i.result) (numbered constant_line (i + 1) (drop (i + 1) xs)) split c.loop-i.invariant some)
-
-pub returns-in_err-send_long-clause-cut : goal.returns-in_err-send_long-clause-cut
-returns-in_err-send_long-clause-cut g c =
-    let xs = c.args.constants.now in
-    let i = c.loop-i.i in
-    let lt : i < length xs = search rules in
-    let split = numbered-at constant_line xs i c.index-constants-i.result lt c.index-constants-i.is in
-    on_err _ (IsCut-next (g.W.Write.contents c.args.writer.now) (g.W.Write.contents c.loop-i.writer) (c.args.page.now.bytes.items ++ numbered constant_line 0 xs) c.loop-i.page.bytes.items (numbered constant_line i (drop i xs)) (constant_line i c.index-constants-i.result) (numbered constant_line (i + 1) (drop (i + 1) xs)) split c.loop-i.invariant (g.W.Write.contents c.send_long.new.writer) c.put_constant.new.out.items c.in_ok-put_constant.ensures c.in_err-send_long.ensures.cut)
+    on_err _ (IsCut-line (g.W.Write.contents c.args.writer.now) (g.W.Write.contents c.loop-i.writer) (c.args.page.now.bytes.items ++ numbered constant_line 0 xs) c.loop-i.page.bytes.items (numbered constant_line i (drop i xs)) (constant_line i c.index-constants-i.result) (numbered constant_line (i + 1) (drop (i + 1) xs)) split c.loop-i.invariant (g.W.Write.contents c.send_line.new.writer) c.put_constant-put.new.out.items c.put_constant-put.result some c.put_constant-put.ensures c.in_err-send_line.ensures.cut c.send_line.ensures.kept)
 
 pub loop-i-preserved : goal.loop-i-preserved
 loop-i-preserved g c =
@@ -27,7 +19,7 @@ loop-i-preserved g c =
     let i = c.loop-i.i in
     let lt : i < length xs = search rules in
     let split = numbered-at constant_line xs i c.index-constants-i.result lt c.index-constants-i.is in
-    Sent-next (g.W.Write.contents c.args.writer.now) (g.W.Write.contents c.loop-i.writer) (c.args.page.now.bytes.items ++ numbered constant_line 0 xs) c.loop-i.page.bytes.items (numbered constant_line i (drop i xs)) (constant_line i c.index-constants-i.result) (numbered constant_line (i + 1) (drop (i + 1) xs)) split c.loop-i.invariant (g.W.Write.contents c.send_long.new.writer) c.put_constant.new.out.items c.send_long.new.self.bytes.items c.in_ok-put_constant.ensures c.in_ok-send_long.ensures.sent
+    Sent-line (g.W.Write.contents c.args.writer.now) (g.W.Write.contents c.loop-i.writer) (c.args.page.now.bytes.items ++ numbered constant_line 0 xs) c.loop-i.page.bytes.items (numbered constant_line i (drop i xs)) (constant_line i c.index-constants-i.result) (numbered constant_line (i + 1) (drop (i + 1) xs)) split c.loop-i.invariant (g.W.Write.contents c.send_line.new.writer) c.put_constant-put.new.out.items c.put_constant-put.result c.send_line.new.self.bytes.items c.in_ok-send_line.ensures.put c.put_constant-put.ensures c.in_ok-send_line.ensures.sent
 
 pub loop-i-init : goal.loop-i-init
 loop-i-init g c = Sent-none _ _
