@@ -1,5 +1,7 @@
 use Rattle.std.proofs.Common.{rules}
+use Rattle.std.proofs.lemmas.Bool.{both_ways}
 use Rattle.txs_value.specs.View.{plain_of}
+use Rattle.txs_bytes.proofs.SameLemmas.{differ}
 use Rattle.txs_bytes.proofs.WrittenLemmas.{item_less, item_writable, writable_next}
 use Rattle.txs_bytes.proofs.small.+writable.Goals as goal
 
@@ -11,8 +13,8 @@ are_writable-is_writable-requires t c =
 pub are_writable-returns-then-not-is_writable : goal.are_writable-returns-then-not-is_writable
 are_writable-returns-then-not-is_writable t c =
     let item = item_writable c.args.items.now c.loop-i.i (plain_of c.get.result.now) c.get.ensures in
-    (λ h. absurd cc, λ all. let one = c.is_writable.ensures.1 (item all) in search (rules, one))
+    differ (λ all. both_ways c.is_writable.result c.if-not-is_writable.true (c.is_writable.ensures.1 (item all)))
 
 pub are_writable-loop-i-preserved : goal.are_writable-loop-i-preserved
 are_writable-loop-i-preserved t c =
-    writable_next c.args.items.now c.loop-i.i (plain_of c.get.result.now) c.get.ensures c.loop-i.invariant (c.is_writable.ensures.0 (search rules))
+    writable_next c.args.items.now c.loop-i.i (plain_of c.get.result.now) c.get.ensures c.loop-i.invariant (c.is_writable.ensures.0 c.if-not-is_writable.false)
