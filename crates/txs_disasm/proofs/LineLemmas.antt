@@ -1,6 +1,6 @@
 -- Lines of a listing, one more at a time, and what a writer got of them.
 use Rattle.std.proofs.Common.{◌≡◌, ℕ, zero, suc, ◌<◌, ◌≤◌, ◌+◌, List, [], ◌∷◌, ◌++◌, length, drop, get_or, refl, sym, ap, ◌∙◌, append_assoc, length-append, add-one, arith, subst}
-use Rattle.std.specs.Prelude.{IsTrue, OnErr, OnOk, Option, Result, Ok, Err, is_ok, slice_index_or}
+use Rattle.std.specs.Prelude.{IsTrue, OnErr, OnOk, Option, Result, Ok, Err, is_ok, if◌then◌else◌, slice_index_or}
 use Rattle.std.proofs.lemmas.Bool.{false≢true}
 use Rattle.std.proofs.Math.Seq.{drop-cons}
 use Rattle.std.proofs.lemmas.List.{append-nil, drop_all}
@@ -36,6 +36,17 @@ instr_lines-at is ss i a s lt n = rw add-one (instr_lines-suc is ss i i a s lt (
 pub body_line-some : (kind : BodyKind) (k : ℕ) (b : CodeBody) → 0 < length (body_line kind k b)
 body_line-some Function k b = omega arith
 body_line-some Thread k b = omega arith
+
+-- ---- what stands on a page
+
+-- two parts, one behind the other
+pub two_put : (old a mid b new : List ℕ) → mid ≡ old ++ a → new ≡ mid ++ b → new ≡ old ++ (a ++ b)
+two_put old a mid b new front n = n ∙ ap (λ l. l ++ b) front ∙ append_assoc old a b
+
+-- the last of two parts, for which there is memory or isn't
+pub last_put : {A E : Type 0} (put : Result A E) (old a mid b new : List ℕ) → mid ≡ old ++ a → new ≡ (if is_ok put then mid ++ b else mid) → OnOk put (new ≡ old ++ (a ++ b))
+last_put (Ok x) old a mid b new front n = two_put old a mid b new front n
+last_put (Err x) old a mid b new front n = tt
 
 -- ---- what a writer got
 
