@@ -3,7 +3,7 @@
 ghost use Rattle.std.specs.Prelude.{◌≡◌, ◌++◌, decimal, OnOk};
 ghost use Rattle.txs_value.specs.Printed.{printed};
 ghost use Rattle.txs_value.specs.View.{plain_of};
-ghost use Rattle.txs_disasm.specs.Listing.{at_span, body_line, callee_words, cell_line, constant_line, instr_line, operands, word};
+ghost use Rattle.txs_disasm.specs.Listing.{at_span, body_head, body_line, callee_words, cell_line, constant_line, instr_line, operands, word};
 
 use crate::names::{cell_end, instr_name, kind_name};
 use itoa::Buffer;
@@ -120,6 +120,24 @@ pub(crate) fn put_constant(
     out.extend_from_slice(b"\n")
 }
 
+/// Appends the beginning of the line of a body: what it is, its number, and of a function how many parameters it has.
+fn put_head(
+    kind: BodyKind,
+    number: usize,
+    parameters: u8,
+    out: &mut Vec<u8>,
+) -> Result<(), AllocError>
+    ensures { OnOk result (out.new.items ≡ out.old.items ++ body_head kind number parameters) }
+{
+    match kind {
+        BodyKind::Function => {
+            put_number(b"fn ", number as u64, out)?;
+            put_number(b" params ", u64::from(parameters), out)
+        }
+        BodyKind::Thread => put_number(b"thread ", number as u64, out),
+    }
+}
+
 /// Appends the line of a body.
 pub(crate) fn put_body(
     kind: BodyKind,
@@ -129,13 +147,7 @@ pub(crate) fn put_body(
 ) -> Result<(), AllocError>
     ensures { OnOk result (out.new.items ≡ out.old.items ++ body_line kind number body.now) }
 {
-    match kind {
-        BodyKind::Function => {
-            put_number(b"fn ", number as u64, out)?;
-            put_number(b" params ", u64::from(body.parameters()), out)?;
-        }
-        BodyKind::Thread => put_number(b"thread ", number as u64, out)?,
-    }
+    put_head(kind, number, body.parameters(), out)?;
     put_number(b" locals ", u64::from(body.locals()), out)?;
     out.extend_from_slice(b"\n")
 }
