@@ -22,7 +22,7 @@ fn build(alloc: Global) -> Words {
 #[test]
 fn writes_the_byte_form(rt: HostRuntime) {
     let script = b"(future (println 7))".as_slice();
-    let (output, errors, status) = written(rt.alloc(), &build(rt.alloc()), script);
+    let (output, errors, status) = written(rt.alloc(), build(rt.alloc()), script);
     assert!(rt; output.as_slice() == SEVEN.as_slice());
     assert!(rt; errors.is_empty() && status == 0);
 }

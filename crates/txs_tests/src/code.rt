@@ -23,7 +23,7 @@ fn run(alloc: Global) -> Words {
 /// Whether this is told of code, on either stream, and with this status.
 fn is_told(
     alloc: Global,
-    words: &Words,
+    words: Words,
     code: &[u8],
     output: &str,
     errors: &str,
@@ -45,8 +45,8 @@ thread 0 locals 0
 
 #[test]
 fn is_listed_and_run(rt: HostRuntime) {
-    assert!(rt; is_told(rt.alloc(), &list(), &SEVEN, LISTED, "", 0));
-    assert!(rt; is_told(rt.alloc(), &run(rt.alloc()), &SEVEN, "7\n", "", 0));
+    assert!(rt; is_told(rt.alloc(), list(), &SEVEN, LISTED, "", 0));
+    assert!(rt; is_told(rt.alloc(), run(rt.alloc()), &SEVEN, "7\n", "", 0));
 }
 
 /// Those bytes with another one at a place.
@@ -67,17 +67,23 @@ const CHANGES: [(usize, u8, &str); 5] = [
     (53, 8, "refused 48 FallsOff in thread 0 at 2\n"),
 ];
 
+/// The first of these places where another byte brings about another line, or 62, which is none.
+fn first_other(alloc: Global, rows: &[(usize, u8, &str)]) -> usize {
+    for (at, byte, line) in rows {
+        if !is_told(alloc, list(), &changed(*at, *byte), "", line, 1) {
+            return *at;
+        }
+    }
+    62
+}
+
 #[test]
 fn is_refused(rt: HostRuntime) {
-    for (at, byte, line) in CHANGES {
-        assert!(rt;
-            is_told(rt.alloc(), &list(), &changed(at, byte), "", line, 1),
-            "{at}"
-        );
-    }
+    let at = first_other(rt.alloc(), &CHANGES);
+    assert!(rt; at == 62, "{at}");
     for k in 0..62 {
         let cut = SEVEN.get(..k).unwrap_or(&[]);
-        assert!(rt; written(rt.alloc(), &list(), cut).2 == 1, "{k}");
+        assert!(rt; written(rt.alloc(), list(), cut).2 == 1, "{k}");
     }
 }
 
@@ -100,6 +106,6 @@ thread 0 locals 0
 #[test]
 fn sends_to_no_agent(rt: HostRuntime) {
     let line = "thread 0 failed: NotAnAgent at 0..0\n";
-    assert!(rt; is_told(rt.alloc(), &list(), SENDS, SENDS_LISTED, "", 0));
-    assert!(rt; is_told(rt.alloc(), &run(rt.alloc()), SENDS, "", line, 3));
+    assert!(rt; is_told(rt.alloc(), list(), SENDS, SENDS_LISTED, "", 0));
+    assert!(rt; is_told(rt.alloc(), run(rt.alloc()), SENDS, "", line, 3));
 }

@@ -1,7 +1,6 @@
 // The limits of programs, on scripts that are too long to be written out.
 use crate::program::check_says;
 use std::alloc::{AllocError, Global};
-use std::test::Fail;
 
 // Appends so many times a text.
 fn repeat(script: &mut String, text: &str, count: usize) -> Result<(), AllocError> {
@@ -11,13 +10,15 @@ fn repeat(script: &mut String, text: &str, count: usize) -> Result<(), AllocErro
     Ok(())
 }
 
-// Texts, each so many times.
-fn made(alloc: Global, parts: &[(&str, usize)]) -> Result<String, AllocError> {
+// Whether `check` says this line of a script of texts, each so many times.
+fn made_says(alloc: Global, parts: &[(&str, usize)], line: &str) -> bool {
     let mut script = String::new(alloc);
     for (text, count) in parts {
-        repeat(&mut script, text, *count)?;
+        if repeat(&mut script, text, *count).is_err() {
+            return false;
+        }
     }
-    Ok(script)
+    check_says(alloc, script.as_str(), line)
 }
 
 // So many definitions, each of its number between two texts.
@@ -47,16 +48,21 @@ const DEFINITIONS: [(&str, &str, u32, &str); 4] = [
     ),
 ];
 
-#[test]
-fn definitions_are_limited(rt: HostRuntime) -> Result<(), Fail> {
-    for (before, behind, count, line) in DEFINITIONS {
-        let script = numbered(rt.alloc(), before, behind, count)?;
-        assert!(rt;
-            check_says(rt.alloc(), script.as_str(), line),
-            "{count} {before}"
-        );
+// The first of these rows of which `check` doesn't say its line: how many definitions, and what stands before the number of each. None has 0.
+fn first_unsaid(alloc: Global, rows: &[(&'static str, &str, u32, &str)]) -> (u32, &'static str) {
+    for (before, behind, count, line) in rows {
+        match numbered(alloc, before, behind, *count) {
+            Ok(script) if check_says(alloc, script.as_str(), line) => (),
+            _ => return (*count, before),
+        }
     }
-    Ok(())
+    (0, "")
+}
+
+#[test]
+fn definitions_are_limited(rt: HostRuntime) {
+    let (count, before) = first_unsaid(rt.alloc(), &DEFINITIONS);
+    assert!(rt; count == 0, "{count} {before}");
 }
 
 // Locals that are live at once, and levels: each number of a sum but the first is one.
@@ -80,17 +86,24 @@ const LEVELS: [(&[(&str, usize)], &str); 5] = [
     ),
 ];
 
-#[test]
-fn locals_and_levels_are_limited(rt: HostRuntime) -> Result<(), Fail> {
-    for (parts, line) in LEVELS {
-        let script = made(rt.alloc(), parts)?;
-        assert!(rt; check_says(rt.alloc(), script.as_str(), line), "{line}");
+// The first of these lines that `check` doesn't say of texts, each so many times, or nothing.
+fn first_unsaid_of(alloc: Global, rows: &[(&[(&str, usize)], &'static str)]) -> &'static str {
+    for (parts, line) in rows {
+        if !made_says(alloc, parts, line) {
+            return line;
+        }
     }
-    Ok(())
+    ""
+}
+
+#[test]
+fn locals_and_levels_are_limited(rt: HostRuntime) {
+    let unsaid = first_unsaid_of(rt.alloc(), &LEVELS);
+    assert!(rt; unsaid.is_empty(), "{unsaid}");
 }
 
 // Whether `check` says this line of three functions of 50,000 nodes each, one of so many and one more, and what stands behind.
-fn nodes_say(alloc: Global, count: usize, behind: &str, line: &str) -> Result<bool, AllocError> {
+fn nodes_say(alloc: Global, count: usize, behind: &str, line: &str) -> bool {
     let parts = [
         ("(defn a []", 1),
         (" 1", 49_999),
@@ -103,24 +116,21 @@ fn nodes_say(alloc: Global, count: usize, behind: &str, line: &str) -> Result<bo
         (")", 1),
         (behind, 1),
     ];
-    let script = made(alloc, &parts)?;
-    Ok(check_says(alloc, script.as_str(), line))
+    made_says(alloc, &parts, line)
 }
 
 #[test]
-fn nodes_are_limited(rt: HostRuntime) -> Result<(), Fail> {
+fn nodes_are_limited(rt: HostRuntime) {
     let line = "refused 28 CodeTooLarge at 400036..400044\n";
-    assert!(rt; nodes_say(rt.alloc(), 49_999, "", "ok\n")?);
-    assert!(rt; nodes_say(rt.alloc(), 49_999, "(future)", line)?);
-    Ok(())
+    assert!(rt; nodes_say(rt.alloc(), 49_999, "", "ok\n"));
+    assert!(rt; nodes_say(rt.alloc(), 49_999, "(future)", line));
 }
 
 #[test]
-fn the_function_that_passes_the_limit_is_refused(rt: HostRuntime) -> Result<(), Fail> {
+fn the_function_that_passes_the_limit_is_refused(rt: HostRuntime) {
     let fourth = "refused 28 CodeTooLarge at 300027..400038\n";
     let fifth = "refused 28 CodeTooLarge at 400042..400055\n";
-    assert!(rt; nodes_say(rt.alloc(), 50_000, "", fourth)?);
-    assert!(rt; nodes_say(rt.alloc(), 49_998, "(future)", "ok\n")?);
-    assert!(rt; nodes_say(rt.alloc(), 49_998, "(future)(defn e [] 1)", fifth)?);
-    Ok(())
+    assert!(rt; nodes_say(rt.alloc(), 50_000, "", fourth));
+    assert!(rt; nodes_say(rt.alloc(), 49_998, "(future)", "ok\n"));
+    assert!(rt; nodes_say(rt.alloc(), 49_998, "(future)(defn e [] 1)", fifth));
 }

@@ -1,7 +1,6 @@
 // The compiled run of a script prints and ends as the meaning of its thread says.
 use crate::program::{run, written};
 use std::alloc::{AllocError, Global};
-use std::test::Fail;
 use txs_asks::Outcome;
 use txs_compile::compile;
 use txs_eval::{ThreadMeaning, eval_thread};
@@ -16,31 +15,55 @@ fn line_of(alloc: Global, fault: &Fault) -> Result<String, AllocError> {
     )
 }
 
-// Whether a run tells what the meaning of its thread says.
-fn is_told(alloc: Global, script: &str, meaning: &ThreadMeaning) -> Result<bool, AllocError> {
-    let (output, errors, status) = written(alloc, &run(alloc), script.as_bytes());
+// Whether the errors of a run are those of a thread that failed so.
+fn is_line(alloc: Global, fault: &Fault, errors: &[u8]) -> bool {
+    match line_of(alloc, fault) {
+        Ok(line) => errors == line.as_bytes(),
+        Err(_) => false,
+    }
+}
+
+// Whether a run that wrote this, and ended with this status, tells what the meaning of its thread says.
+fn is_told(
+    alloc: Global,
+    meaning: &ThreadMeaning,
+    output: &[u8],
+    errors: &[u8],
+    status: u8,
+) -> bool {
     let ended = match &meaning.outcome {
         Some(Outcome::Done) => status == 0 && errors.is_empty(),
-        Some(Outcome::Failed(fault)) => {
-            let line = line_of(alloc, fault)?;
-            status == 3 && errors.as_slice() == line.as_bytes()
-        }
+        Some(Outcome::Failed(fault)) => status == 3 && is_line(alloc, fault, errors),
         _ => false,
     };
-    Ok(ended && output.as_slice() == meaning.printed.as_slice())
+    ended && output == meaning.printed.as_slice()
 }
 
 // Whether the run of a script tells what the meaning of its thread says, or nothing where it has no thread.
-fn agrees(alloc: Global, script: &str) -> Result<bool, AllocError> {
-    let Ok((program, _)) = compile(alloc, script.as_bytes()) else {
-        return Ok(false);
+fn agrees(alloc: Global, script: &str) -> bool {
+    let Ok((program, code)) = compile(alloc, script.as_bytes()) else {
+        return false;
     };
-    if program.threads().is_empty() {
-        let (output, errors, status) = written(alloc, &run(alloc), script.as_bytes());
-        return Ok(status == 0 && output.is_empty() && errors.is_empty());
-    }
-    let meaning = eval_thread(alloc, &program, 0, &[], 10_000)?;
-    is_told(alloc, script, &meaning)
+    drop(code);
+    let (output, errors, status) = written(alloc, run(alloc), script.as_bytes());
+    let agrees = if program.threads().is_empty() {
+        status == 0 && output.is_empty() && errors.is_empty()
+    } else {
+        match eval_thread(alloc, &program, 0, &[], 10_000) {
+            Ok(meaning) => {
+                is_told(
+                    alloc,
+                    &meaning,
+                    output.as_slice(),
+                    errors.as_slice(),
+                    status,
+                )
+            }
+            Err(_) => false,
+        }
+    };
+    drop(program);
+    agrees
 }
 
 // Scripts, one a line; the second is empty.
@@ -142,12 +165,11 @@ const SCRIPTS: &str = "\
 (future (println (loop [i 0 v []] (cond (= i 3) v :else (recur (inc i) (conj v i))))))";
 
 #[test]
-fn runs_agree_with_meanings(rt: HostRuntime) -> Result<(), Fail> {
+fn runs_agree_with_meanings(rt: HostRuntime) {
     let mut count = 0u32;
     for script in SCRIPTS.lines() {
-        assert!(rt; agrees(rt.alloc(), script)?, "{script}");
+        assert!(rt; agrees(rt.alloc(), script), "{script}");
         count = count.wrapping_add(1);
     }
     assert_eq!(rt; count, 95);
-    Ok(())
 }

@@ -4,11 +4,12 @@ use txs_play::play_words;
 use txs_words::Words;
 
 /// What the program writes for these words: its standard output, its standard error, and its status.
-pub fn written(alloc: Global, words: &Words, script: &[u8]) -> (Vec<u8>, Vec<u8>, u8) {
+pub fn written(alloc: Global, words: Words, script: &[u8]) -> (Vec<u8>, Vec<u8>, u8) {
     let mut reader = script;
     let mut output = Vec::new(alloc);
     let mut errors = Vec::new(alloc);
-    let status = play_words(alloc, words, &mut reader, &mut output, &mut errors);
+    let status = play_words(alloc, &words, &mut reader, &mut output, &mut errors);
+    drop(words);
     (output, errors, status)
 }
 
@@ -30,7 +31,7 @@ pub fn check_says(alloc: Global, script: &str, line: &str) -> bool {
         file: None,
         explain: false,
     };
-    let (output, errors, status) = written(alloc, &words, script.as_bytes());
+    let (output, errors, status) = written(alloc, words, script.as_bytes());
     if status == 0 {
         return output.as_slice() == line.as_bytes() && errors.is_empty();
     }
