@@ -3,7 +3,7 @@
 ghost use Rattle.std.specs.Prelude.{◌≡◌};
 ghost use Rattle.txs_value.specs.declared.value.CellKind.TheVariants.{Ref as a_ref};
 
-use std::alloc::{AllocError, Global};
+use std::alloc::Global;
 use std::str::SplitWhitespace;
 use txs_cells::Action;
 use txs_frame::{SetError, TxFrame};
@@ -102,95 +102,95 @@ fn call_all(frame: &mut TxFrame, alloc: Global, calls: &str) -> bool {
     true
 }
 
-// Adds the number of a cell, behind a space.
-fn add_number(out: &mut Vec<u8>, number: u16) -> Result<(), AllocError> {
-    out.push(b' ')?;
-    write_text(&Value::Int(i64::from(number)), out)
+// Adds the number of a cell, behind a space: whether there was room, as all that adds says.
+fn add_number(out: &mut Vec<u8>, number: u16) -> bool {
+    if out.extend_from_slice(b" ").is_err() {
+        return false;
+    }
+    write_text(&Value::Int(i64::from(number)), out).is_ok()
 }
 
 // Adds the number of a cell and a value of it, as `2=5`.
-fn add_value(out: &mut Vec<u8>, number: u16, value: &Value) -> Result<(), AllocError> {
-    add_number(out, number)?;
-    out.push(b'=')?;
-    write_text(value, out)
+fn add_value(out: &mut Vec<u8>, number: u16, value: &Value) -> bool {
+    add_number(out, number) && out.extend_from_slice(b"=").is_ok() && write_text(value, out).is_ok()
 }
 
 // Adds the own values of the first refs.
-fn add_own(out: &mut Vec<u8>, frame: &TxFrame) -> Result<(), AllocError> {
+fn add_own(out: &mut Vec<u8>, frame: &TxFrame) -> bool {
+    let mut added = true;
     for number in 0..6u16 {
         if let Some(value) = frame.value(number) {
-            add_value(out, number, value)?;
+            added = add_value(out, number, value) && added;
         }
     }
-    Ok(())
-}
-
-// Adds what cells are set to.
-fn add_writes(out: &mut Vec<u8>, writes: &[(CellId, Value)]) -> Result<(), AllocError> {
-    for (cell, value) in writes {
-        add_value(out, cell.number, value)?;
-    }
-    Ok(())
+    added
 }
 
 // Adds cells.
-fn add_cells(out: &mut Vec<u8>, cells: &[CellId]) -> Result<(), AllocError> {
+fn add_cells(out: &mut Vec<u8>, cells: &[CellId]) -> bool {
+    let mut added = true;
     for cell in cells {
-        add_number(out, cell.number)?;
+        added = add_number(out, cell.number) && added;
     }
-    Ok(())
+    added
 }
 
 // Adds what was set.
-fn add_set(out: &mut Vec<u8>, frame: &TxFrame) -> Result<(), AllocError> {
-    let writes = frame.writes()?;
-    add_writes(out, writes.as_slice())
+fn add_set(out: &mut Vec<u8>, frame: &TxFrame) -> bool {
+    let Ok(writes) = frame.writes() else {
+        return false;
+    };
+    let mut added = true;
+    for (cell, value) in writes.as_slice() {
+        added = add_value(out, cell.number, value) && added;
+    }
+    added
 }
 
 // Adds the refs that were commuted and not set.
-fn add_commuted(out: &mut Vec<u8>, frame: &TxFrame) -> Result<(), AllocError> {
-    let cells = frame.commuted()?;
-    add_cells(out, cells.as_slice())
+fn add_commuted(out: &mut Vec<u8>, frame: &TxFrame) -> bool {
+    match frame.commuted() {
+        Ok(cells) => add_cells(out, cells.as_slice()),
+        Err(_) => false,
+    }
 }
 
 // Adds the commutes, each by its ref and its first argument.
-fn add_commutes(out: &mut Vec<u8>, frame: &TxFrame) -> Result<(), AllocError> {
+fn add_commutes(out: &mut Vec<u8>, frame: &TxFrame) -> bool {
+    let mut added = true;
     for commute in frame.commutes() {
-        if let [value, ..] = commute.args.as_slice() {
-            add_value(out, commute.cell.number, value)?;
+        if let Some(value) = commute.args.as_slice().first() {
+            added = add_value(out, commute.cell.number, value) && added;
         }
     }
-    Ok(())
+    added
 }
 
 // Adds the agents of the sends.
-fn add_sends(out: &mut Vec<u8>, frame: &TxFrame) -> Result<(), AllocError> {
+fn add_sends(out: &mut Vec<u8>, frame: &TxFrame) -> bool {
+    let mut added = true;
     for action in frame.sends() {
-        add_number(out, action.agent.number)?;
+        added = add_number(out, action.agent.number) && added;
     }
-    Ok(())
+    added
 }
 
-// Adds all that a frame holds.
-fn add_all(out: &mut Vec<u8>, frame: &TxFrame) -> Result<(), AllocError> {
-    out.extend_from_slice(b"own:")?;
-    add_own(out, frame)?;
-    out.extend_from_slice(b"; set:")?;
-    add_set(out, frame)?;
-    out.extend_from_slice(b"; commuted:")?;
-    add_commuted(out, frame)?;
-    out.extend_from_slice(b"; ensured:")?;
-    add_cells(out, frame.ensured())?;
-    out.extend_from_slice(b"; commutes:")?;
-    add_commutes(out, frame)?;
-    out.extend_from_slice(b"; sends:")?;
-    add_sends(out, frame)
-}
-
-// Whether a frame holds what a text tells.
+// Whether a frame holds what a text tells: all that it holds, one kind behind the other.
 fn is_left(alloc: Global, frame: &TxFrame, held: &str) -> bool {
     let mut out = Vec::new(alloc);
-    add_all(&mut out, frame).is_ok() && out.as_slice() == held.as_bytes()
+    out.extend_from_slice(b"own:").is_ok()
+        && add_own(&mut out, frame)
+        && out.extend_from_slice(b"; set:").is_ok()
+        && add_set(&mut out, frame)
+        && out.extend_from_slice(b"; commuted:").is_ok()
+        && add_commuted(&mut out, frame)
+        && out.extend_from_slice(b"; ensured:").is_ok()
+        && add_cells(&mut out, frame.ensured())
+        && out.extend_from_slice(b"; commutes:").is_ok()
+        && add_commutes(&mut out, frame)
+        && out.extend_from_slice(b"; sends:").is_ok()
+        && add_sends(&mut out, frame)
+        && out.as_slice() == held.as_bytes()
 }
 
 // Whether a row holds: calls, and what a frame holds after them.

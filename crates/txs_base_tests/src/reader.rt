@@ -139,11 +139,19 @@ const FRONTS: [&[u8]; 20] = [
     b"@ @ ; two\n x, :k true",
 ];
 
+/// Whether the fronts of each of these scripts do.
+fn all_answer(alloc: Global, scripts: &[&[u8]]) -> bool {
+    for script in scripts {
+        if !all_fronts_answer(alloc, script) {
+            return false;
+        }
+    }
+    true
+}
+
 #[test]
 fn fronts(rt: HostRuntime) {
-    for script in FRONTS {
-        assert!(rt; all_fronts_answer(rt.alloc(), script));
-    }
+    assert!(rt; all_answer(rt.alloc(), &FRONTS));
 }
 
 // Whether these are the parts of `(a? -7 ; x [+1])`.

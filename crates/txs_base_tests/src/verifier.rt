@@ -1,7 +1,7 @@
 // The verifier, by `load`: of each refusal code that is damaged so, and code that nearly is.
 use crate::bytes::{FORM, changed};
 use crate::frame::number_of;
-use std::alloc::{AllocError, Global};
+use std::alloc::Global;
 use txs_load::error::LoadError;
 use txs_load::load::{load, load_verified};
 use txs_verify::error::{BodyName, VerifyError};
@@ -43,49 +43,48 @@ const FRONT: &[u8] = b"TXS1\
 // No cells, and nil as a constant.
 const NIL: &[u8] = b"TXS1\x00\x00\x00\x00\x00\x01\x00";
 
-// Appends the bytes that words tell.
-fn write_bytes(form: &mut Vec<u8>, words: &str) -> Result<(), AllocError> {
+// Appends the bytes that words tell: whether there was room, as all that appends says.
+fn write_bytes(form: &mut Vec<u8>, words: &str) -> bool {
+    let mut written = true;
     for word in words.split_whitespace() {
-        form.push(u8::try_from(number_of(word)).unwrap_or(u8::MAX))?;
+        let byte = u8::try_from(number_of(word)).unwrap_or(u8::MAX);
+        written = form.extend_from_slice(&[byte]).is_ok() && written;
     }
-    Ok(())
+    written
 }
 
 // Appends the instruction of this name, with a span of nothing. One that isn't known has no bytes.
-fn write_instr(form: &mut Vec<u8>, name: &str) -> Result<(), AllocError> {
+fn write_instr(form: &mut Vec<u8>, name: &str) -> bool {
+    let mut written = true;
     for line in INSTRS.lines() {
         let (first, bytes) = line.split_once(' ').unwrap_or((line, ""));
         if first == name {
-            write_bytes(form, bytes)?;
+            written = write_bytes(form, bytes) && written;
         }
     }
-    form.extend_from_slice(&[0; 8])
+    form.extend_from_slice(&[0; 8]).is_ok() && written
 }
 
 // Appends a body: its parameters and its locals, and behind `:` the names of its instructions.
-fn write_body(form: &mut Vec<u8>, body: &str) -> Result<(), AllocError> {
+fn write_body(form: &mut Vec<u8>, body: &str) -> bool {
     let (front, instrs) = body.split_once(':').unwrap_or((body, ""));
-    write_bytes(form, front)?;
-    let count = instrs.split_whitespace().count();
-    form.extend_from_slice(&[0, 0, 0, u8::try_from(count).unwrap_or(u8::MAX)])?;
+    let count = u8::try_from(instrs.split_whitespace().count()).unwrap_or(u8::MAX);
+    let mut written = write_bytes(form, front) && form.extend_from_slice(&[0, 0, 0, count]).is_ok();
     for name in instrs.split_whitespace() {
-        write_instr(form, name)?;
+        written = write_instr(form, name) && written;
     }
-    Ok(())
+    written
 }
 
 // Appends a front, and the bodies of a thread, or of a function and a thread with `;` between them.
-fn write_form(form: &mut Vec<u8>, front: &[u8], bodies: &str) -> Result<(), AllocError> {
-    form.extend_from_slice(front)?;
+fn write_form(form: &mut Vec<u8>, front: &[u8], bodies: &str) -> bool {
     let (function, thread) = bodies.split_once(';').unwrap_or(("", bodies));
-    if function.is_empty() {
-        form.extend_from_slice(&[0, 0])?;
-    } else {
-        form.extend_from_slice(&[0, 1])?;
-        write_body(form, function)?;
-    }
-    form.extend_from_slice(&[0, 1])?;
-    write_body(form, thread)
+    let functions = if function.is_empty() { 0 } else { 1 };
+    form.extend_from_slice(front).is_ok()
+        && form.extend_from_slice(&[0, functions]).is_ok()
+        && (functions == 0 || write_body(form, function))
+        && form.extend_from_slice(&[0, 1]).is_ok()
+        && write_body(form, thread)
 }
 
 // Whether a refusal is told so: its reason, the body, and the place.
@@ -114,7 +113,7 @@ fn is_judged(alloc: Global, form: &[u8], told: &str) -> bool {
 fn holds(alloc: Global, row: &str) -> bool {
     let (bodies, told) = row.split_once(" => ").unwrap_or((row, ""));
     let mut form = Vec::new(alloc);
-    write_form(&mut form, FRONT, bodies).is_ok() && is_judged(alloc, form.as_slice(), told)
+    write_form(&mut form, FRONT, bodies) && is_judged(alloc, form.as_slice(), told)
 }
 
 const THREADS: &str = "\
@@ -185,7 +184,7 @@ fn judges_the_worked_form(rt: HostRuntime) {
 // Whether code with this front and this thread is given as verified.
 fn is_given(alloc: Global, front: &[u8], thread: &str) -> bool {
     let mut form = Vec::new(alloc);
-    write_form(&mut form, front, thread).is_ok() && load_verified(alloc, form.as_slice()).is_ok()
+    write_form(&mut form, front, thread) && load_verified(alloc, form.as_slice()).is_ok()
 }
 
 #[test]
