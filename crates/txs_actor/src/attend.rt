@@ -10,7 +10,7 @@ use crate::outcome::Turn;
 use txs_asks::Outcome;
 use txs_code::Verified;
 use txs_terms::Callee;
-use txs_transaction::Pending;
+use txs_transaction::{Pending, Transaction};
 
 impl Actor {
     /// An instruction of the agent's own body: the action that was taken is run, an operation at once, a function in turns of
@@ -29,7 +29,13 @@ impl Actor {
             return;
         }
         if at == 1 {
-            let Some(action) = self.action() else {
+            let Some(
+                Transaction::Attending {
+                    action: Some(action),
+                    ..
+                },
+            ) = self.tx.whole()
+            else {
                 unreachable!();
             };
             let (callee, span) = (action.callee, action.span);
@@ -42,7 +48,11 @@ impl Actor {
             }
             return;
         }
-        self.give(turn);
+        let value = self.stack.take_last();
+        match self.agent_in() {
+            Some(agent) => self.ask(Pending::Finish(agent, Ok(value)), turn),
+            None => unreachable!(),
+        }
     }
 
     /// A turn in the agent's own body.

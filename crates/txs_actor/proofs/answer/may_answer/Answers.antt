@@ -1,4 +1,4 @@
-use Rattle.std.proofs.Common.{◌≡◌, ℕ, List, Option, Result, false, true, refl, sym, subst, rules}
+use Rattle.std.proofs.Common.{◌≡◌, ◌⊎◌, inl, inr, ℕ, List, Option, Result, false, true, refl, sym, subst, rules}
 use Rattle.std.specs.Prelude.{IsTrue}
 use Rattle.std.proofs.lemmas.Bool.{false≢true}
 use Rattle.txs_asks.specs.Ask.{Writes}
@@ -141,6 +141,37 @@ not_opened (ask.OpenAt c) n v0 n0 m = n0 c refl
 not_opened (ask.CloseAt c p v) n v0 n0 m = m
 not_opened (ask.Broke c p) n v0 n0 m = m
 
+-- a look and a peek may have a value
+has_value : (q0 : Ask) (v : Value) → ((c : CellId) × (p : ℕ) × (q0 ≡ ask.Look c p)) ⊎ ((c : CellId) × (q0 ≡ ask.Peek c)) → MayAnswer q0 (reply.Is v)
+has_value q0 v (inl h) = subst (λ (q : Ask). MayAnswer q (reply.Is v)) (sym h.2) tt
+has_value q0 v (inr h) = subst (λ (q : Ask). MayAnswer q (reply.Is v)) (sym h.1) tt
+
+-- a look and a commit may be retried
+has_retry : (q0 : Ask) (d : CellId) → ((c : CellId) × (p : ℕ) × (q0 ≡ ask.Look c p)) ⊎ ((p : ℕ) × (ws : Writes) × (es : List CellId) × (q : ℕ) × (cs : Writes) × (xs : List Action) × (q0 ≡ ask.Commit p ws es q cs xs)) → MayAnswer q0 (reply.Retry d)
+has_retry q0 d (inl h) = subst (λ (q : Ask). MayAnswer q (reply.Retry d)) (sym h.2) tt
+has_retry q0 d (inr h) = subst (λ (q : Ask). MayAnswer q (reply.Retry d)) (sym h.6) tt
+
+-- a commit and a send may be refused
+has_refusal : (q0 : Ask) (a : CellId) → ((p : ℕ) × (ws : Writes) × (es : List CellId) × (q : ℕ) × (cs : Writes) × (xs : List Action) × (q0 ≡ ask.Commit p ws es q cs xs)) ⊎ ((x : Action) × (q0 ≡ ask.Send x)) → MayAnswer q0 (reply.AgentIsFailed a)
+has_refusal q0 a (inl h) = subst (λ (q : Ask). MayAnswer q (reply.AgentIsFailed a)) (sym h.6) tt
+has_refusal q0 a (inr h) = subst (λ (q : Ask). MayAnswer q (reply.AgentIsFailed a)) (sym h.1) tt
+
+-- a commit, a fault, a send, an action and the close of an atom may be done
+may_be_done : (q0 : Ask) → ((p : ℕ) × (ws : Writes) × (es : List CellId) × (q : ℕ) × (cs : Writes) × (xs : List Action) × (q0 ≡ ask.Commit p ws es q cs xs)) ⊎ ((p : ℕ) × (q : ℕ) × (q0 ≡ ask.Fail p q)) ⊎ ((x : Action) × (q0 ≡ ask.Send x)) ⊎ ((g : CellId) × (new : Result Value Fault) × (q0 ≡ ask.Finish g new)) ⊎ ((c : CellId) × (p : Option ℕ) × (v : Value) × (q0 ≡ ask.CloseAt c p v)) ⊎ ((c : CellId) × (p : ℕ) × (q0 ≡ ask.Broke c p)) → MayAnswer q0 reply.Done
+may_be_done q0 (inl h) = subst (λ (q : Ask). MayAnswer q reply.Done) (sym h.6) tt
+may_be_done q0 (inr (inl h)) = subst (λ (q : Ask). MayAnswer q reply.Done) (sym h.2) tt
+may_be_done q0 (inr (inr (inl h))) = subst (λ (q : Ask). MayAnswer q reply.Done) (sym h.1) tt
+may_be_done q0 (inr (inr (inr (inl h)))) = subst (λ (q : Ask). MayAnswer q reply.Done) (sym h.2) tt
+may_be_done q0 (inr (inr (inr (inr (inl h))))) = subst (λ (q : Ask). MayAnswer q reply.Done) (sym h.3) tt
+may_be_done q0 (inr (inr (inr (inr (inr h))))) = subst (λ (q : Ask). MayAnswer q reply.Done) (sym h.2) tt
+
+-- the book of a beginning, of a view, of an action that is taken and of an atom's open isn't full
+never_full : (q0 : Ask) → (q0 ≡ ask.Begin) ⊎ ((cs : List CellId) × (q0 ≡ ask.View cs)) ⊎ ((g : CellId) × (q0 ≡ ask.Take g)) ⊎ ((c : CellId) × (q0 ≡ ask.OpenAt c)) → MayAnswer q0 reply.Full → ⊥
+never_full q0 (inl h) m = subst (λ (q : Ask). MayAnswer q reply.Full) h m
+never_full q0 (inr (inl h)) m = subst (λ (q : Ask). MayAnswer q reply.Full) h.1 m
+never_full q0 (inr (inr (inl h))) m = subst (λ (q : Ask). MayAnswer q reply.Full) h.1 m
+never_full q0 (inr (inr (inr h))) m = subst (λ (q : Ask). MayAnswer q reply.Full) h.1 m
+
 pub returns-in_default : goal.returns-in_default
 returns-in_default c = no (λ m. no_read_point c.args.ask.now c.in-At.field-0 c.in_default.not-Begin (subst (λ (r : Reply). MayAnswer c.args.ask.now r) c.in-At.is m))
 
@@ -168,3 +199,51 @@ returns-in_default-ask-2 c =
 
 pub returns-in_default-ask-3 : goal.returns-in_default-ask-3
 returns-in_default-ask-3 c = yes (subst (λ (r : Reply). MayAnswer c.args.ask.now r) (sym c.in-Memory.is) (may_want_memory c.args.ask.now c.in_default-ask-3.not-Begin))
+
+pub returns-in-Look : goal.returns-in-Look
+returns-in-Look c = yes (subst (λ (r : Reply). MayAnswer c.args.ask.now r) (sym c.in-Is.is) (has_value c.args.ask.now c.in-Is.field-0 c.in-Look.is))
+
+pub returns-in-Look-2 : goal.returns-in-Look-2
+returns-in-Look-2 c = yes (subst (λ (r : Reply). MayAnswer c.args.ask.now r) (sym c.in-Is.is) (has_value c.args.ask.now c.in-Is.field-0 c.in-Look.is))
+
+pub returns-in-Look-matches : goal.returns-in-Look-matches
+returns-in-Look-matches c = yes (subst (λ (r : Reply). MayAnswer c.args.ask.now r) (sym c.in-Retry.is) (has_retry c.args.ask.now c.in-Retry.field-0 c.in-Look-matches.is))
+
+pub returns-in-Look-matches-2 : goal.returns-in-Look-matches-2
+returns-in-Look-matches-2 c = yes (subst (λ (r : Reply). MayAnswer c.args.ask.now r) (sym c.in-Retry.is) (has_retry c.args.ask.now c.in-Retry.field-0 c.in-Look-matches.is))
+
+pub returns-in-Commit-matches-2 : goal.returns-in-Commit-matches-2
+returns-in-Commit-matches-2 c = yes (subst (λ (r : Reply). MayAnswer c.args.ask.now r) (sym c.in-AgentIsFailed.is) (has_refusal c.args.ask.now c.in-AgentIsFailed.field-0 c.in-Commit-matches-2.is))
+
+pub returns-in-Commit-matches-2-2 : goal.returns-in-Commit-matches-2-2
+returns-in-Commit-matches-2-2 c = yes (subst (λ (r : Reply). MayAnswer c.args.ask.now r) (sym c.in-AgentIsFailed.is) (has_refusal c.args.ask.now c.in-AgentIsFailed.field-0 c.in-Commit-matches-2.is))
+
+pub returns-in-Commit : goal.returns-in-Commit
+returns-in-Commit c = yes (subst (λ (r : Reply). MayAnswer c.args.ask.now r) (sym c.in-Done.is) (may_be_done c.args.ask.now c.in-Commit.is))
+
+pub returns-in-Commit-2 : goal.returns-in-Commit-2
+returns-in-Commit-2 c = yes (subst (λ (r : Reply). MayAnswer c.args.ask.now r) (sym c.in-Done.is) (may_be_done c.args.ask.now c.in-Commit.is))
+
+pub returns-in-Commit-3 : goal.returns-in-Commit-3
+returns-in-Commit-3 c = yes (subst (λ (r : Reply). MayAnswer c.args.ask.now r) (sym c.in-Done.is) (may_be_done c.args.ask.now c.in-Commit.is))
+
+pub returns-in-Commit-4 : goal.returns-in-Commit-4
+returns-in-Commit-4 c = yes (subst (λ (r : Reply). MayAnswer c.args.ask.now r) (sym c.in-Done.is) (may_be_done c.args.ask.now c.in-Commit.is))
+
+pub returns-in-Commit-5 : goal.returns-in-Commit-5
+returns-in-Commit-5 c = yes (subst (λ (r : Reply). MayAnswer c.args.ask.now r) (sym c.in-Done.is) (may_be_done c.args.ask.now c.in-Commit.is))
+
+pub returns-in-Commit-6 : goal.returns-in-Commit-6
+returns-in-Commit-6 c = yes (subst (λ (r : Reply). MayAnswer c.args.ask.now r) (sym c.in-Done.is) (may_be_done c.args.ask.now c.in-Commit.is))
+
+pub returns-in-Begin-ask : goal.returns-in-Begin-ask
+returns-in-Begin-ask c = no (λ m. never_full c.args.ask.now c.in-Begin-ask.is (subst (λ (r : Reply). MayAnswer c.args.ask.now r) c.in-Full.is m))
+
+pub returns-in-Begin-ask-3 : goal.returns-in-Begin-ask-3
+returns-in-Begin-ask-3 c = no (λ m. never_full c.args.ask.now c.in-Begin-ask.is (subst (λ (r : Reply). MayAnswer c.args.ask.now r) c.in-Full.is m))
+
+pub returns-in-Begin-ask-4 : goal.returns-in-Begin-ask-4
+returns-in-Begin-ask-4 c = no (λ m. never_full c.args.ask.now c.in-Begin-ask.is (subst (λ (r : Reply). MayAnswer c.args.ask.now r) c.in-Full.is m))
+
+pub returns-in-Begin-ask-5 : goal.returns-in-Begin-ask-5
+returns-in-Begin-ask-5 c = no (λ m. never_full c.args.ask.now c.in-Begin-ask.is (subst (λ (r : Reply). MayAnswer c.args.ask.now r) c.in-Full.is m))
