@@ -20,7 +20,7 @@ impl Actor {
         requires went { turn.old ≡ turned.Went }
         ensures { AttendsSo code.now self.old self.old.place turn.new self.new }
     {
-        let at = self.place();
+        let at = self.stack.place();
         if at == 0 {
             match self.agent_in() {
                 Some(agent) => self.ask(Pending::Take(agent), turn),

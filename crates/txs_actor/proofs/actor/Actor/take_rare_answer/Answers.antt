@@ -86,3 +86,18 @@ returns-in-Retry c =
 
 pub returns-in-Changed : goal.returns-in-Changed
 returns-in-Changed c = search rules
+
+pub returns-in-Opened : goal.returns-in-Opened
+returns-in-Opened c = c.take_atom.ensures ∙ ap (answered c.args.self.now) (sym c.in-Opened.is)
+
+pub returns-in-Views : goal.returns-in-Views
+returns-in-Views c = c.take_views.ensures ∙ ap (answered c.args.self.now) (sym c.in-Views.is)
+
+pub returns-in-Action : goal.returns-in-Action
+returns-in-Action c = c.take_action.ensures ∙ ap (answered c.args.self.now) (sym c.in-Action.is)
+
+pub returns-in-Idle : goal.returns-in-Idle
+returns-in-Idle c = c.take_none.ensures ∙ ap (answered c.args.self.now) (sym c.in-Idle.is)
+
+pub returns-in-AgentIsFailed : goal.returns-in-AgentIsFailed
+returns-in-AgentIsFailed c = c.take_refusal.ensures c.in-AgentIsFailed.field-0 ∙ ap (answered c.args.self.now) (sym c.in-AgentIsFailed.is)
