@@ -393,9 +393,6 @@ as_many_agents code s ps rs made rep = as_many s (drop s.threads ps) rs rep ∙ 
 
 -- ---- tests
 
-pub other_limit : (code : PlainCode) (limit : ℕ) (s : PlainShared) (k : ℕ) (p : PlainPlayed) → (p.actor.limit ≡ limit → ⊥) → IsPlayer code limit s k p → ⊥
-other_limit code limit s k p n h = n h.limited
-
 -- want of memory is no mismatch
 pub other_error : run_error.Memory ≡ run_error.JournalMismatch → ⊥
 other_error e = cc

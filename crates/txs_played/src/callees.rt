@@ -2,14 +2,13 @@
 
 ghost use Rattle.std.specs.Prelude.{◌≡◌, ◌<◌, ◌↔◌, ℕ, suc, true, length, Some, IsTrue, IfOk, OnOk};
 ghost use Rattle.txs_code.specs.PlainCode.{CodeBody, parameters_of};
-ghost use Rattle.txs_played.specs.Callees.{AreCallees, HandsOutSent, IsBodyOf, IsCallee, IsSentAmong, IsSentAt, IsSentIn, MarksMore, SendWithin, TakesSent, sent_by};
+ghost use Rattle.txs_played.specs.Callees.{AreCallees, HandsOutSent, IsBodyOf, IsCallee, IsSentAmong, IsSentAt, IsSentIn, MarksMore, SendWithin, sent_by};
 ghost use Rattle.txs_terms.specs.Places.{nth};
 ghost use Rattle.txs_verify.specs.Marks.{mark_at};
 ghost use Rattle.txs_verify.specs.declared.walk.Mark.{Mark as AMark};
 
 use std::alloc::{AllocError, Global};
 use txs_asks::Reply;
-use txs_cells::Action;
 use txs_code::{Body, Instr, Verified};
 use txs_operations::takes;
 use txs_terms::Callee;
@@ -142,25 +141,19 @@ fn takes_so(code: &Verified, marks: &[bool], f: usize, count: usize) -> bool
     is_callee(marks, f) && has_parameters(code.code().functions(), f, count)
 }
 
-/// Whether an action's callee is an operation or a marked function, and takes the agent's state and the arguments.
-fn may_run(code: &Verified, marks: &[bool], action: &Action) -> bool
-    requires { AreCallees code.now marks.now }
-    ensures { IsTrue result ↔ TakesSent code.now action.now.callee (suc (length action.now.args)) }
-{
-    let count = action.args.as_slice().len() + 1;
-    match action.callee {
-        Callee::Core(op) => takes(op, count),
-        Callee::Function(f) => takes_so(code, marks, usize::from(f), count),
-    }
-}
-
-/// Whether a reply hands out no action but such a one.
+/// Whether a reply hands out no action but one whose callee is an operation or a marked function, and takes the agent's state and the arguments.
 pub(crate) fn hands_out(code: &Verified, marks: &[bool], reply: &Reply) -> bool
     requires { AreCallees code.now marks.now }
     ensures { IsTrue result ↔ HandsOutSent code.now reply.now }
 {
     match reply {
-        Reply::Action { action, .. } => may_run(code, marks, action),
+        Reply::Action { action, .. } => {
+            let count = action.args.as_slice().len() + 1;
+            match action.callee {
+                Callee::Core(op) => takes(op, count),
+                Callee::Function(f) => takes_so(code, marks, usize::from(f), count),
+            }
+        }
         _ => true,
     }
 }

@@ -48,7 +48,6 @@ fn is_stopped_so(shared: &SharedState, played: &Played<'_>) -> bool
 
 /// Whether it is the actor with this number, made with this code and for so many steps, waits for no reply, and was stopped by a full book only where that
 /// is full.
-#[tactic(auto, using(crate::proofs::Gathering::other_limit))]
 fn is_player(
     code: &Verified,
     max_steps: u64,

@@ -24,3 +24,6 @@ returns-clause-player c =
       }),
       (λ h. c.is_stopped_so.ensures.1 h.full),
     )
+
+pub returns-then-limit-max_steps-clause-player : goal.returns-then-limit-max_steps-clause-player
+returns-then-limit-max_steps-clause-player c = ((λ t. cc), (λ h. absurd (c.if-limit-max_steps.true (c.limit.ensures ∙ h.limited))))
