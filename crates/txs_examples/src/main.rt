@@ -5,54 +5,64 @@
 mod built;
 mod compare;
 mod examples;
-mod layers;
 mod marks;
 mod rows;
 mod written;
 
-use examples::is_as_expected;
+use examples::run_example;
 use rows::{Count, run_rows};
+use std::fs::DirEntry;
 use std::process::ExitCode;
 use std::{fs, io};
 
-/// The files whose names end so, without that end, in the order of their letters.
-fn names(rt: &HostRuntime, end: &str) -> io::Result<Vec<String>> {
+/// The name of a file in a folder.
+fn name_of(rt: &HostRuntime, entry: io::Result<DirEntry>) -> io::Result<String> {
+    let entry = entry?;
+    Ok(String::from_str(rt.alloc(), entry.file_name())?)
+}
+
+/// The names of the files, in the order of their letters.
+fn names(rt: &HostRuntime) -> io::Result<Vec<String>> {
     let mut names = Vec::new(rt.alloc());
     for entry in fs::read_dir(rt, ".")? {
-        let entry = entry?;
-        if let Some(name) = entry.file_name().strip_suffix(end) {
-            names.push(String::from_str(rt.alloc(), name)?)?;
-        }
+        names.push(name_of(rt, entry)?)?;
     }
     names.sort()?;
     Ok(names)
 }
 
-/// Runs the examples. Whether all are as expected.
-fn run_examples(rt: &HostRuntime) -> io::Result<bool> {
-    let mut all = true;
-    for name in names(rt, ".clj")? {
-        if !is_as_expected(rt, name.as_str())? {
-            all = false;
-        }
+/// Runs what a file holds, if that is an example or rows.
+fn run_file(rt: &HostRuntime, file: &str, count: &mut Count) -> io::Result<()> {
+    if let Some(name) = file.strip_suffix(".clj") {
+        return run_example(rt, name, count);
     }
-    Ok(all)
+    if file.ends_with(".rows") {
+        return run_rows(rt, file, count);
+    }
+    Ok(())
 }
 
-/// Runs the files of rows. How many rows they have, and how many of them are wrong.
-fn run_files(rt: &HostRuntime) -> io::Result<Count> {
-    let mut count = Count { rows: 0, wrong: 0 };
-    for name in names(rt, ".rows")? {
-        let file = format!(in rt.alloc(); "{name}.rows")?;
-        run_rows(rt, file.as_str(), &mut count)?;
+/// Runs what all files hold.
+fn run_files(rt: &HostRuntime, count: &mut Count) -> io::Result<()> {
+    let names = names(rt)?;
+    for name in &names {
+        run_file(rt, name.as_str(), count)?;
     }
-    Ok(count)
+    Ok(())
 }
 
 fn main(rt: HostRuntime) -> io::Result<ExitCode> {
-    let all = run_examples(&rt)?;
-    let count = run_files(&rt)?;
+    let mut count = Count {
+        rows: 0,
+        wrong: 0,
+        others: 0,
+    };
+    run_files(&rt, &mut count)?;
     println!(&rt; "{} rows, {} wrong", count.rows, count.wrong)?;
-    let status = if all && count.wrong == 0 { 0 } else { 1 };
+    let status = if count.wrong == 0 && count.others == 0 {
+        0
+    } else {
+        1
+    };
     Ok(ExitCode::from(status))
 }

@@ -25,9 +25,12 @@ fn behind<'a>(line: &'a str, mark: &str) -> Option<&'a str> {
 
 /// Whether a line has one of the marks.
 fn is_marked(line: &str) -> bool {
-    [WORDS, OUTPUT, ERRORS, CODE, STATUS]
-        .iter()
-        .any(|mark| behind(line, mark).is_some())
+    for mark in &[WORDS, OUTPUT, ERRORS, CODE, STATUS] {
+        if behind(line, mark).is_some() {
+            return true;
+        }
+    }
+    false
 }
 
 /// What stands behind the first of these marks.

@@ -2,7 +2,6 @@
 
 use crate::built::is_built;
 use crate::compare::agrees;
-use crate::layers::checked_code;
 use crate::marks::{
     CODE, ERRORS, OUTPUT, STATUS, WORDS, all_behind, code_in, first_behind, unmarked,
 };
@@ -10,11 +9,12 @@ use crate::written::{Written, written_by};
 use std::alloc::{AllocError, Global};
 use std::{fs, io};
 
-/// How many rows were run, and how many of them were wrong.
+/// How many rows were run, how many of them were wrong, and how many of the examples.
 #[derive(Clone, Copy, Drop)]
 pub struct Count {
     pub rows: u32,
     pub wrong: u32,
+    pub others: u32,
 }
 
 /// The bytes of a row: those of its code, or of its script.
@@ -26,12 +26,18 @@ fn bytes_of(alloc: Global, row: &str) -> Result<Vec<u8>, AllocError> {
     Vec::from_slice(alloc, script.as_bytes())
 }
 
-/// What is written for a script by the program, or for code by its decoder and verifier alone.
+/// What is written for a script by the program; or, for the words `check-code`, what decoder and verifier say of code: `ok`,
+/// or the refusal.
 fn run(alloc: Global, words: &str, script: &[u8]) -> Result<Written, AllocError> {
-    if words == "check-code" {
-        return checked_code(alloc, script);
+    if words != "check-code" {
+        return written_by(alloc, words, script);
     }
-    written_by(alloc, words, script)
+    let mut written = written_by(alloc, "dis --code", script)?;
+    if written.status == 0 {
+        written.output.clear();
+        written.output.extend_from_slice(b"ok\n")?;
+    }
+    Ok(written)
 }
 
 /// Whether what was written to a stream is what stands behind the row's marks.

@@ -11,8 +11,18 @@ pub struct Written {
     pub status: u8,
 }
 
-/// What the program writes for these words, of this script.
-pub fn written_of(alloc: Global, words: &[String], script: &[u8]) -> Written {
+/// The words between the white space of a text.
+fn words_in(alloc: Global, text: &str) -> Result<Vec<String>, AllocError> {
+    let mut words = Vec::new(alloc);
+    for word in text.split_whitespace() {
+        words.push(String::from_str(alloc, word)?)?;
+    }
+    Ok(words)
+}
+
+/// What the program writes for the words of a text, of this script.
+pub fn written_by(alloc: Global, words: &str, script: &[u8]) -> Result<Written, AllocError> {
+    let words = words_in(alloc, words)?;
     let mut reader = script;
     let mut written = Written {
         output: Vec::new(alloc),
@@ -21,25 +31,10 @@ pub fn written_of(alloc: Global, words: &[String], script: &[u8]) -> Written {
     };
     written.status = play(
         alloc,
-        words,
+        words.as_slice(),
         &mut reader,
         &mut written.output,
         &mut written.errors,
     );
-    written
-}
-
-/// The words between the white space of a text.
-pub fn words_in(alloc: Global, text: &str) -> Result<Vec<String>, AllocError> {
-    let mut words = Vec::new(alloc);
-    for word in text.split_whitespace() {
-        words.push(String::from_str(alloc, word)?)?;
-    }
-    Ok(words)
-}
-
-/// The same for the words of a text.
-pub fn written_by(alloc: Global, words: &str, script: &[u8]) -> Result<Written, AllocError> {
-    let words = words_in(alloc, words)?;
-    Ok(written_of(alloc, words.as_slice(), script))
+    Ok(written)
 }
