@@ -76,199 +76,218 @@ pub enum Words {
     Faulty(String),
 }
 
-/// A command, or that there was no memory for it.
-type Built<'a> = Result<Command<'a>, AllocError>;
+/// How an option is written, and what it takes.
+enum Kind {
+    /// A word that stands by itself.
+    File,
+    /// A flag: it is there or isn't.
+    Flag,
+    /// A flag beside which nothing is explained.
+    Code,
+    /// A text.
+    Text,
+    /// The name of a file, which has to be there.
+    Out,
+    /// A number from 1 to this one.
+    Number(i64),
+}
+
+/// An option of a command: its name, its text of help, and how it is written.
+type Opt = (&'static str, &'static str, Kind);
 
 /// The file of a command.
-fn file_arg<'a>(alloc: Global) -> Arg<'a> {
-    Arg::new(alloc, "FILE").help("The script; without it, standard input")
-}
+const FILE: Opt = ("FILE", "The script; without it, standard input", Kind::File);
 
-/// An option that is there or isn't.
-fn flag<'a>(alloc: Global, name: &'a str, help: &'a str) -> Arg<'a> {
-    Arg::new(alloc, name)
-        .long(name)
-        .help(help)
-        .action(ArgAction::SetTrue)
-}
+/// The flag by which a command explains what it complains of.
+const EXPLAIN: Opt = (
+    "explain",
+    "Shows the place of a refusal or a fault, and what to do",
+    Kind::Flag,
+);
 
-/// An option with a value.
-fn option<'a>(alloc: Global, name: &'a str, help: &'a str) -> Arg<'a> {
-    Arg::new(alloc, name)
-        .long(name)
-        .help(help)
-        .action(ArgAction::Set)
-}
+/// The flag by which a command takes code in place of a script.
+const CODE: Opt = (
+    "code",
+    "Takes code in its byte form, as build writes it",
+    Kind::Code,
+);
 
-/// The option of how many steps an actor makes.
-fn steps_arg<'a>(alloc: Global) -> Arg<'a> {
-    option(alloc, "steps", "How many steps an actor makes at most").value_parser(value_parser!(
-        u64
-    ).range(1..=1_000_000_000_000))
-}
+/// The option of which file is written.
+const OUT: Opt = (
+    "out",
+    "The file that the byte form of the code is written to",
+    Kind::Out,
+);
 
 /// The option of how many workers run a script or code.
-fn workers_arg<'a>(alloc: Global) -> Arg<'a> {
-    option(alloc, "workers", "How many workers run the threads at once").value_parser(value_parser!(
-        u64
-    ).range(1..=64))
-}
+const WORKERS: Opt = (
+    "workers",
+    "How many workers run the threads at once",
+    Kind::Number(64),
+);
 
-/// A command with one more option. The command is taken as it was made, so that nothing else is alive where memory runs out.
-fn with_arg<'a>(command: Built<'a>, arg: Arg<'a>) -> Built<'a> {
-    command?.arg(arg)
-}
+/// The option of which threads go on first.
+const TURNS: Opt = (
+    "turns",
+    "Which threads go on first, as 0,1,t0x3",
+    Kind::Text,
+);
 
-/// A command with the flag by which it explains what it complains of.
-fn with_explain<'a>(alloc: Global, command: Built<'a>) -> Built<'a> {
-    let help = "Shows the place of a refusal or a fault, and what to do";
-    with_arg(command, flag(alloc, "explain", help))
-}
+/// The option of how many steps an actor makes.
+const STEPS: Opt = (
+    "steps",
+    "How many steps an actor makes at most",
+    Kind::Number(1_000_000_000_000),
+);
 
-/// A command with the flag by which it takes code in place of a script.
-fn with_code<'a>(alloc: Global, command: Built<'a>) -> Built<'a> {
-    let help = "Takes code in its byte form, as build writes it";
-    match flag(alloc, "code", help).conflicts_with("explain") {
-        Ok(arg) => with_arg(command, arg),
-        Err(error) => Err(error),
+/// The flag by which a command prints the cells.
+const CELLS: Opt = (
+    "cells",
+    "Prints each cell with its newest value",
+    Kind::Flag,
+);
+
+/// The flag by which a command prints the events.
+const EVENTS: Opt = ("events", "Prints each event of the journal", Kind::Flag);
+
+/// A command: its name, what it does, and its options.
+type Row = (&'static str, &'static str, &'static [Opt]);
+
+/// The commands.
+const COMMANDS: [Row; 5] = [
+    (
+        "check",
+        "Checks a script without running it",
+        &[EXPLAIN, FILE],
+    ),
+    ("dis", "Lists the code of a script", &[EXPLAIN, FILE, CODE]),
+    (
+        "build",
+        "Writes the code of a script to a file",
+        &[EXPLAIN, FILE, OUT],
+    ),
+    (
+        "run",
+        "Runs a script",
+        &[WORKERS, STEPS, CELLS, EVENTS, CODE, EXPLAIN, FILE],
+    ),
+    (
+        "schedule",
+        "Runs a script by a schedule",
+        &[TURNS, STEPS, CELLS, EVENTS, CODE, EXPLAIN, FILE],
+    ),
+];
+
+/// An option, as its row says.
+fn option<'a>(alloc: Global, of: &Opt) -> Result<Arg<'a>, AllocError> {
+    let arg = Arg::new(alloc, of.0).help(of.1);
+    if let Kind::File = of.2 {
+        return Ok(arg);
+    }
+    let arg = arg.long(of.0);
+    match of.2 {
+        Kind::Flag => Ok(arg.action(ArgAction::SetTrue)),
+        Kind::Code => arg.action(ArgAction::SetTrue).conflicts_with("explain"),
+        Kind::Out => Ok(arg.value_name("F").required(true)),
+        Kind::Number(most) => Ok(arg.value_parser(value_parser!(u64).range(1..=most))),
+        _ => Ok(arg),
     }
 }
 
-/// A command that compiles a script and runs nothing.
-fn compiling_command<'a>(alloc: Global, name: &'a str, about: &'a str) -> Built<'a> {
-    let command = Ok(Command::new(alloc, name).about(about));
-    with_arg(with_explain(alloc, command), file_arg(alloc))
+/// A command below the program, as its row says.
+fn below<'a>(alloc: Global, row: &Row) -> Result<Command<'a>, AllocError> {
+    let mut options = Vec::new(alloc);
+    for of in row.2 {
+        options.push(option(alloc, of)?)?;
+    }
+    Command::new(alloc, row.0).about(row.1).args(options)
 }
 
-/// A command that runs, with the options that each such command has, behind one of its own.
-fn running_command<'a>(alloc: Global, name: &'a str, about: &'a str, own: Arg<'a>) -> Built<'a> {
-    let command = with_arg(Ok(Command::new(alloc, name).about(about)), own);
-    let command = with_arg(command, steps_arg(alloc));
-    let cells = flag(alloc, "cells", "Prints each cell with its newest value");
-    let command = with_arg(command, cells);
-    let events = flag(alloc, "events", "Prints each event of the journal");
-    let command = with_code(alloc, with_arg(command, events));
-    with_arg(with_explain(alloc, command), file_arg(alloc))
+/// The commands below the program.
+fn commands<'a>(alloc: Global) -> Result<Vec<Command<'a>>, AllocError> {
+    let mut commands = Vec::new(alloc);
+    for row in &COMMANDS {
+        commands.push(below(alloc, row)?)?;
+    }
+    Ok(commands)
 }
 
-/// The command that runs.
-fn run_command<'a>(alloc: Global) -> Built<'a> {
-    running_command(alloc, "run", "Runs a script", workers_arg(alloc))
-}
-
-/// The command that runs by a schedule.
-fn schedule_command<'a>(alloc: Global) -> Built<'a> {
-    let turns = option(alloc, "turns", "Which threads go on first, as 0,1,t0x3");
-    running_command(alloc, "schedule", "Runs a script by a schedule", turns)
-}
-
-/// The command that writes code.
-fn build_command<'a>(alloc: Global) -> Built<'a> {
-    let out = option(
-        alloc,
-        "out",
-        "The file that the byte form of the code is written to",
-    );
-    let command = compiling_command(alloc, "build", "Writes the code of a script to a file");
-    with_arg(command, out.value_name("F").required(true))
-}
-
-/// The command that lists code, of a script or in its byte form.
-fn listing_command<'a>(alloc: Global) -> Built<'a> {
-    with_code(
-        alloc,
-        compiling_command(alloc, "dis", "Lists the code of a script"),
-    )
-}
-
-/// A command with one more below it.
-fn with_command<'a>(command: Built<'a>, below: Built<'a>) -> Built<'a> {
-    command?.subcommand(below?)
-}
-
-/// The commands and their options.
-fn command<'a>(alloc: Global) -> Built<'a> {
-    let all = Command::new(alloc, "txs")
+/// The program's command. Its name in help is given here, so that the words begin behind it.
+fn command<'a>(alloc: Global) -> Result<Command<'a>, AllocError> {
+    let commands = commands(alloc)?;
+    Command::new(alloc, "txs")
         .about("Compiles and runs transaction scripts")
         .subcommand_required(true)
-        .disable_help_subcommand(true);
-    let check = compiling_command(alloc, "check", "Checks a script without running it");
-    let all = with_command(Ok(all), check);
-    let all = with_command(all, listing_command(alloc));
-    let all = with_command(all, build_command(alloc));
-    let all = with_command(all, run_command(alloc));
-    with_command(all, schedule_command(alloc))
+        .disable_help_subcommand(true)
+        .no_binary_name(true)
+        .subcommands(commands)?
+        .bin_name("txs")
 }
 
 /// The file that a command's words name, if they name one.
-fn named_file(alloc: Global, matches: &ArgMatches<'_>) -> Result<Option<String>, AllocError> {
-    match matches.get_str("FILE") {
+fn named_file(alloc: Global, words: &ArgMatches<'_>) -> Result<Option<String>, AllocError> {
+    match words.get_str("FILE") {
         Some(name) => Ok(Some(String::from_str(alloc, name)?)),
         None => Ok(None),
     }
 }
 
-/// What words ask for that are to list a script's code, or code.
-fn listing_words(file: Option<String>, code: bool, explain: bool) -> Words {
-    if code {
-        return Words::ListCode { file };
-    }
-    Words::Listing { file, explain }
-}
-
-/// What words ask for that are to run a script, or code, by workers.
-fn work_words(words: &ArgMatches<'_>, file: Option<String>, code: bool) -> Words {
-    let workers = words.get_one::<u64>("workers").unwrap_or(DEFAULT_WORKERS);
+/// What a command's words ask for, with their file and the text of `--turns` or `--out`. An option that the command lacks reads as one that
+/// isn't there.
+fn words_of(name: &str, words: &ArgMatches<'_>, file: Option<String>, text: String) -> Words {
+    let explain = words.get_flag("explain");
+    let code = words.get_flag("code");
     let steps = words.get_one::<u64>("steps").unwrap_or(DEFAULT_STEPS);
     let cells = words.get_flag("cells");
     let events = words.get_flag("events");
-    if code {
-        return Words::WorkCode {
+    if name == "build" {
+        return Words::Build {
             file,
-            workers,
+            out: text,
+            explain,
+        };
+    }
+    if name == "schedule" && code {
+        return Words::RunCode {
+            file,
+            turns: text,
             steps,
             cells,
             events,
         };
     }
-    Words::Work {
-        file,
-        workers,
-        steps,
-        cells,
-        events,
-        explain: words.get_flag("explain"),
-    }
-}
-
-/// What words ask for that are to run a script, or code, by a schedule.
-fn schedule_words(
-    alloc: Global,
-    words: &ArgMatches<'_>,
-    file: Option<String>,
-    code: bool,
-) -> Result<Words, AllocError> {
-    let turns = String::from_str(alloc, words.get_str("turns").unwrap_or(""))?;
-    let steps = words.get_one::<u64>("steps").unwrap_or(DEFAULT_STEPS);
-    let cells = words.get_flag("cells");
-    let events = words.get_flag("events");
-    if code {
-        return Ok(Words::RunCode {
+    if name == "schedule" {
+        return Words::Run {
             file,
-            turns,
+            turns: text,
             steps,
             cells,
             events,
-        });
+            explain,
+        };
     }
-    Ok(Words::Run {
-        file,
-        turns,
-        steps,
-        cells,
-        events,
-        explain: words.get_flag("explain"),
-    })
+    drop(text);
+    let workers = words.get_one::<u64>("workers").unwrap_or(DEFAULT_WORKERS);
+    match (name, code) {
+        ("check", _) => Words::Check { file, explain },
+        ("dis", true) => Words::ListCode { file },
+        ("dis", false) => Words::Listing { file, explain },
+        (_, true) => Words::WorkCode {
+            file,
+            workers,
+            steps,
+            cells,
+            events,
+        },
+        (_, false) => Words::Work {
+            file,
+            workers,
+            steps,
+            cells,
+            events,
+            explain,
+        },
+    }
 }
 
 /// What the matched words ask for.
@@ -276,23 +295,10 @@ fn asked(alloc: Global, matches: &ArgMatches<'_>) -> Result<Words, AllocError> {
     let Some((name, words)) = matches.subcommand() else {
         return Ok(Words::Faulty(String::new(alloc)));
     };
+    let option = if name == "build" { "out" } else { "turns" };
+    let text = String::from_str(alloc, words.get_str(option).unwrap_or(""))?;
     let file = named_file(alloc, words)?;
-    let explain = words.get_flag("explain");
-    if name == "check" {
-        return Ok(Words::Check { file, explain });
-    }
-    if name == "build" {
-        let out = String::from_str(alloc, words.get_str("out").unwrap_or(""))?;
-        return Ok(Words::Build { file, out, explain });
-    }
-    let code = words.get_flag("code");
-    if name == "dis" {
-        return Ok(listing_words(file, code, explain));
-    }
-    if name == "run" {
-        return Ok(work_words(words, file, code));
-    }
-    schedule_words(alloc, words, file, code)
+    Ok(words_of(name, words, file, text))
 }
 
 /// The text of what isn't run: help, or a usage fault.
@@ -310,11 +316,7 @@ fn told(alloc: Global, error: &Error) -> Result<Words, AllocError> {
 
 /// What the words after the program's name ask for.
 pub fn parse_words(alloc: Global, args: &[String]) -> Result<Words, AllocError> {
-    let mut all = vec![in alloc; "txs"]?;
-    for arg in args {
-        all.push(arg.as_str())?;
-    }
-    match command(alloc)?.try_get_matches_from(all.as_slice()) {
+    match command(alloc)?.try_get_matches_from(args) {
         Ok(matches) => asked(alloc, &matches),
         Err(error) => told(alloc, &error),
     }
