@@ -7,7 +7,7 @@ use Rattle.txs_load.specs.declared.error.LoadError.TheVariants.{Memory as NoMemo
 use Rattle.txs_machine.specs.ErrorName.{error_name}
 use Rattle.txs_machine.specs.declared.run_error.RunError.{RunError}
 use Rattle.txs_machine.specs.declared.run_error.RunError.TheVariants.{Memory}
-use Rattle.txs_tell.proofs.Fronts.{some_always}
+use Rattle.txs_tell.proofs.Fronts.{some_always, some_maps}
 use Rattle.txs_tell.specs.Lent.{answer_of, told_of}
 use Rattle.txs_tell.specs.Told.{Told}
 use Rattle.txs_tell.specs.declared.told.Told as owned
@@ -24,6 +24,18 @@ pub stream_answered : {E : Type 0} (r : Result owned.Told E) (known : Option (Li
     → IfOk r (λ t. IfSome known (λ input. P input (told_of t))) → IfSome known (λ input. P input (answer_of r))
 stream_answered (Ok t) known P memory h = h
 stream_answered (Err e) known P memory h = some_always known (λ input. P input (answer_of (Err e))) (λ input. memory input (answer_of (Err e)) (refl, refl, refl))
+
+-- the same, where what is told is written
+pub stream_written : {E : Type 0} (r : Result owned.Told E) (known : Option (List ℕ)) (P : List ℕ → Told → Type 0) (writes : Told → Type 0) → ((input : List ℕ) (t : Told) → IsMemory t → P input t)
+    → IfOk r (λ t. IfSome known (λ input. P input (told_of t))) → writes (answer_of r) → IfSome known (λ input. (t : Told) × P input t × writes t)
+stream_written r known P writes memory told written =
+    some_maps known (λ input. P input (answer_of r)) (λ input. (t : Told) × P input t × writes t) (λ input is. (answer_of r, is, written)) (stream_answered r known P memory told)
+
+-- of a stream that couldn't be read
+pub unread_told : {E : Type 0} (r : Result owned.Told E) (known : Option (List ℕ)) (P : List ℕ → Told → Type 0) → ((input : List ℕ) (t : Told) → t.output ≡ [] → t.errors ≡ codes "read failed" ++ codes "\n" → t.status ≡ 2 → P input t)
+    → IfOk r (λ t. (t.output.items ≡ []) × (t.errors.items ≡ codes "read failed" ++ codes "\n") × (t.status ≡ 2)) → IfOk r (λ t. IfSome known (λ input. P input (told_of t)))
+unread_told (Ok t) known P unread is = some_always known (λ input. P input (told_of t)) (λ input. unread input (told_of t) is.0 is.1 is.2)
+unread_told (Err e) known P unread is = tt
 
 -- of bytes that are refused
 pub refused_answered : {E : Type 0} (r : Result owned.Told E) (bytes : List ℕ) (steps : ℕ) (cells events : Bool) (e : LoadError) → IsRefusal bytes e → IfOk r (λ t. e ≢ NoMemory)

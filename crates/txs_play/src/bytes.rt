@@ -1,36 +1,19 @@
 //! Plays code in its byte form by workers: reads it, runs it, and writes what is told of it.
 
-ghost use Rattle.std.specs.Prelude.{IfOk, IfSome};
+ghost use Rattle.std.specs.Prelude.{IfSome};
 ghost use Rattle.txs_play.specs.CodeWorkersTold.{StreamWorkedCodeTells};
 ghost use Rattle.txs_play.specs.Runner.{IsRunnable, RunsLawfully};
-ghost use Rattle.txs_tell.specs.Lent.{told_of};
 ghost use Rattle.txs_tell.specs.Told.{Told as PlainTold, Written};
 
 use crate::code::work_code;
 use crate::code_play::read_all;
 use crate::script::Working;
 use crate::workers_play::{unread, write_answer};
-use std::alloc::{AllocError, Global};
+use std::alloc::Global;
 use std::io::{Read, Write};
 use txs_code::Verified;
 use txs_machine::{Report, RunError};
 use txs_shared::SharedState;
-use txs_tell::told::Told;
-
-/// Reads the bytes and has their code run.
-fn work_bytes<
-    X: Fn(Global, &Verified, usize, u64) -> Result<(SharedState, Report), RunError>,
-    R: Read,
->(alloc: Global, runner: &X, working: Working, reader: &mut R) -> Result<Told, AllocError>
-    requires call { (a : _) (code : _) (n : _) (steps : _) → IsRunnable code.now → X.pre runner.now a code n steps }
-    requires ran { (a : _) (code : _) (n : _) (steps : _) (r : _) → X.post runner.now a code n steps r → RunsLawfully code.now steps r }
-    ensures { IfOk result (λ t. IfSome (R.remaining reader.old) (λ input. StreamWorkedCodeTells input working.steps working.cells working.events (told_of t))) }
-{
-    match read_all(alloc, reader) {
-        Ok(bytes) => work_code(alloc, runner, bytes.as_slice(), working),
-        Err(fault) => unread(alloc, fault),
-    }
-}
 
 /// Has the code whose byte form the reader has run by workers, and writes what is told of it. Answers the status: 0 where all ended, 1 for bytes
 /// that are refused, 2 for a stream that couldn't be read or written, 3 for a thread or an agent that failed, 4 for want of steps or memory, or a
@@ -46,6 +29,11 @@ pub(crate) fn play_code_workers<
     ensures { IfSome (R.remaining reader.old) (λ input. (t : PlainTold) × StreamWorkedCodeTells input working.steps working.cells working.events t
         × Written (W.contents writer.old) (W.contents writer.new) (F.contents faults.old) (F.contents faults.new) t result) }
 {
-    let told = work_bytes(alloc, runner, working, reader);
-    write_answer(told, writer, faults)
+    match read_all(alloc, reader) {
+        Ok(bytes) => {
+            let told = work_code(alloc, runner, bytes.as_slice(), working);
+            write_answer(told, writer, faults)
+        }
+        Err(fault) => write_answer(unread(alloc, fault), writer, faults),
+    }
 }

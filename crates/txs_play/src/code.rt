@@ -11,7 +11,6 @@ use crate::script::Working;
 use crate::usage::no_script;
 use std::alloc::{AllocError, Global};
 use txs_code::Verified;
-use txs_load::law::form_is_taken;
 use txs_load::load::load_verified;
 use txs_machine::{Report, RunError};
 use txs_shared::SharedState;
@@ -26,10 +25,7 @@ pub(crate) fn work_code<
     ensures { IfOk result (λ t. WorkedCodeTells bytes.now working.steps working.cells working.events (told_of t)) }
 {
     match load_verified(alloc, bytes) {
-        Ok(code) => {
-            form_is_taken(code.code());
-            run_told(alloc, runner, no_script(), &code, working)
-        }
+        Ok(code) => run_told(alloc, runner, no_script(), &code, working),
         Err(error) => refused(alloc, error),
     }
 }

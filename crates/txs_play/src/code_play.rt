@@ -3,15 +3,13 @@
 ghost use Rattle.std.specs.Prelude.{◌≡◌, IfOk, IfSome};
 ghost use Rattle.txs_play.specs.CodeTold.{BytesTell};
 ghost use Rattle.txs_play.specs.LentCode.{code_wanted_of};
-ghost use Rattle.txs_tell.specs.Lent.{told_of};
 ghost use Rattle.txs_tell.specs.Told.{Told as PlainTold, Written};
 
 use crate::usage::{CodeUse, use_code};
 use crate::workers_play::{unread, write_answer};
-use std::alloc::{AllocError, Global};
+use std::alloc::Global;
 use std::io::{ErrorKind, Read, Write};
 use txs_tell::streams::ReadFault;
-use txs_tell::told::Told;
 
 /// All bytes of a stream.
 ///
@@ -30,20 +28,6 @@ pub(crate) fn read_all<R: Read>(alloc: Global, reader: &mut R) -> Result<Vec<u8>
     }
 }
 
-/// Reads the bytes and uses their code.
-fn use_bytes<R: Read>(
-    alloc: Global,
-    wanted: CodeUse<'_>,
-    reader: &mut R,
-) -> Result<Told, AllocError>
-    ensures { IfOk result (λ t. IfSome (R.remaining reader.old) (λ input. BytesTell input (code_wanted_of wanted.entry) (told_of t))) }
-{
-    match read_all(alloc, reader) {
-        Ok(bytes) => use_code(alloc, bytes.as_slice(), wanted),
-        Err(fault) => unread(alloc, fault),
-    }
-}
-
 /// Does with the code whose byte form the reader has what is wanted, and writes what is told of it. Answers the status: 0 where all ended,
 /// 1 for bytes that are refused, 2 for a play that names no actor or a stream that couldn't be read or written, 3 for a thread or an agent that failed,
 /// 4 for want of steps or memory; the highest that applies.
@@ -57,6 +41,11 @@ pub(crate) fn play_code<R: Read, W: Write, F: Write>(
     ensures { IfSome (R.remaining reader.old) (λ input. (t : PlainTold) × BytesTell input (code_wanted_of wanted.entry) t
         × Written (W.contents writer.old) (W.contents writer.new) (F.contents faults.old) (F.contents faults.new) t result) }
 {
-    let told = use_bytes(alloc, wanted, reader);
-    write_answer(told, writer, faults)
+    match read_all(alloc, reader) {
+        Ok(bytes) => {
+            let told = use_code(alloc, bytes.as_slice(), wanted);
+            write_answer(told, writer, faults)
+        }
+        Err(fault) => write_answer(unread(alloc, fault), writer, faults),
+    }
 }

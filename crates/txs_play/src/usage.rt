@@ -12,7 +12,6 @@ use crate::lines::refused;
 use std::alloc::{AllocError, Global};
 use txs_code::{Code, Verified};
 use txs_disasm::write_listing;
-use txs_load::law::form_is_taken;
 use txs_load::load::{load, load_verified};
 use txs_machine::Play;
 use txs_tell::explain::Script;
@@ -80,7 +79,6 @@ fn run_verified(
     ensures { IfOk result (λ t. (bytes : List ℕ) → IsFormOf bytes code.now → CodeTells bytes (told_of t) (Ran plays.now steps cells events)) }
 {
     let bare = code.code();
-    form_is_taken(bare);
     let mut shared = open_state(alloc, code)?;
     match run_code(alloc, no_script(), code, plays, steps, &mut shared)? {
         Some(mut told) => {

@@ -3,7 +3,7 @@
 ghost use Rattle.std.specs.Prelude.{◌≡◌, ◌++◌, [], codes, IfOk, IfSome};
 ghost use Rattle.txs_play.specs.Runner.{IsRunnable, RunsLawfully};
 ghost use Rattle.txs_play.specs.WorkersTold.{StreamWorkedTells};
-ghost use Rattle.txs_tell.specs.Lent.{answer_of, text_in, told_of};
+ghost use Rattle.txs_tell.specs.Lent.{answer_of, text_in};
 ghost use Rattle.txs_tell.specs.Told.{Told as PlainTold, Written, front};
 
 use crate::script::{Working, work_script};
@@ -24,30 +24,6 @@ pub(crate) fn unread(alloc: Global, fault: ReadFault) -> Result<Told, AllocError
     match fault {
         ReadFault::Failed => complaint(alloc, UNUSABLE, "read failed"),
         ReadFault::Memory => Err(AllocError),
-    }
-}
-
-/// Reads the script and has it run.
-fn work_stream<
-    X: Fn(Global, &Verified, usize, u64) -> Result<(SharedState, Report), RunError>,
-    R: Read,
->(
-    alloc: Global,
-    runner: &X,
-    working: Working,
-    file: Option<&str>,
-    reader: &mut R,
-) -> Result<Told, AllocError>
-    requires call { (a : _) (code : _) (n : _) (steps : _) → IsRunnable code.now → X.pre runner.now a code n steps }
-    requires ran { (a : _) (code : _) (n : _) (steps : _) (r : _) → X.post runner.now a code n steps r → RunsLawfully code.now steps r }
-    ensures { IfOk result (λ t. IfSome (R.remaining reader.old) (λ input. StreamWorkedTells (record { text = front input; file = text_in file.entry }) working.steps working.cells working.events (told_of t))) }
-{
-    match read_bytes(alloc, reader) {
-        Ok(bytes) => {
-            let text = bytes.as_slice();
-            work_script(alloc, runner, Script { text, file }, working)
-        }
-        Err(fault) => unread(alloc, fault),
     }
 }
 
@@ -93,6 +69,12 @@ pub(crate) fn play_workers<
     ensures { IfSome (R.remaining reader.old) (λ input. (t : PlainTold) × StreamWorkedTells (record { text = front input; file = text_in file.entry }) working.steps working.cells working.events t
         × Written (W.contents writer.old) (W.contents writer.new) (F.contents faults.old) (F.contents faults.new) t result) }
 {
-    let told = work_stream(alloc, runner, working, file, reader);
-    write_answer(told, writer, faults)
+    match read_bytes(alloc, reader) {
+        Ok(bytes) => {
+            let text = bytes.as_slice();
+            let told = work_script(alloc, runner, Script { text, file }, working);
+            write_answer(told, writer, faults)
+        }
+        Err(fault) => write_answer(unread(alloc, fault), writer, faults),
+    }
 }

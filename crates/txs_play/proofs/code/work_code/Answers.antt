@@ -1,3 +1,4 @@
+use Rattle.txs_load.proofs.Formed.{few_cells, few_threads}
 use Rattle.txs_tell.proofs.Fronts.{ok_maps}
 use Rattle.txs_tell.specs.Lent.{script_of, told_of}
 use Rattle.txs_play.proofs.Answered.{refused_answered}
@@ -5,6 +6,13 @@ use Rattle.txs_play.proofs.Ran.{of_bytes}
 use Rattle.txs_play.proofs.code.work_code.Goals as goal
 use Rattle.txs_play.specs.CodeWorkersTold.{WorkedCodeTells}
 use Rattle.txs_play.specs.RunTold.{RunTold}
+
+-- code that has a form has no more threads and cells than the limits allow
+pub run_told-requires-clause-few_threads : goal.run_told-requires-clause-few_threads
+run_told-requires-clause-few_threads g c = few_threads c.in-Ok.code c.in-Ok.ensures.form.fits
+
+pub run_told-requires-clause-few_cells : goal.run_told-requires-clause-few_cells
+run_told-requires-clause-few_cells g c = few_cells c.in-Ok.code c.in-Ok.ensures.form.fits
 
 pub returns-in-Ok : goal.returns-in-Ok
 returns-in-Ok g c =

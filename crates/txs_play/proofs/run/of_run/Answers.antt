@@ -1,4 +1,4 @@
-use Rattle.std.proofs.Common.{◌++◌, ◌∙◌, List, ap, length, subst, sym}
+use Rattle.std.proofs.Common.{◌≤◌, ◌++◌, ◌∙◌, List, ap, length, subst, sym}
 use Rattle.txs_shared.specs.SharedState.{numbered_book}
 use Rattle.txs_tell.proofs.OfAgents.{all_named_from}
 use Rattle.txs_tell.specs.AgentLines.{named_from}
@@ -11,6 +11,19 @@ pub of_report-requires-clause-one_each : goal.of_report-requires-clause-one_each
 of_report-requires-clause-one_each c =
     let code = c.args.code.now in
     c.requires.worked.agents_each ∙ sym (all_named_from 0 code.cells) ∙ ap (λ (ds : List CellDefinition). length (named_from 0 ds)) (sym c.cells-cells.ensures)
+
+-- the state is of the code's cells, of which there are few
+pub of_report-requires-clause-few_cells : goal.of_report-requires-clause-few_cells
+of_report-requires-clause-few_cells c = subst (λ (ds : List CellDefinition). length ds ≤ 1000) (sym c.cells-cells.ensures) c.requires.few_cells
+
+pub of_report-requires-clause-made : goal.of_report-requires-clause-made
+of_report-requires-clause-made c = c.requires.worked.of.cells ∙ sym c.cells-cells.ensures
+
+pub tell_book-requires-clause-few : goal.tell_book-requires-clause-few
+tell_book-requires-clause-few c = subst (λ (ds : List CellDefinition). length ds ≤ 1000) (sym c.cells-cells.ensures) c.requires.few_cells
+
+pub tell_book-requires-clause-made : goal.tell_book-requires-clause-made
+tell_book-requires-clause-made c = c.requires.worked.of.cells ∙ sym c.cells-cells.ensures
 
 pub returns : goal.returns
 returns c =

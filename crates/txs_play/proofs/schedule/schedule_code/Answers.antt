@@ -1,8 +1,8 @@
-use Rattle.std.proofs.Common.{◌≡◌, List, Result, Ok, sym, ap, ◌∙◌}
+use Rattle.std.proofs.Common.{◌≡◌, List, [], Result, Ok, ap, codes, refl, sym, ◌∙◌}
 use Rattle.txs_machine.specs.declared.schedule.Play.{Play}
 use Rattle.txs_schedule.specs.Plays.{plays_in}
 use Rattle.txs_schedule.specs.declared.plays.WrongPlay.{WrongPlay}
-use Rattle.txs_tell.specs.Told.{Told, Written}
+use Rattle.txs_tell.specs.Told.{Told, Written, of_memory}
 use Rattle.txs_tell.proofs.Fronts.{kept, some_maps, some_always}
 use Rattle.txs_play.specs.CodeTold.{Ran, BytesTell, BytesScheduleTell, of_plays, of_list}
 use Rattle.txs_play.proofs.schedule.schedule_code.Goals as goal
@@ -25,6 +25,15 @@ returns-in-Err-Wrong-clause-told g c =
     let writes : Told → Type 0 = λ t. Written (g.W.Write.contents c.args.writer.now) (g.W.Write.contents c.refuse_list.new.writer) (g.F.Write.contents c.args.faults.now) (g.F.Write.contents c.refuse_list.new.faults) t c.refuse_list.result in
     let refused = c.refuse_list.ensures in
     some_always known (λ input. (t : Told) × BytesScheduleTell input c.args.turns.now c.args.steps c.args.cells c.args.events t × writes t) (λ input. (refused.0, of_list refused.1, refused.2))
+
+-- there was no memory for the list
+pub returns-in-Err-Memory-clause-told : goal.returns-in-Err-Memory-clause-told
+returns-in-Err-Memory-clause-told g c =
+    let known = g.R.Read.remaining c.args.reader.now in
+    let writes : Told → Type 0 = λ t. Written (g.W.Write.contents c.args.writer.now) (g.W.Write.contents c.write_told.new.writer) (g.F.Write.contents c.args.faults.now) (g.F.Write.contents c.write_told.new.faults) t c.write_told.result in
+    let told : Told = record { output = []; errors = codes "out of memory\n"; status = 4 } in
+    some_always known (λ input. (t : Told) × BytesScheduleTell input c.args.turns.now c.args.steps c.args.cells c.args.events t × writes t)
+    (λ input. (told, of_list (of_memory refl refl refl), c.write_told.ensures))
 
 -- where there is no list, the reader isn't touched
 pub returns-in-Err-Wrong-clause-unread : goal.returns-in-Err-Wrong-clause-unread

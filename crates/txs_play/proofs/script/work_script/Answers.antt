@@ -1,3 +1,4 @@
+use Rattle.txs_load.proofs.Formed.{few_cells, few_threads}
 use Rattle.txs_tell.proofs.Fronts.{ok_maps}
 use Rattle.txs_tell.specs.Lent.{script_of, told_of}
 use Rattle.txs_tell.specs.Told.{IsCompiled, ScriptTells, Wanted}
@@ -6,6 +7,13 @@ use Rattle.txs_play.proofs.script.work_script.Goals as goal
 use Rattle.txs_play.specs.RunTold.{RunTold}
 use Rattle.txs_play.specs.WorkersTold.{WorkedTells, of_refused}
 use Rattle.txs_tree.specs.View.{program_of}
+
+-- code that has a form has no more threads and cells than the limits allow
+pub run_told-requires-clause-few_threads : goal.run_told-requires-clause-few_threads
+run_told-requires-clause-few_threads g c = few_threads c.in-Ok.compiled.1 c.in-Ok.ensures.form
+
+pub run_told-requires-clause-few_cells : goal.run_told-requires-clause-few_cells
+run_told-requires-clause-few_cells g c = few_cells c.in-Ok.compiled.1 c.in-Ok.ensures.form
 
 pub returns-in-Ok : goal.returns-in-Ok
 returns-in-Ok g c =

@@ -1,6 +1,7 @@
-use Rattle.std.proofs.Common.{◌≡◌, ◌++◌, ℕ, List, [], Option, codes, true, false, subst, subst₂}
+use Rattle.std.proofs.Common.{◌≡◌, ◌≤◌, ◌++◌, ◌∙◌, ℕ, List, [], Option, ap, codes, length, true, false, subst, subst₂, sym}
 use Rattle.std.specs.Option.{option_map}
 use Rattle.txs_code.specs.PlainCode.{PlainCode}
+use Rattle.txs_load.proofs.Formed.{few_cells, few_threads}
 use Rattle.txs_load.specs.Load.{IsFormOf}
 use Rattle.txs_machine.specs.Agents.{actors_of}
 use Rattle.txs_machine.specs.Schedule.{all_named}
@@ -15,6 +16,27 @@ use Rattle.txs_cells.specs.declared.cell.CellDefinition.{CellDefinition}
 use Rattle.txs_play.proofs.usage.run_verified.Goals as goal
 
 -- a play names no actor
+-- code that has a form has no more threads and cells than the limits allow
+pub open_state-requires : goal.open_state-requires
+open_state-requires c = record { few = few_threads c.args.code.now c.requires }
+
+pub run_code-requires-clause-few : goal.run_code-requires-clause-few
+run_code-requires-clause-few c = few_threads c.args.code.now c.requires
+
+pub run_code-requires-clause-few_cells : goal.run_code-requires-clause-few_cells
+run_code-requires-clause-few_cells c = few_cells c.args.code.now c.requires
+
+pub tell_book-requires-clause-few : goal.tell_book-requires-clause-few
+tell_book-requires-clause-few c =
+    let few : length c.code-bare.result.now.cells ≤ 1000 =
+    subst (λ (d : PlainCode). length d.cells ≤ 1000) (sym c.code-bare.ensures.value) (few_cells c.args.code.now c.requires)
+    in
+    subst (λ (ds : List CellDefinition). length ds ≤ 1000) (sym c.cells.ensures) few
+
+-- the state is of the code's cells
+pub tell_book-requires-clause-made : goal.tell_book-requires-clause-made
+tell_book-requires-clause-made c = c.run_code.ensures.of.cells ∙ ap (λ (d : PlainCode). d.cells) (sym c.code-bare.ensures.value) ∙ sym c.cells.ensures
+
 pub returns : goal.returns
 returns c =
     let code = c.args.code.now in
