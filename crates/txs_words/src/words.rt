@@ -154,7 +154,7 @@ const EVENTS: Opt = ("events", "Prints each event of the journal", Kind::Flag);
 type Row = (&'static str, &'static str, &'static [Opt]);
 
 /// The commands.
-const COMMANDS: [Row; 5] = [
+static COMMANDS: [Row; 5] = [
     (
         "check",
         "Checks a script without running it",
@@ -247,46 +247,54 @@ fn words_of(name: &str, words: &ArgMatches<'_>, file: Option<String>, text: Stri
             explain,
         };
     }
-    if name == "schedule" && code {
-        return Words::RunCode {
-            file,
-            turns: text,
-            steps,
-            cells,
-            events,
-        };
-    }
     if name == "schedule" {
-        return Words::Run {
-            file,
-            turns: text,
-            steps,
-            cells,
-            events,
-            explain,
+        return if code {
+            Words::RunCode {
+                file,
+                turns: text,
+                steps,
+                cells,
+                events,
+            }
+        } else {
+            Words::Run {
+                file,
+                turns: text,
+                steps,
+                cells,
+                events,
+                explain,
+            }
         };
     }
     drop(text);
+    if name == "check" {
+        return Words::Check { file, explain };
+    }
+    if name == "dis" {
+        return if code {
+            Words::ListCode { file }
+        } else {
+            Words::Listing { file, explain }
+        };
+    }
     let workers = words.get_one::<u64>("workers").unwrap_or(DEFAULT_WORKERS);
-    match (name, code) {
-        ("check", _) => Words::Check { file, explain },
-        ("dis", true) => Words::ListCode { file },
-        ("dis", false) => Words::Listing { file, explain },
-        (_, true) => Words::WorkCode {
+    if code {
+        return Words::WorkCode {
             file,
             workers,
             steps,
             cells,
             events,
-        },
-        (_, false) => Words::Work {
-            file,
-            workers,
-            steps,
-            cells,
-            events,
-            explain,
-        },
+        };
+    }
+    Words::Work {
+        file,
+        workers,
+        steps,
+        cells,
+        events,
+        explain,
     }
 }
 
