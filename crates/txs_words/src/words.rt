@@ -224,14 +224,6 @@ fn command<'a>(alloc: Global) -> Result<Command<'a>, AllocError> {
         .bin_name("txs")
 }
 
-/// The file that a command's words name, if they name one.
-fn named_file(alloc: Global, words: &ArgMatches<'_>) -> Result<Option<String>, AllocError> {
-    match words.get_str("FILE") {
-        Some(name) => Ok(Some(String::from_str(alloc, name)?)),
-        None => Ok(None),
-    }
-}
-
 /// What a command's words ask for, with their file and the text of `--turns` or `--out`. An option that the command lacks reads as one that
 /// isn't there.
 fn words_of(name: &str, words: &ArgMatches<'_>, file: Option<String>, text: String) -> Words {
@@ -305,7 +297,10 @@ fn asked(alloc: Global, matches: &ArgMatches<'_>) -> Result<Words, AllocError> {
     };
     let option = if name == "build" { "out" } else { "turns" };
     let text = String::from_str(alloc, words.get_str(option).unwrap_or(""))?;
-    let file = named_file(alloc, words)?;
+    let file = match words.get_str("FILE") {
+        Some(name) => Some(String::from_str(alloc, name)?),
+        None => None,
+    };
     Ok(words_of(name, words, file, text))
 }
 
