@@ -224,14 +224,67 @@ fn command<'a>(alloc: Global) -> Result<Command<'a>, AllocError> {
         .bin_name("txs")
 }
 
-/// What a command's words ask for, with their file and the text of `--turns` or `--out`. An option that the command lacks reads as one that
-/// isn't there.
-fn words_of(name: &str, words: &ArgMatches<'_>, file: Option<String>, text: String) -> Words {
-    let explain = words.get_flag("explain");
-    let code = words.get_flag("code");
+/// What a command's words ask for of code, with their file and the text of `--turns`.
+fn of_code(name: &str, words: &ArgMatches<'_>, file: Option<String>, turns: String) -> Words {
     let steps = words.get_one::<u64>("steps").unwrap_or(DEFAULT_STEPS);
     let cells = words.get_flag("cells");
     let events = words.get_flag("events");
+    if name == "schedule" {
+        return Words::RunCode {
+            file,
+            turns,
+            steps,
+            cells,
+            events,
+        };
+    }
+    drop(turns);
+    if name == "dis" {
+        return Words::ListCode { file };
+    }
+    Words::WorkCode {
+        file,
+        workers: words.get_one::<u64>("workers").unwrap_or(DEFAULT_WORKERS),
+        steps,
+        cells,
+        events,
+    }
+}
+
+/// What the words of a command that runs a script ask for, with their file and the text of `--turns`.
+fn of_run(name: &str, words: &ArgMatches<'_>, file: Option<String>, turns: String) -> Words {
+    let steps = words.get_one::<u64>("steps").unwrap_or(DEFAULT_STEPS);
+    let cells = words.get_flag("cells");
+    let events = words.get_flag("events");
+    let explain = words.get_flag("explain");
+    if name == "schedule" {
+        return Words::Run {
+            file,
+            turns,
+            steps,
+            cells,
+            events,
+            explain,
+        };
+    }
+    drop(turns);
+    Words::Work {
+        file,
+        workers: words.get_one::<u64>("workers").unwrap_or(DEFAULT_WORKERS),
+        steps,
+        cells,
+        events,
+        explain,
+    }
+}
+
+/// What a command's words ask for, with their file and the text of `--turns` or `--out`. An option that the command lacks reads as one that
+/// isn't there.
+fn words_of(name: &str, words: &ArgMatches<'_>, file: Option<String>, text: String) -> Words {
+    if words.get_flag("code") {
+        return of_code(name, words, file, text);
+    }
+    let explain = words.get_flag("explain");
     if name == "build" {
         return Words::Build {
             file,
@@ -239,55 +292,15 @@ fn words_of(name: &str, words: &ArgMatches<'_>, file: Option<String>, text: Stri
             explain,
         };
     }
-    if name == "schedule" {
-        return if code {
-            Words::RunCode {
-                file,
-                turns: text,
-                steps,
-                cells,
-                events,
-            }
-        } else {
-            Words::Run {
-                file,
-                turns: text,
-                steps,
-                cells,
-                events,
-                explain,
-            }
-        };
-    }
-    drop(text);
     if name == "check" {
+        drop(text);
         return Words::Check { file, explain };
     }
     if name == "dis" {
-        return if code {
-            Words::ListCode { file }
-        } else {
-            Words::Listing { file, explain }
-        };
+        drop(text);
+        return Words::Listing { file, explain };
     }
-    let workers = words.get_one::<u64>("workers").unwrap_or(DEFAULT_WORKERS);
-    if code {
-        return Words::WorkCode {
-            file,
-            workers,
-            steps,
-            cells,
-            events,
-        };
-    }
-    Words::Work {
-        file,
-        workers,
-        steps,
-        cells,
-        events,
-        explain,
-    }
+    of_run(name, words, file, text)
 }
 
 /// What the matched words ask for.
