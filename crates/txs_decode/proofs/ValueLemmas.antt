@@ -1,6 +1,7 @@
 -- Values behind their tags, and how deep they are.
 use Rattle.std.proofs.Common.{◌≡◌, ℕ, Bool, zero, suc, ◌-◌, ◌<◌, ◌≤◌, List, length, Option, Some, None, Result, Ok, Err, refl, sym, ap, subst, ◌∙◌, arith}
-use Rattle.std.specs.Int.{w16}
+use Rattle.std.specs.Int.{w16, w64}
+use mir.Val.{to_z}
 use Rattle.std.specs.List.{AllByRecursion}
 use Rattle.txs_value.specs.Limits.{IsVector}
 use Rattle.txs_value.specs.PlainValue.{PlainValue, PlainValues, nil, truth, int, key, text, vector, cell, end, more, depth, row_depth, plain_row, plain_list}
@@ -86,3 +87,38 @@ value_reads cells kinds room bytes tag rest h =
 pub value_fails : (cells : Bool) (kinds : List CellKind) (room : ℕ) (bytes : List ℕ) (e : Stop) → Fails e ((tag_format cells room).read bytes) → Fails e ((value_format cells kinds room).read bytes)
 value_fails cells kinds room bytes e h =
     rw value_read (fails_first e ((tag_format cells room).read bytes) (λ x. (value_body kinds (item_format cells kinds room) x.0).read x.1) h)
+
+-- the same, of a tag that is known
+pub value_tagged : (cells : Bool) (kinds : List CellKind) (room : ℕ) (bytes : List ℕ) (t u : Tag) (rest : List ℕ) → (tag_format cells room).read bytes ≡ Ok (t, rest) → t ≡ u
+    → (value_format cells kinds room).read bytes ≡ (value_body kinds (item_format cells kinds room) u).read rest
+value_tagged cells kinds room bytes t u rest h is =
+    value_reads cells kinds room bytes t rest h ∙ ap (λ (x : Tag). (value_body kinds (item_format cells kinds room) x).read rest) is
+
+-- where the tag of a vector was read, there is room for its level
+pub vector_room : (cells : Bool) (room : ℕ) (bytes : List ℕ) (t : Tag) (rest : List ℕ) → (tag_format cells room).read bytes ≡ Ok (t, rest) → t ≡ tag.Vector → 0 < room
+vector_room cells room bytes t rest h is =
+    room_is cells room (subst (λ (x : Tag). tag_test cells room x ≡ None) is (tag_stands cells room bytes t rest h))
+
+pub vector_tagged : (cells : Bool) (kinds : List CellKind) (room : ℕ) (bytes : List ℕ) (t : Tag) (rest : List ℕ) → (tag_format cells room).read bytes ≡ Ok (t, rest) → t ≡ tag.Vector
+    → (value_format cells kinds room).read bytes ≡ (value_body kinds (value_format cells kinds (room - 1)) tag.Vector).read rest
+vector_tagged cells kinds room bytes t rest h is =
+    let some = vector_room cells room bytes t rest h is in
+    let same : (value_body kinds (item_format cells kinds room) tag.Vector).read rest ≡ (value_body kinds (value_format cells kinds (room - 1)) tag.Vector).read rest = rw (item_room cells kinds room some) refl in
+    value_tagged cells kinds room bytes t tag.Vector rest h is ∙ same
+
+-- a number, read behind its tag
+pub int_reads : (cells : Bool) (kinds : List CellKind) (room : ℕ) (bytes : List ℕ) (t : Tag) (rest : List ℕ) (n : ℕ) (after : List ℕ) → (tag_format cells room).read bytes ≡ Ok (t, rest) → t ≡ tag.Int → number_at w64 rest ≡ Ok (n, after)
+    → (value_format cells kinds room).read bytes ≡ Ok (int (to_z w64 n), after)
+int_reads cells kinds room bytes t rest n after h is k =
+    value_tagged cells kinds room bytes t tag.Int rest h is ∙ ap (λ (r : Read ℕ). r >>= λ x. Ok (int (to_z w64 x.0), x.1)) k
+
+pub int_fails : (cells : Bool) (kinds : List CellKind) (room : ℕ) (bytes : List ℕ) (t : Tag) (rest : List ℕ) (e : Stop) → (tag_format cells room).read bytes ≡ Ok (t, rest) → t ≡ tag.Int → Fails e (number_at w64 rest)
+    → Fails e ((value_format cells kinds room).read bytes)
+int_fails cells kinds room bytes t rest e h is k =
+    let same = value_tagged cells kinds room bytes t tag.Int rest h is in
+    subst (λ (r : Read PlainValue). Fails e r) (sym same) (fails_first e (number_at w64 rest) (λ x. Ok (int (to_z w64 x.0), x.1)) k)
+
+-- the items of a vector, read behind their count
+pub vector_reads : (kinds : List CellKind) (f : Format PlainValue) (bytes rest after : List ℕ) (count : ℕ) (ds : List PlainValue) → number_at w16 bytes ≡ Ok (count, rest) → many_at f.read count rest ≡ Ok (ds, after)
+    → (value_body kinds f tag.Vector).read bytes ≡ Ok (vector (plain_row ds), after)
+vector_reads kinds f bytes rest after count ds h k = rw (h, k) refl

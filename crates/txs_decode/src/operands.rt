@@ -128,8 +128,10 @@ pub(crate) fn core_at(bytes: &[u8]) -> Result<(Instr, &[u8]), Stop>
 pub(crate) fn call_at(functions: usize, bytes: &[u8]) -> Result<(Instr, &[u8]), Stop>
     ensures { Gives (λ x. (x.0, x.1.now)) result ((operands 0 functions opcode.Call).read bytes.now) }
 {
-    let (function, rest) = function_at(functions, bytes)?;
-    Ok((Instr::Call(function), rest))
+    match function_at(functions, bytes) {
+        Ok((function, rest)) => Ok((Instr::Call(function), rest)),
+        Err(stop) => Err(stop),
+    }
 }
 
 /// A callee and a count of arguments.

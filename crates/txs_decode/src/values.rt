@@ -1,12 +1,12 @@
 //! Values, read.
 
-ghost use Rattle.std.specs.Prelude.{◌≡◌, ◌-◌, ◌≤◌, ◌<◌, None};
+ghost use Rattle.std.specs.Prelude.{◌≡◌, ◌-◌, ◌≤◌, ◌<◌};
 ghost use Rattle.txs_value.specs.View.{plain_of, plains_of};
 ghost use Rattle.txs_decode.specs.declared.error.CodeErrorKind.TheVariants.{BadOperand};
 ghost use Rattle.txs_decode.specs.declared.tag.Tag.TheVariants as tag;
 ghost use Rattle.txs_decode.specs.CellForm.{kinds_of};
 ghost use Rattle.txs_decode.specs.Format.{Gives, never, many_at};
-ghost use Rattle.txs_decode.specs.ValueForm.{must, tag_test, tag_format, value_body, value_format, item_format};
+ghost use Rattle.txs_decode.specs.ValueForm.{must, tag_test, tag_format, value_body, value_format};
 
 use crate::error::{CodeErrorKind, Stop, refused};
 use crate::fields::{keyword_at, room_for, text_at, u8_at, u16_at, u64_at};
@@ -100,36 +100,9 @@ fn vector_at<'a>(
     ensures { Gives (λ x. (plain_of x.0, x.1.now)) result ((value_body (kinds_of defined.now) (value_format cells (kinds_of defined.now) (room - 1)) tag.Vector).read bytes.now) }
 {
     let (count, rest) = u16_at(bytes)?;
-    let (values, rest) = values_at(alloc, cells, defined, room - 1, count as u32, rest)?;
-    Ok((Value::Vector(Items::from_vec(alloc, values)?), rest))
-}
-
-/// The value of this tag that stands here.
-#[cycle(value)]
-fn value_behind<'a>(
-    alloc: Global,
-    cells: bool,
-    defined: &[CellDefinition],
-    room: usize,
-    tag: Tag,
-    bytes: &'a [u8],
-) -> Result<(Value, &'a [u8]), Stop>
-    requires room { room ≤ 32 }
-    requires test { tag_test cells room tag ≡ None }
-    ensures { Gives (λ x. (plain_of x.0, x.1.now)) result ((value_body (kinds_of defined.now) (item_format cells (kinds_of defined.now) room) tag).read bytes.now) }
-{
-    match tag {
-        Tag::Nil => Ok((Value::Nil, bytes)),
-        Tag::False => Ok((Value::Truth(false), bytes)),
-        Tag::True => Ok((Value::Truth(true), bytes)),
-        Tag::Int => match u64_at(bytes) {
-            Ok((number, rest)) => Ok((Value::Int(number.cast_signed()), rest)),
-            Err(stop) => Err(stop),
-        },
-        Tag::Key => keyword_at(alloc, bytes),
-        Tag::Text => text_at(alloc, bytes),
-        Tag::Vector => vector_at(alloc, cells, defined, room, bytes),
-        Tag::Cell => cell_at(defined, bytes),
+    match values_at(alloc, cells, defined, room - 1, count as u32, rest) {
+        Ok((values, rest)) => Ok((Value::Vector(Items::from_vec(alloc, values)?), rest)),
+        Err(stop) => Err(stop),
     }
 }
 
@@ -146,7 +119,19 @@ pub(crate) fn value_at<'a>(
     ensures { Gives (λ x. (plain_of x.0, x.1.now)) result ((value_format cells (kinds_of defined.now) room).read bytes.now) }
 {
     match tag_at(cells, room, bytes) {
-        Ok((tag, rest)) => value_behind(alloc, cells, defined, room, tag, rest),
+        Ok((tag, rest)) => match tag {
+            Tag::Nil => Ok((Value::Nil, rest)),
+            Tag::False => Ok((Value::Truth(false), rest)),
+            Tag::True => Ok((Value::Truth(true), rest)),
+            Tag::Int => match u64_at(rest) {
+                Ok((number, rest)) => Ok((Value::Int(number.cast_signed()), rest)),
+                Err(stop) => Err(stop),
+            },
+            Tag::Key => keyword_at(alloc, rest),
+            Tag::Text => text_at(alloc, rest),
+            Tag::Vector => vector_at(alloc, cells, defined, room, rest),
+            Tag::Cell => cell_at(defined, rest),
+        },
         Err(stop) => Err(stop),
     }
 }

@@ -1,28 +1,62 @@
-use Rattle.std.proofs.Common.{◌≡◌, ◌-◌, List, [], ◌∷◌, ◌++◌, refl, sym, subst, rules, arith}
+use Rattle.std.proofs.Common.{◌≡◌, ◌-◌, ◌<◌, List, [], ◌∷◌, ◌++◌, sym, subst, rules, arith}
 use Rattle.std.proofs.lemmas.Result.{err_from_is_err_and}
 use Rattle.std.proofs.lemmas.List.{map_push}
 use Rattle.txs_value.specs.PlainValue.{PlainValue}
 use Rattle.txs_value.specs.View.{plain_of, plains_of}
 use Rattle.txs_decode.specs.CellForm.{kinds_of}
+use Rattle.txs_decode.specs.declared.tag.Tag.TheVariants as tag
 use Rattle.txs_decode.specs.Format.{Read, Gives, many_at}
 use Rattle.txs_decode.specs.ValueForm.{value_format}
 use Rattle.txs_decode.proofs.Many.{goes_on, ends, is_done}
-use Rattle.txs_decode.proofs.ValueLemmas.{is_vector, item_room, room_is, tag_stands, value_fails, value_reads}
+use Rattle.txs_decode.proofs.ValueLemmas.{int_fails, int_reads, is_vector, value_fails, value_tagged, vector_reads, vector_room, vector_tagged}
 use Rattle.txs_decode.proofs.values.+value.Goals as goal
 
 pub value_at-returns-in-Err : goal.value_at-returns-in-Err
 value_at-returns-in-Err t c =
     value_fails c.args.cells (kinds_of c.args.defined.now) c.args.room c.args.bytes.now c.in-Err.stop c.in-Err.ensures
 
-pub value_at-value_behind-requires : goal.value_at-value_behind-requires
-value_at-value_behind-requires t c =
-    let stands = tag_stands c.args.cells c.args.room c.args.bytes.now c.in-Ok.tag c.in-Ok.rest.now c.in-Ok.ensures in
-    search (rules, stands)
+pub value_at-vector_at-requires : goal.value_at-vector_at-requires
+value_at-vector_at-requires t c =
+    let some = vector_room c.args.cells c.args.room c.args.bytes.now c.in-Ok.tag c.in-Ok.rest.now c.in-Ok.ensures c.in-Vector.is in
+    search (rules, some)
 
-pub value_at-returns-in-Ok : goal.value_at-returns-in-Ok
-value_at-returns-in-Ok t c =
-    let e = value_reads c.args.cells (kinds_of c.args.defined.now) c.args.room c.args.bytes.now c.in-Ok.tag c.in-Ok.rest.now c.in-Ok.ensures in
-    subst (λ (r : Read PlainValue). Gives (λ x. (plain_of x.0, x.1.now)) c.value_behind.result r) (sym e) c.value_behind.ensures
+pub value_at-returns-in-Nil : goal.value_at-returns-in-Nil
+value_at-returns-in-Nil t c = value_tagged c.args.cells (kinds_of c.args.defined.now) c.args.room c.args.bytes.now c.in-Ok.tag tag.Nil c.in-Ok.rest.now c.in-Ok.ensures c.in-Nil.is
+
+pub value_at-returns-in-False : goal.value_at-returns-in-False
+value_at-returns-in-False t c = value_tagged c.args.cells (kinds_of c.args.defined.now) c.args.room c.args.bytes.now c.in-Ok.tag tag.False c.in-Ok.rest.now c.in-Ok.ensures c.in-False.is
+
+pub value_at-returns-in-True : goal.value_at-returns-in-True
+value_at-returns-in-True t c = value_tagged c.args.cells (kinds_of c.args.defined.now) c.args.room c.args.bytes.now c.in-Ok.tag tag.True c.in-Ok.rest.now c.in-Ok.ensures c.in-True.is
+
+pub value_at-returns-in-Ok-u64_at : goal.value_at-returns-in-Ok-u64_at
+value_at-returns-in-Ok-u64_at t c =
+    let told = int_reads c.args.cells (kinds_of c.args.defined.now) c.args.room c.args.bytes.now c.in-Ok.tag c.in-Ok.rest.now c.in-Ok-u64_at.number c.in-Ok-u64_at.rest.now c.in-Ok.ensures c.in-Int.is c.in-Ok-u64_at.ensures in
+    search (rules, told)
+
+pub value_at-returns-in-Err-u64_at : goal.value_at-returns-in-Err-u64_at
+value_at-returns-in-Err-u64_at t c =
+    int_fails c.args.cells (kinds_of c.args.defined.now) c.args.room c.args.bytes.now c.in-Ok.tag c.in-Ok.rest.now c.in-Err-u64_at.stop c.in-Ok.ensures c.in-Int.is c.in-Err-u64_at.ensures
+
+pub value_at-returns-in-Key : goal.value_at-returns-in-Key
+value_at-returns-in-Key t c =
+    let e = value_tagged c.args.cells (kinds_of c.args.defined.now) c.args.room c.args.bytes.now c.in-Ok.tag tag.Key c.in-Ok.rest.now c.in-Ok.ensures c.in-Key.is in
+    subst (λ (r : Read PlainValue). Gives (λ x. (plain_of x.0, x.1.now)) c.keyword_at.result r) (sym e) c.keyword_at.ensures
+
+pub value_at-returns-in-Text : goal.value_at-returns-in-Text
+value_at-returns-in-Text t c =
+    let e = value_tagged c.args.cells (kinds_of c.args.defined.now) c.args.room c.args.bytes.now c.in-Ok.tag tag.Text c.in-Ok.rest.now c.in-Ok.ensures c.in-Text.is in
+    subst (λ (r : Read PlainValue). Gives (λ x. (plain_of x.0, x.1.now)) c.text_at.result r) (sym e) c.text_at.ensures
+
+pub value_at-returns-in-Cell : goal.value_at-returns-in-Cell
+value_at-returns-in-Cell t c =
+    let e = value_tagged c.args.cells (kinds_of c.args.defined.now) c.args.room c.args.bytes.now c.in-Ok.tag tag.Cell c.in-Ok.rest.now c.in-Ok.ensures c.in-Cell.is in
+    subst (λ (r : Read PlainValue). Gives (λ x. (plain_of x.0, x.1.now)) c.cell_at.result r) (sym e) c.cell_at.ensures
+
+pub value_at-returns-in-Vector : goal.value_at-returns-in-Vector
+value_at-returns-in-Vector t c =
+    let e = vector_tagged c.args.cells (kinds_of c.args.defined.now) c.args.room c.args.bytes.now c.in-Ok.tag c.in-Ok.rest.now c.in-Ok.ensures c.in-Vector.is in
+    subst (λ (r : Read PlainValue). Gives (λ x. (plain_of x.0, x.1.now)) c.vector_at.result r) (sym e) c.vector_at.ensures
 
 pub values_at-returns-in_err-value : goal.values_at-returns-in_err-value
 values_at-returns-in_err-value t c =
@@ -44,30 +78,13 @@ values_at-returns t c =
 
 pub vector_at-from_vec-requires : goal.vector_at-from_vec-requires
 vector_at-from_vec-requires t c =
-    is_vector c.args.cells (kinds_of c.args.defined.now) (c.args.room - 1) c.args.bytes.now c.in_ok-count.rest.now c.in_ok-values.rest.now c.in_ok-count.count (plains_of c.in_ok-values.values.items) (omega arith) (λ i. omega (arith, c.type_inv.bytes i)) c.in_ok-count.ensures c.in_ok-values.ensures
+    is_vector c.args.cells (kinds_of c.args.defined.now) (c.args.room - 1) c.args.bytes.now c.in_ok-count.rest.now c.in-Ok.rest.now c.in_ok-count.count (plains_of c.in-Ok.values.items) (omega (arith, c.requires.room)) (λ i. omega (arith, c.type_inv.bytes i)) c.in_ok-count.ensures c.in-Ok.ensures
 
-pub value_behind-returns-in-Key : goal.value_behind-returns-in-Key
-value_behind-returns-in-Key t c = rw c.in-Key.is c.keyword_at.ensures
-
-pub value_behind-returns-in-Text : goal.value_behind-returns-in-Text
-value_behind-returns-in-Text t c = rw c.in-Text.is c.text_at.ensures
-
-pub value_behind-returns-in-Vector : goal.value_behind-returns-in-Vector
-value_behind-returns-in-Vector t c =
-    let some = room_is c.args.cells c.args.room (rw c.in-Vector.is at c.requires.test) in
-    rw (c.in-Vector.is, item_room c.args.cells (kinds_of c.args.defined.now) c.args.room some) c.vector_at.ensures
-
-pub value_behind-returns-in-Cell : goal.value_behind-returns-in-Cell
-value_behind-returns-in-Cell t c = rw c.in-Cell.is c.cell_at.ensures
+pub vector_at-returns-in_ok-from_vec-in-Ok : goal.vector_at-returns-in_ok-from_vec-in-Ok
+vector_at-returns-in_ok-from_vec-in-Ok t c =
+    let kinds = kinds_of c.args.defined.now in
+    let told = vector_reads kinds (value_format c.args.cells kinds (c.args.room - 1)) c.args.bytes.now c.in_ok-count.rest.now c.in-Ok.rest.now c.in_ok-count.count (plains_of c.in-Ok.values.items) c.in_ok-count.ensures c.in-Ok.ensures in
+    search (rules, told)
 
 pub values_at-room_for-requires : goal.values_at-room_for-requires
 values_at-room_for-requires t c = omega arith
-
-pub value_behind-returns-in-Nil : goal.value_behind-returns-in-Nil
-value_behind-returns-in-Nil t c = rw c.in-Nil.is refl
-
-pub value_behind-returns-in-False : goal.value_behind-returns-in-False
-value_behind-returns-in-False t c = rw c.in-False.is refl
-
-pub value_behind-returns-in-True : goal.value_behind-returns-in-True
-value_behind-returns-in-True t c = rw c.in-True.is refl

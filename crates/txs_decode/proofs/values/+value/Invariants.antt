@@ -12,9 +12,6 @@ decreases-values_at l = 4 * l.room + 2
 abbrev pub decreases-vector_at : goal.decreases-vector_at
 decreases-vector_at l = 4 * l.room - 1
 
-abbrev pub decreases-value_behind : goal.decreases-value_behind
-decreases-value_behind l = 4 * l.room
-
 abbrev pub decreases-value_at : goal.decreases-value_at
 decreases-value_at l = 4 * l.room + 1
 
