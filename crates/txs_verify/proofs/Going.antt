@@ -306,7 +306,7 @@ nests TxBegin t = omega arith
 nests TxEnd t = omega arith
 nests _ t = omega arith
 
-may_end : (i : Instr) (t : ℕ) → ends_nothing i t ≡ false → MayEnd i t
+pub may_end : (i : Instr) (t : ℕ) → ends_nothing i t ≡ false → MayEnd i t
 may_end TxEnd zero e = absurd (eqb-false 0 0 e refl)
 may_end TxEnd (suc t) e = omega arith
 may_end _ t e = tt
@@ -500,3 +500,12 @@ module _ (ps : List ℕ) (is : List Instr) where
 pub stop_is : (ps : List ℕ) (is : List Instr) → AllJumpWithin is → (p : ℕ) (s left : Walk) (stop : Stop) → IsGoing ps is s.0 s.1 (λ x. x ≡ p) → Gives (Err stop) left (looked ps is p (mark_at s.0 p) s) → WhereRefused (λ r. BreaksOff ps is r.kind r.at) stop
 stop_is ps is jumps p s left (Refused r) going e = looked_refused ps is jumps p s r going e
 stop_is ps is jumps p s left Memory going e = tt
+
+done_is : (P : Type 0) → P ⊎ (⊥ ⊎ ⊥) → P
+done_is P (inl x) = x
+done_is P (inr (inl bad)) = absurd bad
+done_is P (inr (inr bad)) = absurd bad
+
+-- where no place waits, the marks are closed
+pub closed_is : (ps : List ℕ) (is : List Instr) (ms : Marks) → Goes ps is ms [] → IsClosed ps is ms
+closed_is ps is ms goes = record { first = goes.first; done = λ p m e. done_is (IsDone ps is ms p m) (goes.done p m e) }

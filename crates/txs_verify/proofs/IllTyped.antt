@@ -262,6 +262,10 @@ module _ (code : PlainCode) (fs ts : List CodeBody) (f : fs ≡ code.functions) 
   pub ill_alone : IsRefusedAlone false fs fs e → OrMemory e.kind (IsIllTyped code)
   ill_alone r = or_memory e.kind (IsIllTyped code) (ill_typed code e (in_a_function (subst (λ x. IsRefusedAlone false x x e) f r)))
 
+  pub thread_alone : AreRightBodies false fs fs (length fs) → IsRefusedAlone true fs ts e → OrMemory e.kind (IsRefused code e)
+  thread_alone right r =
+      or_memory e.kind (IsRefused code e) (in_a_thread (subst (λ x. AreRightBodies false x x (length x)) f right) (subst (λ x. IsRefusedAlone true code.functions x e) t (subst (λ x. IsRefusedAlone true x ts e) f r)))
+
   pub ill_thread : AreRightBodies false fs fs (length fs) → IsRefusedAlone true fs ts e → OrMemory e.kind (IsIllTyped code)
   ill_thread right r =
       or_memory e.kind (IsIllTyped code) (ill_typed code e (in_a_thread (subst (λ x. AreRightBodies false x x (length x)) f right) (subst (λ x. IsRefusedAlone true code.functions x e) t (subst (λ x. IsRefusedAlone true x ts e) f r))))

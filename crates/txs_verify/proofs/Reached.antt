@@ -1,5 +1,5 @@
 -- What is reached, by cases.
-use Rattle.std.proofs.Common.{◌≡◌, ◌∙◌, ℕ, ◌≤◌, false, nat_lt, if◌then◌else◌, ◌++◌, [], ◌∷◌, set, sym, ap, subst, refl, Option, Some, None, Ok, Err, List, Result}
+use Rattle.std.proofs.Common.{◌≡◌, ◌∙◌, ℕ, ◌≤◌, ◌<◌, lt-ltb, true, false, nat_lt, if◌then◌else◌, ◌++◌, [], ◌∷◌, set, sym, ap, subst, refl, Option, Some, None, Ok, Err, List, Result}
 use Rattle.std.proofs.lemmas.Bool.{le-ltb}
 use Rattle.txs_code.specs.declared.instr.Instr.{Instr}
 use Rattle.txs_verify.specs.Marks.{Marks, mark_at, mark_behind}
@@ -33,3 +33,11 @@ pub gives_passed : (ps : List ℕ) (p : ℕ) (m : Mark) (s : Walk) (o : Option I
 gives_passed ps p m s o i b res left is enough nothing d t gives =
     let same : b ≡ mark_behind ps i m = same_mark b (mark_behind ps i m) d t in
     subst (λ x. Gives res left x) (sym (passed_is ps p m s o i is enough nothing)) (subst (λ x. Gives res left (reached_each (next_places p i) x s)) same gives)
+
+-- too few values
+pub passed_low : (ps : List ℕ) (p : ℕ) (m : Mark) (s : Walk) (o : Option Instr) (i : Instr) → o ≡ Some i → m.depth < wants ps i → passed ps p m o s ≡ Err (refusal StackLow p)
+passed_low ps p m s o i is low = rw (is, lt-ltb m.depth (wants ps i) low) refl
+
+-- an end where no transaction is open
+pub passed_end : (ps : List ℕ) (p : ℕ) (m : Mark) (s : Walk) (o : Option Instr) (i : Instr) → o ≡ Some i → wants ps i ≤ m.depth → ends_nothing i m.txs ≡ true → passed ps p m o s ≡ Err (refusal TxNesting p)
+passed_end ps p m s o i is enough nothing = rw (is, le_tested m.depth (wants ps i) enough, nothing) refl

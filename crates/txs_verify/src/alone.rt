@@ -26,7 +26,7 @@ fn instr_at(instrs: &[Instr], at: usize) -> Option<Instr>
 }
 
 /// The instruction one place before.
-fn before(instrs: &[Instr], at: usize) -> Option<Instr>
+pub(crate) fn before(instrs: &[Instr], at: usize) -> Option<Instr>
     ensures { result ≡ before instrs.now at }
 {
     if at < 1 {
@@ -46,7 +46,7 @@ fn before_that(instrs: &[Instr], at: usize) -> Option<Instr>
 }
 
 /// Whether it is an open.
-fn is_open(instr: Option<Instr>) -> bool
+pub(crate) fn is_open(instr: Option<Instr>) -> bool
     ensures { result ≡ is_some (opens instr) }
 {
     match instr {

@@ -1,12 +1,12 @@
 //! Where instructions may stand, and what functions are for.
 
-ghost use Rattle.std.specs.Prelude.{◌≡◌, ◌<◌, ◌+◌, length, slice_index_or, is_some, true, IfOk, IfErr};
+ghost use Rattle.std.specs.Prelude.{◌≡◌, ◌<◌, ◌+◌, length, slice_index_or, IfOk, IfErr};
 ghost use Rattle.txs_terms.specs.Places.{nth};
 ghost use Rattle.txs_code.specs.WellTyped.{form_of};
 ghost use Rattle.txs_code.specs.declared.instr.Instr.{Instr as AnInstr};
-ghost use Rattle.txs_verify.specs.Paths.{before, opens};
 ghost use Rattle.txs_verify.specs.Standing.{IsSeen, IsWrong, call_wrong, end_wrong, ends_wrong, first, impure_kind, is_pure, joined, judged, kind_of, kind_wrong, or_pure, pure_kind, seen_from, send_wrong, unless, wrong};
 
+use crate::alone::{before, is_open};
 use crate::error::{Refusal, VerifyErrorKind};
 use crate::walk::Mark;
 use txs_cells::{CellForm, Standing, UpdateForm};
@@ -188,7 +188,6 @@ fn send_wrong(kinds: &[Kind], at: usize, instr: Instr) -> Option<Refusal>
 
 /// What is wrong with a call behind an open, told at the open.
 fn call_wrong(kinds: &[Kind], opened: bool, at: usize, instr: Instr) -> Option<Refusal>
-    requires { (opened ≡ true) → 0 < at }
     ensures { result ≡ call_wrong kinds.now opened at instr }
 {
     if !opened {
@@ -198,32 +197,10 @@ fn call_wrong(kinds: &[Kind], opened: bool, at: usize, instr: Instr) -> Option<R
         Instr::Call(f) => unless(
             !kind_at(kinds, f).impure,
             VerifyErrorKind::TxNesting,
-            at - 1,
+            at.saturating_sub(1),
         ),
         _ => None,
     }
-}
-
-/// Whether an instruction is an open.
-fn is_open(instr: Instr) -> bool
-    ensures { result ≡ is_some (opens (Some instr)) }
-{
-    match instr {
-        Instr::Open(_, _) => true,
-        _ => false,
-    }
-}
-
-/// Whether an open stands one place before.
-fn is_behind_open(instrs: &[Instr], at: usize) -> bool
-    requires { at < length instrs.now }
-    ensures value { result ≡ is_some (opens (before instrs.now at)) }
-    ensures place { (result ≡ true) → 0 < at }
-{
-    if at == 0 {
-        return false;
-    }
-    is_open(instrs[at - 1])
 }
 
 /// What is wrong with an instruction at a place with a mark.
@@ -235,10 +212,9 @@ fn wrong(
     mark: Mark,
     instr: Instr,
 ) -> Option<Refusal>
-    requires { at < length instrs.now }
     ensures { result ≡ wrong kinds.now thread instrs.now at mark instr }
 {
-    let call = call_wrong(kinds, is_behind_open(instrs, at), at, instr);
+    let call = call_wrong(kinds, is_open(before(instrs, at)), at, instr);
     let callee = first(send_wrong(kinds, at, instr), call);
     let kind = kind_wrong(thread, at, mark, kind_of(kinds, instr));
     first(ends_wrong(thread, at, mark, instr), first(kind, callee))

@@ -143,8 +143,9 @@ fn walk_body(
     ensures wrong { IfErr result (λ stop. WhereRefused (λ r. IsWrongOnPaths kinds.now thread (parameters_of functions.now) instrs.now r.kind r.at) stop) }
 {
     let marks = mark_places(alloc, functions, instrs)?;
-    match look_over(kinds, thread, instrs, marks.as_slice()) {
-        Ok(kind) => Ok((kind, room_for(marks.as_slice()))),
+    let places = marks.as_slice();
+    match look_over(kinds, thread, instrs, places) {
+        Ok(kind) => Ok((kind, room_for(places))),
         Err(refusal) => Err(Stop::Refused(refusal)),
     }
 }

@@ -1,4 +1,4 @@
-use Rattle.std.proofs.Common.{◌∙◌, ◌++◌, ◌∷◌, [], sym, ap, subst, Some}
+use Rattle.std.proofs.Common.{◌∙◌, ◌<◌, ◌++◌, ◌∷◌, [], sym, ap, subst, arith, length, length-append, Some}
 use Rattle.std.proofs.lemmas.Result.{err_from_is_err_and}
 use Rattle.txs_code.specs.PlainCode.{CodeBody, parameters_of}
 use Rattle.txs_verify.specs.Going.{AllJumpWithin}
@@ -30,3 +30,13 @@ returns-clause-walked c =
     let stands = nth_is fs c.args.n body c.requires.place ∙ ap Some (sym c.index-functions-n.is) in
     let more = function_more ps fs c.args.kinds.now.items c.as_slice.result.now c.args.rooms.now.items c.args.n body c.instrs.result.now c.in_ok-kind.kind c.in_ok-kind.room c.requires.walked c.as_slice.ensures.value c.instrs.ensures stands c.requires.many c.in_ok-kind.ensures.walked in
     subst (λ x. AreWalked ps fs x c.push-2.new.self.items) (sym c.in_ok-push.ensures.items) (subst (λ x. AreWalked ps fs (c.args.kinds.now.items ++ c.in_ok-kind.kind ∷ []) x) (sym c.in_ok-push-2.ensures.items) more)
+
+pub walk_body-requires-clause-few : goal.walk_body-requires-clause-few
+walk_body-requires-clause-few c =
+    let fs = c.args.functions.now in
+    let body : CodeBody = c.index-functions-n.result in
+    let stands = nth_is fs c.args.n body c.requires.place ∙ ap Some (sym c.index-functions-n.is) in
+    subst (λ is. length is < 4294967295) (sym c.instrs.ensures) (c.requires.few body stands)
+
+pub returns-clause-many : goal.returns-clause-many
+returns-clause-many c = omega (arith, ap length c.in_ok-push.ensures.items, length-append c.args.kinds.now.items (c.in_ok-kind.kind ∷ []), c.requires.many)

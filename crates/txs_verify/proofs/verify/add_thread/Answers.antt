@@ -1,4 +1,4 @@
-use Rattle.std.proofs.Common.{◌∙◌, sym, ap, subst, refl, Some}
+use Rattle.std.proofs.Common.{◌∙◌, ◌<◌, ◌++◌, ◌∷◌, [], sym, ap, subst, refl, arith, length, length-append, Some}
 use Rattle.std.proofs.lemmas.Result.{err_from_is_err_and}
 use Rattle.txs_code.specs.PlainCode.{CodeBody, parameters_of}
 use Rattle.txs_verify.specs.Going.{AllJumpWithin}
@@ -30,3 +30,13 @@ returns-clause-walked c =
     let stands = nth_is bs c.args.n body c.requires.place ∙ ap Some (sym c.index-threads-n.is) in
     let more = thread_more c.args.kinds.now ps bs c.args.rooms.now.items c.args.n body c.instrs.result.now _ c.in_ok-room.room c.requires.walked c.instrs.ensures stands c.requires.many c.in_ok-room.ensures.walked in
     subst (λ x. AreWalkedThreads c.args.kinds.now ps bs x) (sym c.in_ok-push.ensures.items) more
+
+pub walk_body-requires-clause-few : goal.walk_body-requires-clause-few
+walk_body-requires-clause-few c =
+    let bs = c.args.threads.now in
+    let body : CodeBody = c.index-threads-n.result in
+    let stands = nth_is bs c.args.n body c.requires.place ∙ ap Some (sym c.index-threads-n.is) in
+    subst (λ is. length is < 4294967295) (sym c.instrs.ensures) (c.requires.few body stands)
+
+pub returns-clause-many : goal.returns-clause-many
+returns-clause-many c = omega (arith, ap length c.in_ok-push.ensures.items, length-append c.args.rooms.now.items (c.in_ok-room.room ∷ []), c.requires.many)

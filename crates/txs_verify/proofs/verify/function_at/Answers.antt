@@ -7,3 +7,6 @@ add_function-requires-clause-right c = λ b stands. c.requires.right c.args.n b 
 
 pub returns-in-Err-clause-wrong : goal.returns-in-Err-clause-wrong
 returns-in-Err-clause-wrong c = paths_wrong c.args.kinds.now.items _ (parameters_of c.args.functions.now) c.args.functions.now c.args.n c.requires.place c.in-Err.stop c.stopped.result c.stopped.ensures c.in-Err.ensures.wrong
+
+pub add_function-requires-clause-few : goal.add_function-requires-clause-few
+add_function-requires-clause-few c = λ b stands. c.requires.few c.args.n b stands

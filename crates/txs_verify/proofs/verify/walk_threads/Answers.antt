@@ -12,3 +12,6 @@ loop-n-init c =
       many = ap length c.requires.no_rooms;
       walked = subst (λ x. AreWalkedThreads c.args.kinds.now ps bs x) (sym c.requires.no_rooms) (thread_none c.args.kinds.now ps bs);
     }
+
+pub thread_at-requires-clause-few : goal.thread_at-requires-clause-few
+thread_at-requires-clause-few c = c.requires.few
