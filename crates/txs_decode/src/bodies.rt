@@ -99,10 +99,14 @@ fn bodies_at(
     let mut left = limit;
     let mut rest = bytes;
     for _ in 0..count {
-        let (body, after) = body_at(alloc, thread, constants, functions, left, rest)?;
-        left = left_after(left, &body);
-        bodies.push(body)?;
-        rest = after;
+        match body_at(alloc, thread, constants, functions, left, rest) {
+            Ok((body, after)) => {
+                left = left_after(left, &body);
+                bodies.push(body)?;
+                rest = after;
+            }
+            Err(stop) => return Err(stop),
+        }
     }
     Ok((bodies, rest))
 }
@@ -167,10 +171,14 @@ pub(crate) fn program_at(
 ) -> Result<((Vec<Body>, Vec<Body>), &[u8]), Stop>
     ensures { Gives (λ x. ((x.0.0.items, x.0.1.items), x.1.now)) result ((program_format constants).read bytes.now) }
 {
-    let (functions, rest) = functions_at(alloc, constants, bytes)?;
-    let left = instructions_left(&functions);
-    match threads_at(alloc, constants, functions.len(), left, rest) {
-        Ok((threads, rest)) => Ok(((functions, threads), rest)),
+    match functions_at(alloc, constants, bytes) {
+        Ok((functions, rest)) => {
+            let left = instructions_left(&functions);
+            match threads_at(alloc, constants, functions.len(), left, rest) {
+                Ok((threads, rest)) => Ok(((functions, threads), rest)),
+                Err(stop) => Err(stop),
+            }
+        }
         Err(stop) => Err(stop),
     }
 }

@@ -63,17 +63,19 @@ fn cell_at(alloc: Global, bytes: &[u8]) -> Result<(CellDefinition, &[u8]), Stop>
     let Some(error_mode) = mode_of(kind, byte) else {
         return Err(refused(CodeErrorKind::BadOperand, behind));
     };
-    let (name, rest) = name_at(alloc, true, rest)?;
-    match constant_at(alloc, false, &[], rest) {
-        Ok((opening, rest)) => {
-            let cell = CellDefinition {
-                kind,
-                name,
-                opening,
-                error_mode,
-            };
-            Ok((cell, rest))
-        }
+    match name_at(alloc, true, rest) {
+        Ok((name, rest)) => match constant_at(alloc, false, &[], rest) {
+            Ok((opening, rest)) => {
+                let cell = CellDefinition {
+                    kind,
+                    name,
+                    opening,
+                    error_mode,
+                };
+                Ok((cell, rest))
+            }
+            Err(stop) => Err(stop),
+        },
         Err(stop) => Err(stop),
     }
 }
@@ -89,9 +91,13 @@ pub(crate) fn some_cells_at(
     let mut cells = room_for(alloc, bytes.len().min(usize::from(count)), bytes)?;
     let mut rest = bytes;
     for _ in 0..count {
-        let (cell, after) = cell_at(alloc, rest)?;
-        cells.push(cell)?;
-        rest = after;
+        match cell_at(alloc, rest) {
+            Ok((cell, after)) => {
+                cells.push(cell)?;
+                rest = after;
+            }
+            Err(stop) => return Err(stop),
+        }
     }
     Ok((cells, rest))
 }

@@ -65,11 +65,13 @@ fn code_at(alloc: Global, bytes: &[u8]) -> Result<(Code, &[u8]), Stop>
         return Err(refused(CodeErrorKind::BadMagic, bytes));
     }
     let (cells, rest) = cells_at(alloc, rest)?;
-    let (constants, rest) = constants_at(alloc, &cells, rest)?;
-    match program_at(alloc, constants.len(), rest) {
-        Ok(((functions, threads), rest)) => {
-            Ok((Code::new(cells, constants, functions, threads), rest))
-        }
+    match constants_at(alloc, &cells, rest) {
+        Ok((constants, rest)) => match program_at(alloc, constants.len(), rest) {
+            Ok(((functions, threads), rest)) => {
+                Ok((Code::new(cells, constants, functions, threads), rest))
+            }
+            Err(stop) => Err(stop),
+        },
         Err(stop) => Err(stop),
     }
 }

@@ -57,14 +57,16 @@ fn operands_at(
 fn span_at(bytes: &[u8]) -> Result<(Span, &[u8]), Stop>
     ensures { Gives (λ x. (x.0, x.1.now)) result (span_format.read bytes.now) }
 {
-    let (from, rest) = u32_at(bytes)?;
-    match u32_at(rest) {
-        Ok((to, after)) => {
-            if from > to {
-                return Err(refused(CodeErrorKind::BadOperand, rest));
+    match u32_at(bytes) {
+        Ok((from, rest)) => match u32_at(rest) {
+            Ok((to, after)) => {
+                if from > to {
+                    return Err(refused(CodeErrorKind::BadOperand, rest));
+                }
+                Ok((Span { from, to }, after))
             }
-            Ok((Span { from, to }, after))
-        }
+            Err(stop) => Err(stop),
+        },
         Err(stop) => Err(stop),
     }
 }
@@ -82,9 +84,11 @@ fn placed_at(
     let Some(opcode) = Opcode::from_byte(byte) else {
         return Err(refused(CodeErrorKind::BadOpcode, bytes));
     };
-    let (instr, rest) = operands_at(constants, functions, opcode, rest)?;
-    match span_at(rest) {
-        Ok((span, rest)) => Ok(((instr, span), rest)),
+    match operands_at(constants, functions, opcode, rest) {
+        Ok((instr, rest)) => match span_at(rest) {
+            Ok((span, rest)) => Ok(((instr, span), rest)),
+            Err(stop) => Err(stop),
+        },
         Err(stop) => Err(stop),
     }
 }
@@ -113,10 +117,14 @@ pub(crate) fn instrs_at(
     let mut body = Instructions { instrs, spans };
     let mut rest = bytes;
     for _ in 0..count {
-        let ((instr, span), after) = placed_at(constants, functions, rest)?;
-        body.instrs.push(instr)?;
-        body.spans.push(span)?;
-        rest = after;
+        match placed_at(constants, functions, rest) {
+            Ok(((instr, span), after)) => {
+                body.instrs.push(instr)?;
+                body.spans.push(span)?;
+                rest = after;
+            }
+            Err(stop) => return Err(stop),
+        }
     }
     Ok((body, rest))
 }

@@ -80,17 +80,19 @@ fn wide_op_at(bytes: &[u8]) -> Result<(Op, &[u8]), Stop>
 fn callee_at(functions: usize, bytes: &[u8]) -> Result<(Callee, &[u8]), Stop>
     ensures { Gives (λ x. (x.0, x.1.now)) result ((callee_format functions).read bytes.now) }
 {
-    let (byte, rest) = u8_at(bytes)?;
-    match CalleeTag::from_byte(byte) {
-        None => Err(refused(CodeErrorKind::BadOperand, bytes)),
-        Some(CalleeTag::Core) => match wide_op_at(rest) {
-            Ok((op, rest)) => Ok((Callee::Core(op), rest)),
-            Err(stop) => Err(stop),
+    match u8_at(bytes) {
+        Ok((byte, rest)) => match CalleeTag::from_byte(byte) {
+            None => Err(refused(CodeErrorKind::BadOperand, bytes)),
+            Some(CalleeTag::Core) => match wide_op_at(rest) {
+                Ok((op, rest)) => Ok((Callee::Core(op), rest)),
+                Err(stop) => Err(stop),
+            },
+            Some(CalleeTag::Function) => match function_at(functions, rest) {
+                Ok((function, rest)) => Ok((Callee::Function(function), rest)),
+                Err(stop) => Err(stop),
+            },
         },
-        Some(CalleeTag::Function) => match function_at(functions, rest) {
-            Ok((function, rest)) => Ok((Callee::Function(function), rest)),
-            Err(stop) => Err(stop),
-        },
+        Err(stop) => Err(stop),
     }
 }
 
@@ -114,12 +116,14 @@ pub(crate) fn const_at(constants: usize, bytes: &[u8]) -> Result<(Instr, &[u8]),
 pub(crate) fn core_at(bytes: &[u8]) -> Result<(Instr, &[u8]), Stop>
     ensures { Gives (λ x. (x.0, x.1.now)) result ((operands 0 0 opcode.Core).read bytes.now) }
 {
-    let (number, rest) = u8_at(bytes)?;
-    let Some(op) = op_of(u16::from(number)) else {
-        return Err(refused(CodeErrorKind::BadOperand, bytes));
-    };
-    match u16_at(rest) {
-        Ok((count, rest)) => Ok((Instr::Core(op, count), rest)),
+    match u8_at(bytes) {
+        Ok((number, rest)) => match op_of(u16::from(number)) {
+            Some(op) => match u16_at(rest) {
+                Ok((count, rest)) => Ok((Instr::Core(op, count), rest)),
+                Err(stop) => Err(stop),
+            },
+            None => Err(refused(CodeErrorKind::BadOperand, bytes)),
+        },
         Err(stop) => Err(stop),
     }
 }
@@ -142,12 +146,14 @@ pub(crate) fn called_at(
 ) -> Result<(Instr, &[u8]), Stop>
     ensures { Gives (λ x. (x.0, x.1.now)) result ((callee_and_count functions (called_instr called)).read bytes.now) }
 {
-    let (callee, rest) = callee_at(functions, bytes)?;
-    match u16_at(rest) {
-        Ok((count, rest)) => match called {
-            Called::Commute => Ok((Instr::Open(OpenForm::Commute(callee), count), rest)),
-            Called::Swap => Ok((Instr::Open(OpenForm::Swap(callee), count), rest)),
-            Called::Send => Ok((Instr::Send(callee, count), rest)),
+    match callee_at(functions, bytes) {
+        Ok((callee, rest)) => match u16_at(rest) {
+            Ok((count, rest)) => match called {
+                Called::Commute => Ok((Instr::Open(OpenForm::Commute(callee), count), rest)),
+                Called::Swap => Ok((Instr::Open(OpenForm::Swap(callee), count), rest)),
+                Called::Send => Ok((Instr::Send(callee, count), rest)),
+            },
+            Err(stop) => Err(stop),
         },
         Err(stop) => Err(stop),
     }

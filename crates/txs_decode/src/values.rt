@@ -79,9 +79,13 @@ pub(crate) fn values_at<'a>(
     let mut values = room_for(alloc, bytes.len().min(count as usize), bytes)?;
     let mut rest = bytes;
     for _ in 0..count {
-        let (value, after) = value_at(alloc, cells, defined, room, rest)?;
-        values.push(value)?;
-        rest = after;
+        match value_at(alloc, cells, defined, room, rest) {
+            Ok((value, after)) => {
+                values.push(value)?;
+                rest = after;
+            }
+            Err(stop) => return Err(stop),
+        }
     }
     Ok((values, rest))
 }

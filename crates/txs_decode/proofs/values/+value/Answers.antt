@@ -1,7 +1,6 @@
-use Rattle.std.proofs.Common.{◌≡◌, ◌-◌, ◌<◌, List, [], ◌∷◌, ◌++◌, sym, subst, rules, arith}
-use Rattle.std.proofs.lemmas.Result.{err_from_is_err_and}
+use Rattle.std.proofs.Common.{◌≡◌, ◌-◌, ◌<◌, List, [], ◌∷◌, ◌++◌, sym, ap, subst, ◌∙◌, Ok, rules, arith}
 use Rattle.std.proofs.lemmas.List.{map_push}
-use Rattle.txs_value.specs.PlainValue.{PlainValue}
+use Rattle.txs_value.specs.PlainValue.{PlainValue, vector, plain_row}
 use Rattle.txs_value.specs.View.{plain_of, plains_of}
 use Rattle.txs_decode.specs.CellForm.{kinds_of}
 use Rattle.txs_decode.specs.declared.tag.Tag.TheVariants as tag
@@ -58,18 +57,17 @@ value_at-returns-in-Vector t c =
     let e = vector_tagged c.args.cells (kinds_of c.args.defined.now) c.args.room c.args.bytes.now c.in-Ok.tag c.in-Ok.rest.now c.in-Ok.ensures c.in-Vector.is in
     subst (λ (r : Read PlainValue). Gives (λ x. (plain_of x.0, x.1.now)) c.vector_at.result r) (sym e) c.vector_at.ensures
 
-pub values_at-returns-in_err-value : goal.values_at-returns-in_err-value
-values_at-returns-in_err-value t c =
-    let p = err_from_is_err_and c.from_residual-in_err-value.result c.from_residual-in_err-value.ensures.1 in
+pub values_at-returns-in-Err : goal.values_at-returns-in-Err
+values_at-returns-in-Err t c =
     let read = (value_format c.args.cells (kinds_of c.args.defined.now) c.args.room).read in
-    rw (p.1, p.2) (ends read c.in_err-value.field-0.0 (plains_of c.loop.values.items) c.args.count c.loop.counter c.loop.rest.now (many_at read c.args.count c.args.bytes.now) c.loop-test.true c.in_err-value.ensures c.loop.invariant)
+    ends read c.in-Err.stop (plains_of c.loop.values.items) c.args.count c.loop.counter c.loop.rest.now (many_at read c.args.count c.args.bytes.now) c.loop-test.true c.in-Err.ensures c.loop.invariant
 
 pub values_at-loop-preserved : goal.values_at-loop-preserved
 values_at-loop-preserved t c =
-    let v = c.in_ok-value.value in
+    let v = c.in-Ok.value in
     let read = (value_format c.args.cells (kinds_of c.args.defined.now) c.args.room).read in
-    let e : plains_of c.push.new.self.items ≡ plains_of c.loop.values.items ++ plain_of v ∷ [] = rw c.in_ok-push.ensures.items (map_push _ c.loop.values.items v) in
-    rw e (goes_on read (plains_of c.loop.values.items) c.args.count c.loop.counter c.loop.rest.now (plain_of v) c.in_ok-value.after.now (many_at read c.args.count c.args.bytes.now) c.loop-test.true c.in_ok-value.ensures c.loop.invariant)
+    let e : plains_of c.push.new.self.items ≡ plains_of c.loop.values.items ++ plain_of v ∷ [] = rw c.in_ok-push-in-Ok.ensures.items (map_push _ c.loop.values.items v) in
+    rw e (goes_on read (plains_of c.loop.values.items) c.args.count c.loop.counter c.loop.rest.now (plain_of v) c.in-Ok.after.now (many_at read c.args.count c.args.bytes.now) c.loop-test.true c.in-Ok.ensures c.loop.invariant)
 
 pub values_at-returns : goal.values_at-returns
 values_at-returns t c =
@@ -84,7 +82,7 @@ pub vector_at-returns-in_ok-from_vec-in-Ok : goal.vector_at-returns-in_ok-from_v
 vector_at-returns-in_ok-from_vec-in-Ok t c =
     let kinds = kinds_of c.args.defined.now in
     let told = vector_reads kinds (value_format c.args.cells kinds (c.args.room - 1)) c.args.bytes.now c.in_ok-count.rest.now c.in-Ok.rest.now c.in_ok-count.count (plains_of c.in-Ok.values.items) c.in_ok-count.ensures c.in-Ok.ensures in
-    search (rules, told)
+    told ∙ ap (λ (ds : List PlainValue). Ok (vector (plain_row ds), c.in-Ok.rest.now)) (sym c.in_ok-from_vec-in-Ok.ensures)
 
 pub values_at-room_for-requires : goal.values_at-room_for-requires
 values_at-room_for-requires t c = omega arith
