@@ -1,5 +1,5 @@
 -- What a reader gave of its known bytes, and what holds of an answer carried over.
-use Rattle.std.proofs.Common.{◌≡◌, ℕ, List, [], ◌++◌, take, Option, Some, None, Result, Ok, Err, IfOk, OnOk, refl, ap, ◌∙◌, subst}
+use Rattle.std.proofs.Common.{◌≡◌, ℕ, List, [], ◌++◌, take, Option, Some, None, Result, Ok, Err, IfOk, OnErr, OnOk, false, is_err, refl, true, ap, ◌∙◌, subst}
 use Rattle.std.specs.Io.KnownBytes.{Keeps}
 use Rattle.std.specs.Option.{IfSome, option_map}
 
@@ -41,3 +41,25 @@ on_ok (Err e) P Q f h = tt
 pub some_always : {A : Type 0} (o : Option A) (P : A → Type 0) → ((x : A) → P x) → IfSome o P
 some_always None P f = tt
 some_always (Some x) P f = f x
+
+-- an answer that isn't an error is one, and an error is none
+pub ok_then : {A E : Type 0} (r : Result A E) (P : Type 0) → false ≡ is_err r → OnOk r P → P
+ok_then (Ok x) P e h = h
+ok_then (Err x) P e h = absurd cc
+
+pub err_then : {A E : Type 0} (r : Result A E) (P : Type 0) → true ≡ is_err r → OnErr r P → P
+err_then (Ok x) P e h = absurd cc
+err_then (Err x) P e h = h
+
+pub no_ok : {A E : Type 0} (r : Result A E) (P : Type 0) → true ≡ is_err r → OnOk r P
+no_ok (Ok x) P e = absurd cc
+no_ok (Err x) P e = tt
+
+pub no_err : {A E : Type 0} (r : Result A E) (P : Type 0) → false ≡ is_err r → OnErr r P
+no_err (Ok x) P e = tt
+no_err (Err x) P e = absurd cc
+
+-- what holds whatever an answer is
+pub on_any : {A E : Type 0} (r : Result A E) (P : Type 0) → P → OnOk r P
+on_any (Ok x) P p = p
+on_any (Err e) P p = tt

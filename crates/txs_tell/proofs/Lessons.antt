@@ -1,6 +1,8 @@
 -- A line with what explains it: there is a sentence exactly where there is a line.
-use Rattle.std.proofs.Common.{◌≡◌, ◌≢◌, ◌++◌, ◌∙◌, ℕ, List, [], ◌∷◌, Option, Some, None, codes, refl, sym, ap, append_assoc}
-use Rattle.txs_tell.specs.Lines.{Script, IsLesson, at_place, failed_line, lesson_of, refusal_line, stopped_line}
+use Rattle.std.proofs.Common.{◌≡◌, ◌≢◌, ◌++◌, ◌∙◌, ℕ, List, [], ◌∷◌, Option, Some, None, IsNone, codes, refl, sym, ap, append_assoc}
+use Rattle.txs_asks.specs.declared.event.Outcome.{Outcome}
+use Rattle.txs_tell.specs.AgentLines.{EndTold, end_status}
+use Rattle.txs_tell.specs.Lines.{Script, IsLesson, at_place, end_line, end_place, failed_line, how_ended, status_of, lesson_of, refusal_line, stopped_line}
 use Rattle.txs_terms.specs.Faults.{fault_name}
 use Rattle.txs_terms.specs.declared.fault.Fault.{Fault}
 use Rattle.txs_terms.specs.declared.fault.Span.{Span}
@@ -35,6 +37,10 @@ told_behind script line at old new advice there is =
     let lesson : List ℕ = lesson_of script.file script.text at (Some advice) in
     (line ++ lesson, line_told script line at (line ++ lesson) advice there refl, is ∙ append_assoc old line lesson)
 
+-- the same behind what was empty, with the line and what explains it written at once
+pub line_behind : (script : Script) (line : List ℕ) (at : Option Span) (old errors advice : List ℕ) → line ≢ [] → old ≡ [] → errors ≡ (old ++ line) ++ lesson_of script.file script.text at (Some advice) → IsLesson script line at errors
+line_behind script line at old errors advice there none is = line_told script line at errors advice there (is ∙ ap (λ (l : List ℕ). (l ++ line) ++ lesson_of script.file script.text at (Some advice)) none)
+
 -- four parts of a line, behind what stands before it
 four_assoc : (old a b c d : List ℕ) → (old ++ a) ++ b ++ c ++ d ≡ old ++ (a ++ b ++ c ++ d)
 four_assoc old a b c d = ap (λ (l : List ℕ). l ++ c ++ d) (append_assoc old a b) ∙ ap (λ (l : List ℕ). l ++ d) (append_assoc old (a ++ b) c) ∙ append_assoc old (a ++ b ++ c) d
@@ -63,3 +69,23 @@ unexplained (Some f) text at = refl
 -- no line
 pub nothing_told : (script : Script) (at : Option Span) (errors : List ℕ) → errors ≡ [] → IsLesson script [] at errors
 nothing_told script at errors e = record { advice = None; told = (λ none. refl, λ l. refl); is = e ∙ sym (unexplained script.file script.text at) }
+
+-- a lesson without a line is nothing
+no_lesson : (script : Script) (line : List ℕ) (advice : Option (List ℕ)) → IsNone advice → line ≡ lesson_of script.file script.text None advice → line ≡ []
+no_lesson script line None none is = is ∙ unexplained script.file script.text None
+no_lesson script line (Some advice) none is = cc
+
+-- of one that may not have ended, where nothing is told of it as of one that is done
+pub ended_told : (script : Script) (front : List ℕ) (o : Option Outcome) (line : List ℕ) → IsLesson script (end_line front (how_ended o)) (end_place (how_ended o)) line → EndTold script front o line
+ended_told script front None line h = no_lesson script line h.advice (h.told.1 refl) h.is
+ended_told script front (Some o) line h = h
+
+-- its status
+pub ended_status : (o : Option Outcome) → status_of (how_ended o) ≡ end_status o
+ended_status None = refl
+ended_status (Some o) = refl
+
+-- two parts and two more behind what stands before them
+pub two_pairs : (old a b c d first second : List ℕ) → first ≡ old ++ (a ++ b) → second ≡ first ++ (c ++ d) → second ≡ old ++ (a ++ b ++ c ++ d)
+two_pairs old a b c d first second e f =
+    f ∙ ap (λ (l : List ℕ). l ++ (c ++ d)) e ∙ append_assoc old (a ++ b) (c ++ d) ∙ ap (λ (l : List ℕ). old ++ l) (sym (append_assoc (a ++ b) c d))

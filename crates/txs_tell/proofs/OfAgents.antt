@@ -1,10 +1,10 @@
 -- What is told of agents, one cell after the other: with one more cell told, what is told so far and of those to come is what is told of all.
-use Rattle.std.proofs.Common.{◌≡◌, ◌<◌, ◌+◌, ◌-◌, ℕ, suc, List, [], ◌∷◌, ◌++◌, length, get_or, drop, Option, refl, sym, ap, ◌∙◌, subst, append_assoc, arith, length-drop}
+use Rattle.std.proofs.Common.{◌≡◌, ◌<◌, ◌≤◌, ◌+◌, ◌-◌, ℕ, suc, max, List, [], ◌∷◌, ◌++◌, length, get_or, drop, Option, refl, sym, ap, ◌∙◌, subst, subst₂, append_assoc, arith, length-drop}
 use Rattle.std.proofs.lemmas.List.{append-nil, drop_more}
 use Rattle.txs_machine.specs.declared.schedule.ThreadReport.{ThreadReport}
 use Rattle.txs_actor.specs.PlainActor.{agents_from, with_agent}
 use Rattle.txs_tell.specs.Lines.{Script}
-use Rattle.txs_tell.specs.AgentLines.{AreAgentsTold, named_from, status_of_agents, with_named}
+use Rattle.txs_tell.specs.AgentLines.{AgentTold, AreAgentsTold, end_status, failed_by, named_from, status_of_agents, with_named}
 use Rattle.txs_cells.specs.declared.cell.CellDefinition.{CellDefinition}
 use Rattle.txs_terms.specs.declared.fault.Fault.{Fault}
 use Rattle.txs_value.specs.declared.value.CellId.{CellId}
@@ -92,3 +92,30 @@ with_as_many Agent n name gs hs e = ap suc e
 pub all_named_from : (n : ℕ) (ds : List CellDefinition) → length (named_from n ds) ≡ length (agents_from n ds)
 all_named_from n [] = refl
 all_named_from n (d ∷ ds) = with_as_many d.kind n d.name (named_from (suc n) ds) (agents_from (suc n) ds) (all_named_from (suc n) ds)
+
+-- ---- one agent, of which the first entry tells
+
+-- the entries behind it
+pub agent_rest : (k : CellKind) (n : ℕ) (name : List ℕ) (entries : List ThreadReport) (r : ThreadReport) (rest : List ThreadReport) → k ≡ Agent → entries ≡ r ∷ rest → rest ≡ drop (length (alone k n name)) entries
+agent_rest k n name entries r rest kind is = subst₂ (λ (k' : CellKind) (es : List ThreadReport). rest ≡ drop (length (alone k' n name)) es) (sym kind) (sym is) refl
+
+-- its lines
+pub agent_told : (script : Script) (failure : CellId → Option Fault) (k : CellKind) (n : ℕ) (given name : List ℕ) (entries : List ThreadReport) (r : ThreadReport) (rest : List ThreadReport) (f : Option Fault) (lines : List ℕ)
+    → k ≡ Agent → entries ≡ r ∷ rest → given ≡ name → f ≡ failure (record { kind = Agent; number = n }) → AgentTold script given f r.outcome lines → AreAgentsTold script failure (alone k n name) entries lines
+agent_told script failure k n given name entries r rest f lines kind is named failed told =
+    subst₂ (λ (k' : CellKind) (es : List ThreadReport). AreAgentsTold script failure (alone k' n name) es lines) (sym kind) (sym is)
+    (lines, [], subst₂ (λ (l : List ℕ) (o : Option Fault). AgentTold script l o r.outcome lines) named failed told, refl, sym (append-nil lines))
+
+-- its status
+pub agent_status : (m now : ℕ) (failure : CellId → Option Fault) (k : CellKind) (n : ℕ) (name : List ℕ) (entries : List ThreadReport) (r : ThreadReport) (rest : List ThreadReport) (f : Option Fault)
+    → k ≡ Agent → entries ≡ r ∷ rest → f ≡ failure (record { kind = Agent; number = n }) → now ≡ max (max m (end_status (failed_by f))) (end_status r.outcome) → now ≡ status_of_agents m failure (alone k n name) entries
+agent_status m now failure k n name entries r rest f kind is failed h =
+    subst₂ (λ (k' : CellKind) (es : List ThreadReport). now ≡ status_of_agents m failure (alone k' n name) es) (sym kind) (sym is)
+    (h ∙ ap (λ (o : Option Fault). max (max m (end_status (failed_by o))) (end_status r.outcome)) failed)
+
+-- there is an entry for a cell that is an agent, where there is one for each to come
+pub entry_there : (ds : List CellDefinition) (n : ℕ) (d : CellDefinition) (rs : List ThreadReport) → n < length ds → d ≡ get_or ds n d → length rs ≡ length (named_from n (drop n ds)) → length (alone d.kind n d.name) ≤ length rs
+entry_there ds n d rs l e h =
+    let later = named_from (n + 1) (drop (n + 1) ds) in
+    let all : length rs ≡ length (alone d.kind n d.name) + length later = h ∙ ap (λ (gs : List (CellId × List ℕ)). length gs) (named_more ds n d l e) ∙ as_many d.kind n d.name later in
+    omega arith

@@ -1,14 +1,13 @@
 //! What is told of agents: which have failed, and whose actors were stopped.
 
-ghost use Rattle.std.specs.Prelude.{◌≡◌, ◌≤◌, ◌++◌, ℕ, List, length, drop, [], max, true, IfOk, OnOk};
-ghost use Rattle.txs_tell.specs.AgentLines.{AgentTold, AreAgentsTold, EndTold, end_status, failed_by, failure_of, named_from, status_of_agents, with_named};
+ghost use Rattle.std.specs.Prelude.{◌≡◌, ◌≤◌, ◌++◌, ℕ, List, length, drop, [], true, IfOk, OnOk};
+ghost use Rattle.txs_tell.specs.AgentLines.{AreAgentsTold, failed_by, failure_of, named_from, status_of_agents, with_named};
 ghost use Rattle.txs_tell.specs.Lent.{script_of};
-ghost use Rattle.txs_tell.specs.Lines.{agent_front};
 ghost use Rattle.txs_book.specs.Book.{has_cell};
 ghost use Rattle.txs_book.specs.Served.{cells_of};
 
 use crate::explain::Script;
-use crate::told::{Front, Told, tell_end};
+use crate::told::{Front, Told, how_ended, tell_end};
 use std::alloc::AllocError;
 use txs_asks::Outcome;
 use txs_cells::CellDefinition;
@@ -27,40 +26,8 @@ fn failed_by(fault: Option<Fault>) -> Option<Outcome>
     }
 }
 
-/// Adds the line of an agent that has ended so, if it has, and its status, where that is higher.
-fn add_end(
-    told: &mut Told,
-    script: Script<'_>,
-    name: &[u8],
-    end: Option<Outcome>,
-) -> Result<(), AllocError>
-    ensures output { told.new.output.items ≡ told.old.output.items }
-    ensures errors { OnOk result ((line : List ℕ) × EndTold (script_of script.entry) (agent_front name.now) end line × (told.new.errors.items ≡ told.old.errors.items ++ line)) }
-    ensures status { OnOk result (told.new.status ≡ max told.old.status (end_status end)) }
-{
-    match end {
-        Some(outcome) => tell_end(told, script, Front::Agent(name), outcome),
-        None => Ok(()),
-    }
-}
-
-/// Adds what is told of an agent: that it has failed, and behind that, that its actor was stopped.
-fn add_agent(
-    told: &mut Told,
-    script: Script<'_>,
-    name: &[u8],
-    failure: Option<Fault>,
-    outcome: Option<Outcome>,
-) -> Result<(), AllocError>
-    ensures output { told.new.output.items ≡ told.old.output.items }
-    ensures errors { OnOk result ((lines : List ℕ) × AgentTold (script_of script.entry) name.now failure outcome lines × (told.new.errors.items ≡ told.old.errors.items ++ lines)) }
-    ensures status { OnOk result (told.new.status ≡ max (max told.old.status (end_status (failed_by failure))) (end_status outcome)) }
-{
-    add_end(told, script, name, failed_by(failure))?;
-    add_end(told, script, name, outcome)
-}
-
-/// Adds what is told of the cell with this number, where it is an agent, whose entry is the first of these. Answers the entries behind it.
+/// Adds what is told of the cell with this number, where it is an agent, whose entry is the first of these: that it has failed, and behind that,
+/// that its actor was stopped. Answers the entries behind it.
 fn add_cell<'a>(
     told: &mut Told,
     script: Script<'_>,
@@ -88,7 +55,10 @@ fn add_cell<'a>(
     };
     let failure = shared.failure(agent);
     let name = cell.name.as_bytes();
-    add_agent(told, script, name, failure, entry.outcome)?;
+    let failed = how_ended(failed_by(failure));
+    let stopped = how_ended(entry.outcome);
+    tell_end(told, script, Front::Agent(name), failed)?;
+    tell_end(told, script, Front::Agent(name), stopped)?;
     Ok(rest)
 }
 

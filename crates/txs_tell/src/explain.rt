@@ -1,7 +1,7 @@
 //! What stands behind a line on the standard error where it is explained: the place in the script, the line
 //! of the script with carets below it, and what to do.
 
-ghost use Rattle.std.specs.Prelude.{◌≡◌, ◌∷◌, ◌++◌, decimal, OnErr, OnOk};
+ghost use Rattle.std.specs.Prelude.{◌≡◌, ◌++◌, decimal, OnErr, OnOk};
 ghost use Rattle.txs_value.specs.Printed.{Extends};
 ghost use Rattle.txs_tell.specs.Explained.{place_line, shown_where, explained};
 
@@ -27,13 +27,17 @@ pub(crate) fn write_both(out: &mut Vec<u8>, first: &[u8], second: &[u8]) -> Resu
     out.extend_from_slice(second)
 }
 
-/// Appends a colon and a number.
-fn write_part(out: &mut Vec<u8>, number: usize) -> Result<(), AllocError>
-    ensures ok { OnOk result (out.new.items ≡ out.old.items ++ (58 ∷ decimal number)) }
+/// Appends a number behind these bytes.
+pub(crate) fn write_number(
+    out: &mut Vec<u8>,
+    before: &[u8],
+    number: usize,
+) -> Result<(), AllocError>
+    ensures ok { OnOk result (out.new.items ≡ out.old.items ++ (before.now ++ decimal number)) }
     ensures kept { Extends out.old.items out.new.items }
 {
     let mut buffer = Buffer::new();
-    write_both(out, b":", buffer.format(number).as_bytes())
+    write_both(out, before, buffer.format(number).as_bytes())
 }
 
 /// Appends the line that names a place: the file, the line and the column, both from 1.
@@ -43,8 +47,8 @@ fn write_place(out: &mut Vec<u8>, file: &str, text: &[u8], offset: usize) -> Res
 {
     let place = position(text, offset);
     out.extend_from_slice(file.as_bytes())?;
-    write_part(out, place.line)?;
-    write_part(out, place.column)?;
+    write_number(out, b":", place.line)?;
+    write_number(out, b":", place.column)?;
     out.extend_from_slice(b"\n")
 }
 

@@ -10,8 +10,7 @@ ghost use Rattle.txs_tell.specs.Told.{ScriptTells, Wanted};
 use crate::advice::{
     OF_JOURNAL, OF_LIST, OF_MEMORY, OF_STEPS, of_check, of_fault, of_read, of_resolve,
 };
-use crate::explain::{Script, write_both, write_explained};
-use itoa::Buffer;
+use crate::explain::{Script, write_both, write_explained, write_number};
 use std::alloc::{AllocError, Global};
 use txs_asks::Outcome;
 use txs_compile::CompileError;
@@ -132,30 +131,28 @@ fn explain(
     }
 }
 
-/// Appends a number behind these bytes.
-fn write_number(line: &mut Vec<u8>, before: &[u8], number: u32) -> Result<(), AllocError>
-    ensures { OnOk result (line.new.items ≡ line.old.items ++ (before.now ++ decimal number)) }
-{
-    let mut buffer = Buffer::new();
-    write_both(line, before, buffer.format(number).as_bytes())
-}
-
 /// Appends where a line ends with a place.
 fn write_place(line: &mut Vec<u8>, at: Span) -> Result<(), AllocError>
     ensures { OnOk result (line.new.items ≡ line.old.items ++ at_place at) }
 {
-    write_number(line, b" at ", at.from)?;
-    write_number(line, b"..", at.to)?;
+    write_number(line, b" at ", at.from as usize)?;
+    write_number(line, b"..", at.to as usize)?;
     line.extend_from_slice(b"\n")
 }
 
-/// Appends the line of a refusal.
-fn refusal_line(line: &mut Vec<u8>, number: u8, name: &str, at: Span) -> Result<(), AllocError>
-    ensures { OnOk result (line.new.items ≡ line.old.items ++ refusal_line number name.now at) }
+/// Appends the line of a refusal, and what explains it.
+fn write_refusal(
+    errors: &mut Vec<u8>,
+    script: Script<'_>,
+    refusal: &Refusal,
+    advice: &str,
+) -> Result<(), AllocError>
+    ensures { OnOk result (errors.new.items ≡ (errors.old.items ++ refusal_line refusal.now.number refusal.now.name.now refusal.now.at) ++ lesson_of (text_in script.entry.file) script.entry.text.now (Some refusal.now.at) (Some advice.now)) }
 {
-    write_number(line, b"refused ", u32::from(number))?;
-    write_both(line, b" ", name.as_bytes())?;
-    write_place(line, at)
+    write_number(errors, b"refused ", refusal.number as usize)?;
+    write_both(errors, b" ", refusal.name.as_bytes())?;
+    write_place(errors, refusal.at)?;
+    explain(errors, script, Some(refusal.at), advice)
 }
 
 /// Appends how a line begins.
@@ -163,7 +160,7 @@ fn write_front(line: &mut Vec<u8>, front: Front<'_>) -> Result<(), AllocError>
     ensures { OnOk result (line.new.items ≡ line.old.items ++ front_of front.entry) }
 {
     match front {
-        Front::Thread(k) => write_number(line, b"thread ", u32::from(k)),
+        Front::Thread(k) => write_number(line, b"thread ", k as usize),
         Front::Agent(name) => write_both(line, b"agent ", name),
     }
 }
@@ -209,8 +206,7 @@ pub fn refused(alloc: Global, script: Script<'_>, error: &CompileError) -> Resul
         return Err(AllocError);
     };
     let mut errors = Vec::new(alloc);
-    refusal_line(&mut errors, refusal.number, refusal.name, refusal.at)?;
-    explain(&mut errors, script, Some(refusal.at), advice)?;
+    write_refusal(&mut errors, script, &refusal, advice)?;
     Ok(Told {
         output: Vec::new(alloc),
         errors,
@@ -318,8 +314,8 @@ pub(crate) fn tell_end(
     write_end(&mut told.errors, script, front, outcome)
 }
 
-/// How a thread ended; every thread of a run has.
-fn how_ended(outcome: Option<Outcome>) -> Outcome
+/// How a thread ended; every thread of a run has. Of one that hasn't, nothing is told, as of one that is done.
+pub(crate) fn how_ended(outcome: Option<Outcome>) -> Outcome
     ensures { result ≡ how_ended outcome }
 {
     match outcome {

@@ -5,7 +5,7 @@ use Rattle.txs_book.specs.Served.{cells_of}
 use Rattle.txs_cells.specs.declared.cell.CellDefinition.{CellDefinition}
 use Rattle.txs_tell.specs.AgentLines.{AreAgentsTold, failure_of, named_from, status_of_agents}
 use Rattle.txs_tell.specs.Lent.{script_of}
-use Rattle.txs_tell.proofs.OfAgents.{left_more, lines_more, status_of_more}
+use Rattle.txs_tell.proofs.OfAgents.{entry_there, left_more, lines_more, status_of_more}
 use Rattle.txs_tell.proofs.There.{there}
 use Rattle.txs_tell.proofs.agents.add_agents.Goals as goal
 
@@ -51,3 +51,25 @@ returns-clause-errors c =
     let past : length ds ≤ n = search rules in
     let none : AreAgentsTold script failure (named_from n (drop n ds)) c.loop-number.rest.now [] = subst (λ (xs : List CellDefinition). AreAgentsTold script failure (named_from n xs) c.loop-number.rest.now []) (sym (drop_all n ds past)) refl in
     (so_far.0, subst (λ (ls : List ℕ). AreAgentsTold script failure (named_from 0 ds) c.args.agents.now ls) (append-nil so_far.0) (so_far.2 [] none), so_far.1)
+
+pub loop-number-init : goal.loop-number-init
+loop-number-init c = record { left = c.requires.one_each; output = refl; errors = ([], sym (append-nil c.args.told.now.errors.items), λ more h. h); status = refl }
+
+pub add_cell-requires-clause-entry : goal.add_cell-requires-clause-entry
+add_cell-requires-clause-entry c =
+    let ds = c.args.cells.now in
+    let n = c.loop-number.number in
+    let d = c.index-cells-number.result in
+    let within : n < length ds = search rules in
+    let read : d ≡ get_or ds n d = search rules in
+    entry_there ds n d c.loop-number.rest.now within read c.loop-number.invariant.left
+
+pub returns-clause-status : goal.returns-clause-status
+returns-clause-status c =
+    let failure = failure_of c.args.shared.now in
+    let ds = c.args.cells.now in
+    let n = c.loop-number.number in
+    let past : length ds ≤ n = search rules in
+    let m = c.loop-number.told.status in
+    let rest = c.loop-number.rest.now in
+    ap (λ (xs : List CellDefinition). status_of_agents m failure (named_from n xs) rest) (sym (drop_all n ds past)) ∙ c.loop-number.invariant.status

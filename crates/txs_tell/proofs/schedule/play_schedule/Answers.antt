@@ -1,10 +1,10 @@
-use Rattle.std.proofs.Common.{◌≡◌, ℕ, List, Result, Ok, sym, ap, ◌∙◌}
+use Rattle.std.proofs.Common.{◌≡◌, ℕ, List, [], codes, refl, Result, Ok, sym, ap, ◌∙◌}
 use Rattle.txs_machine.specs.declared.schedule.Play.{Play}
 use Rattle.txs_schedule.specs.Plays.{plays_in}
 use Rattle.txs_schedule.specs.declared.plays.WrongPlay.{WrongPlay}
 use Rattle.txs_tell.specs.Lent.{text_in}
 use Rattle.txs_tell.specs.Lines.{Script}
-use Rattle.txs_tell.specs.Told.{Told, Run, Tells, ScheduleTells, of_plays, of_list, Written, front}
+use Rattle.txs_tell.specs.Told.{Told, Run, Tells, ScheduleTells, of_plays, of_list, of_memory, Written, front}
 use Rattle.txs_tell.proofs.Fronts.{kept, some_maps, some_always}
 use Rattle.txs_tell.proofs.schedule.play_schedule.Goals as goal
 
@@ -35,3 +35,11 @@ returns-in-Err-Wrong-clause-unread g c = λ wrong. kept (g.R.Read.remaining c.ar
 
 pub returns-in-Err-Memory-clause-unread : goal.returns-in-Err-Memory-clause-unread
 returns-in-Err-Memory-clause-unread g c = λ wrong. kept (g.R.Read.remaining c.args.reader.now)
+
+pub returns-in-Err-Memory-clause-told : goal.returns-in-Err-Memory-clause-told
+returns-in-Err-Memory-clause-told g c =
+    let known = g.R.Read.remaining c.args.reader.now in
+    let script : List ℕ → Script = λ input. record { text = front input; file = text_in c.args.file } in
+    let writes : Told → Type 0 = λ t. Written (g.W.Write.contents c.args.writer.now) (g.W.Write.contents c.write_told.new.writer) (g.F.Write.contents c.args.faults.now) (g.F.Write.contents c.write_told.new.faults) t c.write_told.result in
+    some_always known (λ input. (t : Told) × ScheduleTells (script input) c.args.turns.now c.args.steps c.args.cells c.args.events t × writes t)
+    (λ input. (record { output = []; errors = codes "out of memory\n"; status = 4 }, of_list (of_memory refl refl refl), c.write_told.ensures))

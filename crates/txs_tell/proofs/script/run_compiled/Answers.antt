@@ -1,5 +1,6 @@
-use Rattle.std.proofs.Common.{◌≡◌, ◌++◌, [], Option, codes, true, false, rules, sym, subst}
+use Rattle.std.proofs.Common.{◌≡◌, ◌≤◌, ◌++◌, ◌∙◌, List, length, [], Option, codes, true, false, rules, sym, subst}
 use Rattle.std.specs.Option.{option_map}
+use Rattle.txs_cells.specs.declared.cell.CellDefinition.{CellDefinition}
 use Rattle.txs_machine.specs.Agents.{actors_of}
 use Rattle.txs_machine.specs.Schedule.{all_named}
 use Rattle.txs_shared.specs.SharedState.{numbered_book}
@@ -40,3 +41,9 @@ returns-in_ok-tell_book-in-Some c =
     let e = c.in_ok-tell_book-in-Some.ensures in
     let output : new.output.items ≡ (told.output.items ++ cells_told c.args.cells p.cells s) ++ events_told c.args.events (numbered_book s 0) = search rules in
     of_run plays c.args.steps c.args.cells c.args.events (told_of told) p code s of c.run_code.ensures.of ran.0 ran.1 explained output e.errors e.status
+
+pub tell_book-requires-clause-made : goal.tell_book-requires-clause-made
+tell_book-requires-clause-made c = c.run_code.ensures.of.cells ∙ c.requires.compiled.same ∙ sym c.cells.ensures
+
+pub tell_book-requires-clause-few : goal.tell_book-requires-clause-few
+tell_book-requires-clause-few c = subst (λ (ds : List CellDefinition). length ds ≤ 1000) (c.requires.compiled.same ∙ sym c.cells.ensures) c.requires.few_cells

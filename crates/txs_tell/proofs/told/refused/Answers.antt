@@ -3,7 +3,7 @@ use Rattle.txs_tell.specs.Lent.{script_of}
 use Rattle.txs_tell.specs.Lines.{IsLesson, refusal_line, refused_line, refused_place}
 use Rattle.txs_tell.specs.Told.{of_refused}
 use Rattle.txs_terms.specs.declared.fault.Span.{Span}
-use Rattle.txs_tell.proofs.Lessons.{begun_told, is_refusal_line}
+use Rattle.txs_tell.proofs.Lessons.{is_refusal_line, line_behind}
 use Rattle.txs_tell.proofs.told.refused.Goals as goal
 
 pub returns : goal.returns
@@ -13,10 +13,8 @@ returns c =
     let of = c.in-Some.ensures in
     let r = c.in-Some.refusal in
     let line = refusal_line r.number r.name.now r.at in
-    let begun = c.refusal_line.new.line.items in
-    let errors = c.explain.new.errors.items in
-    let is : begun ≡ line = c.in_ok-refusal_line.ensures ∙ ap (λ (l : List ℕ). l ++ line) c.new-errors.ensures.items in
+    let errors = c.write_refusal.new.errors.items in
     let told : IsLesson script (refused_line e) (refused_place e) errors =
-    subst₂ (λ (l : List ℕ) (at : Option Span). IsLesson script l at errors) (sym of.line) (sym of.place) (begun_told script line (Some r.at) begun errors _ (is_refusal_line r.number r.name.now r.at) is c.in_ok-explain.ensures)
+    subst₂ (λ (l : List ℕ) (at : Option Span). IsLesson script l at errors) (sym of.line) (sym of.place) (line_behind script line (Some r.at) c.new-errors.result.items errors _ (is_refusal_line r.number r.name.now r.at) c.new-errors.ensures.items c.in_ok-write_refusal.ensures)
     in
     λ wanted. of_refused wanted e of.told c.requires c.new.ensures.items told refl
