@@ -2,6 +2,7 @@ use Rattle.std.proofs.Common.{refl, subst}
 use Rattle.txs_actor.specs.Turns.{Says, TurnsOf}
 use Rattle.txs_actor.specs.declared.outcome.Turn.{Turn}
 use Rattle.txs_actor.specs.declared.outcome.Turn.TheVariants.{Went, Asks, Ended}
+use Rattle.txs_machine.specs.Briefs.{ask_of}
 use Rattle.txs_machine.proofs.run.go_on.Goals as goal
 
 pub returns-in-Ended : goal.returns-in-Ended
@@ -58,3 +59,11 @@ take_brief-requires-clause-may c =
     let says = subst (λ (t : Turn). Says t a) is c.run.ensures.says in
     let turns = subst (λ (t : Turn). TurnsOf c.args.code.now c.args.budget c.args.player.now.actor t a) is c.run.ensures.turns in
     c.requires.may a _ turns c.run.ensures.lives says.0 says.1
+
+pub returns-in-Some : goal.returns-in-Some
+returns-in-Some c =
+    let a = c.run.new.self in
+    let is = c.in-Some.ensures in
+    let says = subst (λ (t : Turn). Says t a) is c.run.ensures.says in
+    let turns = subst (λ (t : Turn). TurnsOf c.args.code.now c.args.budget c.args.player.now.actor t a) is c.run.ensures.turns in
+    record { turn = Asks (ask_of c.in-Some.brief); at = a; turns = turns; says = says; reached = c.run.ensures.lives; lives = c.take_brief.ensures.lives; led = (c.take_brief.ensures.answered, refl) }

@@ -78,3 +78,17 @@ returns c =
       agents = as_attending code c.args.max_steps (none_taken (cells_of code.cells)) c.args.threads (agents_of code) c.loop-cell.players.agents.items gs.attending;
       playing = λ s same. opened_playing actors_run code c.args.max_steps c.args.threads s c.loop-cell.players same c.requires.many xs.many xs.between xs.opened gs.attending gs.opened;
     }
+
+pub loop-k-init : goal.loop-k-init
+loop-k-init c =
+    let code = c.args.code.now in
+    let most = c.args.max_steps in
+    let none = c.in_ok-reserve.ensures.items ∙ c.requires.no_threads in
+    let room = c.in_ok-reserve.ensures.ok in
+    record {
+      room = omega (arith, room);
+      none = c.requires.no_agents;
+      many = ap length none;
+      between = subst (λ l. AreBetween code most (λ n. []) 0 l) (sym none) tt;
+      opened = subst (λ l. AreNew code most 0 l) (sym none) tt;
+    }

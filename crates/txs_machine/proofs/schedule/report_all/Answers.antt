@@ -55,3 +55,15 @@ returns-clause-agents c =
     let i = c.loop-agent.agent-index in
     let past : length xs ≤ i = omega arith in
     subst (λ (l : List AgentPlayer). AreReported (attendants l) c.loop-agent.agents.items) (take_all i xs past) c.loop-agent.invariant.told
+
+pub loop-player-init : goal.loop-player-init
+loop-player-init c =
+    let e = c.in_ok-threads.ensures in
+    let none = e.items in
+    record { room = e.exact; many = ap length none; told = subst (λ l. AreReported [] l) (sym none) tt }
+
+pub loop-agent-init : goal.loop-agent-init
+loop-agent-init c =
+    let e = c.in_ok-agents.ensures in
+    let none = e.items in
+    record { room = e.exact; many = ap length none; told = subst (λ l. AreReported [] l) (sym none) tt }
