@@ -18,113 +18,77 @@ fn is_refused(alloc: Global, bytes: &[u8], name: &str, at: usize) -> bool {
     }
 }
 
-// The form with other bytes from a place on; nothing where memory runs out.
-pub fn changed(alloc: Global, at: usize, bytes: &[u8]) -> Vec<u8> {
-    let mut form = Vec::new(alloc);
-    let behind = at.saturating_add(bytes.len());
-    let made = form
-        .extend_from_slice(FORM.get(..at).unwrap_or(&[]))
-        .is_ok()
+// Appends the form with other bytes from a place on: whether there was room.
+pub fn write_changed(form: &mut Vec<u8>, at: usize, bytes: &[u8]) -> bool {
+    let behind = at.saturating_add(bytes.len()).min(FORM.len());
+    form.extend_from_slice(&FORM[..at.min(FORM.len())]).is_ok()
         && form.extend_from_slice(bytes).is_ok()
-        && form
-            .extend_from_slice(FORM.get(behind..).unwrap_or(&[]))
-            .is_ok();
-    if !made {
-        form.clear();
-    }
-    form
-}
-
-// Whether the form is read, and written again.
-fn is_written(alloc: Global) -> bool {
-    let Ok(code) = decode(alloc, FORM) else {
-        return false;
-    };
-    match encode(alloc, &code) {
-        Ok(bytes) => bytes.as_slice() == FORM && FORM.len() == 62,
-        Err(_) => false,
-    }
-}
-
-// Whether the form is read twice as the same code.
-fn is_same(alloc: Global) -> bool {
-    let Ok(code) = decode(alloc, FORM) else {
-        return false;
-    };
-    match decode(alloc, FORM) {
-        Ok(again) => same_code(&code, &again),
-        Err(_) => false,
-    }
+        && form.extend_from_slice(&FORM[behind..]).is_ok()
 }
 
 #[test]
 fn reads_what_it_writes(rt: HostRuntime) {
-    assert!(rt; is_written(rt.alloc()) && is_same(rt.alloc()));
+    let Ok(code) = decode(rt.alloc(), FORM) else {
+        panic!(rt)
+    };
+    let Ok(again) = decode(rt.alloc(), FORM) else {
+        panic!(rt)
+    };
+    let Ok(bytes) = encode(rt.alloc(), &code) else {
+        panic!(rt)
+    };
+    assert!(rt; same_code(&code, &again) && bytes.as_slice() == FORM && FORM.len() == 62);
 }
 
+// Other bytes from a place of the form on, and the reason for which they are refused there; the last ones are a byte behind it.
+const OTHERS: [(&[u8], &str, usize); 6] = [
+    (&[0], "BadMagic", 0),
+    (&[0, 0, 0, 1], "BadOperand", 30),
+    (&[0x19], "BadOpcode", 29),
+    (&[8], "BadOpcode", 10),
+    (&[0, 65], "TooLarge", 21),
+    (&[0], "Trailing", 62),
+];
+
 #[test]
-fn refuses_what_is_cut(rt: HostRuntime) {
+fn refuses_what_is_cut_or_other(rt: HostRuntime) {
     for k in 0..62 {
         let cut = FORM.get(..k).unwrap_or(FORM);
         assert!(rt; is_refused(rt.alloc(), cut, "Truncated", k));
     }
-}
-
-// Whether the form with other bytes from a place on is refused for the reason of this name at that place.
-fn is_refused_with(alloc: Global, bytes: &[u8], name: &str, at: usize) -> bool {
-    let form = changed(alloc, at, bytes);
-    is_refused(alloc, form.as_slice(), name, at)
-}
-
-// Whether other bytes at some places are refused there.
-fn refuses_others(alloc: Global) -> bool {
-    is_refused_with(alloc, &[0], "BadMagic", 0)
-        && is_refused_with(alloc, &[0, 0, 0, 1], "BadOperand", 30)
-        && is_refused_with(alloc, &[0x19], "BadOpcode", 29)
-        && is_refused_with(alloc, &[8], "BadOpcode", 10)
-        && is_refused_with(alloc, &[0, 65], "TooLarge", 21)
-}
-
-#[test]
-fn refuses_other_bytes(rt: HostRuntime) {
-    assert!(rt; refuses_others(rt.alloc()));
-}
-
-// A byte behind the form.
-#[test]
-fn refuses_one_byte_more(rt: HostRuntime) {
-    assert!(rt; is_refused_with(rt.alloc(), &[0], "Trailing", 62));
-}
-
-// Whether code with one constant, which is vectors in so many levels around nil, is refused at its 33rd level, or isn't.
-fn is_too_deep(alloc: Global, levels: u32, refused: bool) -> bool {
-    let mut form = Vec::new(alloc);
-    let mut made = form
-        .extend_from_slice(FORM.get(..10).unwrap_or(&[]))
-        .is_ok();
-    for _ in 0..levels {
-        made = form.extend_from_slice(&[6, 0, 1]).is_ok() && made;
+    for (bytes, name, at) in &OTHERS {
+        let mut form = Vec::new(rt.alloc());
+        let made = write_changed(&mut form, *at, bytes);
+        assert!(rt;
+            made && is_refused(rt.alloc(), form.as_slice(), name, *at),
+            "{name}"
+        );
     }
-    form.extend_from_slice(&[0; 5]).is_ok()
-        && made
-        && is_refused(alloc, form.as_slice(), "BadOperand", 106) == refused
 }
+
+// Code with one constant, which is vectors in 32 levels around nil.
+const DEEP: &[u8] = b"TXS1\0\0\0\0\0\x01\
+    \x06\0\x01\x06\0\x01\x06\0\x01\x06\0\x01\x06\0\x01\x06\0\x01\x06\0\x01\x06\0\x01\x06\0\x01\x06\0\x01\x06\0\x01\
+    \x06\0\x01\x06\0\x01\x06\0\x01\x06\0\x01\x06\0\x01\x06\0\x01\x06\0\x01\x06\0\x01\x06\0\x01\x06\0\x01\x06\0\x01\
+    \x06\0\x01\x06\0\x01\x06\0\x01\x06\0\x01\x06\0\x01\x06\0\x01\x06\0\x01\x06\0\x01\x06\0\x01\x06\0\x01\
+    \0\0\0\0\0";
+
+// The same with 33 levels, the last of which is refused.
+const TOO_DEEP: &[u8] = b"TXS1\0\0\0\0\0\x01\
+    \x06\0\x01\x06\0\x01\x06\0\x01\x06\0\x01\x06\0\x01\x06\0\x01\x06\0\x01\x06\0\x01\x06\0\x01\x06\0\x01\x06\0\x01\
+    \x06\0\x01\x06\0\x01\x06\0\x01\x06\0\x01\x06\0\x01\x06\0\x01\x06\0\x01\x06\0\x01\x06\0\x01\x06\0\x01\x06\0\x01\
+    \x06\0\x01\x06\0\x01\x06\0\x01\x06\0\x01\x06\0\x01\x06\0\x01\x06\0\x01\x06\0\x01\x06\0\x01\x06\0\x01\x06\0\x01\
+    \0\0\0\0\0";
 
 #[test]
-fn refuses_level_33(rt: HostRuntime) {
-    assert!(rt; is_too_deep(rt.alloc(), 32, false) && is_too_deep(rt.alloc(), 33, true));
-}
-
-// Whether opcodes and reasons are told by their numbers.
-fn are_told() -> bool {
-    Opcode::of(Instr::Halt).byte() == 24
-        && Opcode::from_byte(24).is_some()
-        && Opcode::from_byte(25).is_none()
-        && CodeErrorKind::Trailing.number() == 35
-        && CodeErrorKind::Trailing.name() == "Trailing"
-}
-
-#[test]
-fn tells_instructions_and_reasons(rt: HostRuntime) {
-    assert!(rt; are_told());
+fn tells_level_33_and_numbers(rt: HostRuntime) {
+    assert!(rt;
+        is_refused(rt.alloc(), TOO_DEEP, "BadOperand", 106)
+            && !is_refused(rt.alloc(), DEEP, "BadOperand", 106)
+            && Opcode::of(Instr::Halt).byte() == 24
+            && Opcode::from_byte(24).is_some()
+            && Opcode::from_byte(25).is_none()
+            && CodeErrorKind::Trailing.number() == 35
+            && CodeErrorKind::Trailing.name() == "Trailing"
+    );
 }

@@ -30,14 +30,8 @@ impl Write for Sink {
     }
 }
 
-// Whether a writer that takes at most so many bytes a call, and has room for so many, gets this of the listing of code in its byte form, which ends so.
-fn is_listed(
-    alloc: Global,
-    form: &[u8],
-    most: usize,
-    room: usize,
-    told: (&[u8], Result<(), WriteFault>),
-) -> bool {
+// Whether a writer that takes at most so many bytes a call, and has room for so many, gets as much of the listing of code in its byte form, and fails if that isn't all.
+fn is_listed(alloc: Global, form: &[u8], most: usize, room: usize, listing: &str) -> bool {
     let Ok(code) = decode(alloc, form) else {
         return false;
     };
@@ -46,8 +40,13 @@ fn is_listed(
         most,
         room,
     };
-    let end = write_listing(alloc, &code, &mut sink);
-    end == told.1 && sink.got.as_slice() == told.0
+    let end = if room < listing.len() {
+        Err(WriteFault::Write)
+    } else {
+        Ok(())
+    };
+    let got = &listing.as_bytes()[..listing.len().min(room)];
+    write_listing(alloc, &code, &mut sink) == end && sink.got.as_slice() == got
 }
 
 // The listing of `(future (println 7))`, as it is documented.
@@ -86,28 +85,20 @@ thread 0 locals 0
   2 halt @6..12
 ";
 
-// Whether a writer gets this listing whole, whether it takes a byte a call, or seven, or all.
-fn is_listed_whole(alloc: Global, form: &[u8], text: &str) -> bool {
-    is_listed(alloc, form, 1, 10_000, (text.as_bytes(), Ok(())))
-        && is_listed(alloc, form, 7, 10_000, (text.as_bytes(), Ok(())))
-        && is_listed(alloc, form, 10_000, 10_000, (text.as_bytes(), Ok(())))
-}
-
+// A byte a call, or seven, or all; and where there is room for so many bytes.
 #[test]
-fn is_written_whole(rt: HostRuntime) {
-    assert!(rt; is_listed_whole(rt.alloc(), FORM, PRINTS), "{PRINTS}");
-    assert!(rt;
-        is_listed_whole(rt.alloc(), OTHER, OTHER_LISTED),
-        "{OTHER_LISTED}"
-    );
-}
-
-#[test]
-fn is_begun_where_a_writer_fails(rt: HostRuntime) {
-    let text = OTHER_LISTED.as_bytes();
-    for room in 0..text.len() {
-        let begun = (&text[..room], Err(WriteFault::Write));
-        assert!(rt; is_listed(rt.alloc(), OTHER, 3, room, begun), "{room}");
+fn is_written_whole_or_begun(rt: HostRuntime) {
+    for most in &[1, 7, 10_000] {
+        assert!(rt;
+            is_listed(rt.alloc(), FORM, *most, 10_000, PRINTS)
+                && is_listed(rt.alloc(), OTHER, *most, 10_000, OTHER_LISTED),
+            "{most}"
+        );
     }
-    assert!(rt; is_listed(rt.alloc(), OTHER, 3, text.len(), (text, Ok(()))));
+    for room in 0..OTHER_LISTED.len() + 1 {
+        assert!(rt;
+            is_listed(rt.alloc(), OTHER, 3, room, OTHER_LISTED),
+            "{room}"
+        );
+    }
 }

@@ -1,5 +1,5 @@
 // What no clause says: the worked rows, and that calls succeed with ample memory.
-use std::alloc::{AllocError, Global};
+use std::alloc::Global;
 use txs_reader::{Bracket, Form, ReadError, ReadErrorKind, read_script};
 use txs_terms::Span;
 
@@ -25,34 +25,12 @@ const BYTES: [(&[u8], (u8, u32, u32)); 10] = [
     (b"\"a\rb\" +1 -0 a.b x? @ ; c\n x", (0, 0, 0)),
 ];
 
-/// Whether each of these scripts stops so.
-fn all_stop(alloc: Global, rows: &[(&[u8], (u8, u32, u32))]) -> bool {
-    for (script, answer) in rows {
-        if stop(alloc, script) != *answer {
-            return false;
-        }
-    }
-    true
-}
-
 #[test]
 fn bytes_are_refused(rt: HostRuntime) {
-    assert!(rt; all_stop(rt.alloc(), &BYTES));
-}
-
-/// Appends a text, so many times another, and a third one.
-fn make(
-    script: &mut Vec<u8>,
-    front: &[u8],
-    part: &[u8],
-    count: u32,
-    back: &[u8],
-) -> Result<(), AllocError> {
-    script.extend_from_slice(front)?;
-    for _ in 0..count {
-        script.extend_from_slice(part)?;
+    for (script, answer) in &BYTES {
+        assert!(rt; stop(rt.alloc(), script) == *answer);
     }
-    script.extend_from_slice(back)
+    assert!(rt; ReadErrorKind::Memory.name() == "Memory");
 }
 
 /// What stands before, so many times what, and what stands behind; and the refusal.
@@ -64,19 +42,8 @@ type Made = (
     (u8, u32, u32),
 );
 
-/// The first of these scripts that stops in another way.
-fn first_other(alloc: Global, rows: &[Made]) -> Result<Option<u32>, AllocError> {
-    for (front, part, count, back, answer) in rows {
-        let mut script = Vec::new(alloc);
-        make(&mut script, front, part, *count, back)?;
-        if stop(alloc, script.as_slice()) != *answer {
-            return Ok(Some(*count));
-        }
-    }
-    Ok(None)
-}
-
-const NESTED: [Made; 8] = [
+/// Brackets and length; lists and texts.
+const MADE: [Made; 14] = [
     (b"", b"(", 1_048_577, b"", (8, 1_048_576, 1_048_577)),
     (b"", b"(", 1_048_576, b"", (7, 100, 101)),
     (b"", b"(", 101, b"", (7, 100, 101)),
@@ -85,14 +52,6 @@ const NESTED: [Made; 8] = [
     (b"", b"@", 100, b"a", (0, 0, 0)),
     (b"", b"a", 255, b"", (0, 0, 0)),
     (b"", b"a", 256, b"", (8, 0, 256)),
-];
-
-#[test]
-fn nesting_and_length_are_limited(rt: HostRuntime) {
-    assert!(rt; first_other(rt.alloc(), &NESTED) == Ok(None));
-}
-
-const LONG: [Made; 6] = [
     (b"[", b"a ", 65_535, b"", (2, 0, 1)),
     (b"[", b"a ", 65_535, b"]", (0, 0, 0)),
     (b"[", b"a ", 65_536, b"", (8, 131_071, 131_072)),
@@ -102,18 +61,19 @@ const LONG: [Made; 6] = [
 ];
 
 #[test]
-fn lists_and_texts_are_limited(rt: HostRuntime) {
-    assert!(rt; first_other(rt.alloc(), &LONG) == Ok(None));
-}
-
-/// Whether each front of the script gives an answer other than want of memory.
-fn all_fronts_answer(alloc: Global, script: &[u8]) -> bool {
-    for n in 0..script.len() {
-        if stop(alloc, &script[..n]).0 == 10 {
-            return false;
+fn sizes_are_limited(rt: HostRuntime) {
+    for (front, part, count, back, answer) in &MADE {
+        let mut script = Vec::new(rt.alloc());
+        let mut made = script.extend_from_slice(front).is_ok();
+        for _ in 0..*count {
+            made = script.extend_from_slice(part).is_ok() && made;
         }
+        made = script.extend_from_slice(back).is_ok() && made;
+        assert!(rt;
+            made && stop(rt.alloc(), script.as_slice()) == *answer,
+            "{count}"
+        );
     }
-    true
 }
 
 const FRONTS: [&[u8]; 20] = [
@@ -139,37 +99,39 @@ const FRONTS: [&[u8]; 20] = [
     b"@ @ ; two\n x, :k true",
 ];
 
-/// Whether the fronts of each of these scripts do.
-fn all_answer(alloc: Global, scripts: &[&[u8]]) -> bool {
-    for script in scripts {
-        if !all_fronts_answer(alloc, script) {
-            return false;
-        }
-    }
-    true
-}
-
+/// Each front of each of these scripts gives an answer other than want of memory.
 #[test]
 fn fronts(rt: HostRuntime) {
-    assert!(rt; all_answer(rt.alloc(), &FRONTS));
+    for script in &FRONTS {
+        for n in 0..script.len() {
+            assert!(rt; stop(rt.alloc(), &script[..n]).0 != 10, "{n}");
+        }
+    }
 }
 
-// Whether these are the parts of `(a? -7 ; x [+1])`.
-fn are_of_list(parts: &[Form]) -> bool {
+// Whether these are the forms of `LISTS`.
+fn are_lists(forms: &[Form]) -> bool {
+    let [
+        Form::Group(Bracket::Round, list, Span { from: 0, to: 16 }),
+        Form::Keyword(_, Span { from: 17, to: 19 }),
+        Form::Nil(_),
+        Form::Truth(true, _),
+        Form::Group(Bracket::Round, deref, Span { from: 30, to: 33 }),
+        Form::Text(_, Span { from: 34, to: 44 }),
+    ] = forms
+    else {
+        return false;
+    };
+    let [
+        Form::Symbol(_, _),
+        Form::Number(-7, Span { from: 4, to: 6 }),
+        Form::Group(Bracket::Square, _, _),
+    ] = list.as_slice()
+    else {
+        return false;
+    };
     matches!(
-        parts,
-        [
-            Form::Symbol(_, _),
-            Form::Number(-7, Span { from: 4, to: 6 }),
-            Form::Group(Bracket::Square, _, _)
-        ]
-    )
-}
-
-// Whether these are the parts of `@@c`.
-fn are_of_deref(parts: &[Form]) -> bool {
-    matches!(
-        parts,
+        deref.as_slice(),
         [
             Form::Symbol(_, Span { from: 30, to: 31 }),
             Form::Group(Bracket::Round, _, Span { from: 31, to: 33 })
@@ -177,54 +139,37 @@ fn are_of_deref(parts: &[Form]) -> bool {
     )
 }
 
-// Whether these are the forms of `LISTS`.
-fn are_lists(forms: &[Form]) -> bool {
-    let [list, key, nil, truth, deref, text] = forms else {
-        return false;
-    };
-    matches!(list, Form::Group(Bracket::Round, parts, Span { from: 0, to: 16 }) if are_of_list(parts))
-        && matches!(key, Form::Keyword(_, Span { from: 17, to: 19 }))
-        && matches!(nil, Form::Nil(_))
-        && matches!(truth, Form::Truth(true, _))
-        && matches!(deref, Form::Group(Bracket::Round, parts, Span { from: 30, to: 33 }) if are_of_deref(parts))
-        && matches!(text, Form::Text(_, Span { from: 34, to: 44 }))
-}
-
 const LISTS: &[u8] = b"(a? -7 ; x\n[+1]) :b nil, true @@c \"\\u0041\\t\"";
 
 // Whether these are the forms of `WORDS`.
 fn are_words(forms: &[Form]) -> bool {
-    let [one, zero, text, key, symbol, truth, deref] = forms else {
+    let [
+        Form::Number(1, Span { from: 0, to: 2 }),
+        Form::Number(0, _),
+        Form::Text(text, _),
+        Form::Keyword(key, _),
+        Form::Symbol(symbol, _),
+        Form::Truth(true, _),
+        Form::Group(Bracket::Round, parts, _),
+    ] = forms
+    else {
         return false;
     };
-    matches!(one, Form::Number(1, Span { from: 0, to: 2 }))
-        && matches!(zero, Form::Number(0, _))
-        && matches!(text, Form::Text(text, _) if text.as_str() == "a\rbA\"\\")
-        && matches!(key, Form::Keyword(name, _) if name.as_bytes() == b"k".as_slice())
-        && matches!(symbol, Form::Symbol(name, _) if name.as_bytes() == b"a.b".as_slice())
-        && matches!(truth, Form::Truth(true, _))
-        && matches!(deref, Form::Group(Bracket::Round, parts, _) if parts.len() == 2)
+    text.as_str() == "a\rbA\"\\"
+        && key.as_bytes() == b"k".as_slice()
+        && symbol.as_bytes() == b"a.b".as_slice()
+        && parts.len() == 2
 }
 
 const WORDS: &[u8] = b"+1 -0 \"a\rb\\u0041\\\"\\\\\" :k a.b true @ ; comment\n x";
 
-// Whether both are read so.
-fn are_read(alloc: Global) -> bool {
-    let Ok(lists) = read_script(alloc, LISTS) else {
-        return false;
-    };
-    let Ok(words) = read_script(alloc, WORDS) else {
-        return false;
-    };
-    are_lists(lists.as_slice()) && are_words(words.as_slice())
-}
-
 #[test]
 fn reads_forms(rt: HostRuntime) {
-    assert!(rt; are_read(rt.alloc()));
-}
-
-#[test]
-fn names_refusals(rt: HostRuntime) {
-    assert!(rt; ReadErrorKind::Memory.name() == "Memory");
+    let Ok(lists) = read_script(rt.alloc(), LISTS) else {
+        panic!(rt)
+    };
+    let Ok(words) = read_script(rt.alloc(), WORDS) else {
+        panic!(rt)
+    };
+    assert!(rt; are_lists(lists.as_slice()) && are_words(words.as_slice()));
 }

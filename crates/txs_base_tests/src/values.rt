@@ -16,67 +16,42 @@ fn print_as(alloc: Global, values: &[Value], line: &[u8]) -> bool {
     write_line(values, &mut out).is_ok() && out.as_slice() == line
 }
 
-// Whether copies of values are equal to them, and to no others.
-fn are_copied(values: &[Value]) -> bool {
-    for value in values {
-        match copy_value(value) {
-            Ok(copy) if same(&copy, value) && !same(&copy, &Value::Int(8)) => (),
-            _ => return false,
-        }
-    }
-    true
-}
-
-// Whether the constants of the code are printed and copied.
-fn are_known(alloc: Global) -> bool {
-    let line = b"nil true -7 :key text [1 [2]] #agent[0] false\n";
-    match decode(alloc, CODE) {
-        Ok(code) => {
-            print_as(alloc, code.constants(), line.as_slice()) && are_copied(code.constants())
-        }
-        Err(_) => false,
-    }
-}
-
 #[test]
 fn prints_and_copies_values(rt: HostRuntime) {
-    assert!(rt; are_known(rt.alloc()));
-}
-
-// Whether the copy of a list of two has its values.
-fn is_list_copied(alloc: Global, values: &Listed<Value>) -> bool {
-    let Ok(copies) = copy_values(alloc, values) else {
-        return false;
+    let line = b"nil true -7 :key text [1 [2]] #agent[0] false\n";
+    let Ok(code) = decode(rt.alloc(), CODE) else {
+        panic!(rt)
     };
-    match (values.as_slice(), copies.as_slice()) {
-        ([first, last], [one, other]) => same(first, one) && same(last, other),
-        _ => false,
+    assert!(rt; print_as(rt.alloc(), code.constants(), line.as_slice()));
+    for value in code.constants() {
+        let Ok(copy) = copy_value(value) else {
+            panic!(rt)
+        };
+        assert!(rt; same(&copy, value) && !same(&copy, &Value::Int(8)));
     }
 }
 
-// Whether that is so of `8 nil`.
-fn is_pair_copied(alloc: Global) -> bool {
-    match vec![in alloc; Value::Int(8), Value::Nil] {
-        Ok(pair) => is_list_copied(alloc, &Listed::from_vec(pair)),
-        Err(_) => false,
-    }
-}
-
+// The list `8 nil`.
 #[test]
 fn copies_lists(rt: HostRuntime) {
-    assert!(rt; is_pair_copied(rt.alloc()));
+    let Ok(pair) = vec![in rt.alloc(); Value::Int(8), Value::Nil] else {
+        panic!(rt)
+    };
+    let pair = Listed::from_vec(pair);
+    let Ok(copies) = copy_values(rt.alloc(), &pair) else {
+        panic!(rt)
+    };
+    assert!(rt;
+        matches!(
+            (pair.as_slice(), copies.as_slice()),
+            ([first, last], [one, other]) if same(first, one) && same(last, other)
+        )
+    );
 }
 
 // The cell of a kind with this number, as a value.
 fn cell(kind: CellKind, number: u16) -> Value {
     Value::Cell(CellId { kind, number })
-}
-
-// Whether cells are equal to themselves alone.
-fn are_apart(first: &Value) -> bool {
-    same(first, &cell(CellKind::Ref, 0))
-        && !same(first, &cell(CellKind::Ref, 1))
-        && !same(first, &cell(CellKind::Atom, 0))
 }
 
 #[test]
@@ -87,7 +62,12 @@ fn tells_cells_apart(rt: HostRuntime) {
         cell(CellKind::Atom, 65_535),
     ];
     let line = b"#ref[0] #agent[2] #atom[65535]\n";
-    assert!(rt; are_apart(&cells[0]) && print_as(rt.alloc(), &cells, line.as_slice()));
+    assert!(rt;
+        same(&cells[0], &cell(CellKind::Ref, 0))
+            && !same(&cells[0], &cell(CellKind::Ref, 1))
+            && !same(&cells[0], &cell(CellKind::Atom, 0))
+            && print_as(rt.alloc(), &cells, line.as_slice())
+    );
 }
 
 // Whether an operation answers this of arguments that stay, and of the same where it may take them.
@@ -104,42 +84,35 @@ fn answers(alloc: Global, op: Op, args: &mut [Value], value: &Value) -> bool {
     same(&lent, value) && same(&owned, value)
 }
 
-// Whether `(conj [] 7)` is `[7]`.
-fn is_added(alloc: Global) -> bool {
-    let Ok(empty) = make_vector(alloc, Vec::new(alloc)) else {
-        return false;
-    };
-    let Ok(items) = vec![in alloc; Value::Int(7)] else {
-        return false;
-    };
-    match make_vector(alloc, items) {
-        Ok(vector) => answers(alloc, Op::Conj, &mut [empty, Value::Int(7)], &vector),
-        Err(_) => false,
-    }
-}
-
+// `(mod -7 2)`, and `(conj [] 7)`.
 #[test]
 fn operates(rt: HostRuntime) {
+    let alloc = rt.alloc();
     let mut numbers = [Value::Int(-7), Value::Int(2)];
-    assert!(rt; answers(rt.alloc(), Op::Mod, &mut numbers, &Value::Int(1)) && is_added(rt.alloc()));
+    let Ok(items) = vec![in alloc; Value::Int(7)] else {
+        panic!(rt)
+    };
+    let Ok(vector) = make_vector(alloc, items) else {
+        panic!(rt)
+    };
+    let Ok(empty) = make_vector(alloc, Vec::new(alloc)) else {
+        panic!(rt)
+    };
+    assert!(rt;
+        answers(alloc, Op::Mod, &mut numbers, &Value::Int(1))
+            && answers(alloc, Op::Conj, &mut [empty, Value::Int(7)], &vector)
+    );
 }
 
-// Whether an operation is found by its number and by its name.
-fn is_found(number: u8) -> bool {
-    match Op::from_number(number) {
-        Some(op) => op.number() == number && Op::from_name(op.name()) == Some(op),
-        None => false,
-    }
-}
-
+// By their numbers and by their names, and no others.
 #[test]
 fn knows_operations(rt: HostRuntime) {
     for number in 0..28 {
-        assert!(rt; is_found(number) == (number < 27), "{number}");
+        let found = match Op::from_number(number) {
+            Some(op) => op.number() == number && Op::from_name(op.name()) == Some(op),
+            None => false,
+        };
+        assert!(rt; found == (number < 27), "{number}");
     }
-}
-
-#[test]
-fn knows_no_other_names(rt: HostRuntime) {
     assert!(rt; Op::from_name(b"foo").is_none());
 }

@@ -1,6 +1,6 @@
 // The verifier, by `load`: of each refusal code that is damaged so, and code that nearly is.
-use crate::bytes::{FORM, changed};
-use crate::frame::number_of;
+use crate::bytes::write_changed;
+use crate::frame::{next_number, number_of};
 use std::alloc::Global;
 use txs_load::error::LoadError;
 use txs_load::load::{load, load_verified};
@@ -46,9 +46,8 @@ const NIL: &[u8] = b"TXS1\x00\x00\x00\x00\x00\x01\x00";
 // Appends the bytes that words tell: whether there was room, as all that appends says.
 fn write_bytes(form: &mut Vec<u8>, words: &str) -> bool {
     let mut written = true;
-    for word in words.split_whitespace() {
-        let byte = u8::try_from(number_of(word)).unwrap_or(u8::MAX);
-        written = form.extend_from_slice(&[byte]).is_ok() && written;
+    for word in words.split(' ') {
+        written = form.extend_from_slice(&[number_of(word)]).is_ok() && written;
     }
     written
 }
@@ -65,12 +64,12 @@ fn write_instr(form: &mut Vec<u8>, name: &str) -> bool {
     form.extend_from_slice(&[0; 8]).is_ok() && written
 }
 
-// Appends a body: its parameters and its locals, and behind `:` the names of its instructions.
+// Appends a body: its parameters and its locals, and behind `: ` the names of its instructions.
 fn write_body(form: &mut Vec<u8>, body: &str) -> bool {
-    let (front, instrs) = body.split_once(':').unwrap_or((body, ""));
-    let count = u8::try_from(instrs.split_whitespace().count()).unwrap_or(u8::MAX);
+    let (front, instrs) = body.split_once(": ").unwrap_or((body, ""));
+    let count = u8::try_from(instrs.split(' ').count()).unwrap_or(u8::MAX);
     let mut written = write_bytes(form, front) && form.extend_from_slice(&[0, 0, 0, count]).is_ok();
-    for name in instrs.split_whitespace() {
+    for name in instrs.split(' ') {
         written = write_instr(form, name) && written;
     }
     written
@@ -89,19 +88,22 @@ fn write_form(form: &mut Vec<u8>, front: &[u8], bodies: &str) -> bool {
 
 // Whether a refusal is told so: its reason, the body, and the place.
 fn is_refusal(error: VerifyError, told: &str) -> bool {
-    let mut words = told.split_whitespace();
+    let mut words = told.split(' ');
     let (body, number) = match error.body {
         BodyName::Function(number) => ("function", number),
         BodyName::Thread(number) => ("thread", number),
     };
     words.next() == Some(error.kind.name())
         && words.next() == Some(body)
-        && usize::from(number_of(words.next().unwrap_or(""))) == number
-        && usize::from(number_of(words.next().unwrap_or(""))) == error.at
+        && usize::from(next_number(&mut words)) == number
+        && usize::from(next_number(&mut words)) == error.at
 }
 
-// Whether the bytes are those of well-typed code, or refused as it is told.
+// Whether the bytes are those of well-typed code, and are given as verified, or are refused as it is told.
 fn is_judged(alloc: Global, form: &[u8], told: &str) -> bool {
+    if load_verified(alloc, form).is_ok() != (told == "ok") {
+        return false;
+    }
     match load(alloc, form) {
         Ok(_) => told == "ok",
         Err(LoadError::Code(error)) => is_refusal(error, told),
@@ -109,14 +111,15 @@ fn is_judged(alloc: Global, form: &[u8], told: &str) -> bool {
     }
 }
 
-// The same of a row: bodies, and what is told of them.
-fn holds(alloc: Global, row: &str) -> bool {
+// The same of a row: bodies behind this front, and what is told of them.
+fn holds(alloc: Global, front: &[u8], row: &str) -> bool {
     let (bodies, told) = row.split_once(" => ").unwrap_or((row, ""));
     let mut form = Vec::new(alloc);
-    write_form(&mut form, FRONT, bodies) && is_judged(alloc, form.as_slice(), told)
+    write_form(&mut form, front, bodies) && is_judged(alloc, form.as_slice(), told)
 }
 
-const THREADS: &str = "\
+// Threads, and then a function and a thread each; and what is told of them.
+const ROWS: &str = "\
 0 0: number jump-2 halt => ok
 0 0: number jump-3 halt => JumpOut thread 0 1
 0 0: number print halt => ok
@@ -136,17 +139,7 @@ const THREADS: &str = "\
 0 0: begin number print end halt => TxNesting thread 0 2
 0 0: atom swap-inc inc swapped halt => ok
 0 0: number => FallsOff thread 0 1
-0 0: number return => FallsOff thread 0 1";
-
-#[test]
-fn judges_threads(rt: HostRuntime) {
-    for row in THREADS.lines() {
-        assert!(rt; holds(rt.alloc(), row), "{row}");
-    }
-}
-
-// A function, and a thread.
-const FUNCTIONS: &str = "\
+0 0: number return => FallsOff thread 0 1
 0 0: number return;0 0: call halt => ok
 0 0: call return;0 0: number halt => CallOrder function 0 0
 1 1: local-0 return;0 0: number call halt => ok
@@ -158,41 +151,31 @@ const FUNCTIONS: &str = "\
 1 1: ref deref return;0 0: begin ref alter call altered end halt => TxNesting thread 0 2";
 
 #[test]
-fn judges_functions(rt: HostRuntime) {
-    for row in FUNCTIONS.lines() {
-        assert!(rt; holds(rt.alloc(), row), "{row}");
+fn judges_threads_and_functions(rt: HostRuntime) {
+    for row in ROWS.lines() {
+        assert!(rt; holds(rt.alloc(), FRONT, row), "{row}");
     }
 }
 
-// Whether the worked form with other bytes from a place on is judged as it is told.
-fn is_judged_changed(alloc: Global, at: usize, bytes: &[u8], told: &str) -> bool {
-    let form = changed(alloc, at, bytes);
-    is_judged(alloc, form.as_slice(), told)
-}
+// Other bytes of the worked form from a place on, and what is told of it.
+const CHANGED: [(usize, &[u8], &str); 4] = [
+    (0, &[], "ok"),
+    (29, &[4, 0, 0, 0, 9], "JumpOut thread 0 0"),
+    (29, &[5], "StackLow thread 0 0"),
+    (44, &[0], "StackDiffers thread 0 2"),
+];
+
+const SENDS_NIL: &str = "0 0: number send-inc halt => ok";
 
 #[test]
-fn judges_the_worked_form(rt: HostRuntime) {
-    let alloc = rt.alloc();
-    assert!(rt; is_judged(alloc, FORM, "ok"));
-    assert!(rt;
-        is_judged_changed(alloc, 29, &[4, 0, 0, 0, 9], "JumpOut thread 0 0")
-            && is_judged_changed(alloc, 29, &[5], "StackLow thread 0 0")
-            && is_judged_changed(alloc, 44, &[0], "StackDiffers thread 0 2")
-    );
-}
-
-// Whether code with this front and this thread is given as verified.
-fn is_given(alloc: Global, front: &[u8], thread: &str) -> bool {
-    let mut form = Vec::new(alloc);
-    write_form(&mut form, front, thread) && load_verified(alloc, form.as_slice()).is_ok()
-}
-
-#[test]
-fn gives_what_is_verified(rt: HostRuntime) {
-    let alloc = rt.alloc();
-    assert!(rt; load_verified(alloc, FORM).is_ok() && load_verified(alloc, AGENT).is_ok());
-    assert!(rt;
-        is_given(alloc, FRONT, "0 0: atom swap-inc inc swapped halt")
-            && is_given(alloc, NIL, "0 0: number send-inc halt")
-    );
+fn judges_worked_forms(rt: HostRuntime) {
+    for (at, bytes, told) in &CHANGED {
+        let mut form = Vec::new(rt.alloc());
+        let made = write_changed(&mut form, *at, bytes);
+        assert!(rt;
+            made && is_judged(rt.alloc(), form.as_slice(), told),
+            "{told}"
+        );
+    }
+    assert!(rt; is_judged(rt.alloc(), AGENT, "ok") && holds(rt.alloc(), NIL, SENDS_NIL));
 }
