@@ -109,29 +109,22 @@ fn fronts(rt: HostRuntime) {
     }
 }
 
-// Whether these are the forms of `LISTS`.
-fn are_lists(forms: &[Form]) -> bool {
-    let [
-        Form::Group(Bracket::Round, list, Span { from: 0, to: 16 }),
-        Form::Keyword(_, Span { from: 17, to: 19 }),
-        Form::Nil(_),
-        Form::Truth(true, _),
-        Form::Group(Bracket::Round, deref, Span { from: 30, to: 33 }),
-        Form::Text(_, Span { from: 34, to: 44 }),
-    ] = forms
-    else {
-        return false;
-    };
-    let [
-        Form::Symbol(_, _),
-        Form::Number(-7, Span { from: 4, to: 6 }),
-        Form::Group(Bracket::Square, _, _),
-    ] = list.as_slice()
-    else {
-        return false;
-    };
+// Whether these are the parts of `(a? -7 ; x [+1])`.
+fn are_of_list(parts: &[Form]) -> bool {
     matches!(
-        deref.as_slice(),
+        parts,
+        [
+            Form::Symbol(_, _),
+            Form::Number(-7, Span { from: 4, to: 6 }),
+            Form::Group(Bracket::Square, _, _)
+        ]
+    )
+}
+
+// Whether these are the parts of `@@c`.
+fn are_of_deref(parts: &[Form]) -> bool {
+    matches!(
+        parts,
         [
             Form::Symbol(_, Span { from: 30, to: 31 }),
             Form::Group(Bracket::Round, _, Span { from: 31, to: 33 })
@@ -139,26 +132,33 @@ fn are_lists(forms: &[Form]) -> bool {
     )
 }
 
+// Whether these are the forms of `LISTS`.
+fn are_lists(forms: &[Form]) -> bool {
+    let [list, key, nil, truth, deref, text] = forms else {
+        return false;
+    };
+    matches!(list, Form::Group(Bracket::Round, parts, Span { from: 0, to: 16 }) if are_of_list(parts))
+        && matches!(key, Form::Keyword(_, Span { from: 17, to: 19 }))
+        && matches!(nil, Form::Nil(_))
+        && matches!(truth, Form::Truth(true, _))
+        && matches!(deref, Form::Group(Bracket::Round, parts, Span { from: 30, to: 33 }) if are_of_deref(parts))
+        && matches!(text, Form::Text(_, Span { from: 34, to: 44 }))
+}
+
 const LISTS: &[u8] = b"(a? -7 ; x\n[+1]) :b nil, true @@c \"\\u0041\\t\"";
 
 // Whether these are the forms of `WORDS`.
 fn are_words(forms: &[Form]) -> bool {
-    let [
-        Form::Number(1, Span { from: 0, to: 2 }),
-        Form::Number(0, _),
-        Form::Text(text, _),
-        Form::Keyword(key, _),
-        Form::Symbol(symbol, _),
-        Form::Truth(true, _),
-        Form::Group(Bracket::Round, parts, _),
-    ] = forms
-    else {
+    let [one, zero, text, key, symbol, truth, deref] = forms else {
         return false;
     };
-    text.as_str() == "a\rbA\"\\"
-        && key.as_bytes() == b"k".as_slice()
-        && symbol.as_bytes() == b"a.b".as_slice()
-        && parts.len() == 2
+    matches!(one, Form::Number(1, Span { from: 0, to: 2 }))
+        && matches!(zero, Form::Number(0, _))
+        && matches!(text, Form::Text(text, _) if text.as_str() == "a\rbA\"\\")
+        && matches!(key, Form::Keyword(name, _) if name.as_bytes() == b"k".as_slice())
+        && matches!(symbol, Form::Symbol(name, _) if name.as_bytes() == b"a.b".as_slice())
+        && matches!(truth, Form::Truth(true, _))
+        && matches!(deref, Form::Group(Bracket::Round, parts, _) if parts.len() == 2)
 }
 
 const WORDS: &[u8] = b"+1 -0 \"a\rb\\u0041\\\"\\\\\" :k a.b true @ ; comment\n x";
