@@ -11,45 +11,29 @@ const AGENT: CellId = CellId {
     number: 2,
 };
 
+const SPAN: Span = Span { from: 0, to: 1 };
+
 /// The next word, or nothing.
 pub fn next_word<'a>(words: &mut SplitWhitespace<'a>) -> &'a str {
     words.next().unwrap_or("")
 }
 
 /// A word of digits as a number; no word is one that stands in no row.
-pub fn number_of(word: &str) -> i64 {
+pub fn number_of(word: &str) -> u32 {
     if word.is_empty() {
-        return -1;
+        return u32::MAX;
     }
-    let mut number = 0i64;
+    let mut number = 0u32;
     for byte in word.as_bytes() {
-        let digit = i64::from(byte.wrapping_sub(b'0'));
+        let digit = u32::from(byte.wrapping_sub(b'0'));
         number = number.wrapping_mul(10).wrapping_add(digit);
     }
     number
 }
 
-/// The next word as a number, or one that stands in no row.
-pub fn next_number(words: &mut SplitWhitespace<'_>) -> u32 {
-    u32::try_from(number_of(next_word(words))).unwrap_or(u32::MAX)
-}
-
-/// The next word as the number of an actor or a cell, or one that stands in no row.
-pub fn next_actor(words: &mut SplitWhitespace<'_>) -> u16 {
-    u16::try_from(number_of(next_word(words))).unwrap_or(u16::MAX)
-}
-
-/// A word as a value, or one that stands in no row.
-pub fn value_of(word: &str) -> Value {
-    Value::Int(number_of(word))
-}
-
-/// A list of one value.
-pub fn one(alloc: Global, value: Value) -> Listed<Value> {
-    match vec![in alloc; value] {
-        Ok(values) => Listed::from_vec(values),
-        Err(_) => Listed::from_vec(Vec::new(alloc)),
-    }
+/// A word as the number of an actor or a cell, or one that stands in no row.
+pub fn short_of(word: &str) -> u16 {
+    u16::try_from(number_of(word)).unwrap_or(u16::MAX)
 }
 
 // A cell: a ref by its number, the agent `g`, the atoms `a` and `b`, or `other`, which is of another kind than its number.
@@ -59,29 +43,20 @@ fn cell_of(word: &str) -> CellId {
         "a" => (CellKind::Atom, 1),
         "b" => (CellKind::Atom, 3),
         "other" => (CellKind::Agent, 0),
-        _ => {
-            let number = u16::try_from(number_of(word)).unwrap_or(u16::MAX);
-            (CellKind::Ref, number)
-        }
+        _ => (CellKind::Ref, short_of(word)),
     };
     CellId { kind, number }
 }
 
-// `(send g + N)`
-fn action_of(alloc: Global, word: &str) -> Action {
+/// An action of one number that stands at this place, as `(send g + N)`.
+pub fn action_of(alloc: Global, agent: CellId, op: Op, word: &str, span: Span) -> Action {
+    let mut args = Vec::new(alloc);
+    let _pushed = args.push(Value::Int(i64::from(number_of(word))));
     Action {
-        agent: AGENT,
-        callee: Callee::Core(Op::Add),
-        args: one(alloc, value_of(word)),
-        span: Span { from: 0, to: 1 },
-    }
-}
-
-// Adds a write such as `1=7`.
-fn add_write(writes: &mut Vec<(CellId, Value)>, text: &str) -> bool {
-    match text.split_once('=') {
-        Some((cell, new)) => writes.push((cell_of(cell), value_of(new))).is_ok(),
-        None => false,
+        agent,
+        callee: Callee::Core(op),
+        args: Listed::from_vec(args),
+        span,
     }
 }
 
@@ -89,7 +64,13 @@ fn add_write(writes: &mut Vec<(CellId, Value)>, text: &str) -> bool {
 fn writes_of(alloc: Global, list: &str) -> Listed<(CellId, Value)> {
     let mut writes = Vec::new(alloc);
     for text in list.split(',') {
-        add_write(&mut writes, text);
+        let Some((cell, new)) = text.split_once('=') else {
+            break;
+        };
+        let new = Value::Int(i64::from(number_of(new)));
+        if writes.push((cell_of(cell), new)).is_err() {
+            break;
+        }
     }
     Listed::from_vec(writes)
 }
@@ -105,64 +86,45 @@ fn cells_of(alloc: Global, list: &str) -> Listed<CellId> {
     Listed::from_vec(cells)
 }
 
-// The sends of a list such as `5,6`, or `-` for none.
-fn sends_of(alloc: Global, list: &str) -> Listed<Action> {
-    let mut sends = Vec::new(alloc);
-    for word in list.split(',') {
-        if word == "-" || sends.push(action_of(alloc, word)).is_err() {
-            break;
-        }
-    }
-    Listed::from_vec(sends)
-}
-
-// A commit by its read point, its view, and the lists of what it sets, ensures, commutes and sends.
+// A commit by its read point, its view, and the lists of what it sets, ensures, commutes and sends, which is at most one action.
 fn commit_of(alloc: Global, words: &mut SplitWhitespace<'_>) -> Ask {
+    let at = number_of(next_word(words));
+    let view = number_of(next_word(words));
+    let sets = writes_of(alloc, next_word(words));
+    let ensured = cells_of(alloc, next_word(words));
+    let commuted = writes_of(alloc, next_word(words));
+    let mut sends = Vec::new(alloc);
+    let sent = next_word(words);
+    if sent != "-" {
+        let _pushed = sends.push(action_of(alloc, AGENT, Op::Add, sent, SPAN));
+    }
     Ask::Commit {
-        at: next_number(words),
-        view: next_number(words),
-        sets: writes_of(alloc, next_word(words)),
-        ensured: cells_of(alloc, next_word(words)),
-        commuted: writes_of(alloc, next_word(words)),
-        sends: sends_of(alloc, next_word(words)),
+        at,
+        sets,
+        ensured,
+        view,
+        commuted,
+        sends: Listed::from_vec(sends),
     }
-}
-
-// What an agent's action comes to: a number, or a fault.
-fn state_of(word: &str) -> Result<Value, Fault> {
-    if word == "fault" {
-        return Err(Fault {
-            kind: FaultKind::Overflow,
-            span: Span { from: 0, to: 1 },
-        });
-    }
-    Ok(value_of(word))
-}
-
-// A swap or a reset of an atom, whose place is the last word.
-fn closing(cell: CellId, words: &mut SplitWhitespace<'_>) -> Ask {
-    let new = value_of(next_word(words));
-    let at = match words.next() {
-        Some(word) => u32::try_from(number_of(word)).ok(),
-        None => None,
-    };
-    Ask::CloseAt { cell, at, new }
 }
 
 // An ask of a cell by its name and the words behind the cell.
 fn ask_of_cell(name: &str, cell: CellId, words: &mut SplitWhitespace<'_>) -> Ask {
+    if name == "peek" {
+        return Ask::Peek { cell };
+    }
+    if name == "open" {
+        return Ask::OpenAt { cell };
+    }
+    let first = number_of(next_word(words));
     match name {
-        "peek" => Ask::Peek { cell },
-        "open" => Ask::OpenAt { cell },
-        "close" => closing(cell, words),
-        "look" => Ask::Look {
+        "look" => Ask::Look { cell, at: first },
+        "close" => Ask::CloseAt {
             cell,
-            at: next_number(words),
+            at: Some(number_of(next_word(words))),
+            new: Value::Int(i64::from(first)),
         },
-        _ => Ask::Broke {
-            cell,
-            at: next_number(words),
-        },
+        _ => Ask::Broke { cell, at: first },
     }
 }
 
@@ -172,7 +134,7 @@ pub fn ask_of(alloc: Global, words: &mut SplitWhitespace<'_>) -> Ask {
         "begin" => Ask::Begin,
         "take" => Ask::Take { agent: AGENT },
         "fail" => {
-            let at = next_number(words);
+            let at = number_of(next_word(words));
             Ask::Fail { at, view: at }
         }
         "commit" => commit_of(alloc, words),
@@ -180,11 +142,17 @@ pub fn ask_of(alloc: Global, words: &mut SplitWhitespace<'_>) -> Ask {
             cells: cells_of(alloc, next_word(words)),
         },
         "send" => Ask::Send {
-            action: action_of(alloc, next_word(words)),
+            action: action_of(alloc, AGENT, Op::Add, next_word(words), SPAN),
         },
         "finish" => Ask::Finish {
             agent: AGENT,
-            new: state_of(next_word(words)),
+            new: match next_word(words) {
+                "fault" => Err(Fault {
+                    kind: FaultKind::Overflow,
+                    span: SPAN,
+                }),
+                word => Ok(Value::Int(i64::from(number_of(word)))),
+            },
         },
         name => ask_of_cell(name, cell_of(next_word(words)), words),
     }

@@ -12,5 +12,3 @@ mod copies;
 mod replies;
 #[cfg(test)]
 mod shared;
-#[cfg(test)]
-mod store;
