@@ -4,8 +4,6 @@
 #[cfg(test)]
 mod checks;
 #[cfg(test)]
-mod code;
-#[cfg(test)]
 mod events;
 #[cfg(test)]
 mod trees;

@@ -1,53 +1,16 @@
 // What no clause says: that evaluating succeeds with ample memory, and what it answers.
+use crate::events::{is_text, means_on};
 use std::alloc::Global;
-use txs_asks::Outcome;
 use txs_check::is_pure_callee;
-use txs_compile::compile;
-use txs_eval::{EvalStop, Needs, eval_pure, eval_thread};
+use txs_eval::{EvalStop, eval_pure};
 use txs_terms::{Callee, Op, Span};
 use txs_tree::Program;
-use txs_value::{Value, write_text};
-
-const SCRIPT: &[u8] =
-    b"(defn swapped [a b] [b a]) (defn spin [] (recur)) (future (println (swapped 1 2)))";
-
-// Whether the first thread of a program prints this within so many turns, needs this then, and has this outcome.
-fn means(
-    alloc: Global,
-    program: &Program,
-    turns: u32,
-    printed: &[u8],
-    end: (Needs, Option<Outcome>),
-) -> bool {
-    if program.threads().is_empty() {
-        return false;
-    }
-    match eval_thread(alloc, program, 0, &[], turns) {
-        Ok(meaning) => {
-            meaning.printed.as_slice() == printed
-                && meaning.needs == end.0
-                && meaning.outcome == end.1
-        }
-        Err(_) => false,
-    }
-}
+use txs_value::Value;
 
 const NOWHERE: Span = Span { from: 0, to: 0 };
 
-// Whether evaluating gives this: the text of a value, the name of a fault at no place, or `endless`.
-fn is_given(alloc: Global, given: &Result<Value, EvalStop>, wanted: &str) -> bool {
-    match given {
-        Ok(value) => {
-            let mut text = Vec::new(alloc);
-            write_text(value, &mut text).is_ok() && text.as_slice() == wanted.as_bytes()
-        }
-        Err(EvalStop::Fault(fault)) => fault.kind.name() == wanted && fault.span == NOWHERE,
-        Err(EvalStop::Turns) => wanted == "endless",
-        Err(_) => false,
-    }
-}
-
-// Whether a callee is pure on so many values, and gives this on them within so many turns.
+// Whether a callee is pure on so many values, and gives this on them within so many turns: the text of a value, the name of a fault at no
+// place, or `endless`.
 fn gives(
     alloc: Global,
     program: &Program,
@@ -56,46 +19,34 @@ fn gives(
     turns: u32,
     wanted: &str,
 ) -> bool {
-    match is_pure_callee(alloc, program, callee, values.len()) {
-        Ok(true) => is_given(
-            alloc,
-            &eval_pure(alloc, program, callee, values, turns),
-            wanted,
-        ),
-        _ => false,
+    if !matches!(
+        is_pure_callee(alloc, program, callee, values.len()),
+        Ok(true)
+    ) {
+        return false;
     }
-}
-
-// Whether `swapped` and two operations give what they should, and `spin` has no end.
-fn all_give(alloc: Global, program: &Program) -> bool {
-    let values = [Value::Int(1), Value::Int(0)];
-    gives(alloc, program, Callee::Function(0), &values, 1, "[0 1]")
-        && gives(alloc, program, Callee::Core(Op::Subtract), &values, 0, "1")
-        && gives(
-            alloc,
-            program,
-            Callee::Core(Op::Quot),
-            &values,
-            0,
-            "DivideByZero",
-        )
-        && gives(alloc, program, Callee::Function(1), &[], 1_000, "endless")
-}
-
-// Whether all of this holds of the script's program.
-fn is_evaluated(alloc: Global) -> bool {
-    match compile(alloc, SCRIPT) {
-        Ok((program, _)) => {
-            let done = (Needs::Nothing, Some(Outcome::Done));
-            means(alloc, &program, 1, b"[2 1]\n", done)
-                && means(alloc, &program, 0, b"", (Needs::Turns, None))
-                && all_give(alloc, &program)
-        }
+    let given = eval_pure(alloc, program, callee, values, turns);
+    let is = match &given {
+        Ok(value) => is_text(alloc, value, wanted.as_bytes()),
+        Err(EvalStop::Fault(fault)) => fault.kind.name() == wanted && fault.span == NOWHERE,
+        Err(EvalStop::Turns) => wanted == "endless",
         Err(_) => false,
-    }
+    };
+    drop(given);
+    is
 }
 
-#[test]
-fn evaluates(rt: HostRuntime) {
-    assert!(rt; is_evaluated(rt.alloc()));
+/// Whether the thread of the script that `gives` prints what it should, and needs turns where it has none; `swapped` and two operations give
+/// what they should, and `spin` has no end.
+pub fn all_give(alloc: Global, program: &Program) -> bool {
+    let mut values = Vec::new(alloc);
+    let made = values.push(Value::Int(1)).is_ok() && values.push(Value::Int(0)).is_ok();
+    let (subtract, quot) = (Callee::Core(Op::Subtract), Callee::Core(Op::Quot));
+    let both = values.as_slice();
+    made && means_on(alloc, program, &[], 1, "0 done\n[2 1]\n")
+        && means_on(alloc, program, &[], 0, "0 turns\n")
+        && gives(alloc, program, Callee::Function(0), both, 1, "[0 1]")
+        && gives(alloc, program, subtract, both, 0, "1")
+        && gives(alloc, program, quot, both, 0, "DivideByZero")
+        && gives(alloc, program, Callee::Function(1), &[], 1_000, "endless")
 }
