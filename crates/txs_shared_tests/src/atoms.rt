@@ -42,8 +42,9 @@ fn answers_calls(rt: HostRuntime) {
         kind: CellKind::Atom,
         number: 0,
     };
-    let mut atom = AtomBook::new(rt.alloc(), cell, Value::Int(5));
-    let is = answers(&mut atom) && is_left_so(&atom);
-    drop(atom);
+    let is = {
+        let mut atom = AtomBook::new(rt.alloc(), cell, Value::Int(5));
+        answers(&mut atom) && is_left_so(&atom)
+    };
     assert!(rt; is);
 }
