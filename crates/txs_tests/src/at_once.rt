@@ -1,6 +1,9 @@
 // That workers run at once: a gate holds one actor until another has passed, and gives up after many looks.
 use crate::seen::leaves;
+use std::alloc::Global;
+use std::sync::Wait;
 use std::sync::atomic::{AtomicU64, Ordering};
+use std::thread::Threads;
 use txs_threads::{AskKind, Gate, Moment};
 
 /// How often a gate looks before it gives up: a fifth of a second of a processor, in which each of four threads is run also where there are two processors.
@@ -24,15 +27,6 @@ struct Meeting {
     gave_up: AtomicU64,
 }
 
-/// A gate where nobody has come.
-fn nobody_there(of_four: bool) -> Meeting {
-    Meeting {
-        of_four,
-        come: AtomicU64::new(0),
-        gave_up: AtomicU64::new(0),
-    }
-}
-
 impl Meeting {
     /// Looks until so many have come, or gives up.
     fn wait_for(&self, many: u64) {
@@ -42,11 +36,6 @@ impl Meeting {
             }
         }
         self.gave_up.store(1, Ordering::SeqCst);
-    }
-
-    /// Whether it gave up.
-    fn has_given_up(&self) -> bool {
-        self.gave_up.load(Ordering::SeqCst) == 1
     }
 }
 
@@ -65,34 +54,30 @@ impl Gate for Meeting {
     }
 }
 
-#[test]
-fn two_at_once(rt: HostRuntime) {
-    let gate = nobody_there(false);
-    assert!(rt; leaves(&rt, rt.alloc(), READER, 2, 1_000, &gate, "7\ndone done 7 "));
-    assert!(rt; !gate.has_given_up());
-}
-
-#[test]
-fn four_at_once(rt: HostRuntime) {
-    let gate = nobody_there(true);
-    assert!(rt;
-        leaves(
-            &rt,
-            rt.alloc(),
-            FOUR,
-            4,
-            1_000,
-            &gate,
-            "done done done done 4 "
-        )
-    );
-    assert!(rt; !gate.has_given_up());
+/// Whether a script's run by so many workers leaves this text, where a gate gives up, or doesn't.
+fn meets<R: Threads + Wait + Sync>(
+    rt: &R,
+    alloc: Global,
+    script: &str,
+    workers: usize,
+    text: &str,
+    of_four: bool,
+    gives_up: bool,
+) -> bool {
+    let gate = Meeting {
+        of_four,
+        come: AtomicU64::new(0),
+        gave_up: AtomicU64::new(0),
+    };
+    let left = leaves(rt, alloc, script, workers, 1_000, &gate, text);
+    left && gives_up == (gate.gave_up.load(Ordering::SeqCst) == 1)
 }
 
 /// A gate that two workers pass leaves its mark where one worker runs all: that keeps the reader to its end.
 #[test]
-fn one_gives_up(rt: HostRuntime) {
-    let gate = nobody_there(false);
-    assert!(rt; leaves(&rt, rt.alloc(), READER, 1, 1_000, &gate, "0\ndone done 7 "));
-    assert!(rt; gate.has_given_up());
+fn two_and_four_at_once(rt: HostRuntime) {
+    let alloc = rt.alloc();
+    assert!(rt; meets(&rt, alloc, READER, 2, "7\ndone done 7 ", false, false));
+    assert!(rt; meets(&rt, alloc, FOUR, 4, "done done done done 4 ", true, false));
+    assert!(rt; meets(&rt, alloc, READER, 1, "0\ndone done 7 ", false, true));
 }

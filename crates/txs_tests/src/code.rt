@@ -1,61 +1,51 @@
-// Code in its byte form: listed, run, and refused.
-use crate::building::SEVEN;
-use crate::program::written;
+// Code in its byte form: built, listed, run and refused. What `build` tells of a script that is refused stands in the rows of txs_examples
+// (`code.rows`).
+use crate::program::{says, write};
 use std::alloc::Global;
-use txs_words::Words;
 
-/// The words that ask for the listing of code on standard input.
-fn list() -> Words {
-    Words::ListCode { file: None }
-}
-
-/// The words that ask to run it.
-fn run(alloc: Global) -> Words {
-    Words::RunCode {
-        file: None,
-        turns: String::new(alloc),
-        steps: 100_000_000,
-        cells: false,
-        events: false,
-    }
-}
-
-/// Whether this is told of code, on either stream, and with this status.
-fn is_told(
-    alloc: Global,
-    words: Words,
-    code: &[u8],
-    output: &str,
-    errors: &str,
-    status: u8,
-) -> bool {
-    let told = written(alloc, words, code);
-    told.0.as_slice() == output.as_bytes()
-        && told.1.as_slice() == errors.as_bytes()
-        && told.2 == status
-}
+/// The bytes of the code of `(future (println 7))`: the magic, no cells, one constant, no functions, and a thread of three instructions.
+const SEVEN: [u8; 62] = [
+    0x54, 0x58, 0x53, 0x31, 0, 0, 0, 0, 0, 1, 3, 0, 0, 0, 0, 0, 0, 0, 7, 0, 0, 0, 1, 0, 0, 0, 0, 0,
+    3, 0, 0, 0, 0, 0, 0, 0, 0, 17, 0, 0, 0, 18, 10, 0, 1, 0, 0, 0, 8, 0, 0, 0, 19, 24, 0, 0, 0, 0,
+    0, 0, 0, 20,
+];
 
 /// The listing of the code of `(future (println 7))`.
-const LISTED: &str = "const 0 7
+const LISTED: &[u8] = b"const 0 7
 thread 0 locals 0
   0 const 0 @17..18
   1 print 1 @8..19
   2 halt @0..20
 ";
 
-#[test]
-fn is_listed_and_run(rt: HostRuntime) {
-    assert!(rt; is_told(rt.alloc(), list(), &SEVEN, LISTED, "", 0));
-    assert!(rt; is_told(rt.alloc(), run(rt.alloc()), &SEVEN, "7\n", "", 0));
-}
+/// Well-typed code that faults: a `send` to a constant of 7.
+const SENDS: &[u8] =
+    b"TXS1\x00\x00\x00\x00\x00\x01\x03\x00\x00\x00\x00\x00\x00\x00\x07\x00\x00\x00\x01\
+    \x00\x00\x00\x00\x00\x03\
+    \x00\x00\x00\x00\x00\x00\x00\x00\x00\x00\x00\x00\x00\
+    \x17\x00\x00\x03\x00\x00\x00\x00\x00\x00\x00\x00\x00\x00\
+    \x18\x00\x00\x00\x00\x00\x00\x00\x00";
 
-/// Those bytes with another one at a place.
-fn changed(at: usize, byte: u8) -> [u8; 62] {
-    let mut form = SEVEN;
-    if let Some(place) = form.get_mut(at) {
-        *place = byte;
-    }
-    form
+/// Its listing.
+const SENDS_LISTED: &[u8] = b"const 0 7
+thread 0 locals 0
+  0 const 0 @0..0
+  1 send core inc 0 @0..0
+  2 halt @0..0
+";
+
+/// Its fault.
+const NO_AGENT: &[u8] = b"thread 0 failed: NotAnAgent at 0..0\n";
+
+#[test]
+fn is_built_listed_and_run(rt: HostRuntime) {
+    let alloc = rt.alloc();
+    let script = b"(future (println 7))".as_slice();
+    assert!(rt; says(alloc, "build --out code", script, &SEVEN, b"", 0));
+    assert!(rt; says(alloc, "dis --code", &SEVEN, LISTED, b"", 0));
+    assert!(rt; says(alloc, "schedule --code", &SEVEN, b"7\n", b"", 0));
+    assert!(rt; says(alloc, "dis --code", SENDS, SENDS_LISTED, b"", 0));
+    assert!(rt; says(alloc, "schedule --code", SENDS, b"", NO_AGENT, 3));
 }
 
 /// Places, a byte there, and the line that it brings about.
@@ -67,11 +57,28 @@ const CHANGES: [(usize, u8, &str); 5] = [
     (53, 8, "refused 48 FallsOff in thread 0 at 2\n"),
 ];
 
-/// The first of these places where another byte brings about another line, or 62, which is none.
-fn first_other(alloc: Global, rows: &[(usize, u8, &str)]) -> usize {
+/// The first of these lines that another byte at its place doesn't bring about, or nothing.
+fn first_other(alloc: Global, rows: &[(usize, u8, &'static str)]) -> &'static str {
     for (at, byte, line) in rows {
-        if !is_told(alloc, list(), &changed(*at, *byte), "", line, 1) {
-            return *at;
+        let mut form = SEVEN;
+        if let Some(place) = form.get_mut(*at) {
+            *place = *byte;
+        }
+        if !says(alloc, "dis --code", &form, b"", line.as_bytes(), 1) {
+            return line;
+        }
+    }
+    ""
+}
+
+/// How many of the first bytes aren't refused, at the least: all of them.
+fn first_taken(alloc: Global) -> usize {
+    let mut output = Vec::new(alloc);
+    let mut errors = Vec::new(alloc);
+    for count in 0..62 {
+        let cut = SEVEN.get(..count).unwrap_or(&[]);
+        if write(alloc, "dis --code", cut, &mut output, &mut errors) != 1 {
+            return count;
         }
     }
     62
@@ -79,33 +86,8 @@ fn first_other(alloc: Global, rows: &[(usize, u8, &str)]) -> usize {
 
 #[test]
 fn is_refused(rt: HostRuntime) {
-    let at = first_other(rt.alloc(), &CHANGES);
-    assert!(rt; at == 62, "{at}");
-    for k in 0..62 {
-        let cut = SEVEN.get(..k).unwrap_or(&[]);
-        assert!(rt; written(rt.alloc(), list(), cut).2 == 1, "{k}");
-    }
-}
-
-/// Well-typed code that faults: a `send` to a constant of 7.
-const SENDS: &[u8] =
-    b"TXS1\x00\x00\x00\x00\x00\x01\x03\x00\x00\x00\x00\x00\x00\x00\x07\x00\x00\x00\x01\
-    \x00\x00\x00\x00\x00\x03\
-    \x00\x00\x00\x00\x00\x00\x00\x00\x00\x00\x00\x00\x00\
-    \x17\x00\x00\x03\x00\x00\x00\x00\x00\x00\x00\x00\x00\x00\
-    \x18\x00\x00\x00\x00\x00\x00\x00\x00";
-
-/// Its listing.
-const SENDS_LISTED: &str = "const 0 7
-thread 0 locals 0
-  0 const 0 @0..0
-  1 send core inc 0 @0..0
-  2 halt @0..0
-";
-
-#[test]
-fn sends_to_no_agent(rt: HostRuntime) {
-    let line = "thread 0 failed: NotAnAgent at 0..0\n";
-    assert!(rt; is_told(rt.alloc(), list(), SENDS, SENDS_LISTED, "", 0));
-    assert!(rt; is_told(rt.alloc(), run(rt.alloc()), SENDS, "", line, 3));
+    let line = first_other(rt.alloc(), &CHANGES);
+    assert!(rt; line.is_empty(), "{line}");
+    let count = first_taken(rt.alloc());
+    assert!(rt; count == 62, "{count}");
 }

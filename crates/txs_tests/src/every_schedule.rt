@@ -1,53 +1,40 @@
 // Scripts under every short list of plays, each with rounds behind it: each run ends as some order of the threads allows, one behind the
 // other, and each of these ends is that of some list. So no increment is lost, no transfer is seen by half, and both commit who shouldn't only
 // where neither ensures what the other sets.
-use crate::program::written;
+use crate::program::write;
 use std::alloc::{AllocError, Global};
-use txs_words::Words;
 
-/// The list of such plays with this number, as it stands behind `--turns`, where the empty list has 0, and each other one a number of its own,
-/// the shorter the smaller. It has at most eight plays.
-fn list_of(alloc: Global, such: &[&str], number: usize) -> Result<String, AllocError> {
-    let mut list = String::new(alloc);
+/// The words of a run by the list of such plays with this number, with rounds behind it, where the empty list has 0, and each other one a number
+/// of its own, the shorter the smaller. It has at most eight plays.
+fn words_of(alloc: Global, such: &[&str], number: usize) -> Result<String, AllocError> {
+    let mut words = String::from_str(alloc, "schedule --steps 10000 --cells")?;
+    let mut before = " --turns ";
     let mut rest = number;
     for _ in 0..8 {
         if rest == 0 || such.is_empty() {
             break;
         }
         rest -= 1;
-        list.push_str(such[rest % such.len()])?;
+        words.push_str(before)?;
+        words.push_str(such[rest % such.len()])?;
         rest /= such.len();
-        if rest > 0 {
-            list.push(',')?;
-        }
+        before = ",";
     }
-    Ok(list)
+    Ok(words)
 }
 
-/// Whether a text is that of what was printed, a line for each cell, and behind that a line for each fault.
-fn is_end(text: &[u8], output: &[u8], errors: &[u8]) -> bool {
-    if output.len() > text.len() {
-        return false;
+/// How a run by these words ends, as one of these texts, each of which is what was printed, a line for each cell, and behind that a line for each
+/// fault: the first has the bit 1, and each other one the next bit. No bit where it ends as none of them.
+fn bit_of(alloc: Global, script: &str, words: &str, ends: &[&str]) -> u64 {
+    let mut end = Vec::new(alloc);
+    let mut errors = Vec::new(alloc);
+    write(alloc, words, script.as_bytes(), &mut end, &mut errors);
+    if end.extend_from_slice(errors.as_slice()).is_err() {
+        return 0;
     }
-    let (front, back) = text.split_at(output.len());
-    front == output && back == errors
-}
-
-/// How a run by this list and rounds behind it ends, as one of these texts: the first has the bit 1, and each other one the next bit. No bit where it
-/// ends as none of them.
-fn bit_of(alloc: Global, script: &str, turns: String, ends: &[&str]) -> u64 {
-    let words = Words::Run {
-        file: None,
-        turns,
-        steps: 10_000,
-        cells: true,
-        events: false,
-        explain: false,
-    };
-    let (output, errors, _) = written(alloc, words, script.as_bytes());
     let mut bit = 1u64;
     for text in ends {
-        if is_end(text.as_bytes(), output.as_slice(), errors.as_slice()) {
+        if text.as_bytes() == end.as_slice() {
             return bit;
         }
         bit = bit.wrapping_mul(2);
@@ -59,23 +46,20 @@ fn bit_of(alloc: Global, script: &str, turns: String, ends: &[&str]) -> u64 {
 fn end_so(alloc: Global, script: &str, such: &[&str], lists: usize, ends: &[&str]) -> bool {
     let mut seen = 0u64;
     for number in 0..lists {
-        let Ok(list) = list_of(alloc, such, number) else {
+        let Ok(words) = words_of(alloc, such, number) else {
             return false;
         };
-        let bit = bit_of(alloc, script, list, ends);
+        let bit = bit_of(alloc, script, words.as_str(), ends);
+        drop(words);
         if bit == 0 {
             return false;
         }
         seen |= bit;
     }
-    let mut wanted = 0u64;
-    for _ in ends {
-        wanted = wanted.wrapping_mul(2).wrapping_add(1);
-    }
-    seen == wanted
+    seen.count_ones() as usize == ends.len()
 }
 
-/// The first of these scripts of which some list ends otherwise, or no list as one of the texts says, or nothing.
+/// The first of these scripts of which some list of such plays ends otherwise, or no list as one of the texts says, or nothing.
 fn first_other(
     alloc: Global,
     rows: &[(&'static str, &[&str])],
@@ -187,13 +171,9 @@ fn two_threads(rt: HostRuntime) {
 }
 
 #[test]
-fn single_turns(rt: HostRuntime) {
-    let (script, ends) = ONE_READ;
-    assert!(rt; end_so(rt.alloc(), script, TURNS, 341, ends));
-}
-
-#[test]
-fn three_threads(rt: HostRuntime) {
+fn single_turns_and_three_threads(rt: HostRuntime) {
+    let other = first_other(rt.alloc(), &[ONE_READ], TURNS, 341);
+    assert!(rt; other.is_empty(), "{other}");
     let other = first_other(rt.alloc(), &OF_THREE, THREE, 121);
     assert!(rt; other.is_empty(), "{other}");
 }

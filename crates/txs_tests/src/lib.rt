@@ -4,11 +4,7 @@
 #![tactic(auto)]
 
 #[cfg(test)]
-mod agents;
-#[cfg(test)]
 mod at_once;
-#[cfg(test)]
-mod building;
 #[cfg(test)]
 mod by_hand;
 #[cfg(test)]

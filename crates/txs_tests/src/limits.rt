@@ -1,136 +1,122 @@
 // The limits of programs, on scripts that are too long to be written out.
-use crate::program::check_says;
+use crate::program::{says, write_number};
 use std::alloc::{AllocError, Global};
 
-// Appends so many times a text.
-fn repeat(script: &mut String, text: &str, count: usize) -> Result<(), AllocError> {
-    for _ in 0..count {
-        script.push_str(text)?;
+// Appends so many times a text, each with its number, counted from 0, in place of a `#`.
+fn repeat(script: &mut Vec<u8>, text: &str, count: usize) -> Result<(), AllocError> {
+    for number in 0..count {
+        for byte in text.as_bytes() {
+            match byte {
+                b'#' => write_number(script, number)?,
+                _ => script.push(*byte)?,
+            }
+        }
     }
     Ok(())
 }
 
-// Whether `check` says this line of a script of texts, each so many times.
-fn made_says(alloc: Global, parts: &[(&str, usize)], line: &str) -> bool {
-    let mut script = String::new(alloc);
+// Whether `check` says this line of a script: `ok`, or a refusal.
+fn check_says(alloc: Global, script: &[u8], line: &str) -> bool {
+    if line == "ok\n" {
+        return says(alloc, "check", script, line.as_bytes(), b"", 0);
+    }
+    says(alloc, "check", script, b"", line.as_bytes(), 1)
+}
+
+// Whether it says this line of texts, each so many times.
+fn parts_say(alloc: Global, parts: &[(&str, usize)], line: &str) -> bool {
+    let mut script = Vec::new(alloc);
     for (text, count) in parts {
         if repeat(&mut script, text, *count).is_err() {
             return false;
         }
     }
-    check_says(alloc, script.as_str(), line)
+    check_says(alloc, script.as_slice(), line)
 }
 
-// So many definitions, each of its number between two texts.
-fn numbered(alloc: Global, before: &str, behind: &str, count: u32) -> Result<String, AllocError> {
-    let mut script = String::new(alloc);
-    for i in 0..count {
-        let one = format!(in alloc; "{before}{i}{behind}")?;
-        script.push_str(one.as_str())?;
-    }
-    Ok(script)
-}
+// What is made, as texts, each so many times, and what `check` says of it.
+type Row = (&'static str, &'static [(&'static str, usize)], &'static str);
 
-const DEFINITIONS: [(&str, &str, u32, &str); 4] = [
-    ("(def d", " 1)", 1000, "ok\n"),
+// Definitions; locals that are live at once; and levels: each number of a sum but the first is one.
+const LIMITS: [Row; 9] = [
+    ("1000 values", &[("(def d# 1)", 1000)], "ok\n"),
     (
-        "(def d",
-        " 1)",
-        1001,
+        "1001 values",
+        &[("(def d# 1)", 1001)],
         "refused 17 TooMany at 11890..11903\n",
     ),
-    ("(defn f", " [] 1)", 1000, "ok\n"),
+    ("1000 functions", &[("(defn f# [] 1)", 1000)], "ok\n"),
     (
-        "(defn f",
-        " [] 1)",
-        1001,
+        "1001 functions",
+        &[("(defn f# [] 1)", 1001)],
         "refused 17 TooMany at 15890..15907\n",
     ),
-];
-
-// The first of these rows of which `check` doesn't say its line: how many definitions, and what stands before the number of each. None has 0.
-fn first_unsaid(alloc: Global, rows: &[(&'static str, &str, u32, &str)]) -> (u32, &'static str) {
-    for (before, behind, count, line) in rows {
-        match numbered(alloc, before, behind, *count) {
-            Ok(script) if check_says(alloc, script.as_str(), line) => (),
-            _ => return (*count, before),
-        }
-    }
-    (0, "")
-}
-
-#[test]
-fn definitions_are_limited(rt: HostRuntime) {
-    let (count, before) = first_unsaid(rt.alloc(), &DEFINITIONS);
-    assert!(rt; count == 0, "{count} {before}");
-}
-
-// Locals that are live at once, and levels: each number of a sum but the first is one.
-const LEVELS: [(&[(&str, usize)], &str); 5] = [
     (
+        "200 locals",
         &[("(future (let [", 1), ("a 1 ", 200), ("] a))", 1)],
         "ok\n",
     ),
     (
+        "201 locals",
         &[("(future (let [", 1), ("a 1 ", 201), ("] a))", 1)],
         "refused 17 TooMany at 814..815\n",
     ),
-    (&[("(future (+", 1), (" 1", 1000), ("))", 1)], "ok\n"),
     (
+        "1000 numbers",
+        &[("(future (+", 1), (" 1", 1000), ("))", 1)],
+        "ok\n",
+    ),
+    (
+        "1001 numbers",
         &[("(future (+", 1), (" 1", 1001), ("))", 1)],
         "refused 17 TooMany at 11..12\n",
     ),
     (
+        "1002 numbers",
         &[("(future (+", 1), (" 1", 1002), ("))", 1)],
         "refused 17 TooMany at 8..2015\n",
     ),
 ];
 
-// The first of these lines that `check` doesn't say of texts, each so many times, or nothing.
-fn first_unsaid_of(alloc: Global, rows: &[(&[(&str, usize)], &'static str)]) -> &'static str {
-    for (parts, line) in rows {
-        if !made_says(alloc, parts, line) {
-            return line;
+// What is made in the first of these rows of which `check` doesn't say its line, or nothing.
+fn first_unsaid(alloc: Global, rows: &[Row]) -> &'static str {
+    for (name, parts, line) in rows {
+        if !parts_say(alloc, parts, line) {
+            return name;
         }
     }
     ""
 }
 
-#[test]
-fn locals_and_levels_are_limited(rt: HostRuntime) {
-    let unsaid = first_unsaid_of(rt.alloc(), &LEVELS);
-    assert!(rt; unsaid.is_empty(), "{unsaid}");
+// Appends three functions of 50,000 nodes each, one of so many and one more, and what stands behind.
+fn write_nodes(script: &mut Vec<u8>, count: usize, behind: &str) -> Result<(), AllocError> {
+    for name in b"abcd" {
+        script.extend_from_slice(b"(defn ")?;
+        script.push(*name)?;
+        script.extend_from_slice(b" []")?;
+        repeat(script, " 1", if *name == b'd' { count } else { 49_999 })?;
+        script.push(b')')?;
+    }
+    script.extend_from_slice(behind.as_bytes())
 }
 
-// Whether `check` says this line of three functions of 50,000 nodes each, one of so many and one more, and what stands behind.
+// Whether `check` says this line of them.
 fn nodes_say(alloc: Global, count: usize, behind: &str, line: &str) -> bool {
-    let parts = [
-        ("(defn a []", 1),
-        (" 1", 49_999),
-        (")(defn b []", 1),
-        (" 1", 49_999),
-        (")(defn c []", 1),
-        (" 1", 49_999),
-        (")(defn d []", 1),
-        (" 1", count),
-        (")", 1),
-        (behind, 1),
-    ];
-    made_says(alloc, &parts, line)
+    let mut script = Vec::new(alloc);
+    write_nodes(&mut script, count, behind).is_ok() && check_says(alloc, script.as_slice(), line)
 }
 
 #[test]
-fn nodes_are_limited(rt: HostRuntime) {
+fn definitions_locals_levels_and_nodes_are_limited(rt: HostRuntime) {
+    let alloc = rt.alloc();
+    let unsaid = first_unsaid(alloc, &LIMITS);
+    assert!(rt; unsaid.is_empty(), "{unsaid}");
+    assert!(rt; nodes_say(alloc, 49_999, "", "ok\n"));
     let line = "refused 28 CodeTooLarge at 400036..400044\n";
-    assert!(rt; nodes_say(rt.alloc(), 49_999, "", "ok\n"));
-    assert!(rt; nodes_say(rt.alloc(), 49_999, "(future)", line));
-}
-
-#[test]
-fn the_function_that_passes_the_limit_is_refused(rt: HostRuntime) {
+    assert!(rt; nodes_say(alloc, 49_999, "(future)", line));
     let fourth = "refused 28 CodeTooLarge at 300027..400038\n";
+    assert!(rt; nodes_say(alloc, 50_000, "", fourth));
+    assert!(rt; nodes_say(alloc, 49_998, "(future)", "ok\n"));
     let fifth = "refused 28 CodeTooLarge at 400042..400055\n";
-    assert!(rt; nodes_say(rt.alloc(), 50_000, "", fourth));
-    assert!(rt; nodes_say(rt.alloc(), 49_998, "(future)", "ok\n"));
-    assert!(rt; nodes_say(rt.alloc(), 49_998, "(future)(defn e [] 1)", fifth));
+    assert!(rt; nodes_say(alloc, 49_998, "(future)(defn e [] 1)", fifth));
 }

@@ -1,63 +1,48 @@
 // The compiled run of a script prints and ends as the meaning of its thread says.
-use crate::program::{run, written};
+use crate::program::{says, write_number};
 use std::alloc::{AllocError, Global};
 use txs_asks::Outcome;
 use txs_compile::compile;
 use txs_eval::{ThreadMeaning, eval_thread};
 use txs_terms::Fault;
 
-// What the run of a thread tells that ended so.
-fn line_of(alloc: Global, fault: &Fault) -> Result<String, AllocError> {
-    let name = fault.kind.name();
-    format!(in alloc;
-        "thread 0 failed: {name} at {}..{}\n",
-        fault.span.from, fault.span.to
-    )
+// Appends what the run of a thread tells that ended so.
+fn write_fault(line: &mut Vec<u8>, fault: &Fault) -> Result<(), AllocError> {
+    line.extend_from_slice(b"thread 0 failed: ")?;
+    line.extend_from_slice(fault.kind.name().as_bytes())?;
+    line.extend_from_slice(b" at ")?;
+    write_number(line, fault.span.from as usize)?;
+    line.extend_from_slice(b"..")?;
+    write_number(line, fault.span.to as usize)?;
+    line.extend_from_slice(b"\n")
 }
 
-// Whether the errors of a run are those of a thread that failed so.
-fn is_line(alloc: Global, fault: &Fault, errors: &[u8]) -> bool {
-    match line_of(alloc, fault) {
-        Ok(line) => errors == line.as_bytes(),
-        Err(_) => false,
-    }
-}
-
-// Whether a run that wrote this, and ended with this status, tells what the meaning of its thread says.
-fn is_told(
-    alloc: Global,
-    meaning: &ThreadMeaning,
-    output: &[u8],
-    errors: &[u8],
-    status: u8,
-) -> bool {
-    let ended = match &meaning.outcome {
-        Some(Outcome::Done) => status == 0 && errors.is_empty(),
-        Some(Outcome::Failed(fault)) => status == 3 && is_line(alloc, fault, errors),
-        _ => false,
+// Whether the run of a script tells what the meaning of its thread says.
+fn is_told(alloc: Global, script: &[u8], meaning: &ThreadMeaning) -> bool {
+    let mut line = Vec::new(alloc);
+    let status = match &meaning.outcome {
+        Some(Outcome::Done) => 0,
+        Some(Outcome::Failed(fault)) if write_fault(&mut line, fault).is_ok() => 3,
+        _ => return false,
     };
-    ended && output == meaning.printed.as_slice()
+    let printed = meaning.printed.as_slice();
+    says(alloc, "schedule", script, printed, line.as_slice(), status)
 }
 
 // Whether the run of a script tells what the meaning of its thread says, or nothing where it has no thread.
-fn agrees(alloc: Global, script: &str) -> bool {
-    let Ok((program, code)) = compile(alloc, script.as_bytes()) else {
+fn agrees(alloc: Global, script: &[u8]) -> bool {
+    let Ok((program, code)) = compile(alloc, script) else {
         return false;
     };
     drop(code);
-    let (output, errors, status) = written(alloc, run(alloc), script.as_bytes());
     let agrees = if program.threads().is_empty() {
-        status == 0 && output.is_empty() && errors.is_empty()
+        says(alloc, "schedule", script, b"", b"", 0)
     } else {
         match eval_thread(alloc, &program, 0, &[], 10_000) {
             Ok(meaning) => {
-                is_told(
-                    alloc,
-                    &meaning,
-                    output.as_slice(),
-                    errors.as_slice(),
-                    status,
-                )
+                let told = is_told(alloc, script, &meaning);
+                drop(meaning);
+                told
             }
             Err(_) => false,
         }
@@ -168,8 +153,8 @@ const SCRIPTS: &str = "\
 fn runs_agree_with_meanings(rt: HostRuntime) {
     let mut count = 0u32;
     for script in SCRIPTS.lines() {
-        assert!(rt; agrees(rt.alloc(), script), "{script}");
+        assert!(rt; agrees(rt.alloc(), script.as_bytes()), "{script}");
         count = count.wrapping_add(1);
     }
-    assert_eq!(rt; count, 95);
+    assert!(rt; count == 95);
 }

@@ -1,10 +1,10 @@
-// Runs by several workers: what scripts print and leave, whatever the workers did.
-use crate::seen::{leaves, ran};
+// Runs by several workers: what scripts print and leave, whatever the workers did; and that what is sent to agents is run, each once, whoever sent
+// it and whenever they were parked.
+use crate::seen::{NO_RUN, leaves, ran};
 use std::alloc::Global;
 use std::sync::Wait;
 use std::thread::Threads;
-use txs_machine::ThreadReport;
-use txs_threads::{Gathered, OpenGate, RunError};
+use txs_threads::{Gathered, OpenGate};
 
 /// Four threads that each add one to a ref a hundred times.
 const HAMMERS: &str = "(def r (ref 0))
@@ -13,82 +13,54 @@ const HAMMERS: &str = "(def r (ref 0))
 (future (loop [i 0] (when (< i 100) (dosync (alter r inc)) (recur (inc i)))))
 (future (loop [i 0] (when (< i 100) (dosync (alter r inc)) (recur (inc i)))))";
 
-#[test]
-fn prints_a_sum(rt: HostRuntime) {
-    assert!(rt;
-        leaves(
-            &rt,
-            rt.alloc(),
-            "(future (println (+ 1 2)))",
-            4,
-            1_000,
-            &OpenGate,
-            "3\ndone "
-        )
-    );
-}
+/// Three threads that send, outside and in transactions, to two agents.
+const SENDERS: &str = "(def a (agent 0)) (def b (agent 0)) (def r (ref 0))
+(future (loop [i 0] (when (< i 50) (send a inc) (recur (inc i)))))
+(future (loop [i 0] (when (< i 50) (dosync (alter r inc) (send a inc) (send b + 2)) (recur (inc i)))))
+(future (loop [i 0] (when (< i 50) (dosync (alter r inc) (send b inc)) (recur (inc i)))))";
+
+/// One thread that reads and writes, prints, and fails.
+const ALONE: &str = "(def r (ref 1)) (def a (atom 2))
+(future (dosync (alter r + 3)) (println @r (swap! a inc)) (dosync (ensure r)) (quot @r 0))";
+
+/// A thread that never ends.
+const SPINS: &str = "(future (loop [] (recur)))";
+
+/// An agent that fails beside one that doesn't.
+const QUOT: &str = "(def g (agent 1)) (def h (agent 2)) (future (send g quot 0) (send h inc))";
+
+/// An agent that spends its steps.
+const SPENDS: &str = "(def g (agent 0)) (defn f [s] (loop [] (recur))) (future (send g f))";
 
 #[test]
-fn runs_no_thread(rt: HostRuntime) {
-    assert!(rt; leaves(&rt, rt.alloc(), "", 4, 1_000, &OpenGate, ""));
-}
-
-/// Whether there is no run by so many workers.
-fn is_refused<R: Threads + Wait + Sync>(rt: &R, alloc: Global, workers: usize) -> bool {
-    match ran(rt, alloc, "(future (println 1))", workers, 1_000, &OpenGate) {
-        Ok(run) => {
-            drop(run);
-            false
-        }
-        Err(e) => e == RunError::NoThread,
-    }
-}
-
-#[test]
-fn refuses_workers(rt: HostRuntime) {
-    assert!(rt; is_refused(&rt, rt.alloc(), 0));
-    assert!(rt; is_refused(&rt, rt.alloc(), 65));
-}
-
-#[test]
-fn stops_at_the_steps(rt: HostRuntime) {
-    assert!(rt;
-        leaves(
-            &rt,
-            rt.alloc(),
-            "(future (loop [] (recur)))",
-            2,
-            1_000,
-            &OpenGate,
-            "spent "
-        )
-    );
-}
-
-#[test]
-fn adds_all(rt: HostRuntime) {
+fn adds_all_and_runs_all_actions(rt: HostRuntime) {
+    let alloc = rt.alloc();
+    let added = "done done done done 400 ";
+    let sent = "done done done idle idle 100 150 100 ";
     for workers in 1..5 {
-        assert!(rt;
-            leaves(
-                &rt,
-                rt.alloc(),
-                HAMMERS,
-                workers,
-                1_000_000,
-                &OpenGate,
-                "done done done done 400 "
-            )
-        );
+        assert!(rt; leaves(&rt, alloc, HAMMERS, workers, 1_000_000, &OpenGate, added));
+        assert!(rt; leaves(&rt, alloc, SENDERS, workers, 1_000_000, &OpenGate, sent));
     }
 }
 
-/// Two threads that contend for two refs.
-const MOVERS: &str = "(def a (ref 20)) (def b (ref 0))
-(future (dosync (alter a - 1) (alter b + 1)))
-(future (dosync (alter b + 2) (alter a - 2)))";
+#[test]
+fn prints_fails_and_stops(rt: HostRuntime) {
+    let alloc = rt.alloc();
+    let three = "(future (println (+ 1 2)))";
+    assert!(rt; leaves(&rt, alloc, three, 4, 1_000, &OpenGate, "3\ndone "));
+    assert!(rt; leaves(&rt, alloc, "", 4, 1_000, &OpenGate, ""));
+    let one = "(future (println 1))";
+    assert!(rt; leaves(&rt, alloc, one, 0, 1_000, &OpenGate, NO_RUN));
+    assert!(rt; leaves(&rt, alloc, one, 65, 1_000, &OpenGate, NO_RUN));
+    assert!(rt; leaves(&rt, alloc, SPINS, 2, 1_000, &OpenGate, "spent "));
+    assert!(rt; leaves(&rt, alloc, QUOT, 2, 1_000, &OpenGate, "done idle idle 1 3 "));
+    assert!(rt; leaves(&rt, alloc, SPENDS, 2, 1_000, &OpenGate, "done spent 0 "));
+    assert!(rt; leaves(&rt, alloc, ALONE, 1, 1_000, &OpenGate, "4 3\nfailed 4 3 "));
+    assert!(rt; all_run_alike(&rt, alloc));
+}
 
 /// Whether each of 250 short runs by so many workers leaves this text.
-pub fn always_leaves<R: Threads + Wait + Sync>(
+fn always_leaves<R: Threads + Wait + Sync>(
     rt: &R,
     alloc: Global,
     script: &str,
@@ -102,6 +74,11 @@ pub fn always_leaves<R: Threads + Wait + Sync>(
     }
     true
 }
+
+/// Two threads that contend for two refs.
+const MOVERS: &str = "(def a (ref 20)) (def b (ref 0))
+(future (dosync (alter a - 1) (alter b + 1)))
+(future (dosync (alter b + 2) (alter a - 2)))";
 
 #[test]
 fn keeps_sums_by_two(rt: HostRuntime) {
@@ -123,16 +100,17 @@ fn keeps_sums_by_four(rt: HostRuntime) {
     assert!(rt; always_leaves(&rt, rt.alloc(), MOVERS, 4, "done done 17 3 "));
 }
 
-/// One thread that reads and writes, prints, and fails.
-const ALONE: &str = "(def r (ref 1)) (def a (atom 2))
-(future (dosync (alter r + 3)) (println @r (swap! a inc)) (dosync (ensure r)) (quot @r 0))";
+/// A thread that sends two actions, and the agent whose second one is sent while it runs the first, or after it was parked.
+const WAKER: &str = "(def a (agent 0)) (future (send a + 1) (send a + 2)) (future (send a + 4))";
 
-/// Whether two reports of a thread are alike.
-fn alike(one: &ThreadReport, other: &ThreadReport) -> bool {
-    one.printed.as_slice() == other.printed.as_slice()
-        && one.outcome == other.outcome
-        && one.steps == other.steps
-        && one.trace.len() == other.trace.len()
+#[test]
+fn wakes_by_two(rt: HostRuntime) {
+    assert!(rt; always_leaves(&rt, rt.alloc(), WAKER, 2, "done done idle 7 "));
+}
+
+#[test]
+fn wakes_by_four(rt: HostRuntime) {
+    assert!(rt; always_leaves(&rt, rt.alloc(), WAKER, 4, "done done idle 7 "));
 }
 
 /// Whether two runs of one thread are alike.
@@ -141,7 +119,13 @@ fn run_alike(one: &Gathered, other: &Gathered) -> bool {
         one.report.threads.as_slice(),
         other.report.threads.as_slice(),
     ) {
-        ([a], [b]) => { alike(a, b) && one.shared.events().len() == other.shared.events().len() }
+        ([a], [b]) => {
+            a.printed.as_slice() == b.printed.as_slice()
+                && a.outcome == b.outcome
+                && a.steps == b.steps
+                && a.trace.len() == b.trace.len()
+                && one.shared.events().len() == other.shared.events().len()
+        }
         _ => false,
     }
 }
@@ -173,21 +157,4 @@ fn all_run_alike<R: Threads + Wait + Sync>(rt: &R, alloc: Global) -> bool {
         && runs_like(rt, alloc, &one, 64);
     drop(one);
     alike
-}
-
-/// A run of one thread is the same whatever the workers.
-#[test]
-fn runs_one_alike(rt: HostRuntime) {
-    assert!(rt;
-        leaves(
-            &rt,
-            rt.alloc(),
-            ALONE,
-            1,
-            1_000,
-            &OpenGate,
-            "4 3\nfailed 4 3 "
-        )
-    );
-    assert!(rt; all_run_alike(&rt, rt.alloc()));
 }

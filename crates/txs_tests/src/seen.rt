@@ -38,22 +38,18 @@ pub fn ran<R: Threads + Wait + Sync, G: Gate>(
     run
 }
 
-/// A word for how a thread or agent ended, with a space behind it: `spent` where it made as many steps as it may, and `idle` where it goes on.
-fn word_of(report: &ThreadReport, max_steps: u64) -> &'static str {
-    match report.outcome {
-        None => "idle ",
-        Some(Outcome::Done) => "done ",
-        Some(Outcome::Failed(_)) => "failed ",
-        Some(Outcome::StepsSpent) if report.steps == max_steps => "spent ",
-        Some(_) => "stopped ",
-    }
-}
-
-/// Adds what each of them printed, and behind it a word for how it ended.
+/// Adds what each of them printed, and behind it a word for how it ended: `spent` where it made as many steps as it may, and `idle` where it goes on.
 fn add_ends(out: &mut Vec<u8>, reports: &[ThreadReport], max_steps: u64) -> Result<(), AllocError> {
     for report in reports {
         out.extend_from_slice(report.printed.as_slice())?;
-        out.extend_from_slice(word_of(report, max_steps).as_bytes())?;
+        let word = match report.outcome {
+            None => "idle ",
+            Some(Outcome::Done) => "done ",
+            Some(Outcome::Failed(_)) => "failed ",
+            Some(Outcome::StepsSpent) if report.steps == max_steps => "spent ",
+            Some(_) => "stopped ",
+        };
+        out.extend_from_slice(word.as_bytes())?;
     }
     Ok(())
 }
@@ -74,24 +70,20 @@ fn add_cells(out: &mut Vec<u8>, shared: &SharedState) -> Result<(), AllocError> 
     Ok(())
 }
 
-/// Adds how the threads of a run ended, and then its agents, and what its cells hold.
-fn add_run(out: &mut Vec<u8>, run: &Gathered, max_steps: u64) -> Result<(), AllocError> {
-    add_ends(out, run.report.threads.as_slice(), max_steps)?;
-    add_ends(out, run.report.agents.as_slice(), max_steps)?;
-    add_cells(out, &run.shared)
-}
-
 /// Whether a run, in which an actor makes so many steps at most, left this text: what each thread printed with a word for how it ended, the
 /// same of each agent, and what each cell holds.
 pub fn has_left(alloc: Global, run: &Gathered, max_steps: u64, text: &str) -> bool {
     let mut out = Vec::new(alloc);
-    match add_run(&mut out, run, max_steps) {
-        Ok(()) => out.as_slice() == text.as_bytes(),
-        Err(_) => false,
-    }
+    add_ends(&mut out, run.report.threads.as_slice(), max_steps).is_ok()
+        && add_ends(&mut out, run.report.agents.as_slice(), max_steps).is_ok()
+        && add_cells(&mut out, &run.shared).is_ok()
+        && out.as_slice() == text.as_bytes()
 }
 
-/// Whether a script's run by so many workers leaves this text, as `has_left` says.
+/// What is left where no run can be made by so many workers.
+pub const NO_RUN: &str = "no run";
+
+/// Whether a script's run by so many workers leaves this text, as `has_left` says, or is refused, for `NO_RUN`.
 pub fn leaves<R: Threads + Wait + Sync, G: Gate>(
     rt: &R,
     alloc: Global,
@@ -107,6 +99,6 @@ pub fn leaves<R: Threads + Wait + Sync, G: Gate>(
             drop(run);
             left
         }
-        Err(_) => false,
+        Err(e) => e == RunError::NoThread && text == NO_RUN,
     }
 }

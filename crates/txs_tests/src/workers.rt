@@ -67,7 +67,7 @@ fn writes<T: Threads + Wait + Sync>(
     ended == status && output.as_slice() == text && errors.as_slice() == fault
 }
 
-/// The words of a run by so many workers, with the cells behind it.
+/// The words of a run of a script by so many workers, with the cells behind it.
 fn work(workers: u64) -> Words {
     Words::Work {
         file: None,
@@ -79,38 +79,11 @@ fn work(workers: u64) -> Words {
     }
 }
 
-#[test]
-fn workers_run_a_script(rt: HostRuntime) {
-    assert!(rt;
-        writes(
-            &rt,
-            rt.alloc(),
-            work(2),
-            SCRIPT,
-            0,
-            b":done\nr 5\ng 2\n",
-            b""
-        )
-    );
-}
+/// What the script leaves.
+const LEFT: &[u8] = b":done\nr 5\ng 2\n";
 
-#[test]
-fn no_worker_runs_nothing(rt: HostRuntime) {
-    assert!(rt;
-        writes(
-            &rt,
-            rt.alloc(),
-            work(0),
-            SCRIPT,
-            4,
-            b"",
-            b"run failed: NoThread\n"
-        )
-    );
-}
-
-/// The code of the script in its byte form, or nothing where it isn't built.
-fn built<T: Threads + Wait + Sync>(threads: &T, alloc: Global) -> Vec<u8> {
+/// Whether two workers leave the same where they run the script's code in its byte form.
+fn code_leaves<T: Threads + Wait + Sync>(threads: &T, alloc: Global) -> bool {
     let words = Words::Build {
         file: None,
         out: String::new(alloc),
@@ -120,35 +93,21 @@ fn built<T: Threads + Wait + Sync>(threads: &T, alloc: Global) -> Vec<u8> {
     let mut errors = Vec::new(alloc);
     let status = written(threads, alloc, &words, SCRIPT, &mut code, &mut errors);
     drop(words);
-    if status != 0 {
-        code.clear();
-    }
-    code
-}
-
-/// The words of a run of code by two workers, with the cells behind it.
-fn work_code() -> Words {
-    Words::WorkCode {
+    let words = Words::WorkCode {
         file: None,
         workers: 2,
         steps: 100_000_000,
         cells: true,
         events: false,
-    }
+    };
+    status == 0 && writes(threads, alloc, words, code.as_slice(), 0, LEFT, b"")
 }
 
 #[test]
-fn workers_run_code(rt: HostRuntime) {
-    let code = built(&rt, rt.alloc());
-    assert!(rt;
-        writes(
-            &rt,
-            rt.alloc(),
-            work_code(),
-            code.as_slice(),
-            0,
-            b":done\nr 5\ng 2\n",
-            b""
-        )
-    );
+fn workers_run_a_script_and_its_code(rt: HostRuntime) {
+    let alloc = rt.alloc();
+    let none = b"run failed: NoThread\n".as_slice();
+    assert!(rt; writes(&rt, alloc, work(2), SCRIPT, 0, LEFT, b""));
+    assert!(rt; writes(&rt, alloc, work(0), SCRIPT, 4, b"", none));
+    assert!(rt; code_leaves(&rt, alloc));
 }
