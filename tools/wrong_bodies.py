@@ -157,17 +157,17 @@ def is_built(crate, used):
 
 
 def function_at(text, path, place):
-    """The path of the function whose body has this place, as `rt check --only` takes it, or nothing where it is in no function
-    of a module or of a type's own."""
+    """The end of the path of the function whose body has this place, as `rt check --only` takes it, or nothing where it is in no
+    function of a module or of a type's own. A type's own functions may stand in another module than the type, whose path they have."""
     inside = list(re.finditer(r"(?m)^( *)(?:pub(?:\([a-z]+\))? )?(?:const )?fn (\w+)", text[:place]))
     if not inside:
         return None
     found = inside[-1]
-    module = [it for it in path[len("src/") : -len(".rt")].split("/") if it not in ("lib", "main", "mod")]
     if not found[1]:
+        module = [it for it in path[len("src/") : -len(".rt")].split("/") if it not in ("lib", "main", "mod")]
         return "::".join([*module, found[2]])
     blocks = re.findall(r"(?m)^impl(?:<[^>]*>)? (\w+)(?:<[^>]*>)?( for)?", text[: found.start()])
-    return "::".join([*module, blocks[-1][0], found[2]]) if blocks and not blocks[-1][1] else None
+    return f"{blocks[-1][0]}::{found[2]}" if blocks and not blocks[-1][1] else None
 
 
 def grouped(edits, folder):
@@ -217,10 +217,13 @@ def refused_together(crate, folder, texts, names):
         return {}
     found = {}
     for edit, name in names.items():
-        verdict = next((it for it in lines if it.startswith(f"fn {crate}::{name}: ")), "")
-        answers = f"./proofs/{name.replace('::', '/')}/"
+        verdicts = [it for it in (re.match(rf"fn {crate}::((?:\w+::)*{name}): ", line) for line in lines) if it]
+        if len(verdicts) != 1:
+            continue
+        verdict = verdicts[0].string
+        answers = f"./proofs/{verdicts[0][1].replace('::', '/')}/"
         errors = [it for it in lines if it.startswith(answers) and ": error" in it and not LOST.match(it)]
-        if verdict and not verdict.endswith(": proved") and ("did not prove" in verdict or errors):
+        if not verdict.endswith(": proved") and ("did not prove" in verdict or errors):
             found[edit] = errors[0] if errors else verdict
     return found
 
