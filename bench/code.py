@@ -8,10 +8,10 @@ import compiling
 # the parts, by the functions in which their instructions are counted
 PARTS = {
     "compile": ["txs_compile::script::compile"],
-    "encode": ["txs_bytes::encoding::put_bodies", "txs_bytes::written::put_value"],
-    "decode": ["txs_decode::bodies::bodies_at", "txs_decode::values::values_at"],
-    "load": ["txs_load::load::load"],
-    "seal": ["txs_code::verified::Verified::seal"],
+    "encode": ["txs_code_encode::encoding::put_bodies", "txs_code_encode::written::put_value"],
+    "decode": ["txs_code_decode::bodies::bodies_at", "txs_code_decode::values::values_at"],
+    "load": ["txs_code_load::load::load"],
+    "seal": ["txs_code_meaning::verified::Verified::seal"],
 }
 
 

@@ -3,7 +3,7 @@
 #![tactic(auto)]
 
 ghost use Rattle.std.specs.Thread.{IsSync};
-ghost use Rattle.txs_play.specs.Runner.{IsRunnable, RunsLawfully};
+ghost use Rattle.txs_cli.specs.Runner.{IsRunnable, RunsLawfully};
 
 use std::alloc::Global;
 use std::fs::File;
@@ -12,14 +12,14 @@ use std::process::ExitCode;
 use std::sync::Wait;
 use std::thread::Threads;
 use std::{env, fs, io};
-use txs_code::Verified;
+use txs_cli::play_with;
+use txs_cli_args::{Words, parse_words};
+use txs_cli_report::told::{DONE, UNUSABLE};
+use txs_cli_report::write_told;
+use txs_code_meaning::Verified;
 use txs_machine::{Report, RunError};
-use txs_play::play_with;
-use txs_shared::SharedState;
-use txs_tell::told::{DONE, UNUSABLE};
-use txs_tell::write_told;
 use txs_threads::{Gathered, OpenGate, run_threads};
-use txs_words::{Words, parse_words};
+use txs_world_shared::SharedState;
 
 /// The reader of a file that can't be opened.
 #[derive(Drop)]

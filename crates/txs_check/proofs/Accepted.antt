@@ -1,20 +1,20 @@
 -- What is accepted is sound, and what is sound is accepted.
 use Rattle.std.proofs.Common.{◌≡◌, ℕ, suc, ◌+◌, ◌<◌, ◌≤◌, true, false, not, eqb, List, Option, Some, None, refl, sym, ap, ◌∙◌, subst, arith}
 use Rattle.std.proofs.lemmas.Bool.{eqb-true, eq-eqb, not-true, not_from_false}
-use Rattle.txs_operations.specs.Core.{takes}
-use Rattle.txs_terms.specs.Places.{nth}
-use Rattle.txs_terms.specs.declared.fault.Span.{Span}
-use Rattle.txs_cells.specs.Forms.{rule}
-use Rattle.txs_cells.specs.declared.form.CellForm.TheVariants as form_of
-use Rattle.txs_cells.specs.declared.form.Standing.{Standing}
-use Rattle.txs_cells.specs.declared.form.Standing.TheVariants.{Anywhere, Inside, Outside}
-use Rattle.txs_terms.specs.declared.op.Callee.{Callee}
-use Rattle.txs_terms.specs.declared.op.Callee.TheVariants.{Core as CoreOp, Function}
-use Rattle.txs_tree.specs.Known.{Known, is_pure}
-use Rattle.txs_tree.specs.Scoped.{ScopedTree, ScopedAll, ScopedLet}
-use Rattle.txs_tree.specs.Sound.{SoundTree, SoundAll, SoundLet, SoundDo, SoundCall, SoundCallee, PureCall, TakesFew, MayCall, MayStand, in_function, in_thread, in_dosync}
-use Rattle.txs_tree.specs.Sound as sound
-use Rattle.txs_tree.specs.Tree.{Tree, Const, Local, If, Do, Let, Loop, Recur, Core, Call, VectorOf, Println, Dosync, Look, Put, Update, Send, Trees, none, more, count}
+use Rattle.txs_value_apply.specs.Core.{takes}
+use Rattle.txs_value_base.specs.Places.{nth}
+use Rattle.txs_value_base.specs.declared.fault.Span.{Span}
+use Rattle.txs_value_cell.specs.Forms.{rule}
+use Rattle.txs_value_cell.specs.declared.form.CellForm.TheVariants as form_of
+use Rattle.txs_value_cell.specs.declared.form.Standing.{Standing}
+use Rattle.txs_value_cell.specs.declared.form.Standing.TheVariants.{Anywhere, Inside, Outside}
+use Rattle.txs_value_base.specs.declared.op.Callee.{Callee}
+use Rattle.txs_value_base.specs.declared.op.Callee.TheVariants.{Core as CoreOp, Function}
+use Rattle.txs_tree_meaning.specs.Known.{Known, is_pure}
+use Rattle.txs_tree_meaning.specs.Scoped.{ScopedTree, ScopedAll, ScopedLet}
+use Rattle.txs_tree_meaning.specs.Sound.{SoundTree, SoundAll, SoundLet, SoundDo, SoundCall, SoundCallee, PureCall, TakesFew, MayCall, MayStand, in_function, in_thread, in_dosync}
+use Rattle.txs_tree_meaning.specs.Sound as sound
+use Rattle.txs_tree_meaning.specs.Tree.{Tree, Const, Local, If, Do, Let, Loop, Recur, Core, Call, VectorOf, Println, Dosync, Look, Put, Update, Send, Trees, none, more, count}
 use Rattle.txs_check.specs.declared.error.CheckErrorKind.TheVariants.{RecurNotTail, RecurCount, RecurAcrossDosync, Arity, NotPure, InsideOnly, OutsideOnly}
 use Rattle.txs_check.specs.declared.place.Target.{Target}
 use Rattle.txs_check.specs.declared.place.Target.TheVariants.{Nowhere, Across, Nearest}

@@ -1,9 +1,9 @@
 -- The table of functions tells which of them are pure and take so many values.
 use Rattle.std.proofs.Common.{◌≡◌, ℕ, eqb, Bool, true, false, ◌&&◌, List, Option, Some, None, refl, sym, ap, ◌∙◌}
 use Rattle.std.proofs.lemmas.Bool.{eqb-true, eq-eqb}
-use Rattle.txs_terms.specs.Places.{nth}
-use Rattle.txs_tree.specs.Known.{Known}
-use Rattle.txs_tree.specs.Sound.{PureCall}
+use Rattle.txs_value_base.specs.Places.{nth}
+use Rattle.txs_tree_meaning.specs.Known.{Known}
+use Rattle.txs_tree_meaning.specs.Sound.{PureCall}
 use Rattle.txs_check.specs.Signatures.{bare, is_pure_taking, is_pure_call}
 use Rattle.txs_check.proofs.Same.{bare_if, nth_bare}
 

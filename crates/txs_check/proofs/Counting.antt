@@ -1,7 +1,7 @@
 -- Counts of nodes.
 use Rattle.std.proofs.Common.{◌<◌, arith}
-use Rattle.txs_tree.specs.Sound.{nodes}
-use Rattle.txs_tree.specs.Tree.{Tree, Const, Local, If, Do, Let, Loop, Recur, Core, Call, VectorOf, Println, Dosync, Look, Put, Update, Send}
+use Rattle.txs_tree_meaning.specs.Sound.{nodes}
+use Rattle.txs_tree_meaning.specs.Tree.{Tree, Const, Local, If, Do, Let, Loop, Recur, Core, Call, VectorOf, Println, Dosync, Look, Put, Update, Send}
 
 pub nodes-some : (e : Tree) → 0 < nodes e
 nodes-some (Const v m) = omega arith

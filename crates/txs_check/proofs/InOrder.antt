@@ -1,7 +1,7 @@
 -- The bodies of a program in script order are all of them, and stand in script order.
 use Rattle.std.proofs.Common.{◌≡◌, ℕ, zero, suc, ◌≤◌, Bool, true, false, nat_lt, if◌then◌else◌, List, [], ◌∷◌, ◌++◌, map, take, drop, refl, ap, ◌∙◌, arith}
 use Rattle.std.proofs.lemmas.Bool.{leb-true, ltb-false}
-use Rattle.txs_tree.specs.Tree.{PlainFunction, PlainThread}
+use Rattle.txs_tree_meaning.specs.Tree.{PlainFunction, PlainThread}
 use Rattle.txs_check.specs.declared.place.Zone.{Zone}
 use Rattle.txs_check.specs.declared.place.Zone.TheVariants.{InFunction, InFuture, InDosync}
 use Rattle.txs_check.specs.Order.{BeginFrom, Ascend, with_function, with_future, functions_in, futures_in}

@@ -1,22 +1,22 @@
 -- A program is sound exactly where nothing of it is refused, and it is refused for one reason.
 use Rattle.std.proofs.Common.{◌≡◌, ◌≢◌, ℕ, suc, ◌≤◌, ◌⊎◌, inl, inr, Bool, true, false, not, eqb, leb, if◌then◌else◌, ◌-◌, Option, List, [], ◌∷◌, ◌++◌, map, Some, None, Ok, Err, refl, sym, ap, ◌∙◌, subst}
-use Rattle.txs_operations.specs.Core.{takes}
-use Rattle.txs_terms.specs.Places.{nth}
-use Rattle.txs_terms.specs.declared.fault.Span.{Span}
-use Rattle.txs_cells.specs.declared.form.CellForm.TheVariants as form_of
-use Rattle.txs_cells.specs.Forms.{rule}
-use Rattle.txs_cells.specs.declared.form.Standing.{Standing}
-use Rattle.txs_cells.specs.declared.form.Standing.TheVariants.{Anywhere, Inside, Outside}
-use Rattle.txs_terms.specs.declared.op.Callee.{Callee}
-use Rattle.txs_terms.specs.declared.op.Callee.TheVariants.{Core as CoreOp, Function}
-use Rattle.txs_tree.specs.Known.{Known, is_pure, known_of, known_from, known}
-use Rattle.txs_tree.specs.Scoped.{Scoped, ScopedFunctions, ScopedThreads}
-use Rattle.txs_tree.specs.Sound.{Sound, SoundFunctions, SoundThreads, nodes}
-use Rattle.txs_tree.specs.Tree.{Tree, Const, Local, If, Do, Let, Loop, Recur, Core, Call, VectorOf, Println, Dosync, Look, Put, Update, Send, Trees, none, more, count, PlainFunction, PlainThread, PlainProgram}
-use Rattle.txs_tree.specs.View.{functions_of, threads_of, program_of}
-use Rattle.txs_tree.specs.declared.node.Function.{Function as AFunction}
-use Rattle.txs_tree.specs.declared.node.Thread.{Thread}
-use Rattle.txs_cells.specs.declared.cell.CellDefinition.{CellDefinition}
+use Rattle.txs_value_apply.specs.Core.{takes}
+use Rattle.txs_value_base.specs.Places.{nth}
+use Rattle.txs_value_base.specs.declared.fault.Span.{Span}
+use Rattle.txs_value_cell.specs.declared.form.CellForm.TheVariants as form_of
+use Rattle.txs_value_cell.specs.Forms.{rule}
+use Rattle.txs_value_cell.specs.declared.form.Standing.{Standing}
+use Rattle.txs_value_cell.specs.declared.form.Standing.TheVariants.{Anywhere, Inside, Outside}
+use Rattle.txs_value_base.specs.declared.op.Callee.{Callee}
+use Rattle.txs_value_base.specs.declared.op.Callee.TheVariants.{Core as CoreOp, Function}
+use Rattle.txs_tree_meaning.specs.Known.{Known, is_pure, known_of, known_from, known}
+use Rattle.txs_tree_meaning.specs.Scoped.{Scoped, ScopedFunctions, ScopedThreads}
+use Rattle.txs_tree_meaning.specs.Sound.{Sound, SoundFunctions, SoundThreads, nodes}
+use Rattle.txs_tree_meaning.specs.Tree.{Tree, Const, Local, If, Do, Let, Loop, Recur, Core, Call, VectorOf, Println, Dosync, Look, Put, Update, Send, Trees, none, more, count, PlainFunction, PlainThread, PlainProgram}
+use Rattle.txs_tree_meaning.specs.View.{functions_of, threads_of, program_of}
+use Rattle.txs_tree_meaning.specs.declared.node.Function.{Function as AFunction}
+use Rattle.txs_tree_meaning.specs.declared.node.Thread.{Thread}
+use Rattle.txs_value_cell.specs.declared.cell.CellDefinition.{CellDefinition}
 use Rattle.txs_check.specs.Signatures.{bare}
 use Rattle.txs_check.specs.declared.error.CheckError.{CheckError}
 use Rattle.txs_check.specs.declared.error.CheckErrorKind.TheVariants.{RecurNotTail, RecurCount, Arity, NotPure, InsideOnly, OutsideOnly, CodeTooLarge, Memory}

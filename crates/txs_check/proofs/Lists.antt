@@ -1,13 +1,13 @@
 -- Nodes, functions and threads from a place on.
 use Rattle.std.proofs.Common.{◌≡◌, ℕ, Bool, zero, suc, ◌+◌, ◌<◌, List, [], ◌∷◌, ◌++◌, length, get_or, map, take, drop, refl, sym, ap, ◌∙◌, arith}
 use Rattle.std.proofs.lemmas.List.{drop_more}
-use Rattle.txs_tree.specs.Tree.{Tree, Mark, If, none, more, count}
-use Rattle.txs_tree.specs.View.{kind_tree, mark_of, tree_of, trees_of, function_of, functions_of, thread_of, threads_of}
-use Rattle.txs_tree.specs.declared.node.Function.{Function}
-use Rattle.txs_tree.specs.declared.node.Node.{Node}
-use Rattle.txs_tree.specs.declared.node.NodeKind.{NodeKind, Const, Local, If', Do', Let', Loop', Recur', Core', Vector', Println', Dosync', Look', Put', Update', Send', Call'}
-use Rattle.txs_tree.specs.declared.node.Thread.{Thread}
-use Rattle.txs_tree.specs.Known.{Known}
+use Rattle.txs_tree_meaning.specs.Tree.{Tree, Mark, If, none, more, count}
+use Rattle.txs_tree_meaning.specs.View.{kind_tree, mark_of, tree_of, trees_of, function_of, functions_of, thread_of, threads_of}
+use Rattle.txs_tree_meaning.specs.declared.node.Function.{Function}
+use Rattle.txs_tree_meaning.specs.declared.node.Node.{Node}
+use Rattle.txs_tree_meaning.specs.declared.node.NodeKind.{NodeKind, Const, Local, If', Do', Let', Loop', Recur', Core', Vector', Println', Dosync', Look', Put', Update', Send', Call'}
+use Rattle.txs_tree_meaning.specs.declared.node.Thread.{Thread}
+use Rattle.txs_tree_meaning.specs.Known.{Known}
 use Rattle.txs_check.specs.declared.place.Target.{Target}
 use Rattle.txs_check.specs.declared.place.Zone.{Zone}
 use Rattle.txs_check.specs.Refused.{fine, ◌>>◌, ◌>>=◌, inner, place_of, turned, turned_in, in_turn, checked, checked_all, checked_do, before, function_body, thread_body, in_order, checked_body, checked_bodies, taken, room}

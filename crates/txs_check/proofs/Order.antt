@@ -1,10 +1,10 @@
 -- The bodies of a program in script order are its functions and its threads.
 use Rattle.std.proofs.Common.{◌≡◌, ℕ, zero, suc, ◌+◌, ◌-◌, ◌≤◌, ◌<◌, Bool, true, false, leb, if◌then◌else◌, List, [], ◌∷◌, ◌++◌, map, take, drop, Result, Ok, Err, refl, sym, ap, ◌∙◌, arith}
 use Rattle.std.proofs.lemmas.Bool.{leb-true, le-leb}
-use Rattle.txs_terms.specs.declared.fault.Span.{Span}
-use Rattle.txs_tree.specs.Known.{Known}
-use Rattle.txs_tree.specs.Sound.{nodes, nodes_of_functions, nodes_of_all}
-use Rattle.txs_tree.specs.Tree.{Tree, PlainFunction, PlainThread}
+use Rattle.txs_value_base.specs.declared.fault.Span.{Span}
+use Rattle.txs_tree_meaning.specs.Known.{Known}
+use Rattle.txs_tree_meaning.specs.Sound.{nodes, nodes_of_functions, nodes_of_all}
+use Rattle.txs_tree_meaning.specs.Tree.{Tree, PlainFunction, PlainThread}
 use Rattle.txs_check.specs.declared.error.CheckError.{CheckError}
 use Rattle.txs_check.specs.declared.error.CheckErrorKind.TheVariants.{CodeTooLarge}
 use Rattle.txs_check.specs.Refused.{fine, ◌>>◌, Body, function_body, thread_body, before, in_order, checked_body, checked_bodies, taken, ◌>>=◌, room, few}

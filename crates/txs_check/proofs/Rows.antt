@@ -1,8 +1,8 @@
 -- What a form is, over the rows of its parts.
 use Rattle.std.proofs.Common.{◌≡◌, Bool, true, false, ◌&&◌, ◌||◌, List, refl, ap, ◌∙◌}
-use Rattle.txs_terms.specs.Places.{nth}
-use Rattle.txs_tree.specs.Known.{Known}
-use Rattle.txs_tree.specs.Tree.{Tree, Const, Local, If, Do, Let, Loop, Recur, Core, Call, VectorOf, Println, Dosync, Look, Put, Update, Send, Trees, none}
+use Rattle.txs_value_base.specs.Places.{nth}
+use Rattle.txs_tree_meaning.specs.Known.{Known}
+use Rattle.txs_tree_meaning.specs.Tree.{Tree, Const, Local, If, Do, Let, Loop, Recur, Core, Call, VectorOf, Println, Dosync, Look, Put, Update, Send, Trees, none}
 use Rattle.txs_check.specs.declared.class.Class.{Class}
 use Rattle.txs_check.specs.Rows.{alone, rows_of}
 use Rattle.txs_check.specs.Signatures.{joined, class_above, class_in, class_in_all, class_known}

@@ -1,21 +1,21 @@
 -- What a refusal says of a program: a form that stands in it has that fault, or its forms are too many.
 use Rattle.std.specs.Prelude.{◌≡◌, ◌<◌, ◌+◌, ℕ, suc, Bool, true, false, nat_eq, List, [], ◌∷◌, ◌++◌, Some}
-use Rattle.txs_operations.specs.Core.{takes}
-use Rattle.txs_cells.specs.Forms.{rule}
-use Rattle.txs_value.specs.Limits.{most_nodes}
-use Rattle.txs_terms.specs.Places.{nth}
-use Rattle.txs_cells.specs.declared.form.CellForm.{CellForm}
-use Rattle.txs_cells.specs.declared.form.CellForm.TheVariants as form_of
-use Rattle.txs_cells.specs.declared.form.LookForm.{LookForm}
-use Rattle.txs_cells.specs.declared.form.PutForm.{PutForm}
-use Rattle.txs_cells.specs.declared.form.Standing.TheVariants.{Inside, Outside}
-use Rattle.txs_cells.specs.declared.form.UpdateForm.{UpdateForm}
-use Rattle.txs_terms.specs.declared.op.Op.{Op}
-use Rattle.txs_terms.specs.declared.op.Callee.{Callee}
-use Rattle.txs_terms.specs.declared.op.Callee.TheVariants.{Core as CoreOp, Function}
-use Rattle.txs_tree.specs.Known.{Known, is_pure, known}
-use Rattle.txs_tree.specs.Sound.{nodes}
-use Rattle.txs_tree.specs.Tree.{Tree, Mark, If, Do, Let, Loop, Recur, Core, Call, VectorOf, Println, Dosync, Look, Put, Update, Send, Trees, none, more, count, PlainProgram}
+use Rattle.txs_value_apply.specs.Core.{takes}
+use Rattle.txs_value_cell.specs.Forms.{rule}
+use Rattle.txs_value_data.specs.Limits.{most_nodes}
+use Rattle.txs_value_base.specs.Places.{nth}
+use Rattle.txs_value_cell.specs.declared.form.CellForm.{CellForm}
+use Rattle.txs_value_cell.specs.declared.form.CellForm.TheVariants as form_of
+use Rattle.txs_value_cell.specs.declared.form.LookForm.{LookForm}
+use Rattle.txs_value_cell.specs.declared.form.PutForm.{PutForm}
+use Rattle.txs_value_cell.specs.declared.form.Standing.TheVariants.{Inside, Outside}
+use Rattle.txs_value_cell.specs.declared.form.UpdateForm.{UpdateForm}
+use Rattle.txs_value_base.specs.declared.op.Op.{Op}
+use Rattle.txs_value_base.specs.declared.op.Callee.{Callee}
+use Rattle.txs_value_base.specs.declared.op.Callee.TheVariants.{Core as CoreOp, Function}
+use Rattle.txs_tree_meaning.specs.Known.{Known, is_pure, known}
+use Rattle.txs_tree_meaning.specs.Sound.{nodes}
+use Rattle.txs_tree_meaning.specs.Tree.{Tree, Mark, If, Do, Let, Loop, Recur, Core, Call, VectorOf, Println, Dosync, Look, Put, Update, Send, Trees, none, more, count, PlainProgram}
 use Rattle.txs_check.specs.Refused.{inner, across, accepts, place_of, Body, in_order}
 use Rattle.txs_check.specs.declared.error.CheckError.{CheckError}
 use Rattle.txs_check.specs.declared.error.CheckErrorKind.{CheckErrorKind}

@@ -1,20 +1,20 @@
 -- Which programs the checks refuse, and with what: the first refusal in source order.
 use Rattle.std.specs.Prelude.{◌≡◌, ℕ, suc, Bool, true, false, not, ◌-◌, ◌&&◌, nat_lt, nat_le, nat_eq, if◌then◌else◌, List, [], ◌∷◌, ◌++◌, map, take, drop, Option, Some, None, Result, Ok, Err}
-use Rattle.txs_operations.specs.Core.{takes}
-use Rattle.txs_cells.specs.Forms.{rule, may_stand}
-use Rattle.txs_value.specs.Limits.{most_nodes}
-use Rattle.txs_terms.specs.Places.{nth}
-use Rattle.txs_terms.specs.declared.fault.Span.{Span}
-use Rattle.txs_cells.specs.declared.form.CellForm.{CellForm}
-use Rattle.txs_cells.specs.declared.form.CellForm.TheVariants as form_of
-use Rattle.txs_cells.specs.declared.form.Standing.{Standing}
-use Rattle.txs_cells.specs.declared.form.Standing.TheVariants.{Outside}
-use Rattle.txs_terms.specs.declared.op.Op.{Op}
-use Rattle.txs_terms.specs.declared.op.Callee.{Callee}
-use Rattle.txs_terms.specs.declared.op.Callee.TheVariants.{Core as CoreOp, Function}
-use Rattle.txs_tree.specs.Known.{Known, is_pure, known}
-use Rattle.txs_tree.specs.Sound.{nodes}
-use Rattle.txs_tree.specs.Tree.{Tree, Mark, Const, Local, If, Do, Let, Loop, Recur, Core, Call, VectorOf, Println, Dosync, Look, Put, Update, Send, Trees, none, more, count, PlainFunction, PlainThread, PlainProgram}
+use Rattle.txs_value_apply.specs.Core.{takes}
+use Rattle.txs_value_cell.specs.Forms.{rule, may_stand}
+use Rattle.txs_value_data.specs.Limits.{most_nodes}
+use Rattle.txs_value_base.specs.Places.{nth}
+use Rattle.txs_value_base.specs.declared.fault.Span.{Span}
+use Rattle.txs_value_cell.specs.declared.form.CellForm.{CellForm}
+use Rattle.txs_value_cell.specs.declared.form.CellForm.TheVariants as form_of
+use Rattle.txs_value_cell.specs.declared.form.Standing.{Standing}
+use Rattle.txs_value_cell.specs.declared.form.Standing.TheVariants.{Outside}
+use Rattle.txs_value_base.specs.declared.op.Op.{Op}
+use Rattle.txs_value_base.specs.declared.op.Callee.{Callee}
+use Rattle.txs_value_base.specs.declared.op.Callee.TheVariants.{Core as CoreOp, Function}
+use Rattle.txs_tree_meaning.specs.Known.{Known, is_pure, known}
+use Rattle.txs_tree_meaning.specs.Sound.{nodes}
+use Rattle.txs_tree_meaning.specs.Tree.{Tree, Mark, Const, Local, If, Do, Let, Loop, Recur, Core, Call, VectorOf, Println, Dosync, Look, Put, Update, Send, Trees, none, more, count, PlainFunction, PlainThread, PlainProgram}
 use Rattle.txs_check.specs.declared.error.CheckError.{CheckError}
 use Rattle.txs_check.specs.declared.error.CheckErrorKind.{CheckErrorKind}
 use Rattle.txs_check.specs.declared.error.CheckErrorKind.TheVariants.{RecurNotTail, RecurCount, RecurAcrossDosync, Arity, NotPure, InsideOnly, OutsideOnly, CodeTooLarge}

@@ -1,12 +1,12 @@
 -- What the table of functions says of them: all that is known but how deep they are.
 use Rattle.std.specs.Prelude.{ℕ, Bool, false, ◌==◌, ◌&&◌, ◌||◌, List, map, Option, Some, None}
-use Rattle.txs_terms.specs.Places.{nth}
-use Rattle.txs_cells.specs.Forms.{rule}
-use Rattle.txs_cells.specs.declared.form.CellForm.TheVariants as form_of
-use Rattle.txs_cells.specs.declared.form.Standing.{Standing}
-use Rattle.txs_cells.specs.declared.form.Standing.TheVariants.{Outside}
-use Rattle.txs_tree.specs.Known.{Known, only_inside, only_outside, is_inside, is_outside, is_pure, inside_in, any_inside, outside_in, any_outside, pure_in, all_pure}
-use Rattle.txs_tree.specs.Tree.{Tree, Const, Local, If, Do, Let, Loop, Recur, Core, Call, VectorOf, Println, Dosync, Look, Put, Update, Send, Trees}
+use Rattle.txs_value_base.specs.Places.{nth}
+use Rattle.txs_value_cell.specs.Forms.{rule}
+use Rattle.txs_value_cell.specs.declared.form.CellForm.TheVariants as form_of
+use Rattle.txs_value_cell.specs.declared.form.Standing.{Standing}
+use Rattle.txs_value_cell.specs.declared.form.Standing.TheVariants.{Outside}
+use Rattle.txs_tree_meaning.specs.Known.{Known, only_inside, only_outside, is_inside, is_outside, is_pure, inside_in, any_inside, outside_in, any_outside, pure_in, all_pure}
+use Rattle.txs_tree_meaning.specs.Tree.{Tree, Const, Local, If, Do, Let, Loop, Recur, Core, Call, VectorOf, Println, Dosync, Look, Put, Update, Send, Trees}
 use Rattle.txs_check.specs.declared.class.Class.{Class}
 use Rattle.txs_check.specs.declared.class.Signature.{Signature}
 

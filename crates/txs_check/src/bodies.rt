@@ -1,7 +1,7 @@
 //! The bodies of a program in script order: functions and futures, each of which are in script order.
 
 ghost use Rattle.std.specs.Prelude.{◌≡◌, ◌≤◌, length, map};
-ghost use Rattle.txs_tree.specs.View.{tree_of, functions_of, threads_of};
+ghost use Rattle.txs_tree_meaning.specs.View.{tree_of, functions_of, threads_of};
 ghost use Rattle.txs_check.specs.Refused.{before, checked_bodies, in_order, room, taken, thread_body};
 ghost use Rattle.txs_check.specs.Signatures.{known_as};
 
@@ -10,8 +10,8 @@ use crate::error::{CheckError, CheckErrorKind};
 use crate::place::{Target, Zone};
 use crate::size::nodes_left;
 use crate::walk::check_node;
-use txs_terms::Span;
-use txs_tree::{Function, Node, Thread};
+use txs_tree_meaning::{Function, Node, Thread};
+use txs_value_base::Span;
 
 /// How many of the first threads stand before this place of the script.
 fn count_before(from: u32, threads: &[Thread]) -> usize

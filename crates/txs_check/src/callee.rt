@@ -1,16 +1,16 @@
 //! Which callees are pure.
 
 ghost use Rattle.std.specs.Prelude.{◌≡◌, ◌↔◌, IfOk, true};
-ghost use Rattle.txs_tree.specs.Known.{known};
-ghost use Rattle.txs_tree.specs.Pure.{PureCallee};
-ghost use Rattle.txs_tree.specs.View.{functions_of};
+ghost use Rattle.txs_tree_meaning.specs.Known.{known};
+ghost use Rattle.txs_tree_meaning.specs.Pure.{PureCallee};
+ghost use Rattle.txs_tree_meaning.specs.View.{functions_of};
 ghost use Rattle.txs_check.specs.Signatures.{is_pure_call, known_as};
 
 use crate::class::{Signature, signature_of, signatures_of};
 use std::alloc::{AllocError, Global};
-use txs_operations::takes;
-use txs_terms::Callee;
-use txs_tree::Program;
+use txs_tree_meaning::Program;
+use txs_value_apply::takes;
+use txs_value_base::Callee;
 
 /// Whether the function of this number is pure and takes so many values.
 fn is_pure_function(signatures: &[Signature], number: u16, count: usize) -> bool

@@ -1,16 +1,16 @@
 //! What is known of functions: how many parameters each has, and what its body is.
 
 ghost use Rattle.std.specs.Prelude.{◌≡◌, false, IfOk};
-ghost use Rattle.txs_tree.specs.Known.{known};
-ghost use Rattle.txs_cells.specs.Forms.{rule};
-ghost use Rattle.txs_terms.specs.Places.{nth};
-ghost use Rattle.txs_tree.specs.View.{tree_of, trees_of, function_of, functions_of};
+ghost use Rattle.txs_tree_meaning.specs.Known.{known};
+ghost use Rattle.txs_value_cell.specs.Forms.{rule};
+ghost use Rattle.txs_value_base.specs.Places.{nth};
+ghost use Rattle.txs_tree_meaning.specs.View.{tree_of, trees_of, function_of, functions_of};
 ghost use Rattle.txs_check.specs.Signatures.{joined, class_above, class_in, class_in_all, class_standing, bare, known_as, known_if};
 
 use crate::parts::parts;
 use std::alloc::{AllocError, Global};
-use txs_cells::{CellForm, Standing};
-use txs_tree::{Function, Node, NodeKind};
+use txs_tree_meaning::{Function, Node, NodeKind};
+use txs_value_cell::{CellForm, Standing};
 
 /// What a body is: for transactions alone, for outside alone, or pure.
 #[derive(Clone, Copy)]

@@ -1,9 +1,9 @@
 //! Laws of the checks. Each stands on a function that does nothing when it runs.
 
 ghost use Rattle.std.specs.Prelude.{◌≡◌, ◌≢◌, ◌⊎◌, ◌↔◌, List, map};
-ghost use Rattle.txs_tree.specs.Scoped.{Scoped};
-ghost use Rattle.txs_tree.specs.Sound.{Sound};
-ghost use Rattle.txs_tree.specs.Tree.{PlainFunction, PlainProgram, PlainThread};
+ghost use Rattle.txs_tree_meaning.specs.Scoped.{Scoped};
+ghost use Rattle.txs_tree_meaning.specs.Sound.{Sound};
+ghost use Rattle.txs_tree_meaning.specs.Tree.{PlainFunction, PlainProgram, PlainThread};
 ghost use Rattle.txs_check.specs.Faulty.{IsTrueOf};
 ghost use Rattle.txs_check.specs.Order.{Ascend, functions_in, futures_in};
 ghost use Rattle.txs_check.specs.Refused.{CheckStops, fine, function_body, in_order, refusal, thread_body};

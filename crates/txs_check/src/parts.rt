@@ -1,11 +1,11 @@
 //! The parts of a node.
 
 ghost use Rattle.std.specs.Prelude.{◌≡◌};
-ghost use Rattle.txs_tree.specs.View.{tree_of, trees_of};
+ghost use Rattle.txs_tree_meaning.specs.View.{tree_of, trees_of};
 ghost use Rattle.txs_check.specs.Rows.{rows, rows_of};
 
 use std::slice::from_ref;
-use txs_tree::{Node, NodeKind};
+use txs_tree_meaning::{Node, NodeKind};
 
 /// A node's parts as they are written, in up to three rows.
 pub fn parts(node: &Node) -> (&[Node], &[Node], &[Node])

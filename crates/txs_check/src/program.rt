@@ -1,8 +1,8 @@
 //! The check of a program.
 
 ghost use Rattle.std.specs.Prelude.{◌≡◌, ◌≢◌, IfOk, IfErr};
-ghost use Rattle.txs_tree.specs.Sound.{Sound};
-ghost use Rattle.txs_tree.specs.View.{program_of};
+ghost use Rattle.txs_tree_meaning.specs.Sound.{Sound};
+ghost use Rattle.txs_tree_meaning.specs.View.{program_of};
 ghost use Rattle.txs_check.specs.Errors.{out_of_memory};
 ghost use Rattle.txs_check.specs.Refused.{CheckStops};
 ghost use Rattle.txs_check.specs.declared.error.CheckErrorKind.TheVariants.{Memory};
@@ -12,8 +12,8 @@ use crate::class::signatures_of;
 use crate::error::CheckError;
 use crate::law::sound_where_nothing_refuses;
 use std::alloc::Global;
-use txs_tree::{Program, Raw};
-use txs_value::limits::MOST_NODES;
+use txs_tree_meaning::{Program, Raw};
+use txs_value_data::limits::MOST_NODES;
 
 /// Whether nothing of the program is refused: then it is sound.
 fn check_raw(alloc: Global, raw: &Raw) -> Result<(), CheckError>

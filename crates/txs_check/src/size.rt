@@ -1,11 +1,11 @@
 //! How many nodes a body has.
 
 ghost use Rattle.std.specs.Prelude.{◌≡◌, ◌<◌, ◌+◌, MatchOption};
-ghost use Rattle.txs_tree.specs.Sound.{nodes, nodes_in};
-ghost use Rattle.txs_tree.specs.View.{tree_of, trees_of};
+ghost use Rattle.txs_tree_meaning.specs.Sound.{nodes, nodes_in};
+ghost use Rattle.txs_tree_meaning.specs.View.{tree_of, trees_of};
 
 use crate::parts::parts;
-use txs_tree::Node;
+use txs_tree_meaning::Node;
 
 /// How many of so many nodes are left after those of this one; none where it has more.
 #[cycle(nodes)]

@@ -1,18 +1,18 @@
 //! The walk over a body: a node before its parts, and the parts as they are written.
 
 ghost use Rattle.std.specs.Prelude.{◌≡◌, length, suc};
-ghost use Rattle.txs_tree.specs.View.{tree_of, trees_of};
+ghost use Rattle.txs_tree_meaning.specs.View.{tree_of, trees_of};
 ghost use Rattle.txs_check.specs.Refused.{accepts, applied, called, calls, checked, checked_all, formed, here, turned, zoned};
-ghost use Rattle.txs_tree.specs.Known.{is_pure};
+ghost use Rattle.txs_tree_meaning.specs.Known.{is_pure};
 ghost use Rattle.txs_check.specs.Signatures.{known_as, known_if};
 
 use crate::class::{Signature, signature_of};
 use crate::error::{CheckError, CheckErrorKind};
 use crate::place::{Target, Zone, only};
-use txs_cells::{CellForm, Standing};
-use txs_operations::takes;
-use txs_terms::{Callee, Span};
-use txs_tree::{Node, NodeKind};
+use txs_tree_meaning::{Node, NodeKind};
+use txs_value_apply::takes;
+use txs_value_base::{Callee, Span};
+use txs_value_cell::{CellForm, Standing};
 
 /// Whether there is such a function and it has so many parameters.
 fn accepts(signature: Option<Signature>, count: usize) -> bool

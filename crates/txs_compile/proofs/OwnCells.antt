@@ -1,44 +1,44 @@
 -- The program that the forms of a script are names its own cells alone.
 use Rattle.std.proofs.Common.{◌≡◌, ◌||◌, ◌==◌, ◌-◌, ℕ, zero, suc, Bool, true, false, nat_lt, bytes_eq, if◌then◌else◌, List, [], ◌∷◌, ◌++◌, length, Option, Some, None, Ok, Err, refl, sym, subst}
 use Rattle.std.specs.List.{list_any}
-use Rattle.txs_value.specs.Limits.{most_definitions, most_depth, most_items, most_levels, most_threads}
-use Rattle.txs_terms.specs.Operations.{op_name}
-use Rattle.txs_value.specs.PlainValue.{PlainValue, nil, truth, int, key, text, vector, cell, PlainValues, end, plain_row}
-use Rattle.txs_value.specs.PlainValue as plain
-use Rattle.txs_value.specs.View.{plain_of, plains_of}
-use Rattle.txs_cells.specs.declared.cell.CellDefinition.{CellDefinition}
-use Rattle.txs_terms.specs.declared.fault.Span.{Span}
-use Rattle.txs_terms.specs.declared.op.Op.{Op}
-use Rattle.txs_terms.specs.declared.op.Callee.{Callee}
-use Rattle.txs_value.specs.declared.value.CellKind.{CellKind}
-use Rattle.txs_value.specs.declared.value.Value.{Value}
-use Rattle.txs_value.specs.declared.value.Value.TheVariants.{Cell, Vector}
+use Rattle.txs_value_data.specs.Limits.{most_definitions, most_depth, most_items, most_levels, most_threads}
+use Rattle.txs_value_base.specs.Operations.{op_name}
+use Rattle.txs_value_data.specs.PlainValue.{PlainValue, nil, truth, int, key, text, vector, cell, PlainValues, end, plain_row}
+use Rattle.txs_value_data.specs.PlainValue as plain
+use Rattle.txs_value_data.specs.View.{plain_of, plains_of}
+use Rattle.txs_value_cell.specs.declared.cell.CellDefinition.{CellDefinition}
+use Rattle.txs_value_base.specs.declared.fault.Span.{Span}
+use Rattle.txs_value_base.specs.declared.op.Op.{Op}
+use Rattle.txs_value_base.specs.declared.op.Callee.{Callee}
+use Rattle.txs_value_data.specs.declared.value.CellKind.{CellKind}
+use Rattle.txs_value_data.specs.declared.value.Value.{Value}
+use Rattle.txs_value_data.specs.declared.value.Value.TheVariants.{Cell, Vector}
 use Rattle.txs_reader.specs.declared.form.Bracket.TheVariants.{Round, Square}
 use Rattle.txs_reader.specs.Tree.{Tree as Form, Trees as Forms, Leaf, leaf, group, first, place, number, symbol, keyword, parts}
 use Rattle.txs_reader.specs.Tree as form
-use Rattle.txs_tree.specs.Known.{known, levels}
-use Rattle.txs_tree.specs.Tree.{Tree, Trees, Mark, Const, Local, Put, more, PlainFunction, PlainThread, PlainProgram}
-use Rattle.txs_code.specs.OwnCells.{kind_at, HoldsDefined, RowHoldsDefined, NamesDefined, NameDefined, NamesNone, OpeningsNameNone}
-use Rattle.txs_names.specs.declared.names.FormName.{FormName}
-use Rattle.txs_names.specs.declared.names.FormName.TheVariants as kind
-use Rattle.txs_names.specs.declared.scope.Definition.{Definition}
-use Rattle.txs_names.specs.declared.scope.Definition.TheVariants.{Constant, Cell as ACell, Function as AFunction}
-use Rattle.txs_names.specs.Scope.{Scope, Entry, Meaning, a_form, dotted, a_local, the_current, defined_as, operation, unknown, or_form, or_local, or_defined, or_unknown, meaning, definition_of, local_number, is_current, with_name, form_name, form_names, operations, is_dot, with_local}
+use Rattle.txs_tree_meaning.specs.Known.{known, levels}
+use Rattle.txs_tree_meaning.specs.Tree.{Tree, Trees, Mark, Const, Local, Put, more, PlainFunction, PlainThread, PlainProgram}
+use Rattle.txs_code_meaning.specs.OwnCells.{kind_at, HoldsDefined, RowHoldsDefined, NamesDefined, NameDefined, NamesNone, OpeningsNameNone}
+use Rattle.txs_resolve_scope.specs.declared.names.FormName.{FormName}
+use Rattle.txs_resolve_scope.specs.declared.names.FormName.TheVariants as kind
+use Rattle.txs_resolve_scope.specs.declared.scope.Definition.{Definition}
+use Rattle.txs_resolve_scope.specs.declared.scope.Definition.TheVariants.{Constant, Cell as ACell, Function as AFunction}
+use Rattle.txs_resolve_scope.specs.Scope.{Scope, Entry, Meaning, a_form, dotted, a_local, the_current, defined_as, operation, unknown, or_form, or_local, or_defined, or_unknown, meaning, definition_of, local_number, is_current, with_name, form_name, form_names, operations, is_dot, with_local}
 use Rattle.txs_resolve.specs.declared.definition.CellSort.{CellSort}
-use Rattle.txs_expand.specs.declared.error.ResolveError.{ResolveError}
-use Rattle.txs_expand.specs.declared.error.ResolveErrorKind.TheVariants.{TooMany}
-use Rattle.txs_expand.specs.declared.shapes.Change.{Change}
-use Rattle.txs_expand.specs.declared.shapes.Change.TheVariants as change_by
-use Rattle.txs_expand.specs.declared.shapes.Sequence.{Sequence}
-use Rattle.txs_expand.specs.declared.shapes.Sequence.TheVariants as sequence
-use Rattle.txs_expand.specs.declared.shapes.Single.{Single}
-use Rattle.txs_expand.specs.declared.shapes.Single.TheVariants as single
-use Rattle.txs_expand.specs.declared.shapes.Spot.{Spot}
-use Rattle.txs_expand.specs.Answers.{◌>>=◌, refuse}
-use Rattle.txs_expand.specs.Expansions.{alone, body, expand_once, form_at}
-use Rattle.txs_expand.specs.Expressions.{Answer, Bound, Special, row, one_part, putting, choice, binding, changing, Core as ACore, whole, parted, Resolver, spot_at, spot_mark, in_room, some_room, narrow, symbol_node, leaf_node, leaf_value, callee_of, flag, sequence_node, are_wanted, choice_node, single_node, is_wanted, change_node, binding_node, core_of, bound_name, named_all, named_bindings, put_together, made, resolved, named}
-use Rattle.txs_expression.specs.Literals.{literal, literals}
-use Rattle.txs_expand.specs.Namespace.{behind_namespace}
+use Rattle.txs_resolve_expand.specs.declared.error.ResolveError.{ResolveError}
+use Rattle.txs_resolve_expand.specs.declared.error.ResolveErrorKind.TheVariants.{TooMany}
+use Rattle.txs_resolve_expand.specs.declared.shapes.Change.{Change}
+use Rattle.txs_resolve_expand.specs.declared.shapes.Change.TheVariants as change_by
+use Rattle.txs_resolve_expand.specs.declared.shapes.Sequence.{Sequence}
+use Rattle.txs_resolve_expand.specs.declared.shapes.Sequence.TheVariants as sequence
+use Rattle.txs_resolve_expand.specs.declared.shapes.Single.{Single}
+use Rattle.txs_resolve_expand.specs.declared.shapes.Single.TheVariants as single
+use Rattle.txs_resolve_expand.specs.declared.shapes.Spot.{Spot}
+use Rattle.txs_resolve_expand.specs.Answers.{◌>>=◌, refuse}
+use Rattle.txs_resolve_expand.specs.Expansions.{alone, body, expand_once, form_at}
+use Rattle.txs_resolve_expand.specs.Expressions.{Answer, Bound, Special, row, one_part, putting, choice, binding, changing, Core as ACore, whole, parted, Resolver, spot_at, spot_mark, in_room, some_room, narrow, symbol_node, leaf_node, leaf_value, callee_of, flag, sequence_node, are_wanted, choice_node, single_node, is_wanted, change_node, binding_node, core_of, bound_name, named_all, named_bindings, put_together, made, resolved, named}
+use Rattle.txs_resolve_body.specs.Literals.{literal, literals}
+use Rattle.txs_resolve_expand.specs.Namespace.{behind_namespace}
 use Rattle.txs_resolve.specs.Names.{State, nothing, program, new_name, Defining, defining_of, new_cell, with_definition, defined_as_one, NamedForm, named_form, defined_at, parameters, Written, written, with_function, function, with_thread, future, top_level, step, steps, Resolves}
 use Rattle.txs_resolve.proofs.Scoping.{Every, then_every, one_every, two_every, three_every, if_every}
 use Rattle.txs_gen.specs.Generated.{constants_of, constants_in, constants_of_functions, constants_of_threads}

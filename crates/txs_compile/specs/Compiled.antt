@@ -5,13 +5,13 @@ use Rattle.txs_reader.specs.Tree.{Tree as Form}
 use Rattle.txs_reader.specs.declared.error.ReadErrorKind.TheVariants.{Memory as Unread}
 use Rattle.txs_reader.specs.declared.error.ReadError.{ReadError}
 use Rattle.txs_resolve.specs.Names.{Resolves, ResolveStops}
-use Rattle.txs_expand.specs.declared.error.ResolveError.{ResolveError}
+use Rattle.txs_resolve_expand.specs.declared.error.ResolveError.{ResolveError}
 use Rattle.txs_check.specs.Refused.{CheckStops}
 use Rattle.txs_check.specs.declared.error.CheckError.{CheckError}
-use Rattle.txs_tree.specs.Sound.{Sound}
-use Rattle.txs_tree.specs.Tree.{PlainProgram}
-use Rattle.txs_code.specs.Machine.{ThreadCode}
-use Rattle.txs_code.specs.PlainCode.{PlainCode, thread_code}
+use Rattle.txs_tree_meaning.specs.Sound.{Sound}
+use Rattle.txs_tree_meaning.specs.Tree.{PlainProgram}
+use Rattle.txs_code_meaning.specs.Machine.{ThreadCode}
+use Rattle.txs_code_meaning.specs.PlainCode.{PlainCode, thread_code}
 use Rattle.txs_compile.specs.declared.compile_error.CompileError.{CompileError}
 use Rattle.txs_compile.specs.declared.compile_error.CompileError.TheVariants.{Read, Resolve, Check, Memory}
 

@@ -1,34 +1,34 @@
 //! From the bytes of a script to its program and code.
 
 ghost use Rattle.std.specs.Prelude.{◌≡◌, IfOk, IfErr};
-ghost use Rattle.txs_decode.specs.CodeForm.{HasForm};
+ghost use Rattle.txs_code_decode.specs.CodeForm.{HasForm};
 ghost use Rattle.txs_check.specs.Refused.{CheckStops};
-ghost use Rattle.txs_code.specs.OwnCells.{NamesOwnCells};
-ghost use Rattle.txs_code.specs.PlainCode.{function_codes};
-ghost use Rattle.txs_follows.specs.FollowsAgent.{FollowsAgents};
-ghost use Rattle.txs_follows.specs.FollowsAll.{FollowsAll};
-ghost use Rattle.txs_follows.specs.Sends.{CodesSendSound};
+ghost use Rattle.txs_code_meaning.specs.OwnCells.{NamesOwnCells};
+ghost use Rattle.txs_code_meaning.specs.PlainCode.{function_codes};
+ghost use Rattle.txs_theorem_threads.specs.FollowsAgent.{FollowsAgents};
+ghost use Rattle.txs_theorem_threads.specs.FollowsAll.{FollowsAll};
+ghost use Rattle.txs_theorem_threads.specs.Sends.{CodesSendSound};
 ghost use Rattle.txs_gen.specs.Generated.{IsCodeOf};
 ghost use Rattle.txs_gen.specs.OwnCells.{ProgramNamesOwnCells};
 ghost use Rattle.txs_reader.specs.Script.{Reads};
 ghost use Rattle.txs_reader.specs.Tree.{trees};
 ghost use Rattle.txs_resolve.specs.Names.{Resolves, ResolveStops};
-ghost use Rattle.txs_tree.specs.Sound.{Sound};
-ghost use Rattle.txs_tree.specs.View.{program_of};
+ghost use Rattle.txs_tree_meaning.specs.Sound.{Sound};
+ghost use Rattle.txs_tree_meaning.specs.View.{program_of};
 ghost use Rattle.txs_compile.specs.Compiled.{IsProgramOf, IsRefusal, codes_of};
 
 use crate::compile_error::CompileError;
 use std::alloc::Global;
 use txs_check::{CheckErrorKind, check};
-use txs_code::Verified;
-use txs_formed::law::code_of_script_has_form;
+use txs_code_meaning::Verified;
 use txs_gen::follows::{
     code_of_agents_follows, code_of_program_follows, code_of_program_sends_sound,
 };
 use txs_gen::generate;
 use txs_reader::{Form, ReadErrorKind, read_script};
 use txs_resolve::{ResolveErrorKind, resolve};
-use txs_tree::{Program, Raw};
+use txs_theorem_byte_form::law::code_of_script_has_form;
+use txs_tree_meaning::{Program, Raw};
 
 /// The forms of a script.
 fn forms_of(alloc: Global, bytes: &[u8]) -> Result<Vec<Form>, CompileError>

@@ -1,24 +1,24 @@
 -- The listing of code: a line for each cell, each constant, each body and each instruction.
 use Rattle.std.specs.Prelude.{ℕ, suc, List, [], ◌∷◌, ◌++◌, codes, decimal}
-use Rattle.txs_terms.specs.Operations.{op_name}
-use Rattle.txs_value.specs.Printed.{printed}
-use Rattle.txs_value.specs.View.{plain_of}
-use Rattle.txs_cells.specs.declared.cell.CellDefinition.{CellDefinition}
-use Rattle.txs_cells.specs.declared.cell.ErrorMode.{ErrorMode}
-use Rattle.txs_cells.specs.declared.cell.ErrorMode.TheVariants.{Fail, Continue}
-use Rattle.txs_terms.specs.declared.fault.Span.{Span}
-use Rattle.txs_cells.specs.declared.form.LookForm.TheVariants.{Deref, Ensure}
-use Rattle.txs_cells.specs.declared.form.PutForm.TheVariants.{RefSet, Reset}
-use Rattle.txs_cells.specs.declared.form.UpdateForm.TheVariants as update
-use Rattle.txs_terms.specs.declared.op.Callee.{Callee}
-use Rattle.txs_terms.specs.declared.op.Callee.TheVariants as callee
-use Rattle.txs_value.specs.declared.value.CellKind.{CellKind}
-use Rattle.txs_value.specs.declared.value.CellKind.TheVariants.{Ref, Atom, Agent}
-use Rattle.txs_value.specs.declared.value.Value.{Value}
-use Rattle.txs_code.specs.PlainCode.{CodeBody, PlainCode}
-use Rattle.txs_code.specs.declared.instr.Instr.{Instr}
-use Rattle.txs_code.specs.declared.instr.Instr.TheVariants as instr
-use Rattle.txs_code.specs.declared.instr.OpenForm.TheVariants as open_form
+use Rattle.txs_value_base.specs.Operations.{op_name}
+use Rattle.txs_value_data.specs.Printed.{printed}
+use Rattle.txs_value_data.specs.View.{plain_of}
+use Rattle.txs_value_cell.specs.declared.cell.CellDefinition.{CellDefinition}
+use Rattle.txs_value_cell.specs.declared.cell.ErrorMode.{ErrorMode}
+use Rattle.txs_value_cell.specs.declared.cell.ErrorMode.TheVariants.{Fail, Continue}
+use Rattle.txs_value_base.specs.declared.fault.Span.{Span}
+use Rattle.txs_value_cell.specs.declared.form.LookForm.TheVariants.{Deref, Ensure}
+use Rattle.txs_value_cell.specs.declared.form.PutForm.TheVariants.{RefSet, Reset}
+use Rattle.txs_value_cell.specs.declared.form.UpdateForm.TheVariants as update
+use Rattle.txs_value_base.specs.declared.op.Callee.{Callee}
+use Rattle.txs_value_base.specs.declared.op.Callee.TheVariants as callee
+use Rattle.txs_value_data.specs.declared.value.CellKind.{CellKind}
+use Rattle.txs_value_data.specs.declared.value.CellKind.TheVariants.{Ref, Atom, Agent}
+use Rattle.txs_value_data.specs.declared.value.Value.{Value}
+use Rattle.txs_code_meaning.specs.PlainCode.{CodeBody, PlainCode}
+use Rattle.txs_code_meaning.specs.declared.instr.Instr.{Instr}
+use Rattle.txs_code_meaning.specs.declared.instr.Instr.TheVariants as instr
+use Rattle.txs_code_meaning.specs.declared.instr.OpenForm.TheVariants as open_form
 use Rattle.txs_disasm.specs.declared.lines.BodyKind.{BodyKind}
 use Rattle.txs_disasm.specs.declared.lines.BodyKind.TheVariants.{Function, Thread}
 

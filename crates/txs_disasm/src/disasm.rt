@@ -10,10 +10,10 @@ use crate::lines::{BodyKind, put_body, put_cell, put_constant, put_instr};
 use crate::output::Page;
 use std::alloc::Global;
 use std::io::Write;
-use txs_cells::CellDefinition;
-use txs_code::{Body, Code, Instr};
-use txs_terms::Span;
-use txs_value::Value;
+use txs_code_meaning::{Body, Code, Instr};
+use txs_value_base::Span;
+use txs_value_cell::CellDefinition;
+use txs_value_data::Value;
 
 /// Writes the lines of cells.
 fn list_cells<W: Write>(

@@ -1,17 +1,17 @@
 //! The lines of a listing.
 
 ghost use Rattle.std.specs.Prelude.{◌≡◌, ◌++◌, decimal, OnOk};
-ghost use Rattle.txs_value.specs.Printed.{printed};
-ghost use Rattle.txs_value.specs.View.{plain_of};
+ghost use Rattle.txs_value_data.specs.Printed.{printed};
+ghost use Rattle.txs_value_data.specs.View.{plain_of};
 ghost use Rattle.txs_disasm.specs.Listing.{at_span, body_head, body_line, callee_words, cell_line, constant_line, instr_line, operands, word};
 
 use crate::names::{cell_end, instr_name, kind_name};
 use itoa::Buffer;
 use std::alloc::AllocError;
-use txs_cells::CellDefinition;
-use txs_code::{Body, Instr, OpenForm};
-use txs_terms::{Callee, Span};
-use txs_value::{Value, write_text};
+use txs_code_meaning::{Body, Instr, OpenForm};
+use txs_value_base::{Callee, Span};
+use txs_value_cell::CellDefinition;
+use txs_value_data::{Value, write_text};
 
 /// What a body is of.
 #[derive(Clone, Copy)]

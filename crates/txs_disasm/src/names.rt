@@ -3,9 +3,9 @@
 ghost use Rattle.std.specs.Prelude.{◌≡◌, ◌++◌, codes};
 ghost use Rattle.txs_disasm.specs.Listing.{instr_name, kind_name, mode_words};
 
-use txs_cells::{ErrorMode, LookForm, PutForm, UpdateForm};
-use txs_code::{Instr, OpenForm};
-use txs_value::CellKind;
+use txs_code_meaning::{Instr, OpenForm};
+use txs_value_cell::{ErrorMode, LookForm, PutForm, UpdateForm};
+use txs_value_data::CellKind;
 
 /// The name of a kind of cells.
 pub(crate) fn kind_name(kind: CellKind) -> &'static [u8]

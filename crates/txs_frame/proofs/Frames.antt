@@ -1,15 +1,15 @@
 -- What each call does to the parts of a frame, and so to what the transaction has done.
 use Rattle.std.proofs.Common.{◌≡◌, ℕ, ◌||◌, true, false, if◌then◌else◌, List, [], ◌∷◌, ◌++◌, map, get_or, Option, Some, None, is_some, Result, Ok, Err, refl, sym, ap, subst, ◌∙◌, arith}
 use Rattle.std.specs.Prelude.{insert}
-use Rattle.txs_asks.specs.Ask.{Writes, with_write}
-use Rattle.txs_cells.specs.declared.action.Action.{Action}
-use Rattle.txs_terms.specs.declared.fault.FaultKind.TheVariants as fault
-use Rattle.txs_terms.specs.declared.fault.FaultKind.{FaultKind}
-use Rattle.txs_terms.specs.declared.op.Callee.{Callee}
-use Rattle.txs_value.specs.declared.value.CellId.{CellId}
-use Rattle.txs_value.specs.declared.value.CellKind.{CellKind}
-use Rattle.txs_value.specs.declared.value.CellKind.TheVariants.{Ref}
-use Rattle.txs_value.specs.declared.value.Value.{Value}
+use Rattle.txs_world_protocol.specs.Ask.{Writes, with_write}
+use Rattle.txs_value_cell.specs.declared.action.Action.{Action}
+use Rattle.txs_value_base.specs.declared.fault.FaultKind.TheVariants as fault
+use Rattle.txs_value_base.specs.declared.fault.FaultKind.{FaultKind}
+use Rattle.txs_value_base.specs.declared.op.Callee.{Callee}
+use Rattle.txs_value_data.specs.declared.value.CellId.{CellId}
+use Rattle.txs_value_data.specs.declared.value.CellKind.{CellKind}
+use Rattle.txs_value_data.specs.declared.value.CellKind.TheVariants.{Ref}
+use Rattle.txs_value_data.specs.declared.value.Value.{Value}
 use Rattle.txs_frame.specs.Frame.{Work, no_work, with_cell, with_cells, has_number, outside_of, is_set, is_commuted, commuted, set_writes, set_ref, ensure_ref, commute_ref, SetAnswers}
 use Rattle.txs_frame.specs.declared.frame.Commute.{Commute}
 use Rattle.txs_frame.specs.declared.frame.SetError.{SetError}

@@ -1,7 +1,7 @@
 -- Laws of sets of cells.
 use Rattle.std.proofs.Common.{◌≡◌, ℕ, ◌==◌, ◌||◌, Bool, true, false, if◌then◌else◌, List, [], ◌∷◌, refl, sym, ap, ◌∙◌}
 use Rattle.std.proofs.lemmas.Bool.{eqb-true, true≢false}
-use Rattle.txs_value.specs.declared.value.CellId.{CellId}
+use Rattle.txs_value_data.specs.declared.value.CellId.{CellId}
 use Rattle.txs_frame.specs.Frame.{has_number, outside_of}
 
 pub set_not_commuted : (ds cs : List CellId) (k : ℕ) → has_number ds k ≡ true → has_number (outside_of ds cs) k ≡ false

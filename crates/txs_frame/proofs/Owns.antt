@@ -2,9 +2,9 @@
 use Rattle.std.proofs.Common.{◌≡◌, ℕ, suc, ◌<◌, ◌==◌, ◌||◌, Bool, true, false, if◌then◌else◌, List, [], ◌∷◌, ◌++◌, Option, Some, None, refl, sym, ap, ◌∙◌, arith}
 use Rattle.std.specs.Prelude.{nat_lt}
 use Rattle.std.proofs.lemmas.Bool.{lt-ltb, ltb-true, eq-eqb, eqb-true, ne_eqb}
-use Rattle.txs_asks.specs.Ask.{buffered, with_write}
-use Rattle.txs_value.specs.declared.value.CellId.{CellId}
-use Rattle.txs_value.specs.declared.value.Value.{Value}
+use Rattle.txs_world_protocol.specs.Ask.{buffered, with_write}
+use Rattle.txs_value_data.specs.declared.value.CellId.{CellId}
+use Rattle.txs_value_data.specs.declared.value.Value.{Value}
 use Rattle.txs_frame.specs.Frame.{with_cell, has_number, outside_of, writes_to}
 use Rattle.txs_frame.specs.declared.own.How.{How}
 use Rattle.txs_frame.specs.declared.own.How.TheVariants as how

@@ -1,6 +1,6 @@
 -- The work of the commute phase, commute by commute and ref by ref.
 use Rattle.std.proofs.Common.{◌≡◌, ℕ, ◌==◌, Bool, true, false, if◌then◌else◌, List, [], ◌∷◌, ◌++◌, refl, sym, ap, ◌∙◌, append_assoc}
-use Rattle.txs_value.specs.declared.value.CellId.{CellId}
+use Rattle.txs_value_data.specs.declared.value.CellId.{CellId}
 use Rattle.txs_frame.specs.Frame.{commutes_of, by_ref}
 use Rattle.txs_frame.specs.declared.frame.Commute.{Commute}
 

@@ -3,11 +3,11 @@ use Rattle.std.proofs.Common.{◌≡◌, ℕ, zero, suc, ◌<◌, ◌≤◌, ◌
 use Rattle.std.specs.Prelude.{nat_lt, drop}
 use Rattle.std.specs.List.{slice_get}
 use Rattle.std.proofs.lemmas.Bool.{eq-eqb, eqb-true, false≢true}
-use Rattle.txs_asks.specs.Ask.{Writes, buffered, with_write}
-use Rattle.txs_terms.specs.declared.op.Callee.{Callee}
-use Rattle.txs_value.specs.declared.value.CellId.{CellId}
-use Rattle.txs_value.specs.declared.value.Value.{Value}
-use Rattle.txs_value.specs.declared.value.Value.TheVariants.{Nil}
+use Rattle.txs_world_protocol.specs.Ask.{Writes, buffered, with_write}
+use Rattle.txs_value_base.specs.declared.op.Callee.{Callee}
+use Rattle.txs_value_data.specs.declared.value.CellId.{CellId}
+use Rattle.txs_value_data.specs.declared.value.Value.{Value}
+use Rattle.txs_value_data.specs.declared.value.Value.TheVariants.{Nil}
 use Rattle.txs_frame.specs.Frame.{Work, with_cell, with_cells, has_number, outside_of, refs_of, commuted, commutes_of, by_ref, phase_work}
 use Rattle.txs_frame.specs.Kept.{Ascends, IsPlaceOf, item_of, with_item, cell_number}
 use Rattle.txs_frame.specs.Phase.{blank, filled, next_callee, value_or_nil, write_number, AreViewed, IsPhase}

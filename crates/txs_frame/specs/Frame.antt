@@ -1,12 +1,12 @@
 -- What a transaction has done so far, as plain data, and its operations.
 use Rattle.std.specs.Prelude.{◌≡◌, ℕ, Bool, false, ◌==◌, ◌||◌, nat_lt, List, [], ◌∷◌, ◌++◌, map, Result, Ok, Err, if◌then◌else◌}
-use Rattle.txs_asks.specs.Ask.{Writes, with_write}
-use Rattle.txs_cells.specs.declared.action.Action.{Action}
-use Rattle.txs_terms.specs.declared.fault.FaultKind.{FaultKind}
-use Rattle.txs_terms.specs.declared.fault.FaultKind.TheVariants as fault
-use Rattle.txs_terms.specs.declared.op.Callee.{Callee}
-use Rattle.txs_value.specs.declared.value.CellId.{CellId}
-use Rattle.txs_value.specs.declared.value.Value.{Value}
+use Rattle.txs_world_protocol.specs.Ask.{Writes, with_write}
+use Rattle.txs_value_cell.specs.declared.action.Action.{Action}
+use Rattle.txs_value_base.specs.declared.fault.FaultKind.{FaultKind}
+use Rattle.txs_value_base.specs.declared.fault.FaultKind.TheVariants as fault
+use Rattle.txs_value_base.specs.declared.op.Callee.{Callee}
+use Rattle.txs_value_data.specs.declared.value.CellId.{CellId}
+use Rattle.txs_value_data.specs.declared.value.Value.{Value}
 use Rattle.txs_frame.specs.declared.frame.Commute.{Commute}
 use Rattle.txs_frame.specs.declared.frame.SetError.{SetError}
 use Rattle.txs_frame.specs.declared.frame.SetError.TheVariants.{SetAfterCommute, Memory}

@@ -1,10 +1,10 @@
 -- What is left of a commute phase.
 use Rattle.std.specs.Prelude.{◌≡◌, ℕ, true, is_some, List, [], ◌∷◌, Option, Some, None}
-use Rattle.txs_asks.specs.Ask.{Writes, buffered, with_write}
-use Rattle.txs_terms.specs.declared.op.Callee.{Callee}
-use Rattle.txs_value.specs.declared.value.CellId.{CellId}
-use Rattle.txs_value.specs.declared.value.Value.{Value}
-use Rattle.txs_value.specs.declared.value.Value.TheVariants.{Nil}
+use Rattle.txs_world_protocol.specs.Ask.{Writes, buffered, with_write}
+use Rattle.txs_value_base.specs.declared.op.Callee.{Callee}
+use Rattle.txs_value_data.specs.declared.value.CellId.{CellId}
+use Rattle.txs_value_data.specs.declared.value.Value.{Value}
+use Rattle.txs_value_data.specs.declared.value.Value.TheVariants.{Nil}
 use Rattle.txs_frame.specs.Kept.{Ascends, item_of}
 use Rattle.txs_frame.specs.declared.frame.Commute.{Commute}
 

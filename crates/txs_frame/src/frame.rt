@@ -1,19 +1,19 @@
 //! The frame of a transaction.
 
 ghost use Rattle.std.specs.Prelude.{◌≡◌, ◌||◌, ◌++◌, ◌∷◌, [], option_copied, is_some, IfOk, OnOk, OnErr};
-ghost use Rattle.txs_asks.specs.Ask.{buffered};
+ghost use Rattle.txs_world_protocol.specs.Ask.{buffered};
 ghost use Rattle.txs_frame.specs.Frame.{Work, no_work, is_set, is_commuted, set_ref, ensure_ref, commute_ref, hold_send, commuted, commutes_of, by_ref, phase_work, set_writes, with_cell, SetAnswers};
 ghost use Rattle.txs_frame.specs.Kept.{Ascends, IsPlaceOf, cell_number, cells_by, writes_by, was_set, only_commuted};
-ghost use Rattle.txs_value.specs.declared.value.CellKind.TheVariants.{Ref as a_ref};
+ghost use Rattle.txs_value_data.specs.declared.value.CellKind.TheVariants.{Ref as a_ref};
 ghost use Rattle.txs_frame.specs.declared.frame.SetError.TheVariants.{Memory as no_memory};
 
 use crate::own::{How, Own, find, how_at, put, was_commuted, with_commute};
 use std::alloc::{AllocError, Global};
 use std::marker::Model;
 use thiserror::Error;
-use txs_cells::Action;
-use txs_terms::Callee;
-use txs_value::{CellId, CellKind, Listed, Value, copy_value, copy_values};
+use txs_value_base::Callee;
+use txs_value_cell::Action;
+use txs_value_data::{CellId, CellKind, Listed, Value, copy_value, copy_values};
 
 /// A commute that is kept: its ref, what it calls, and the arguments behind the ref's value.
 #[derive(Drop)]
@@ -70,7 +70,7 @@ impl Drop for TxFrame {
 
 impl Model for TxFrame {
     ghost use Rattle.std.specs.Coded.{codes};
-    ghost use Rattle.txs_value.specs.contracts.value.Value as value;
+    ghost use Rattle.txs_value_data.specs.contracts.value.Value as value;
     ghost use Rattle.txs_frame.specs.Frame.{Work};
 
     ghost Value = { Work };

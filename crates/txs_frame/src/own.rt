@@ -5,7 +5,7 @@ ghost use Rattle.std.specs.List.Sorted.{IsSearchInRange};
 ghost use Rattle.txs_frame.specs.Kept.{Ascends, IsPlaceOf, put_at, how_at, was_commuted_if, with_commute, number_of};
 
 use std::alloc::AllocError;
-use txs_value::Value;
+use txs_value_data::Value;
 
 /// How a ref came by its value.
 #[derive(Clone, Copy)]

@@ -1,7 +1,7 @@
 //! The commute phase at the end of a transaction.
 
 ghost use Rattle.std.specs.Prelude.{◌≡◌, ◌<◌, true, is_some, length, IfOk};
-ghost use Rattle.txs_asks.specs.Ask.{buffered, with_write};
+ghost use Rattle.txs_world_protocol.specs.Ask.{buffered, with_write};
 ghost use Rattle.txs_frame.specs.Frame.{commuted, phase_work};
 ghost use Rattle.txs_frame.specs.Kept.{Ascends, IsPlaceOf, item_of};
 ghost use Rattle.txs_frame.specs.Phase.{IsPhase, blank, filled, given, next_arguments, next_callee, value_or_nil, write_number};
@@ -10,8 +10,8 @@ use crate::frame::{Commute, TxFrame};
 use std::alloc::{AllocError, Global};
 use std::marker::Model;
 use std::mem;
-use txs_terms::Callee;
-use txs_value::{CellId, Listed, Value, copy_value};
+use txs_value_base::Callee;
+use txs_value_data::{CellId, Listed, Value, copy_value};
 
 /// What is left of a commute phase: the refs that were commuted and not set with their values so far, and the commutes that are
 /// still to be applied, ref by ref by ascending number.
@@ -39,7 +39,7 @@ impl Drop for Phase {
 impl Model for Phase {
     ghost use Rattle.std.specs.Coded.{codes};
     ghost use Rattle.std.specs.Prelude.{drop};
-    ghost use Rattle.txs_value.specs.contracts.value.Value as value;
+    ghost use Rattle.txs_value_data.specs.contracts.value.Value as value;
     ghost use Rattle.txs_frame.specs.Phase.{PlainPhase, IsPhase};
 
     ghost Value = { PlainPhase };

@@ -1,22 +1,22 @@
 -- The code of pure functions does what they mean, where an agent's actions call them.
 use Rattle.std.proofs.Common.{◌≡◌, ℕ, true, false, List, [], ◌∷◌, length, sym, subst}
-use Rattle.txs_terms.specs.Places.{nth}
-use Rattle.txs_cells.specs.declared.action.Action.{Action}
-use Rattle.txs_value.specs.declared.value.CellId.{CellId}
-use Rattle.txs_value.specs.declared.value.Value.{Value}
-use Rattle.txs_terms.specs.declared.op.Callee.TheVariants.{Function}
-use Rattle.txs_tree.specs.Known.{is_pure, known}
-use Rattle.txs_tree.specs.Meaning.{Completion, Completes, Recurs, Faults, Retries, Waits, OutOfTurns, Invalid}
-use Rattle.txs_tree.specs.Pure.{pure_calls}
-use Rattle.txs_tree.specs.Sound.{SoundFunctions}
-use Rattle.txs_tree.specs.Tree.{PlainFunction}
-use Rattle.txs_code.specs.ActorState.{ActorState}
-use Rattle.txs_code.specs.Machine.{ThreadCode, agent_body, agent_code, Acting, Configuration, to_stack, called}
-use Rattle.txs_code.specs.PlainCode.{parameters_of}
-use Rattle.txs_follows.specs.ActionsBehave.{acting, CallComes, ActionsBehave, SoundFollowsAgents}
-use Rattle.txs_follows.specs.FollowsAgent.{FollowsAgents}
-use Rattle.txs_follows.specs.OnReplies.{on_replies}
-use Rattle.txs_follows.proofs.Quiet.{carried, callee_carried}
+use Rattle.txs_value_base.specs.Places.{nth}
+use Rattle.txs_value_cell.specs.declared.action.Action.{Action}
+use Rattle.txs_value_data.specs.declared.value.CellId.{CellId}
+use Rattle.txs_value_data.specs.declared.value.Value.{Value}
+use Rattle.txs_value_base.specs.declared.op.Callee.TheVariants.{Function}
+use Rattle.txs_tree_meaning.specs.Known.{is_pure, known}
+use Rattle.txs_tree_meaning.specs.Meaning.{Completion, Completes, Recurs, Faults, Retries, Waits, OutOfTurns, Invalid}
+use Rattle.txs_tree_meaning.specs.Pure.{pure_calls}
+use Rattle.txs_tree_meaning.specs.Sound.{SoundFunctions}
+use Rattle.txs_tree_meaning.specs.Tree.{PlainFunction}
+use Rattle.txs_code_meaning.specs.ActorState.{ActorState}
+use Rattle.txs_code_meaning.specs.Machine.{ThreadCode, agent_body, agent_code, Acting, Configuration, to_stack, called}
+use Rattle.txs_code_meaning.specs.PlainCode.{parameters_of}
+use Rattle.txs_theorem_threads.specs.ActionsBehave.{acting, CallComes, ActionsBehave, SoundFollowsAgents}
+use Rattle.txs_theorem_threads.specs.FollowsAgent.{FollowsAgents}
+use Rattle.txs_theorem_threads.specs.OnReplies.{on_replies}
+use Rattle.txs_theorem_threads.proofs.Quiet.{carried, callee_carried}
 use Rattle.txs_gen.specs.Agents.{AgentsFollow}
 use Rattle.txs_gen.specs.Gen.{functions_code}
 use Rattle.txs_gen.proofs.Calls.{calls_simulate}

@@ -3,23 +3,23 @@ use Rattle.std.proofs.Common.{◌≡◌, ℕ, zero, suc, ◌+◌, ◌<◌, ◌�
 use Rattle.std.proofs.Math.Seq.{drop-cons}
 use Rattle.std.proofs.lemmas.List.{append-nil, drop_all}
 use Rattle.std.specs.List.{range_with_len}
-use Rattle.txs_terms.specs.Places.{nth}
-use Rattle.txs_cells.specs.declared.cell.CellDefinition.{CellDefinition}
-use Rattle.txs_terms.specs.declared.fault.Span.{Span}
-use Rattle.txs_value.specs.declared.value.Value.{Value}
-use Rattle.txs_tree.specs.Known.{Known, inside_in, outside_in, pure_in, known_of, known_from, known}
-use Rattle.txs_tree.specs.Sound.{Zone, in_function, in_thread, SoundTree, SoundFunction, SoundFunctions, SoundThreads, nodes_of_functions}
-use Rattle.txs_tree.specs.Tree.{Tree, PlainFunction, PlainThread, PlainProgram}
-use Rattle.txs_tree.specs.View.{function_of, functions_of, thread_of, threads_of}
-use Rattle.txs_tree.specs.declared.node.Function.{Function}
-use Rattle.txs_tree.specs.declared.node.Thread.{Thread}
-use Rattle.txs_code.specs.declared.instr.Instr.{Instr}
-use Rattle.txs_code.specs.declared.instr.Instr.TheVariants.{Return, Halt}
-use Rattle.txs_code.specs.Machine.{PlainInstr, PlainBody}
-use Rattle.txs_code.specs.Machine as machine
-use Rattle.txs_code.specs.PlainCode.{CodeBody, PlainCode, parameters_of, plain_instr, plain_instrs}
-use Rattle.txs_code.specs.WellTyped.{Functions, FunctionKind, Owner, a_function, a_thread, plain, IsLawful, Fits, FitsStage, WellTyped, WellTypedBody, WellTypedFunctions, WellTypedThreads, Depths, Stages}
-use Rattle.txs_follows.proofs.Functions.{at_end, free_tree, known_front, nth_below}
+use Rattle.txs_value_base.specs.Places.{nth}
+use Rattle.txs_value_cell.specs.declared.cell.CellDefinition.{CellDefinition}
+use Rattle.txs_value_base.specs.declared.fault.Span.{Span}
+use Rattle.txs_value_data.specs.declared.value.Value.{Value}
+use Rattle.txs_tree_meaning.specs.Known.{Known, inside_in, outside_in, pure_in, known_of, known_from, known}
+use Rattle.txs_tree_meaning.specs.Sound.{Zone, in_function, in_thread, SoundTree, SoundFunction, SoundFunctions, SoundThreads, nodes_of_functions}
+use Rattle.txs_tree_meaning.specs.Tree.{Tree, PlainFunction, PlainThread, PlainProgram}
+use Rattle.txs_tree_meaning.specs.View.{function_of, functions_of, thread_of, threads_of}
+use Rattle.txs_tree_meaning.specs.declared.node.Function.{Function}
+use Rattle.txs_tree_meaning.specs.declared.node.Thread.{Thread}
+use Rattle.txs_code_meaning.specs.declared.instr.Instr.{Instr}
+use Rattle.txs_code_meaning.specs.declared.instr.Instr.TheVariants.{Return, Halt}
+use Rattle.txs_code_meaning.specs.Machine.{PlainInstr, PlainBody}
+use Rattle.txs_code_meaning.specs.Machine as machine
+use Rattle.txs_code_meaning.specs.PlainCode.{CodeBody, PlainCode, parameters_of, plain_instr, plain_instrs}
+use Rattle.txs_code_meaning.specs.WellTyped.{Functions, FunctionKind, Owner, a_function, a_thread, plain, IsLawful, Fits, FitsStage, WellTyped, WellTypedBody, WellTypedFunctions, WellTypedThreads, Depths, Stages}
+use Rattle.txs_theorem_threads.proofs.Functions.{at_end, free_tree, known_front, nth_below}
 use Rattle.txs_gen.specs.Bodies.{fresh, finished, made_at, functions_from, function_rooms, threads_from, thread_rooms}
 use Rattle.txs_gen.specs.Emission.{Emission, AreLawful, emits, instrs_of, stored, top}
 use Rattle.txs_gen.specs.Gen.{gen, locals_in}

@@ -1,18 +1,18 @@
 -- The code of functions does what they mean.
 use Rattle.std.proofs.Common.{◌≡◌, ℕ, zero, suc, ◌+◌, true, List, [], ◌∷◌, ◌++◌, length, Option, Some, None, refl, sym, ap, ◌∙◌, subst, arith, append_assoc, length-append}
 use Rattle.std.proofs.lemmas.Bool.{false≢true}
-use Rattle.txs_terms.specs.Places.{nth}
-use Rattle.txs_value.specs.declared.value.Value.{Value}
-use Rattle.txs_tree.specs.Known.{Known, is_pure, known}
-use Rattle.txs_tree.specs.Meaning.{bind, give, turns, eval, call_at}
-use Rattle.txs_tree.specs.Sound.{SoundFunctions}
-use Rattle.txs_tree.specs.Tree.{PlainFunction}
-use Rattle.txs_code.specs.ActorState.{ActorState}
-use Rattle.txs_code.specs.Machine.{PlainInstr, Return, PlainBody, ThreadCode, locals_of, body_of, instr_at, is_inside, Configuration, Unfinished, stack_after, doing_after}
-use Rattle.txs_follows.specs.OnReplies.{on_replies}
-use Rattle.txs_follows.proofs.Callees.{function_callees}
-use Rattle.txs_follows.proofs.Functions.{Defined, defined}
-use Rattle.txs_follows.proofs.Quiet.{quietly, callee_carried}
+use Rattle.txs_value_base.specs.Places.{nth}
+use Rattle.txs_value_data.specs.declared.value.Value.{Value}
+use Rattle.txs_tree_meaning.specs.Known.{Known, is_pure, known}
+use Rattle.txs_tree_meaning.specs.Meaning.{bind, give, turns, eval, call_at}
+use Rattle.txs_tree_meaning.specs.Sound.{SoundFunctions}
+use Rattle.txs_tree_meaning.specs.Tree.{PlainFunction}
+use Rattle.txs_code_meaning.specs.ActorState.{ActorState}
+use Rattle.txs_code_meaning.specs.Machine.{PlainInstr, Return, PlainBody, ThreadCode, locals_of, body_of, instr_at, is_inside, Configuration, Unfinished, stack_after, doing_after}
+use Rattle.txs_theorem_threads.specs.OnReplies.{on_replies}
+use Rattle.txs_theorem_threads.proofs.Callees.{function_callees}
+use Rattle.txs_theorem_threads.proofs.Functions.{Defined, defined}
+use Rattle.txs_theorem_threads.proofs.Quiet.{quietly, callee_carried}
 use Rattle.txs_gen.specs.Gen.{gen, function_code, functions_code}
 use Rattle.txs_gen.proofs.Kept.{body_kept}
 use Rattle.txs_gen.proofs.Lists.{Stands, holds_opening, stands_front, stands_back}

@@ -1,10 +1,10 @@
 -- The code of a program follows it, since it is generated from its trees.
 use Rattle.std.proofs.Common.{◌≡◌, ℕ, List, [], ◌∷◌, map, refl, sym, ap, ◌∙◌, subst}
-use Rattle.txs_value.specs.declared.value.Value.{Value}
-use Rattle.txs_tree.specs.Tree.{PlainFunction, PlainThread, PlainProgram}
-use Rattle.txs_code.specs.Machine.{PlainBody, ThreadCode}
-use Rattle.txs_code.specs.PlainCode.{CodeBody, PlainCode, parameters_of, plain_bodies, thread_code}
-use Rattle.txs_follows.specs.FollowsAll.{FollowsAll, GeneratedFollows, source_of}
+use Rattle.txs_value_data.specs.declared.value.Value.{Value}
+use Rattle.txs_tree_meaning.specs.Tree.{PlainFunction, PlainThread, PlainProgram}
+use Rattle.txs_code_meaning.specs.Machine.{PlainBody, ThreadCode}
+use Rattle.txs_code_meaning.specs.PlainCode.{CodeBody, PlainCode, parameters_of, plain_bodies, thread_code}
+use Rattle.txs_theorem_threads.specs.FollowsAll.{FollowsAll, GeneratedFollows, source_of}
 use Rattle.txs_gen.specs.CodeFollows.{CodeFollows}
 use Rattle.txs_gen.specs.Gen.{function_code, body_code, functions_code, generated}
 use Rattle.txs_gen.specs.Generated.{AreFunctionsOf, AreBodiesOf, IsBodyOf}

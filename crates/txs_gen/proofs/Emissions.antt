@@ -4,20 +4,20 @@ use Rattle.std.specs.Prelude.{slice_set}
 use Rattle.std.proofs.Math.Seq.{drop-cons}
 use Rattle.std.proofs.lemmas.List.{append-nil, drop_all}
 use Rattle.std.proofs.lemmas.Bool.Decides.{nat_tests}
-use Rattle.txs_terms.specs.declared.fault.Span.{Span}
-use Rattle.txs_cells.specs.declared.form.LookForm.{LookForm}
-use Rattle.txs_cells.specs.declared.form.PutForm.{PutForm}
-use Rattle.txs_cells.specs.declared.form.UpdateForm.{UpdateForm}
-use Rattle.txs_terms.specs.declared.op.Callee.{Callee}
-use Rattle.txs_terms.specs.declared.op.Callee.TheVariants.{Core as CoreOp, Function}
-use Rattle.txs_terms.specs.declared.op.Op.{Op}
-use Rattle.txs_value.specs.declared.value.Value.{Value}
-use Rattle.txs_tree.specs.Sound.{nodes, nodes_in, SoundCallee, SoundLet, SoundDo}
-use Rattle.txs_tree.specs.Tree.{Mark, Tree, Const, Local, If, Do, Let, Loop, Recur, Core, Call, VectorOf, Println, Dosync, Look, Put, Update, Send, Trees, none, more, count, is_none}
-use Rattle.txs_tree.specs.View.{tree_of, trees_of}
-use Rattle.txs_tree.specs.declared.node.Node.{Node}
-use Rattle.txs_code.specs.declared.instr.Instr.{Instr}
-use Rattle.txs_code.specs.declared.instr.Instr.TheVariants as instr
+use Rattle.txs_value_base.specs.declared.fault.Span.{Span}
+use Rattle.txs_value_cell.specs.declared.form.LookForm.{LookForm}
+use Rattle.txs_value_cell.specs.declared.form.PutForm.{PutForm}
+use Rattle.txs_value_cell.specs.declared.form.UpdateForm.{UpdateForm}
+use Rattle.txs_value_base.specs.declared.op.Callee.{Callee}
+use Rattle.txs_value_base.specs.declared.op.Callee.TheVariants.{Core as CoreOp, Function}
+use Rattle.txs_value_base.specs.declared.op.Op.{Op}
+use Rattle.txs_value_data.specs.declared.value.Value.{Value}
+use Rattle.txs_tree_meaning.specs.Sound.{nodes, nodes_in, SoundCallee, SoundLet, SoundDo}
+use Rattle.txs_tree_meaning.specs.Tree.{Mark, Tree, Const, Local, If, Do, Let, Loop, Recur, Core, Call, VectorOf, Println, Dosync, Look, Put, Update, Send, Trees, none, more, count, is_none}
+use Rattle.txs_tree_meaning.specs.View.{tree_of, trees_of}
+use Rattle.txs_tree_meaning.specs.declared.node.Node.{Node}
+use Rattle.txs_code_meaning.specs.declared.instr.Instr.{Instr}
+use Rattle.txs_code_meaning.specs.declared.instr.Instr.TheVariants as instr
 use Rattle.txs_gen.specs.Generated.{copies, spans_of, spans_of_all, spans_of_let, spans_of_do, constants_of, constants_in}
 use Rattle.txs_gen.specs.Gen.{opening}
 use Rattle.txs_gen.specs.Emission.{Emission, above, then_instrs, if_instrs, stores_from, callee_instrs, update_instrs, instrs_of, instrs_of_all, instrs_of_let, instrs_of_do, stored, stored_in, stored_let, top, top_in, top_args, emits, emits_all, emits_let, emits_do, emits_if, emits_bound, emits_loop, emits_dosync, emits_update, emits_recur, with_instr, with_constant, with_room, with_locals, with_pop, with_stores, with_call, with_update, with_set, Place, IsWithin, IsPlaced, IsPlacedDo}

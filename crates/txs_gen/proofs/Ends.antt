@@ -1,19 +1,19 @@
 -- Whole runs, in both directions.
 use Rattle.std.proofs.Common.{◌≡◌, ℕ, ◌+◌, ◌≤◌, false, List, [], ◌∷◌, ◌++◌, length, Some, None, refl, sym, ap, ◌∙◌, subst, arith, ⊎_elim}
 use Rattle.std.proofs.lemmas.Bool.{cases_lt}
-use Rattle.txs_asks.specs.Ask.{Exchange}
-use Rattle.txs_value.specs.declared.value.Value.{Value}
-use Rattle.txs_tree.specs.Known.{known}
-use Rattle.txs_tree.specs.Meaning.{Completion, Completes, Recurs, Faults, Retries, Waits, OutOfTurns, Invalid, eval, call_at}
-use Rattle.txs_tree.specs.Sound.{SoundSource, in_thread}
-use Rattle.txs_tree.specs.Tree.{ThreadSource}
-use Rattle.txs_code.specs.ActorState.{ActorState}
-use Rattle.txs_code.specs.Machine.{Halt, locals_of, Outside, Outcome, Ended, Failed, Asking, Unfinished, exec}
-use Rattle.txs_code.specs.Opening.{fresh, opening, target}
-use Rattle.txs_follows.specs.Behaves.{source, IsMeant, HasEnded, outcome_of, IsOver}
-use Rattle.txs_follows.specs.OnReplies.{on_replies}
-use Rattle.txs_follows.proofs.Callees.{callees_in}
-use Rattle.txs_follows.proofs.Longer.{longer}
+use Rattle.txs_world_protocol.specs.Ask.{Exchange}
+use Rattle.txs_value_data.specs.declared.value.Value.{Value}
+use Rattle.txs_tree_meaning.specs.Known.{known}
+use Rattle.txs_tree_meaning.specs.Meaning.{Completion, Completes, Recurs, Faults, Retries, Waits, OutOfTurns, Invalid, eval, call_at}
+use Rattle.txs_tree_meaning.specs.Sound.{SoundSource, in_thread}
+use Rattle.txs_tree_meaning.specs.Tree.{ThreadSource}
+use Rattle.txs_code_meaning.specs.ActorState.{ActorState}
+use Rattle.txs_code_meaning.specs.Machine.{Halt, locals_of, Outside, Outcome, Ended, Failed, Asking, Unfinished, exec}
+use Rattle.txs_code_meaning.specs.Opening.{fresh, opening, target}
+use Rattle.txs_theorem_threads.specs.Behaves.{source, IsMeant, HasEnded, outcome_of, IsOver}
+use Rattle.txs_theorem_threads.specs.OnReplies.{on_replies}
+use Rattle.txs_theorem_threads.proofs.Callees.{callees_in}
+use Rattle.txs_theorem_threads.proofs.Longer.{longer}
 use Rattle.txs_gen.specs.Correct.{CodeBehaves}
 use Rattle.txs_gen.specs.Gen.{gen, body_code, generated}
 use Rattle.txs_gen.proofs.Calls.{stands_from, called_with, calls_simulate}

@@ -3,28 +3,28 @@ use Rattle.std.proofs.Common.{◌≡◌, ℕ, zero, suc, ◌+◌, ◌-◌, ◌<�
 use Rattle.std.proofs.lemmas.List.{append-nil}
 use Rattle.std.proofs.lemmas.Bool.{eqb-true, leb-true}
 use Rattle.std.proofs.lemmas.Bool.{false≢true}
-use Rattle.txs_operations.specs.Core.{takes}
-use Rattle.txs_terms.specs.Places.{nth}
-use Rattle.txs_terms.specs.declared.fault.Span.{Span}
-use Rattle.txs_terms.specs.declared.op.Callee.TheVariants.{Core as CoreOp, Function}
-use Rattle.txs_terms.specs.declared.op.Op.{Op}
-use Rattle.txs_terms.specs.declared.op.Op.TheVariants as op
-use Rattle.txs_cells.specs.Forms.{rule}
-use Rattle.txs_cells.specs.declared.form.CellForm.TheVariants as form_of
-use Rattle.txs_cells.specs.declared.form.Standing.{Standing}
-use Rattle.txs_cells.specs.declared.form.Standing.TheVariants.{Anywhere, Inside, Outside}
-use Rattle.txs_cells.specs.declared.form.UpdateForm.{UpdateForm}
-use Rattle.txs_cells.specs.declared.form.UpdateForm.TheVariants as update
-use Rattle.txs_terms.specs.declared.op.Callee.{Callee}
-use Rattle.txs_tree.specs.Known.{Known, only_inside, only_outside, is_inside, is_outside, is_pure, inside_in, any_inside, outside_in, any_outside, pure_in, all_pure}
-use Rattle.txs_tree.specs.Sound.{Zone, in_function, in_thread, in_dosync, MayStand, MayCall, SoundCallee, SoundTree, SoundAll, SoundLet, SoundDo}
-use Rattle.txs_tree.specs.Tree.{Tree, Const, Local, If, Do, Let, Loop, Recur, Core, Call, VectorOf, Println, Dosync, Look, Put, Update, Send, Trees, none, more, count}
-use Rattle.txs_code.specs.declared.instr.Instr.{Instr}
-use Rattle.txs_code.specs.declared.instr.Instr.TheVariants as instr
-use Rattle.txs_code.specs.Machine.{PlainInstr, Push, Store, Jump, JumpFalse, Pop, CallOf, OpenOf, CloseOf, SendOf, PutOf}
-use Rattle.txs_code.specs.PlainCode.{plain_instr}
-use Rattle.txs_code.specs.WellTyped.{Functions, FunctionKind, Owner, a_thread, a_function, IsImpure, MayStandInside, MayStandOutside, KindMayStand, IsPureCallee, IsNamed, CalleeTakes, NamedTakes, IsFollowed, Depths, depth_at, plain, opened, applied, Stages, stage_at, TakesParameters}
-use Rattle.txs_code.specs.WellTyped as typed
+use Rattle.txs_value_apply.specs.Core.{takes}
+use Rattle.txs_value_base.specs.Places.{nth}
+use Rattle.txs_value_base.specs.declared.fault.Span.{Span}
+use Rattle.txs_value_base.specs.declared.op.Callee.TheVariants.{Core as CoreOp, Function}
+use Rattle.txs_value_base.specs.declared.op.Op.{Op}
+use Rattle.txs_value_base.specs.declared.op.Op.TheVariants as op
+use Rattle.txs_value_cell.specs.Forms.{rule}
+use Rattle.txs_value_cell.specs.declared.form.CellForm.TheVariants as form_of
+use Rattle.txs_value_cell.specs.declared.form.Standing.{Standing}
+use Rattle.txs_value_cell.specs.declared.form.Standing.TheVariants.{Anywhere, Inside, Outside}
+use Rattle.txs_value_cell.specs.declared.form.UpdateForm.{UpdateForm}
+use Rattle.txs_value_cell.specs.declared.form.UpdateForm.TheVariants as update
+use Rattle.txs_value_base.specs.declared.op.Callee.{Callee}
+use Rattle.txs_tree_meaning.specs.Known.{Known, only_inside, only_outside, is_inside, is_outside, is_pure, inside_in, any_inside, outside_in, any_outside, pure_in, all_pure}
+use Rattle.txs_tree_meaning.specs.Sound.{Zone, in_function, in_thread, in_dosync, MayStand, MayCall, SoundCallee, SoundTree, SoundAll, SoundLet, SoundDo}
+use Rattle.txs_tree_meaning.specs.Tree.{Tree, Const, Local, If, Do, Let, Loop, Recur, Core, Call, VectorOf, Println, Dosync, Look, Put, Update, Send, Trees, none, more, count}
+use Rattle.txs_code_meaning.specs.declared.instr.Instr.{Instr}
+use Rattle.txs_code_meaning.specs.declared.instr.Instr.TheVariants as instr
+use Rattle.txs_code_meaning.specs.Machine.{PlainInstr, Push, Store, Jump, JumpFalse, Pop, CallOf, OpenOf, CloseOf, SendOf, PutOf}
+use Rattle.txs_code_meaning.specs.PlainCode.{plain_instr}
+use Rattle.txs_code_meaning.specs.WellTyped.{Functions, FunctionKind, Owner, a_thread, a_function, IsImpure, MayStandInside, MayStandOutside, KindMayStand, IsPureCallee, IsNamed, CalleeTakes, NamedTakes, IsFollowed, Depths, depth_at, plain, opened, applied, Stages, stage_at, TakesParameters}
+use Rattle.txs_code_meaning.specs.WellTyped as typed
 use Rattle.txs_gen.specs.Gen.{opening, callee_code, gen, gen_all, gen_let, gen_do, stores, if_code, locals_in, locals_in_all, locals_in_let}
 use Rattle.txs_gen.specs.Generated.{copies, spans_of, spans_of_all, spans_of_let, spans_of_do, constants_of, constants_in, numbers_in}
 use Rattle.txs_gen.specs.Emission.{instrs_of, instrs_of_all, instrs_of_let, instrs_of_do, update_instrs, stores_from, stored, stored_in, stored_let, top, top_in, top_args}

@@ -1,36 +1,36 @@
 -- What the body of a transaction keeps: that the callee of each commute is pure; and which steps ask and do nothing else.
 use Rattle.std.proofs.Common.{◌≡◌, ℕ, Bool, true, false, List, [], ◌∷◌, Option, Some, None, Result, Ok, Err, refl, sym, subst, if◌then◌else◌, inl}
-use Rattle.txs_asks.specs.Ask.{Writes, buffered, Exchange, same_ask}
-use Rattle.txs_asks.specs.declared.ask.Ask.{Ask}
-use Rattle.txs_asks.specs.declared.ask.Ask.TheVariants as ask
-use Rattle.txs_asks.specs.declared.ask.Reply.{Reply}
-use Rattle.txs_asks.specs.declared.ask.Reply.TheVariants as reply
+use Rattle.txs_world_protocol.specs.Ask.{Writes, buffered, Exchange, same_ask}
+use Rattle.txs_world_protocol.specs.declared.ask.Ask.{Ask}
+use Rattle.txs_world_protocol.specs.declared.ask.Ask.TheVariants as ask
+use Rattle.txs_world_protocol.specs.declared.ask.Reply.{Reply}
+use Rattle.txs_world_protocol.specs.declared.ask.Reply.TheVariants as reply
 use Rattle.txs_frame.specs.Frame.{commuted, set_writes, is_commuted, with_cell}
 use Rattle.txs_frame.specs.declared.frame.Commute.{Commute}
-use Rattle.txs_asks.specs.Ask.{with_write}
-use Rattle.txs_cells.specs.Forms.{rule, cell_of}
-use Rattle.txs_terms.specs.declared.fault.FaultKind.{FaultKind}
-use Rattle.txs_terms.specs.declared.fault.FaultKind.TheVariants.{SetAfterCommute}
-use Rattle.txs_terms.specs.declared.fault.Span.{Span}
-use Rattle.txs_cells.specs.declared.form.CellForm.TheVariants as form
-use Rattle.txs_cells.specs.declared.form.LookForm.{LookForm}
-use Rattle.txs_cells.specs.declared.form.LookForm.TheVariants.{Deref, Ensure}
-use Rattle.txs_cells.specs.declared.form.PutForm.{PutForm}
-use Rattle.txs_cells.specs.declared.form.PutForm.TheVariants.{RefSet, Reset}
-use Rattle.txs_cells.specs.declared.form.UpdateForm.{UpdateForm}
-use Rattle.txs_cells.specs.declared.form.UpdateForm.TheVariants as update
-use Rattle.txs_terms.specs.declared.op.Callee.{Callee}
-use Rattle.txs_value.specs.declared.value.CellId.{CellId}
-use Rattle.txs_value.specs.declared.value.Value.{Value}
-use Rattle.txs_tree.specs.Known.{known}
-use Rattle.txs_tree.specs.Meaning.{Completion, Completes, Recurs, Faults, Retries, Waits, OutOfTurns, Invalid, bind, closed, Applies, apply, eval, call_at}
-use Rattle.txs_tree.specs.Sound.{SoundFunctions}
-use Rattle.txs_tree.specs.Tree.{Tree, PlainFunction}
-use Rattle.txs_code.specs.ActorState.{ActorState, Reception, Replied, Unreplied, receives, asks, StepResult, Continue, Break, Redo, Await, Malformed, on_step, step_of, Reading, Says, SaysRetry, SaysNothing, read_as, heard, read_point, just_done, value_there, views, commit_verdict, swap_verdict, begun, begin, fail, buffered_or, look, paired, viewed, view, commit, SwapInHand, close_swap, break_swap, read_cell, read, set_own, assign_cell, assign, RefUpdate, Alters, Commutes, update_form, kept_open, open_update, close_own, close_update, send_to, print}
-use Rattle.txs_follows.specs.OnReplies.{res, updates, updates_ref, on_replies}
-use Rattle.txs_follows.proofs.Callees.{Rules, Keeps, IsPure, pure_callees, function_callees}
-use Rattle.txs_follows.proofs.Quiet.{AllCommutes, commutes_both}
-use Rattle.txs_follows.proofs.Related.{Link, Related, Alike, CallsAlike, eval_related, calls_related}
+use Rattle.txs_world_protocol.specs.Ask.{with_write}
+use Rattle.txs_value_cell.specs.Forms.{rule, cell_of}
+use Rattle.txs_value_base.specs.declared.fault.FaultKind.{FaultKind}
+use Rattle.txs_value_base.specs.declared.fault.FaultKind.TheVariants.{SetAfterCommute}
+use Rattle.txs_value_base.specs.declared.fault.Span.{Span}
+use Rattle.txs_value_cell.specs.declared.form.CellForm.TheVariants as form
+use Rattle.txs_value_cell.specs.declared.form.LookForm.{LookForm}
+use Rattle.txs_value_cell.specs.declared.form.LookForm.TheVariants.{Deref, Ensure}
+use Rattle.txs_value_cell.specs.declared.form.PutForm.{PutForm}
+use Rattle.txs_value_cell.specs.declared.form.PutForm.TheVariants.{RefSet, Reset}
+use Rattle.txs_value_cell.specs.declared.form.UpdateForm.{UpdateForm}
+use Rattle.txs_value_cell.specs.declared.form.UpdateForm.TheVariants as update
+use Rattle.txs_value_base.specs.declared.op.Callee.{Callee}
+use Rattle.txs_value_data.specs.declared.value.CellId.{CellId}
+use Rattle.txs_value_data.specs.declared.value.Value.{Value}
+use Rattle.txs_tree_meaning.specs.Known.{known}
+use Rattle.txs_tree_meaning.specs.Meaning.{Completion, Completes, Recurs, Faults, Retries, Waits, OutOfTurns, Invalid, bind, closed, Applies, apply, eval, call_at}
+use Rattle.txs_tree_meaning.specs.Sound.{SoundFunctions}
+use Rattle.txs_tree_meaning.specs.Tree.{Tree, PlainFunction}
+use Rattle.txs_code_meaning.specs.ActorState.{ActorState, Reception, Replied, Unreplied, receives, asks, StepResult, Continue, Break, Redo, Await, Malformed, on_step, step_of, Reading, Says, SaysRetry, SaysNothing, read_as, heard, read_point, just_done, value_there, views, commit_verdict, swap_verdict, begun, begin, fail, buffered_or, look, paired, viewed, view, commit, SwapInHand, close_swap, break_swap, read_cell, read, set_own, assign_cell, assign, RefUpdate, Alters, Commutes, update_form, kept_open, open_update, close_own, close_update, send_to, print}
+use Rattle.txs_theorem_threads.specs.OnReplies.{res, updates, updates_ref, on_replies}
+use Rattle.txs_theorem_threads.proofs.Callees.{Rules, Keeps, IsPure, pure_callees, function_callees}
+use Rattle.txs_theorem_threads.proofs.Quiet.{AllCommutes, commutes_both}
+use Rattle.txs_theorem_threads.proofs.Related.{Link, Related, Alike, CallsAlike, eval_related, calls_related}
 use Rattle.txs_gen.proofs.Steps.{Asked}
 
 -- ---- asks

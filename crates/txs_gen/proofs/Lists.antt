@@ -1,8 +1,8 @@
 -- Locals, stacks and instructions as lists.
 use Rattle.std.proofs.Common.{◌≡◌, ℕ, zero, suc, ◌+◌, ◌<◌, List, [], ◌∷◌, ◌++◌, length, Option, Some, None, refl, sym, ap, ◌∙◌, subst, arith, ⊎_elim, inl, inr, ◌⊎◌}
-use Rattle.txs_terms.specs.Places.{nth}
-use Rattle.txs_value.specs.declared.value.Value.{Value}
-use Rattle.txs_code.specs.Machine.{PlainInstr, PlainBody, ThreadCode, Turned, locals_of, fetch, put, push_all, on_args}
+use Rattle.txs_value_base.specs.Places.{nth}
+use Rattle.txs_value_data.specs.declared.value.Value.{Value}
+use Rattle.txs_code_meaning.specs.Machine.{PlainInstr, PlainBody, ThreadCode, Turned, locals_of, fetch, put, push_all, on_args}
 
 pub append_nil : {A : Type 0} (xs : List A) → xs ++ [] ≡ xs
 append_nil [] = refl

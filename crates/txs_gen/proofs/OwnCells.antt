@@ -1,10 +1,10 @@
 -- The code of a program that names its own cells alone names them alone.
 use Rattle.std.proofs.Common.{List, [], ◌∷◌, ◌++◌, sym, subst}
-use Rattle.txs_cells.specs.declared.cell.CellDefinition.{CellDefinition}
-use Rattle.txs_value.specs.declared.value.Value.{Value}
-use Rattle.txs_tree.specs.Tree.{PlainProgram}
-use Rattle.txs_code.specs.OwnCells.{NameDefined, OpeningsNameNone, NamesOwnCells}
-use Rattle.txs_code.specs.PlainCode.{PlainCode}
+use Rattle.txs_value_cell.specs.declared.cell.CellDefinition.{CellDefinition}
+use Rattle.txs_value_data.specs.declared.value.Value.{Value}
+use Rattle.txs_tree_meaning.specs.Tree.{PlainProgram}
+use Rattle.txs_code_meaning.specs.OwnCells.{NameDefined, OpeningsNameNone, NamesOwnCells}
+use Rattle.txs_code_meaning.specs.PlainCode.{PlainCode}
 use Rattle.txs_gen.specs.Generated.{constants_of_functions, constants_of_threads, IsCodeOf}
 use Rattle.txs_gen.specs.OwnCells.{ProgramNamesOwnCells}
 

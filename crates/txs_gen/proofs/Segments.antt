@@ -2,17 +2,17 @@
 use Rattle.std.proofs.Common.{◌⊎◌, ⊎_elim, inl, inr, append_assoc, ◌≡◌, ℕ, zero, suc, ◌+◌, ◌<◌, ◌≤◌, List, [], ◌∷◌, ◌++◌, length, refl, sym, ap, ◌∙◌, subst, length-append, arith, Option, Some, slice_index_or}
 use Rattle.std.proofs.lemmas.Bool.{cases_lt}
 use Rattle.std.specs.List.{range_with_len}
-use Rattle.txs_terms.specs.Places.{nth}
-use Rattle.txs_terms.specs.declared.fault.Span.{Span}
-use Rattle.txs_value.specs.declared.value.Value.{Value}
-use Rattle.txs_value.specs.declared.value.Value.TheVariants.{Nil}
-use Rattle.txs_code.specs.declared.instr.Instr.{Instr}
-use Rattle.txs_code.specs.declared.instr.Instr.TheVariants.{Const, Local, Store, Pop, Jump, JumpFalse, Core, Call, Return, Vector, Print, Look, Put, TxBegin, TxEnd, Open, Close, Send, Halt}
-use Rattle.txs_cells.specs.declared.form.UpdateForm.{UpdateForm}
-use Rattle.txs_code.specs.declared.instr.OpenForm.{OpenForm}
-use Rattle.txs_code.specs.Machine.{PlainInstr}
-use Rattle.txs_code.specs.PlainCode.{CodeBody, plain_instr, plain_instrs}
-use Rattle.txs_code.specs.WellTyped.{Functions, Owner, Depths, depth_at, Stage, plain, opened, applied, Stages, stage_at, LeadsTo, MayJump, IsLawful, Fits, FitsStage, WellTypedBody}
+use Rattle.txs_value_base.specs.Places.{nth}
+use Rattle.txs_value_base.specs.declared.fault.Span.{Span}
+use Rattle.txs_value_data.specs.declared.value.Value.{Value}
+use Rattle.txs_value_data.specs.declared.value.Value.TheVariants.{Nil}
+use Rattle.txs_code_meaning.specs.declared.instr.Instr.{Instr}
+use Rattle.txs_code_meaning.specs.declared.instr.Instr.TheVariants.{Const, Local, Store, Pop, Jump, JumpFalse, Core, Call, Return, Vector, Print, Look, Put, TxBegin, TxEnd, Open, Close, Send, Halt}
+use Rattle.txs_value_cell.specs.declared.form.UpdateForm.{UpdateForm}
+use Rattle.txs_code_meaning.specs.declared.instr.OpenForm.{OpenForm}
+use Rattle.txs_code_meaning.specs.Machine.{PlainInstr}
+use Rattle.txs_code_meaning.specs.PlainCode.{CodeBody, plain_instr, plain_instrs}
+use Rattle.txs_code_meaning.specs.WellTyped.{Functions, Owner, Depths, depth_at, Stage, plain, opened, applied, Stages, stage_at, LeadsTo, MayJump, IsLawful, Fits, FitsStage, WellTypedBody}
 use Rattle.txs_gen.specs.Gen.{then_code}
 use Rattle.txs_gen.specs.Generated.{numbers_in}
 

@@ -1,17 +1,17 @@
 -- Each send in generated code is that of a tree, and so names a callee that a program may send.
 use Rattle.std.proofs.Common.{◌≡◌, ℕ, zero, suc, ◌+◌, List, [], ◌∷◌, ◌++◌, map, Option, Some, None, sym, subst}
-use Rattle.txs_terms.specs.Places.{nth}
-use Rattle.txs_terms.specs.declared.fault.Span.{Span}
-use Rattle.txs_terms.specs.declared.op.Callee.{Callee}
-use Rattle.txs_terms.specs.declared.op.Callee.TheVariants as callee
-use Rattle.txs_tree.specs.Known.{Known, known_of, known_from, known}
-use Rattle.txs_tree.specs.Sound.{Zone, in_function, in_thread, in_dosync, SoundCallee, SoundTree, SoundAll, SoundLet, SoundDo, SoundFunctions, SoundThread, SoundThreads}
-use Rattle.txs_tree.specs.Tree.{Tree, Const, Local, If, Do, Let, Loop, Recur, Core, Call, VectorOf, Println, Dosync, Look, Put, Update, Send, Trees, none, more, count, PlainFunction, PlainThread, PlainProgram}
-use Rattle.txs_code.specs.Machine.{PlainInstr, Push, Load, Store, Pop, Jump, JumpFalse, CoreOf, CallOf, Return, MakeVector, PrintOf, TxBegin, TxEnd, LookOf, PutOf, OpenOf, CloseOf, SendOf, Halt, TakeOf, RunOf, FinishOf, ThreadCode, fetch, instr_at}
-use Rattle.txs_code.specs.PlainCode.{CodeBody, PlainCode, parameters_of, thread_code}
-use Rattle.txs_follows.specs.FollowsAll.{source_of}
-use Rattle.txs_follows.specs.Sends.{CodeSendsSound}
-use Rattle.txs_follows.proofs.Functions.{known_front}
+use Rattle.txs_value_base.specs.Places.{nth}
+use Rattle.txs_value_base.specs.declared.fault.Span.{Span}
+use Rattle.txs_value_base.specs.declared.op.Callee.{Callee}
+use Rattle.txs_value_base.specs.declared.op.Callee.TheVariants as callee
+use Rattle.txs_tree_meaning.specs.Known.{Known, known_of, known_from, known}
+use Rattle.txs_tree_meaning.specs.Sound.{Zone, in_function, in_thread, in_dosync, SoundCallee, SoundTree, SoundAll, SoundLet, SoundDo, SoundFunctions, SoundThread, SoundThreads}
+use Rattle.txs_tree_meaning.specs.Tree.{Tree, Const, Local, If, Do, Let, Loop, Recur, Core, Call, VectorOf, Println, Dosync, Look, Put, Update, Send, Trees, none, more, count, PlainFunction, PlainThread, PlainProgram}
+use Rattle.txs_code_meaning.specs.Machine.{PlainInstr, Push, Load, Store, Pop, Jump, JumpFalse, CoreOf, CallOf, Return, MakeVector, PrintOf, TxBegin, TxEnd, LookOf, PutOf, OpenOf, CloseOf, SendOf, Halt, TakeOf, RunOf, FinishOf, ThreadCode, fetch, instr_at}
+use Rattle.txs_code_meaning.specs.PlainCode.{CodeBody, PlainCode, parameters_of, thread_code}
+use Rattle.txs_theorem_threads.specs.FollowsAll.{source_of}
+use Rattle.txs_theorem_threads.specs.Sends.{CodeSendsSound}
+use Rattle.txs_theorem_threads.proofs.Functions.{known_front}
 use Rattle.txs_gen.specs.Gen.{stores, callee_code, gen, gen_all, gen_let, gen_do, functions_code, generated}
 use Rattle.txs_gen.specs.Generated.{AreFunctionsOf, AreBodiesOf}
 use Rattle.txs_gen.specs.Sends.{CodeOfProgramSendsSound}

@@ -1,26 +1,26 @@
 -- The generated code does what the tree does, part by part.
 use Rattle.std.proofs.Common.{◌≡◌, ℕ, zero, suc, ◌+◌, ◌≤◌, Bool, true, false, ◌&&◌, List, [], ◌∷◌, ◌++◌, length, Option, Some, None, refl, sym, ap, ◌∙◌, subst, arith, append_assoc, length-append, nat_eq, if◌then◌else◌}
 use Rattle.std.proofs.lemmas.Bool.{eqb-true, false≢true}
-use Rattle.txs_operations.specs.Core.{core, vector_of}
-use Rattle.txs_operations.specs.Truth.{choose}
-use Rattle.txs_value.specs.Limits.{reruns}
-use Rattle.txs_terms.specs.Places.{nth}
-use Rattle.txs_terms.specs.declared.fault.Span.{Span}
-use Rattle.txs_cells.specs.declared.form.UpdateForm.{UpdateForm}
-use Rattle.txs_cells.specs.declared.form.UpdateForm.TheVariants as update
-use Rattle.txs_terms.specs.declared.op.Callee.{Callee}
-use Rattle.txs_terms.specs.declared.op.Callee.TheVariants.{Core as CoreOp, Function}
-use Rattle.txs_value.specs.declared.value.Value.{Value}
-use Rattle.txs_tree.specs.Known.{Known, is_pure, pure_in, all_pure}
-use Rattle.txs_tree.specs.Meaning.{Completion, Completes, Recurs, Faults, Retries, Waits, OutOfTurns, Invalid, bind, again, closed, give, result_of, turns, last_or, Applies, apply, eval, eval_all, eval_let, eval_do}
-use Rattle.txs_tree.specs.Tree.{Tree, Const, Local, If, Do, Let, Loop, Recur, Core, Call, VectorOf, Println, Dosync, Look, Put, Update, Send, Trees, none, more, count, is_none}
-use Rattle.txs_code.specs.declared.instr.OpenForm.{OpenForm}
-use Rattle.txs_code.specs.declared.instr.OpenForm.TheVariants as open_form
-use Rattle.txs_code.specs.ActorState.{ActorState, StepResult, Continue, step_of, Verdict, Landed, Outdated, Undone, Denied, SwapInHand, open_swap, close_swap, break_swap, read, assign, RefUpdate, Alters, Commutes, open_update, close_update, send_to, print}
-use Rattle.txs_code.specs.Machine.{PlainInstr, Push, Load, Store, Pop, Jump, JumpFalse, CoreOf, CallOf, MakeVector, PrintOf, TxBegin, TxEnd, LookOf, PutOf, OpenOf, CloseOf, SendOf, ThreadCode, locals_of, to_stack, Frame, Activity, Outside, Restarting, Running, Applying, Swapping, Acting, is_inside, Configuration, Unfinished, called, fetch, act, on, found, on_top, gives, starts, opens, opens_ref, closes, swap_decided, push_all, put, exec}
-use Rattle.txs_follows.specs.OnReplies.{res, telling, swap_concludes, swaps_on, updates_ref, updates, Anew, tries, on_replies}
-use Rattle.txs_follows.proofs.Callees.{Keeps, KeepAll, IsPure, pure_callees}
-use Rattle.txs_follows.proofs.Quiet.{carried, IsQuiet}
+use Rattle.txs_value_apply.specs.Core.{core, vector_of}
+use Rattle.txs_value_apply.specs.Truth.{choose}
+use Rattle.txs_value_data.specs.Limits.{reruns}
+use Rattle.txs_value_base.specs.Places.{nth}
+use Rattle.txs_value_base.specs.declared.fault.Span.{Span}
+use Rattle.txs_value_cell.specs.declared.form.UpdateForm.{UpdateForm}
+use Rattle.txs_value_cell.specs.declared.form.UpdateForm.TheVariants as update
+use Rattle.txs_value_base.specs.declared.op.Callee.{Callee}
+use Rattle.txs_value_base.specs.declared.op.Callee.TheVariants.{Core as CoreOp, Function}
+use Rattle.txs_value_data.specs.declared.value.Value.{Value}
+use Rattle.txs_tree_meaning.specs.Known.{Known, is_pure, pure_in, all_pure}
+use Rattle.txs_tree_meaning.specs.Meaning.{Completion, Completes, Recurs, Faults, Retries, Waits, OutOfTurns, Invalid, bind, again, closed, give, result_of, turns, last_or, Applies, apply, eval, eval_all, eval_let, eval_do}
+use Rattle.txs_tree_meaning.specs.Tree.{Tree, Const, Local, If, Do, Let, Loop, Recur, Core, Call, VectorOf, Println, Dosync, Look, Put, Update, Send, Trees, none, more, count, is_none}
+use Rattle.txs_code_meaning.specs.declared.instr.OpenForm.{OpenForm}
+use Rattle.txs_code_meaning.specs.declared.instr.OpenForm.TheVariants as open_form
+use Rattle.txs_code_meaning.specs.ActorState.{ActorState, StepResult, Continue, step_of, Verdict, Landed, Outdated, Undone, Denied, SwapInHand, open_swap, close_swap, break_swap, read, assign, RefUpdate, Alters, Commutes, open_update, close_update, send_to, print}
+use Rattle.txs_code_meaning.specs.Machine.{PlainInstr, Push, Load, Store, Pop, Jump, JumpFalse, CoreOf, CallOf, MakeVector, PrintOf, TxBegin, TxEnd, LookOf, PutOf, OpenOf, CloseOf, SendOf, ThreadCode, locals_of, to_stack, Frame, Activity, Outside, Restarting, Running, Applying, Swapping, Acting, is_inside, Configuration, Unfinished, called, fetch, act, on, found, on_top, gives, starts, opens, opens_ref, closes, swap_decided, push_all, put, exec}
+use Rattle.txs_theorem_threads.specs.OnReplies.{res, telling, swap_concludes, swaps_on, updates_ref, updates, Anew, tries, on_replies}
+use Rattle.txs_theorem_threads.proofs.Callees.{Keeps, KeepAll, IsPure, pure_callees}
+use Rattle.txs_theorem_threads.proofs.Quiet.{carried, IsQuiet}
 use Rattle.txs_gen.specs.Gen.{if_code, stores, do_code, callee_code, opening, gen, gen_all, gen_let, gen_do}
 use Rattle.txs_gen.proofs.Kept.{Kept, KeptAfter, close_asked, break_asked}
 use Rattle.txs_gen.proofs.Lists.{append_nil, Holds, holds_front, holds_put, write, holds_write, args_taken, Stands, stands_front, stands_back, stands_length}

@@ -1,15 +1,15 @@
 -- What the machine does, for each way in which a part of a tree may end.
 use Rattle.std.proofs.Common.{◌≡◌, ℕ, suc, ◌<◌, ◌≤◌, true, false, List, Some, Result, Ok, Err, refl, sym, ap, ◌∙◌, subst, arith}
-use Rattle.txs_operations.specs.Truth.{choose}
-use Rattle.txs_terms.specs.declared.fault.Fault.{Fault}
-use Rattle.txs_terms.specs.declared.fault.FaultKind.{FaultKind}
-use Rattle.txs_terms.specs.declared.fault.Span.{Span}
-use Rattle.txs_value.specs.declared.value.Value.{Value}
-use Rattle.txs_value.specs.declared.value.Value.TheVariants.{Nil, Truth, Int, Key, Text, Vector, Cell}
-use Rattle.txs_tree.specs.Meaning.{Completion, Completes, Recurs, Faults, Retries, Waits, OutOfTurns, Invalid, bind, again, closed, result_of}
-use Rattle.txs_code.specs.ActorState.{ActorState, StepResult, Continue, Break, Redo, Await, Malformed, step_of}
-use Rattle.txs_code.specs.Machine.{PlainInstr, ThreadCode, Destination, Frame, Savepoint, Activity, Configuration, Turned, Failed, Asking, Unfinished, and_then, fetch, act, told, raise, rerun, retried, on, exec}
-use Rattle.txs_follows.specs.OnReplies.{res, telling}
+use Rattle.txs_value_apply.specs.Truth.{choose}
+use Rattle.txs_value_base.specs.declared.fault.Fault.{Fault}
+use Rattle.txs_value_base.specs.declared.fault.FaultKind.{FaultKind}
+use Rattle.txs_value_base.specs.declared.fault.Span.{Span}
+use Rattle.txs_value_data.specs.declared.value.Value.{Value}
+use Rattle.txs_value_data.specs.declared.value.Value.TheVariants.{Nil, Truth, Int, Key, Text, Vector, Cell}
+use Rattle.txs_tree_meaning.specs.Meaning.{Completion, Completes, Recurs, Faults, Retries, Waits, OutOfTurns, Invalid, bind, again, closed, result_of}
+use Rattle.txs_code_meaning.specs.ActorState.{ActorState, StepResult, Continue, Break, Redo, Await, Malformed, step_of}
+use Rattle.txs_code_meaning.specs.Machine.{PlainInstr, ThreadCode, Destination, Frame, Savepoint, Activity, Configuration, Turned, Failed, Asking, Unfinished, and_then, fetch, act, told, raise, rerun, retried, on, exec}
+use Rattle.txs_theorem_threads.specs.OnReplies.{res, telling}
 
 -- where the machine is
 abbrev pub configuration : ℕ → ℕ → List Value → List Value → List Frame → Activity → ActorState → Configuration

@@ -1,24 +1,24 @@
 -- A transaction, try by try: its body, the commutes at its end, and the commit. What the body does is a parameter.
 use Rattle.std.proofs.Common.{◌≡◌, ℕ, zero, suc, ◌+◌, Bool, true, List, [], ◌∷◌, Option, Some, None, refl, sym, ap, ◌∙◌, subst}
-use Rattle.txs_asks.specs.Ask.{Writes, buffered, with_write}
+use Rattle.txs_world_protocol.specs.Ask.{Writes, buffered, with_write}
 use Rattle.txs_frame.specs.Frame.{commuted, phase_work}
 use Rattle.txs_frame.specs.declared.frame.Commute.{Commute}
-use Rattle.txs_operations.specs.Core.{core}
-use Rattle.txs_terms.specs.Places.{nth}
-use Rattle.txs_terms.specs.declared.fault.Span.{Span}
-use Rattle.txs_terms.specs.declared.op.Callee.{Callee}
-use Rattle.txs_terms.specs.declared.op.Callee.TheVariants.{Core as CoreOp, Function}
-use Rattle.txs_value.specs.declared.value.CellId.{CellId}
-use Rattle.txs_value.specs.declared.value.Value.{Value}
-use Rattle.txs_value.specs.declared.value.Value.TheVariants.{Nil}
-use Rattle.txs_tree.specs.Known.{Known, is_pure}
-use Rattle.txs_tree.specs.Meaning.{Completion, Completes, Recurs, Faults, Retries, Waits, OutOfTurns, Invalid, Applies, apply}
-use Rattle.txs_tree.specs.Transaction.{value_or, redone}
-use Rattle.txs_code.specs.ActorState.{ActorState, Verdict, Landed, Outdated, Undone, Denied, step_of, begin, fail, view, commit}
-use Rattle.txs_code.specs.Machine.{PlainInstr, TxBegin, TxEnd, ThreadCode, locals_of, Destination, to_commutes, Frame, Savepoint, Activity, Outside, Restarting, Running, Applying, Swapping, Acting, is_inside, Configuration, Turned, Unfinished, and_then, fetch, act, rerun, try_more, settles, lands, decided, applies, starts, value_or_nil, arguments_of, stack_after, doing_after, exec}
-use Rattle.txs_follows.specs.OnReplies.{telling, Start, Anew, Behind, concludes, lands_on, closing, attempt, retrying, tries}
-use Rattle.txs_follows.proofs.Callees.{IsPure}
-use Rattle.txs_follows.proofs.Quiet.{carried, IsQuiet, AllCommutes, phase_some, redone_carried}
+use Rattle.txs_value_apply.specs.Core.{core}
+use Rattle.txs_value_base.specs.Places.{nth}
+use Rattle.txs_value_base.specs.declared.fault.Span.{Span}
+use Rattle.txs_value_base.specs.declared.op.Callee.{Callee}
+use Rattle.txs_value_base.specs.declared.op.Callee.TheVariants.{Core as CoreOp, Function}
+use Rattle.txs_value_data.specs.declared.value.CellId.{CellId}
+use Rattle.txs_value_data.specs.declared.value.Value.{Value}
+use Rattle.txs_value_data.specs.declared.value.Value.TheVariants.{Nil}
+use Rattle.txs_tree_meaning.specs.Known.{Known, is_pure}
+use Rattle.txs_tree_meaning.specs.Meaning.{Completion, Completes, Recurs, Faults, Retries, Waits, OutOfTurns, Invalid, Applies, apply}
+use Rattle.txs_tree_meaning.specs.Transaction.{value_or, redone}
+use Rattle.txs_code_meaning.specs.ActorState.{ActorState, Verdict, Landed, Outdated, Undone, Denied, step_of, begin, fail, view, commit}
+use Rattle.txs_code_meaning.specs.Machine.{PlainInstr, TxBegin, TxEnd, ThreadCode, locals_of, Destination, to_commutes, Frame, Savepoint, Activity, Outside, Restarting, Running, Applying, Swapping, Acting, is_inside, Configuration, Turned, Unfinished, and_then, fetch, act, rerun, try_more, settles, lands, decided, applies, starts, value_or_nil, arguments_of, stack_after, doing_after, exec}
+use Rattle.txs_theorem_threads.specs.OnReplies.{telling, Start, Anew, Behind, concludes, lands_on, closing, attempt, retrying, tries}
+use Rattle.txs_theorem_threads.proofs.Callees.{IsPure}
+use Rattle.txs_theorem_threads.proofs.Quiet.{carried, IsQuiet, AllCommutes, phase_some, redone_carried}
 use Rattle.txs_gen.proofs.Kept.{Kept, KeptStep, KeptAfter, begin_asked, fail_asked, view_asked, commit_asked, begin_kept, view_kept, commit_kept}
 use Rattle.txs_gen.proofs.Lists.{Holds}
 use Rattle.txs_gen.proofs.Steps.{configuration, frame, savepoint, Comes, Lands, of, of_try, Simulates, res_step, step, stays, comes_to, one_to, before, bind_simulates, from_configuration, step_simulates, ask_simulates, handled_as, telling_simulates}

@@ -1,8 +1,8 @@
 -- The code of a program does what its agents' actions mean.
-use Rattle.txs_tree.specs.Sound.{Sound}
-use Rattle.txs_tree.specs.Tree.{PlainProgram}
-use Rattle.txs_code.specs.PlainCode.{PlainCode, function_codes}
-use Rattle.txs_follows.specs.FollowsAgent.{FollowsAgents}
+use Rattle.txs_tree_meaning.specs.Sound.{Sound}
+use Rattle.txs_tree_meaning.specs.Tree.{PlainProgram}
+use Rattle.txs_code_meaning.specs.PlainCode.{PlainCode, function_codes}
+use Rattle.txs_theorem_threads.specs.FollowsAgent.{FollowsAgents}
 use Rattle.txs_gen.specs.Generated.{IsCodeOf}
 
 -- the code of a sound program's functions follows the actions of each agent

@@ -1,13 +1,13 @@
 -- What is made of functions and threads.
 use Rattle.std.specs.Prelude.{◌≡◌, ℕ, ◌+◌, max, List, [], ◌∷◌, ◌++◌, length}
-use Rattle.txs_terms.specs.declared.fault.Span.{Span}
-use Rattle.txs_value.specs.declared.value.Value.{Value}
-use Rattle.txs_tree.specs.Known.{Known}
-use Rattle.txs_tree.specs.Sound.{SoundFunctions, SoundThreads}
-use Rattle.txs_tree.specs.Tree.{Tree, PlainFunction, PlainThread}
-use Rattle.txs_code.specs.declared.instr.Instr.{Instr}
-use Rattle.txs_code.specs.declared.instr.Instr.TheVariants.{Return, Halt}
-use Rattle.txs_code.specs.PlainCode.{CodeBody}
+use Rattle.txs_value_base.specs.declared.fault.Span.{Span}
+use Rattle.txs_value_data.specs.declared.value.Value.{Value}
+use Rattle.txs_tree_meaning.specs.Known.{Known}
+use Rattle.txs_tree_meaning.specs.Sound.{SoundFunctions, SoundThreads}
+use Rattle.txs_tree_meaning.specs.Tree.{Tree, PlainFunction, PlainThread}
+use Rattle.txs_code_meaning.specs.declared.instr.Instr.{Instr}
+use Rattle.txs_code_meaning.specs.declared.instr.Instr.TheVariants.{Return, Halt}
+use Rattle.txs_code_meaning.specs.PlainCode.{CodeBody}
 use Rattle.txs_gen.specs.Emission.{Emission, AreLawful, emits, with_instr, instrs_of, stored, top}
 use Rattle.txs_gen.specs.Generated.{spans_of, constants_of, constants_of_functions, constants_of_threads}
 use Rattle.txs_gen.specs.declared.emit.Around.{Around}

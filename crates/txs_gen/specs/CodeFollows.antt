@@ -1,9 +1,9 @@
 -- The code of a program does what the program means.
 use Rattle.std.specs.Prelude.{map}
-use Rattle.txs_tree.specs.Sound.{Sound}
-use Rattle.txs_tree.specs.Tree.{PlainProgram}
-use Rattle.txs_code.specs.PlainCode.{PlainCode, thread_code}
-use Rattle.txs_follows.specs.FollowsAll.{FollowsAll}
+use Rattle.txs_tree_meaning.specs.Sound.{Sound}
+use Rattle.txs_tree_meaning.specs.Tree.{PlainProgram}
+use Rattle.txs_code_meaning.specs.PlainCode.{PlainCode, thread_code}
+use Rattle.txs_theorem_threads.specs.FollowsAll.{FollowsAll}
 use Rattle.txs_gen.specs.Generated.{IsCodeOf}
 
 -- the code of a sound program follows it

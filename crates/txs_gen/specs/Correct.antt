@@ -1,7 +1,7 @@
 -- The generated code does what the tree does.
-use Rattle.txs_tree.specs.Sound.{SoundSource}
-use Rattle.txs_tree.specs.Tree.{ThreadSource}
-use Rattle.txs_follows.specs.Behaves.{Behaves}
+use Rattle.txs_tree_meaning.specs.Sound.{SoundSource}
+use Rattle.txs_tree_meaning.specs.Tree.{ThreadSource}
+use Rattle.txs_theorem_threads.specs.Behaves.{Behaves}
 use Rattle.txs_gen.specs.Gen.{generated}
 
 -- the code of a sound thread does what its tree does, on any replies

@@ -1,19 +1,19 @@
 //! The code of a function's or thread's tree.
 
 ghost use Rattle.std.specs.Prelude.{◌≡◌, ◌+◌, ◌*◌, ◌<◌, ◌≤◌, OnOk, MatchResult, length, IfOk, [], ◌∷◌, Some};
-ghost use Rattle.txs_tree.specs.Sound.{nodes, nodes_in};
-ghost use Rattle.txs_tree.specs.Tree.{count};
-ghost use Rattle.txs_tree.specs.View.{tree_of, trees_of};
+ghost use Rattle.txs_tree_meaning.specs.Sound.{nodes, nodes_in};
+ghost use Rattle.txs_tree_meaning.specs.Tree.{count};
+ghost use Rattle.txs_tree_meaning.specs.View.{tree_of, trees_of};
 ghost use Rattle.txs_gen.specs.Emission.{emission, above, emits, emits_all, emits_do, emits_let, emits_if, emits_bound, emits_loop, emits_dosync, emits_update, emits_recur, IsWithin, IsPlaced, IsPlacedAll, IsPlacedDo, IsPlacedLet, with_call, with_constant, with_instr, with_locals, with_pop, with_room, with_set, with_stores, with_update};
 ghost use Rattle.txs_gen.specs.Gen.{opening};
-ghost use Rattle.txs_value.specs.Limits.{most_items, most_locals, most_nodes};
+ghost use Rattle.txs_value_data.specs.Limits.{most_items, most_locals, most_nodes};
 
 use std::alloc::AllocError;
-use txs_cells::UpdateForm;
-use txs_code::{Instr, OpenForm};
-use txs_terms::{Callee, Span};
-use txs_tree::{Node, NodeKind};
-use txs_value::{Value, copy_value};
+use txs_code_meaning::{Instr, OpenForm};
+use txs_tree_meaning::{Node, NodeKind};
+use txs_value_base::{Callee, Span};
+use txs_value_cell::UpdateForm;
+use txs_value_data::{Value, copy_value};
 
 /// Where a node's code stands: how many locals there are, how many values are on the stack, and what a
 /// recur does there: from which local on it stores its values, and where it goes on.

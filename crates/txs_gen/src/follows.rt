@@ -4,7 +4,7 @@ ghost use Rattle.txs_gen.specs.Agents.{AgentsFollow};
 ghost use Rattle.txs_gen.specs.CodeFollows.{CodeFollows};
 ghost use Rattle.txs_gen.specs.Sends.{CodeOfProgramSendsSound};
 
-use txs_follows::{generated_follows, sound_follows_agents};
+use txs_theorem_threads::{generated_follows, sound_follows_agents};
 
 /// The code of a sound program follows it: on replies that fit a thread's events, the thread's meaning
 /// eats those events with what the code printed, and ends as the code has.

@@ -1,9 +1,9 @@
 //! The code of a program.
 
 ghost use Rattle.std.specs.Prelude.{◌≡◌, ◌+◌, ◌≤◌, length, IfOk};
-ghost use Rattle.txs_tree.specs.Sound.{nodes, nodes_of_functions, nodes_of_all};
-ghost use Rattle.txs_tree.specs.View.{tree_of, functions_of, threads_of, program_of};
-ghost use Rattle.txs_code.specs.declared.instr.Instr.TheVariants.{Return, Halt};
+ghost use Rattle.txs_tree_meaning.specs.Sound.{nodes, nodes_of_functions, nodes_of_all};
+ghost use Rattle.txs_tree_meaning.specs.View.{tree_of, functions_of, threads_of, program_of};
+ghost use Rattle.txs_code_meaning.specs.declared.instr.Instr.TheVariants.{Return, Halt};
 ghost use Rattle.txs_gen.specs.Bodies.{finished, AreSoundFunctions, AreSoundThreads, AreFunctionsMade, AreThreadsMade};
 ghost use Rattle.txs_gen.specs.Emission.{emission, IsPlaced};
 ghost use Rattle.txs_gen.specs.Generated.{IsCodeOf};
@@ -11,11 +11,11 @@ ghost use Rattle.txs_gen.specs.OwnCells.{ProgramNamesOwnCells};
 
 use crate::emit::{Around, Emitter, emit};
 use std::alloc::{AllocError, Global};
-use txs_cells::CellDefinition;
-use txs_code::{Body, Code, Instr, Verified};
-use txs_terms::Span;
-use txs_tree::{Function, Node, Program, Thread};
-use txs_value::{Value, copy_value};
+use txs_code_meaning::{Body, Code, Instr, Verified};
+use txs_tree_meaning::{Function, Node, Program, Thread};
+use txs_value_base::Span;
+use txs_value_cell::CellDefinition;
+use txs_value_data::{Value, copy_value};
 
 /// Constants, and bodies that push them, with how many values each has on the stack at most.
 #[derive(Drop)]

@@ -1,20 +1,20 @@
 -- What an answer leaves of an actor, and what it ends.
 use Rattle.std.proofs.Common.{◌≡◌, ℕ, zero, suc, List, Option, Some, None, refl, sym, subst, ◌∙◌}
-use Rattle.txs_asks.specs.declared.ask.Ask.{Ask}
-use Rattle.txs_asks.specs.declared.ask.Reply.{Reply}
-use Rattle.txs_asks.specs.declared.ask.Reply.TheVariants as reply
-use Rattle.txs_asks.specs.declared.event.Outcome.{Outcome}
-use Rattle.txs_asks.specs.declared.event.Outcome.TheVariants as outcome
+use Rattle.txs_world_protocol.specs.declared.ask.Ask.{Ask}
+use Rattle.txs_world_protocol.specs.declared.ask.Reply.{Reply}
+use Rattle.txs_world_protocol.specs.declared.ask.Reply.TheVariants as reply
+use Rattle.txs_world_protocol.specs.declared.event.Outcome.{Outcome}
+use Rattle.txs_world_protocol.specs.declared.event.Outcome.TheVariants as outcome
 use Rattle.txs_frame.specs.Phase.{PlainPhase}
-use Rattle.txs_value.specs.declared.value.Value.{Value}
-use Rattle.txs_actor.specs.PlainActor.{PlainActor, MayAnswer, Stops, answered, answered_for, answered_if, asked_for, state_of, run_again, end_again, refuse, views, attends_anew, unanswered}
-use Rattle.txs_transaction.specs.Asks.{applied_in}
-use Rattle.txs_transaction.specs.Transaction.{is_running}
-use Rattle.txs_transaction.specs.declared.state.Pending.{Pending}
-use Rattle.txs_transaction.specs.declared.state.Pending.TheVariants.{Begin, Read, Ensure, Open, View, Reset, Send, Swap, Close, Commit, Fail, Broke, Take, Finish}
-use Rattle.txs_transaction.specs.declared.state.Transaction.{Transaction}
-use Rattle.txs_transaction.specs.declared.state.Transaction.TheVariants.{Outside, Restarting, Running, Applying, Evaluating, Swapping, Attending, Acting}
-use Rattle.txs_actor.proofs.Replies.{by_reply}
+use Rattle.txs_value_data.specs.declared.value.Value.{Value}
+use Rattle.txs_machine_actor.specs.PlainActor.{PlainActor, MayAnswer, Stops, answered, answered_for, answered_if, asked_for, state_of, run_again, end_again, refuse, views, attends_anew, unanswered}
+use Rattle.txs_machine_transaction.specs.Asks.{applied_in}
+use Rattle.txs_machine_transaction.specs.Transaction.{is_running}
+use Rattle.txs_machine_transaction.specs.declared.state.Pending.{Pending}
+use Rattle.txs_machine_transaction.specs.declared.state.Pending.TheVariants.{Begin, Read, Ensure, Open, View, Reset, Send, Swap, Close, Commit, Fail, Broke, Take, Finish}
+use Rattle.txs_machine_transaction.specs.declared.state.Transaction.{Transaction}
+use Rattle.txs_machine_transaction.specs.declared.state.Transaction.TheVariants.{Outside, Restarting, Running, Applying, Evaluating, Swapping, Attending, Acting}
+use Rattle.txs_machine_actor.proofs.Replies.{by_reply}
 
 -- an outcome that isn't want of steps
 abbrev pub Differs : Option Outcome → Type 0

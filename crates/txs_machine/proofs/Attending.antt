@@ -2,50 +2,50 @@
 use Rattle.std.proofs.Common.{◌≡◌, ◌≤◌, ◌<◌, ◌+◌, ◌-◌, ◌==◌, ℕ, zero, suc, Bool, true, false, not, ◌&&◌, nat_lt, List, [], ◌∷◌, length, get_or, set, Option, Some, None, Result, refl, sym, ap, subst, ◌∙◌, ◌⊎◌, inl, inr, if◌then◌else◌, arith}
 use Rattle.std.proofs.lemmas.Bool.{false≢true}
 use Rattle.std.proofs.lemmas.List.{get_or-set_same, get_or-set_other, length-set}
-use Rattle.txs_asks.specs.declared.ask.Ask.{Ask}
-use Rattle.txs_asks.specs.declared.ask.Ask.TheVariants as ask
-use Rattle.txs_asks.specs.declared.ask.Reply.{Reply}
-use Rattle.txs_asks.specs.declared.ask.Reply.TheVariants as reply
-use Rattle.txs_asks.specs.declared.event.Event.{Event}
-use Rattle.txs_asks.specs.declared.event.Outcome.{Outcome}
-use Rattle.txs_asks.specs.declared.event.Outcome.TheVariants as outcome
-use Rattle.txs_value.proofs.SameLemmas.{number-itself}
-use Rattle.txs_value.specs.Limits.{most_events}
-use Rattle.txs_terms.specs.Places.{nth}
-use Rattle.txs_cells.specs.declared.action.Action.{Action}
-use Rattle.txs_terms.specs.declared.fault.Fault.{Fault}
-use Rattle.txs_cells.specs.declared.form.LookForm.TheVariants as look
-use Rattle.txs_cells.specs.declared.form.PutForm.TheVariants as put
-use Rattle.txs_value.specs.declared.value.CellId.{CellId}
-use Rattle.txs_value.specs.declared.value.Value.{Value}
-use Rattle.txs_value.specs.declared.value.Value.TheVariants.{Nil}
-use Rattle.txs_calls.specs.Travels.{body_at}
-use Rattle.txs_code.specs.Machine.{PlainInstr, TakeOf, PlainBody, ThreadCode, agent_code, Activity, Outside, Configuration, Turned, Asking, Unfinished, turn}
-use Rattle.txs_code.specs.PlainCode.{CodeBody, PlainCode, function_codes}
-use Rattle.txs_code.specs.WellTyped.{FunctionKind, IsImpure}
-use Rattle.txs_actor.specs.PlainActor.{PlainActor, IsActorOf, Lives, Runs, AttendsAt, waits, has_taken, has_value, AttendsFor, AttendsOn, MayAnswer, MayRun, HandsOut, answered, answered_for, answered_if, asked_for, attends_anew, unanswered, activity_of, configuration_of, state_of, code_of, Callers, IsFirst, first_in, BeganBy, IsPureBody, AppliesWell, NoneAside, ActsFor, open_of, GoesOn, AsksWell, CanGoOn, owner_of, setting_of, Awaits}
-use Rattle.txs_transaction.specs.Asks.{ask_for, applied_in}
-use Rattle.txs_transaction.specs.Transaction.{is_running, IsSwapping}
-use Rattle.txs_actor.specs.Turns.{Answers, Moves, TurnsFrom, GoesOnAfter, TurnsOf, IsActing}
-use Rattle.txs_actor.specs.declared.outcome.Turn.{Turn}
-use Rattle.txs_actor.specs.declared.outcome.Turn.TheVariants as turned
-use Rattle.txs_transaction.specs.declared.state.Pending.{Pending}
-use Rattle.txs_transaction.specs.declared.state.Pending.TheVariants as pending
-use Rattle.txs_transaction.specs.declared.state.Transaction.{Transaction}
-use Rattle.txs_transaction.specs.declared.state.Transaction.TheVariants as tx
-use Rattle.txs_actor.proofs.Applying.{pure_impure}
-use Rattle.txs_actor.proofs.Landing.{look_stands, open_stands, put_stands, send_stands}
-use Rattle.txs_actor.proofs.Replies.{take_replies, finish_replies}
-use Rattle.txs_actor.proofs.Striding.{none_asked}
+use Rattle.txs_world_protocol.specs.declared.ask.Ask.{Ask}
+use Rattle.txs_world_protocol.specs.declared.ask.Ask.TheVariants as ask
+use Rattle.txs_world_protocol.specs.declared.ask.Reply.{Reply}
+use Rattle.txs_world_protocol.specs.declared.ask.Reply.TheVariants as reply
+use Rattle.txs_world_protocol.specs.declared.event.Event.{Event}
+use Rattle.txs_world_protocol.specs.declared.event.Outcome.{Outcome}
+use Rattle.txs_world_protocol.specs.declared.event.Outcome.TheVariants as outcome
+use Rattle.txs_value_data.proofs.SameLemmas.{number-itself}
+use Rattle.txs_value_data.specs.Limits.{most_events}
+use Rattle.txs_value_base.specs.Places.{nth}
+use Rattle.txs_value_cell.specs.declared.action.Action.{Action}
+use Rattle.txs_value_base.specs.declared.fault.Fault.{Fault}
+use Rattle.txs_value_cell.specs.declared.form.LookForm.TheVariants as look
+use Rattle.txs_value_cell.specs.declared.form.PutForm.TheVariants as put
+use Rattle.txs_value_data.specs.declared.value.CellId.{CellId}
+use Rattle.txs_value_data.specs.declared.value.Value.{Value}
+use Rattle.txs_value_data.specs.declared.value.Value.TheVariants.{Nil}
+use Rattle.txs_machine_calls.specs.Travels.{body_at}
+use Rattle.txs_code_meaning.specs.Machine.{PlainInstr, TakeOf, PlainBody, ThreadCode, agent_code, Activity, Outside, Configuration, Turned, Asking, Unfinished, turn}
+use Rattle.txs_code_meaning.specs.PlainCode.{CodeBody, PlainCode, function_codes}
+use Rattle.txs_code_meaning.specs.WellTyped.{FunctionKind, IsImpure}
+use Rattle.txs_machine_actor.specs.PlainActor.{PlainActor, IsActorOf, Lives, Runs, AttendsAt, waits, has_taken, has_value, AttendsFor, AttendsOn, MayAnswer, MayRun, HandsOut, answered, answered_for, answered_if, asked_for, attends_anew, unanswered, activity_of, configuration_of, state_of, code_of, Callers, IsFirst, first_in, BeganBy, IsPureBody, AppliesWell, NoneAside, ActsFor, open_of, GoesOn, AsksWell, CanGoOn, owner_of, setting_of, Awaits}
+use Rattle.txs_machine_transaction.specs.Asks.{ask_for, applied_in}
+use Rattle.txs_machine_transaction.specs.Transaction.{is_running, IsSwapping}
+use Rattle.txs_machine_actor.specs.Turns.{Answers, Moves, TurnsFrom, GoesOnAfter, TurnsOf, IsActing}
+use Rattle.txs_machine_actor.specs.declared.outcome.Turn.{Turn}
+use Rattle.txs_machine_actor.specs.declared.outcome.Turn.TheVariants as turned
+use Rattle.txs_machine_transaction.specs.declared.state.Pending.{Pending}
+use Rattle.txs_machine_transaction.specs.declared.state.Pending.TheVariants as pending
+use Rattle.txs_machine_transaction.specs.declared.state.Transaction.{Transaction}
+use Rattle.txs_machine_transaction.specs.declared.state.Transaction.TheVariants as tx
+use Rattle.txs_machine_actor.proofs.Applying.{pure_impure}
+use Rattle.txs_machine_actor.proofs.Landing.{look_stands, open_stands, put_stands, send_stands}
+use Rattle.txs_machine_actor.proofs.Replies.{take_replies, finish_replies}
+use Rattle.txs_machine_actor.proofs.Striding.{none_asked}
 use Rattle.txs_world.proofs.Merging.{joined}
-use Rattle.txs_book.specs.Book.{has_agent, actor_of}
-use Rattle.txs_book.specs.Served.{served, cell_of, cells_of}
+use Rattle.txs_world_book.specs.Book.{has_agent, actor_of}
+use Rattle.txs_world_book.specs.Served.{served, cell_of, cells_of}
 use Rattle.txs_world.specs.Store.{is_taken, next_action, takes, taken_after, hands_out, is_done}
-use Rattle.txs_runs.specs.Shared.{Shared}
-use Rattle.txs_runs.proofs.Acting.{agent_within}
-use Rattle.txs_runs.proofs.Growing.{Grown}
-use Rattle.txs_shared.specs.SharedState as shared
-use Rattle.txs_shared.specs.SharedState.{PlainShared, shared_of, is_lawful, answer_to, numbered_book, IsAfter}
+use Rattle.txs_theorem_runs.specs.Shared.{Shared}
+use Rattle.txs_theorem_runs.proofs.Acting.{agent_within}
+use Rattle.txs_theorem_runs.proofs.Growing.{Grown}
+use Rattle.txs_world_shared.specs.SharedState as shared
+use Rattle.txs_world_shared.specs.SharedState.{PlainShared, shared_of, is_lawful, answer_to, numbered_book, IsAfter}
 use Rattle.txs_machine.specs.RunOver.{IsStateOf, IsLimited, books_of}
 use Rattle.txs_machine.specs.Running.{AsksAsAgent, HasWork, IsAgentAt, IsAgents, IsAnswered, IsSynced, LeavesTaken, is_acting}
 use Rattle.txs_machine.specs.Serving.{IsServed}

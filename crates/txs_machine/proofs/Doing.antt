@@ -1,33 +1,33 @@
 -- A turn of an agent's actor that asks nothing leaves what the agent is doing, and one that asks tells of no transaction's or swap's fault.
 use Rattle.std.proofs.Common.{◌≡◌, ℕ, zero, suc, Bool, true, false, List, [], ◌∷◌, Option, Some, None, Result, Ok, Err, refl, sym, ap, subst, ◌∙◌}
-use Rattle.txs_asks.specs.Ask.{buffered}
-use Rattle.txs_asks.specs.declared.ask.Ask.{Ask}
-use Rattle.txs_asks.specs.declared.ask.Ask.TheVariants as ask
-use Rattle.txs_asks.specs.declared.ask.Reply.{Reply}
+use Rattle.txs_world_protocol.specs.Ask.{buffered}
+use Rattle.txs_world_protocol.specs.declared.ask.Ask.{Ask}
+use Rattle.txs_world_protocol.specs.declared.ask.Ask.TheVariants as ask
+use Rattle.txs_world_protocol.specs.declared.ask.Reply.{Reply}
 use Rattle.txs_frame.specs.Frame.{set_ref}
 use Rattle.txs_frame.specs.declared.frame.Commute.{Commute}
-use Rattle.txs_operations.specs.Core.{core, vector_of}
-use Rattle.txs_cells.specs.Forms.{rule, cell_of}
-use Rattle.txs_terms.specs.Places.{nth, fault_at}
-use Rattle.txs_cells.specs.declared.action.Action.{Action}
-use Rattle.txs_terms.specs.declared.fault.Fault.{Fault}
-use Rattle.txs_terms.specs.declared.fault.FaultKind.{FaultKind}
-use Rattle.txs_terms.specs.declared.fault.Span.{Span}
-use Rattle.txs_cells.specs.declared.form.CellForm.TheVariants as form
-use Rattle.txs_cells.specs.declared.form.LookForm.{LookForm}
-use Rattle.txs_cells.specs.declared.form.LookForm.TheVariants.{Deref, Ensure}
-use Rattle.txs_cells.specs.declared.form.PutForm.{PutForm}
-use Rattle.txs_cells.specs.declared.form.PutForm.TheVariants.{RefSet, Reset}
-use Rattle.txs_cells.specs.declared.form.UpdateForm.{UpdateForm}
-use Rattle.txs_cells.specs.declared.form.UpdateForm.TheVariants as update
-use Rattle.txs_terms.specs.declared.op.Callee.{Callee}
-use Rattle.txs_terms.specs.declared.op.Callee.TheVariants as callee
-use Rattle.txs_value.specs.declared.value.CellId.{CellId}
-use Rattle.txs_value.specs.declared.value.Value.{Value}
-use Rattle.txs_code.specs.declared.instr.OpenForm.{OpenForm}
-use Rattle.txs_code.specs.declared.instr.OpenForm.TheVariants as open_form
-use Rattle.txs_code.specs.ActorState.{ActorState, Reading, receives, asks, StepResult, Continue, Break, Redo, Await, Malformed, on_step, step_of, heard, just_done, read_point, value_there, newest_value, opened, SwapInHand, send_verdict, handed_out, begun, Verdict, Landed, Outdated, Undone, Denied, Taken, begin, buffered_or, look, peek, open_atom, reset_atom, send_now, sent, take_action, finish, read_cell, read, set_own, assign_cell, assign, RefUpdate, Alters, Commutes, update_form, open_update, close_own, close_update, send_action, send_to, print}
-use Rattle.txs_code.specs.Machine.{PlainBody, PlainInstr, Push, Load, Store, Pop, Jump, JumpFalse, CoreOf, CallOf, Return, MakeVector, PrintOf, TxBegin, TxEnd, LookOf, PutOf, OpenOf, CloseOf, SendOf, Halt, TakeOf, RunOf, FinishOf, ThreadCode, agent_code, fetch, Destination, to_stack, to_commutes, Frame, Activity, Outside, Restarting, Running, Applying, Swapping, Acting, is_inside, Configuration, ahead, Turned, Ended, Failed, Asking, Unfinished, Stuck, told, raise, retried, on, found, on_top, on_args, on_args_of, on_two, gives, begins, ends, doing_after, returns_to, opens_ref, opens_atom, opens, closes_swap, closes, started, runs_callee, runs, act, turn}
+use Rattle.txs_value_apply.specs.Core.{core, vector_of}
+use Rattle.txs_value_cell.specs.Forms.{rule, cell_of}
+use Rattle.txs_value_base.specs.Places.{nth, fault_at}
+use Rattle.txs_value_cell.specs.declared.action.Action.{Action}
+use Rattle.txs_value_base.specs.declared.fault.Fault.{Fault}
+use Rattle.txs_value_base.specs.declared.fault.FaultKind.{FaultKind}
+use Rattle.txs_value_base.specs.declared.fault.Span.{Span}
+use Rattle.txs_value_cell.specs.declared.form.CellForm.TheVariants as form
+use Rattle.txs_value_cell.specs.declared.form.LookForm.{LookForm}
+use Rattle.txs_value_cell.specs.declared.form.LookForm.TheVariants.{Deref, Ensure}
+use Rattle.txs_value_cell.specs.declared.form.PutForm.{PutForm}
+use Rattle.txs_value_cell.specs.declared.form.PutForm.TheVariants.{RefSet, Reset}
+use Rattle.txs_value_cell.specs.declared.form.UpdateForm.{UpdateForm}
+use Rattle.txs_value_cell.specs.declared.form.UpdateForm.TheVariants as update
+use Rattle.txs_value_base.specs.declared.op.Callee.{Callee}
+use Rattle.txs_value_base.specs.declared.op.Callee.TheVariants as callee
+use Rattle.txs_value_data.specs.declared.value.CellId.{CellId}
+use Rattle.txs_value_data.specs.declared.value.Value.{Value}
+use Rattle.txs_code_meaning.specs.declared.instr.OpenForm.{OpenForm}
+use Rattle.txs_code_meaning.specs.declared.instr.OpenForm.TheVariants as open_form
+use Rattle.txs_code_meaning.specs.ActorState.{ActorState, Reading, receives, asks, StepResult, Continue, Break, Redo, Await, Malformed, on_step, step_of, heard, just_done, read_point, value_there, newest_value, opened, SwapInHand, send_verdict, handed_out, begun, Verdict, Landed, Outdated, Undone, Denied, Taken, begin, buffered_or, look, peek, open_atom, reset_atom, send_now, sent, take_action, finish, read_cell, read, set_own, assign_cell, assign, RefUpdate, Alters, Commutes, update_form, open_update, close_own, close_update, send_action, send_to, print}
+use Rattle.txs_code_meaning.specs.Machine.{PlainBody, PlainInstr, Push, Load, Store, Pop, Jump, JumpFalse, CoreOf, CallOf, Return, MakeVector, PrintOf, TxBegin, TxEnd, LookOf, PutOf, OpenOf, CloseOf, SendOf, Halt, TakeOf, RunOf, FinishOf, ThreadCode, agent_code, fetch, Destination, to_stack, to_commutes, Frame, Activity, Outside, Restarting, Running, Applying, Swapping, Acting, is_inside, Configuration, ahead, Turned, Ended, Failed, Asking, Unfinished, Stuck, told, raise, retried, on, found, on_top, on_args, on_args_of, on_two, gives, begins, ends, doing_after, returns_to, opens_ref, opens_atom, opens, closes_swap, closes, started, runs_callee, runs, act, turn}
 use Rattle.txs_machine.specs.Running.{IsAgents}
 
 -- an ask that isn't a fault's, of a transaction or a swap

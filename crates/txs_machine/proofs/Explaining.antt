@@ -1,34 +1,34 @@
 -- What actors did over what they share is what a report says of them, and what each program that the code follows means.
 use Rattle.std.proofs.Common.{◌≡◌, ◌≤◌, ◌+◌, ℕ, zero, suc, List, [], ◌∷◌, ◌++◌, length, map, Option, Some, None, refl, sym, ap, subst, ◌∙◌, ◌⊎◌, inl, inr, arith}
-use Rattle.txs_asks.specs.SeenEvent.{SeenEvent}
-use Rattle.txs_asks.specs.declared.event.Event.{Event}
-use Rattle.txs_asks.specs.declared.event.Outcome.{Outcome}
-use Rattle.txs_asks.specs.declared.event.Outcome.TheVariants as outcome
-use Rattle.txs_terms.specs.Places.{nth}
-use Rattle.txs_value.specs.declared.value.Value.{Value}
-use Rattle.txs_cells.specs.declared.cell.CellDefinition.{CellDefinition}
-use Rattle.txs_tree.specs.Meaning.{Completion}
-use Rattle.txs_tree.specs.Thread.{ThreadState, thread_meaning}
-use Rattle.txs_tree.specs.Tree.{PlainThread, PlainProgram, ThreadSource}
-use Rattle.txs_code.specs.PlainCode.{CodeBody, PlainCode, thread_code, function_codes}
-use Rattle.txs_follows.specs.Follows.{Follows}
-use Rattle.txs_follows.specs.FollowsAll.{source_of, FollowsAll}
-use Rattle.txs_follows.specs.RepliesFit.{Out, RepliesFit, Explained, halted, HasWaited}
-use Rattle.txs_follows.specs.RepliesFitTo.{FittingToFits}
-use Rattle.txs_actor.specs.PlainActor.{PlainActor, own_body, code_of, state_of, configuration_of, standing, stands_at, unanswered}
-use Rattle.txs_book.specs.Laws.{UnwrittenStays}
+use Rattle.txs_world_protocol.specs.SeenEvent.{SeenEvent}
+use Rattle.txs_world_protocol.specs.declared.event.Event.{Event}
+use Rattle.txs_world_protocol.specs.declared.event.Outcome.{Outcome}
+use Rattle.txs_world_protocol.specs.declared.event.Outcome.TheVariants as outcome
+use Rattle.txs_value_base.specs.Places.{nth}
+use Rattle.txs_value_data.specs.declared.value.Value.{Value}
+use Rattle.txs_value_cell.specs.declared.cell.CellDefinition.{CellDefinition}
+use Rattle.txs_tree_meaning.specs.Meaning.{Completion}
+use Rattle.txs_tree_meaning.specs.Thread.{ThreadState, thread_meaning}
+use Rattle.txs_tree_meaning.specs.Tree.{PlainThread, PlainProgram, ThreadSource}
+use Rattle.txs_code_meaning.specs.PlainCode.{CodeBody, PlainCode, thread_code, function_codes}
+use Rattle.txs_theorem_threads.specs.Follows.{Follows}
+use Rattle.txs_theorem_threads.specs.FollowsAll.{source_of, FollowsAll}
+use Rattle.txs_theorem_threads.specs.RepliesFit.{Out, RepliesFit, Explained, halted, HasWaited}
+use Rattle.txs_theorem_threads.specs.RepliesFitTo.{FittingToFits}
+use Rattle.txs_machine_actor.specs.PlainActor.{PlainActor, own_body, code_of, state_of, configuration_of, standing, stands_at, unanswered}
+use Rattle.txs_world_book.specs.Laws.{UnwrittenStays}
 use Rattle.txs_world.specs.Laws.{DoneIsUndisturbed, RefusedIsUndisturbed}
-use Rattle.txs_runs.specs.Explains.{BooksStand}
-use Rattle.txs_runs.specs.Invariant.{SharedStands}
-use Rattle.txs_runs.specs.Laws.{ToldFits}
-use Rattle.txs_runs.specs.Shared.{Shared}
-use Rattle.txs_runs.specs.Printed.{Prints, HasPrinted, PrintedBeforeLast}
-use Rattle.txs_runs.specs.Run.{Actor}
-use Rattle.txs_runs.specs.Told.{Entry, exchange_of, trace_of, TraceHolds, seen_of}
-use Rattle.txs_runs.specs.Told as told_by
-use Rattle.txs_runs.proofs.Lasts.{EachWaits, printed_before}
-use Rattle.txs_runs.proofs.Refused.{all_refused}
-use Rattle.txs_runs.proofs.Whole.{all_undisturbed}
+use Rattle.txs_theorem_runs.specs.Explains.{BooksStand}
+use Rattle.txs_theorem_runs.specs.Invariant.{SharedStands}
+use Rattle.txs_theorem_runs.specs.Laws.{ToldFits}
+use Rattle.txs_theorem_runs.specs.Shared.{Shared}
+use Rattle.txs_theorem_runs.specs.Printed.{Prints, HasPrinted, PrintedBeforeLast}
+use Rattle.txs_theorem_runs.specs.Run.{Actor}
+use Rattle.txs_theorem_runs.specs.Told.{Entry, exchange_of, trace_of, TraceHolds, seen_of}
+use Rattle.txs_theorem_runs.specs.Told as told_by
+use Rattle.txs_theorem_runs.proofs.Lasts.{EachWaits, printed_before}
+use Rattle.txs_theorem_runs.proofs.Refused.{all_refused}
+use Rattle.txs_theorem_runs.proofs.Whole.{all_undisturbed}
 use Rattle.txs_machine.specs.Followed.{ActorsExplained, told}
 use Rattle.txs_machine.specs.RunOver.{RunOver, places_of}
 use Rattle.txs_machine.specs.Playing.{IsBetween, AreBetween, HaveSteps, AllEnded, IsReported, AreReported}

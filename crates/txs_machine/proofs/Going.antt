@@ -1,34 +1,34 @@
 -- A play of an actor, as its turns and the answer to its ask: turns of a run of many actors, as the laws of runs speak of them.
 use Rattle.std.proofs.Common.{◌≡◌, ◌==◌, ◌≤◌, ℕ, zero, suc, List, [], ◌∷◌, ◌++◌, length, map, get_or, true, false, Bool, nat_lt, Option, Some, None, refl, sym, ap, subst, ◌∙◌, inl, inr, if◌then◌else◌, arith}
 use Rattle.std.proofs.lemmas.Bool.Decides.{nat_tests}
-use Rattle.txs_asks.specs.Ask.{Exchange}
-use Rattle.txs_asks.specs.declared.ask.Ask.{Ask}
-use Rattle.txs_asks.specs.declared.ask.Reply.{Reply}
-use Rattle.txs_asks.specs.declared.ask.Reply.TheVariants as reply
-use Rattle.txs_asks.specs.declared.event.Event.{Event}
-use Rattle.txs_asks.specs.declared.event.Outcome.{Outcome}
-use Rattle.txs_asks.specs.declared.event.Outcome.TheVariants as outcome
-use Rattle.txs_value.proofs.SameLemmas.{number-itself}
-use Rattle.txs_value.specs.Limits.{most_events}
-use Rattle.txs_code.specs.Machine.{ThreadCode, Configuration, Turned, Ended, Failed, Asking, Unfinished, turn}
-use Rattle.txs_code.specs.PlainCode.{PlainCode}
-use Rattle.txs_actor.specs.Laws.{ActorsRun}
-use Rattle.txs_actor.specs.PlainActor.{PlainActor, MayAnswer, Stops, answered, unanswered, configuration_of, state_of, code_of, standing, Awaits, HasRun}
-use Rattle.txs_actor.specs.Turns.{Answers, Moves, TurnsFrom, Turns, GoesOnAfter, TurnsOf}
-use Rattle.txs_actor.specs.declared.outcome.Turn.{Turn}
-use Rattle.txs_actor.specs.declared.outcome.Turn.TheVariants as turned
-use Rattle.txs_actor.proofs.Following.{Unstopped, unstopped_if}
-use Rattle.txs_actor.proofs.Saying.{turn_says}
-use Rattle.txs_book.specs.Served.{Served}
-use Rattle.txs_runs.specs.Laws.{with_book}
-use Rattle.txs_runs.specs.Run as run
-use Rattle.txs_runs.specs.Run.{Stop, Actor, State, Moved, Play, TakesTurn, IsStopped, moved, entry, exchange, comes_to, stop, hears, replied, asked, answered as answered_so, turned as turned_so, turns_from, stops_from, play, placed, plays_from}
-use Rattle.txs_runs.specs.Shared.{Shared, book_for, serve_on, may_ask, shared_after}
-use Rattle.txs_runs.specs.Told.{Entry, exchange_of, IsExchanged, AllHold, trace_of}
-use Rattle.txs_runs.proofs.Growing.{IsFull, Serves, trace_stays}
-use Rattle.txs_runs.proofs.Serving.{serves}
-use Rattle.txs_shared.specs.SharedState as shared
-use Rattle.txs_shared.specs.SharedState.{PlainShared, shared_of, is_lawful, IsAfter}
+use Rattle.txs_world_protocol.specs.Ask.{Exchange}
+use Rattle.txs_world_protocol.specs.declared.ask.Ask.{Ask}
+use Rattle.txs_world_protocol.specs.declared.ask.Reply.{Reply}
+use Rattle.txs_world_protocol.specs.declared.ask.Reply.TheVariants as reply
+use Rattle.txs_world_protocol.specs.declared.event.Event.{Event}
+use Rattle.txs_world_protocol.specs.declared.event.Outcome.{Outcome}
+use Rattle.txs_world_protocol.specs.declared.event.Outcome.TheVariants as outcome
+use Rattle.txs_value_data.proofs.SameLemmas.{number-itself}
+use Rattle.txs_value_data.specs.Limits.{most_events}
+use Rattle.txs_code_meaning.specs.Machine.{ThreadCode, Configuration, Turned, Ended, Failed, Asking, Unfinished, turn}
+use Rattle.txs_code_meaning.specs.PlainCode.{PlainCode}
+use Rattle.txs_machine_actor.specs.Laws.{ActorsRun}
+use Rattle.txs_machine_actor.specs.PlainActor.{PlainActor, MayAnswer, Stops, answered, unanswered, configuration_of, state_of, code_of, standing, Awaits, HasRun}
+use Rattle.txs_machine_actor.specs.Turns.{Answers, Moves, TurnsFrom, Turns, GoesOnAfter, TurnsOf}
+use Rattle.txs_machine_actor.specs.declared.outcome.Turn.{Turn}
+use Rattle.txs_machine_actor.specs.declared.outcome.Turn.TheVariants as turned
+use Rattle.txs_machine_actor.proofs.Following.{Unstopped, unstopped_if}
+use Rattle.txs_machine_actor.proofs.Saying.{turn_says}
+use Rattle.txs_world_book.specs.Served.{Served}
+use Rattle.txs_theorem_runs.specs.Laws.{with_book}
+use Rattle.txs_theorem_runs.specs.Run as run
+use Rattle.txs_theorem_runs.specs.Run.{Stop, Actor, State, Moved, Play, TakesTurn, IsStopped, moved, entry, exchange, comes_to, stop, hears, replied, asked, answered as answered_so, turned as turned_so, turns_from, stops_from, play, placed, plays_from}
+use Rattle.txs_theorem_runs.specs.Shared.{Shared, book_for, serve_on, may_ask, shared_after}
+use Rattle.txs_theorem_runs.specs.Told.{Entry, exchange_of, IsExchanged, AllHold, trace_of}
+use Rattle.txs_theorem_runs.proofs.Growing.{IsFull, Serves, trace_stays}
+use Rattle.txs_theorem_runs.proofs.Serving.{serves}
+use Rattle.txs_world_shared.specs.SharedState as shared
+use Rattle.txs_world_shared.specs.SharedState.{PlainShared, shared_of, is_lawful, IsAfter}
 use Rattle.txs_machine.specs.RunOver.{IsStateOf, books_of, places_of}
 use Rattle.txs_machine.specs.Running.{after_turns, IsPlacedAs, IsPlayerOf, AreOf, ComesTo, GoesAs, IsAnswered}
 use Rattle.txs_machine.specs.Serving.{IsNext, with_place, IsServed}

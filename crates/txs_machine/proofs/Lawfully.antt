@@ -1,28 +1,28 @@
 -- Where code names its own cells alone, an actor asks nothing that it may not ask.
 use Rattle.std.proofs.Common.{◌≡◌, ◌==◌, ◌<◌, ℕ, Bool, true, false, nat_lt, List, [], ◌∷◌, ◌++◌, map, Option, Some, None, refl, sym, ap, ◌∙◌, subst, if◌then◌else◌, arith}
 use Rattle.std.proofs.lemmas.Bool.Decides.{nat_tests}
-use Rattle.txs_asks.specs.Ask.{Exchange}
-use Rattle.txs_asks.specs.declared.ask.Ask.{Ask}
-use Rattle.txs_asks.specs.declared.ask.Reply.{Reply}
-use Rattle.txs_asks.specs.declared.event.Event.{Event}
-use Rattle.txs_asks.specs.declared.event.Outcome.{Outcome}
-use Rattle.txs_cells.specs.declared.cell.CellDefinition.{CellDefinition}
-use Rattle.txs_code.specs.Machine.{ThreadCode, turn}
-use Rattle.txs_code.specs.Opening.{given}
-use Rattle.txs_actor.specs.PlainActor.{PlainActor, MayAnswer, Stops, answered, configuration_of, state_of, standing}
-use Rattle.txs_book.specs.Served.{Served}
-use Rattle.txs_runs.specs.Lawful.{CodeIsKnown, OpeningIsKnown}
-use Rattle.txs_runs.specs.Run.{exchange}
-use Rattle.txs_runs.specs.Shared.{book_for, serve_on, may_ask}
-use Rattle.txs_runs.specs.Stages.{Stage, AsksIn, stage_after}
-use Rattle.txs_runs.specs.Standing.{StandingCode}
-use Rattle.txs_runs.specs.Told.{Entry, exchange_of, IsExchanged, ToldBy}
-use Rattle.txs_runs.proofs.Growing.{Grown}
-use Rattle.txs_runs.proofs.Lawful.{todo_more}
-use Rattle.txs_runs.proofs.Naming.{MayName, later, names_stay, names_same, names_after}
-use Rattle.txs_runs.proofs.OneActor.{Asks, ask_is_lawful, answer_views, may_view_same, may_view_stays, served_known}
-use Rattle.txs_runs.proofs.ServedKnown.{BookKnown, ServedKnown}
-use Rattle.txs_runs.proofs.Values.{ReplyKnown, TodoKnown}
+use Rattle.txs_world_protocol.specs.Ask.{Exchange}
+use Rattle.txs_world_protocol.specs.declared.ask.Ask.{Ask}
+use Rattle.txs_world_protocol.specs.declared.ask.Reply.{Reply}
+use Rattle.txs_world_protocol.specs.declared.event.Event.{Event}
+use Rattle.txs_world_protocol.specs.declared.event.Outcome.{Outcome}
+use Rattle.txs_value_cell.specs.declared.cell.CellDefinition.{CellDefinition}
+use Rattle.txs_code_meaning.specs.Machine.{ThreadCode, turn}
+use Rattle.txs_code_meaning.specs.Opening.{given}
+use Rattle.txs_machine_actor.specs.PlainActor.{PlainActor, MayAnswer, Stops, answered, configuration_of, state_of, standing}
+use Rattle.txs_world_book.specs.Served.{Served}
+use Rattle.txs_theorem_runs.specs.Lawful.{CodeIsKnown, OpeningIsKnown}
+use Rattle.txs_theorem_runs.specs.Run.{exchange}
+use Rattle.txs_theorem_runs.specs.Shared.{book_for, serve_on, may_ask}
+use Rattle.txs_theorem_runs.specs.Stages.{Stage, AsksIn, stage_after}
+use Rattle.txs_theorem_runs.specs.Standing.{StandingCode}
+use Rattle.txs_theorem_runs.specs.Told.{Entry, exchange_of, IsExchanged, ToldBy}
+use Rattle.txs_theorem_runs.proofs.Growing.{Grown}
+use Rattle.txs_theorem_runs.proofs.Lawful.{todo_more}
+use Rattle.txs_theorem_runs.proofs.Naming.{MayName, later, names_stay, names_same, names_after}
+use Rattle.txs_theorem_runs.proofs.OneActor.{Asks, ask_is_lawful, answer_views, may_view_same, may_view_stays, served_known}
+use Rattle.txs_theorem_runs.proofs.ServedKnown.{BookKnown, ServedKnown}
+use Rattle.txs_theorem_runs.proofs.Values.{ReplyKnown, TodoKnown}
 use Rattle.txs_machine.specs.Lawfully.{AskedFrom, HasStood, ToldLawfully}
 
 -- ---- numbers of threads

@@ -1,13 +1,13 @@
 -- The laws of the crates below that runs stand on, as answers cite them.
-use Rattle.txs_follows.proofs.Fitted.{fits_of}
+use Rattle.txs_theorem_threads.proofs.Fitted.{fits_of}
 use Rattle.txs_world.specs.Laws.{ActionStays, RefusedIsUndisturbed, ServeKeeps}
 use Rattle.txs_world.proofs.Actions.{action_stays}
-use Rattle.txs_book.proofs.Older.{after_unwritten}
+use Rattle.txs_world_book.proofs.Older.{after_unwritten}
 use Rattle.txs_world.proofs.Serves.{done_is_undisturbed, refused_is_undisturbed, serve_stands}
-use Rattle.txs_runs.specs.Report.{RunReported, RunTraced}
-use Rattle.txs_runs.proofs.Report.{run_reported}
-use Rattle.txs_runs.proofs.Told.{fresh_stands, told_fits}
-use Rattle.txs_runs.proofs.Tracing.{run_traced}
+use Rattle.txs_theorem_runs.specs.Report.{RunReported, RunTraced}
+use Rattle.txs_theorem_runs.proofs.Report.{run_reported}
+use Rattle.txs_theorem_runs.proofs.Told.{fresh_stands, told_fits}
+use Rattle.txs_theorem_runs.proofs.Tracing.{run_traced}
 use Rattle.txs_machine.proofs.Explaining.{Known}
 use Rattle.txs_machine.proofs.Following.{actors_explained}
 

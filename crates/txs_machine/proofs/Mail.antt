@@ -1,35 +1,35 @@
 -- What is in an agent's mail the code sent: so the agent may run it. And all values in the books of such a run name defined cells alone.
 use Rattle.std.proofs.Common.{◌≡◌, ◌<◌, ◌+◌, ℕ, zero, suc, true, nat_lt, List, [], ◌∷◌, length, Option, Some, None, refl, sym, ap, subst, ◌∙◌, ◌⊎◌, inl, inr, arith}
 use Rattle.std.proofs.lemmas.Bool.Decides.{nat_tests}
-use Rattle.txs_asks.specs.Ask.{Exchange}
-use Rattle.txs_operations.specs.Core.{takes}
-use Rattle.txs_terms.specs.Places.{nth}
-use Rattle.txs_cells.specs.declared.action.Action.{Action}
-use Rattle.txs_terms.specs.declared.fault.Span.{Span}
-use Rattle.txs_terms.specs.declared.op.Callee.{Callee}
-use Rattle.txs_terms.specs.declared.op.Callee.TheVariants as callee
-use Rattle.txs_value.specs.declared.value.CellId.{CellId}
-use Rattle.txs_value.specs.declared.value.Value.{Value}
-use Rattle.txs_code.specs.Machine.{PlainInstr, SendOf, instr_at, fetch, Configuration, Unfinished, run}
-use Rattle.txs_code.specs.Opening.{opening}
-use Rattle.txs_code.specs.OwnCells.{NamesOwnCells}
-use Rattle.txs_code.specs.PlainCode.{CodeBody, PlainCode, parameters_of, plain_instr, plain_instrs, plain_bodies, function_codes, thread_code}
-use Rattle.txs_code.specs.WellTyped.{Functions, FunctionKind, a_thread, a_function, CalleeTakes, IsPureCallee, WellTypedBody, WellTypedThreads, WellTypedFunctions, WellTyped}
-use Rattle.txs_code.specs.declared.instr.Instr.{Instr}
-use Rattle.txs_code.specs.declared.instr.Instr.TheVariants as instr
-use Rattle.txs_actor.specs.PlainActor.{CanApply, MayRun, functions_of, own_body, code_of}
+use Rattle.txs_world_protocol.specs.Ask.{Exchange}
+use Rattle.txs_value_apply.specs.Core.{takes}
+use Rattle.txs_value_base.specs.Places.{nth}
+use Rattle.txs_value_cell.specs.declared.action.Action.{Action}
+use Rattle.txs_value_base.specs.declared.fault.Span.{Span}
+use Rattle.txs_value_base.specs.declared.op.Callee.{Callee}
+use Rattle.txs_value_base.specs.declared.op.Callee.TheVariants as callee
+use Rattle.txs_value_data.specs.declared.value.CellId.{CellId}
+use Rattle.txs_value_data.specs.declared.value.Value.{Value}
+use Rattle.txs_code_meaning.specs.Machine.{PlainInstr, SendOf, instr_at, fetch, Configuration, Unfinished, run}
+use Rattle.txs_code_meaning.specs.Opening.{opening}
+use Rattle.txs_code_meaning.specs.OwnCells.{NamesOwnCells}
+use Rattle.txs_code_meaning.specs.PlainCode.{CodeBody, PlainCode, parameters_of, plain_instr, plain_instrs, plain_bodies, function_codes, thread_code}
+use Rattle.txs_code_meaning.specs.WellTyped.{Functions, FunctionKind, a_thread, a_function, CalleeTakes, IsPureCallee, WellTypedBody, WellTypedThreads, WellTypedFunctions, WellTyped}
+use Rattle.txs_code_meaning.specs.declared.instr.Instr.{Instr}
+use Rattle.txs_code_meaning.specs.declared.instr.Instr.TheVariants as instr
+use Rattle.txs_machine_actor.specs.PlainActor.{CanApply, MayRun, functions_of, own_body, code_of}
 use Rattle.txs_world.specs.Laws.{ServeKeeps}
-use Rattle.txs_book.specs.Served.{cells_of}
+use Rattle.txs_world_book.specs.Served.{cells_of}
 use Rattle.txs_world.specs.Store.{next_action}
-use Rattle.txs_runs.specs.Shared.{Shared}
-use Rattle.txs_runs.specs.Staged.{StagedCode}
-use Rattle.txs_runs.proofs.Known.{standing_staged}
-use Rattle.txs_runs.proofs.Lawful.{run_known}
-use Rattle.txs_runs.proofs.Sent.{AllSuch, CodeSendsSuch, next_such, run_sends}
-use Rattle.txs_runs.proofs.ServedKnown.{BookKnown}
-use Rattle.txs_runs.proofs.Told.{fresh_stands}
-use Rattle.txs_runs.proofs.Typed.{Body, sends_pure, typed_stands}
-use Rattle.txs_shared.specs.SharedState.{PlainShared}
+use Rattle.txs_theorem_runs.specs.Shared.{Shared}
+use Rattle.txs_theorem_runs.specs.Staged.{StagedCode}
+use Rattle.txs_theorem_runs.proofs.Known.{standing_staged}
+use Rattle.txs_theorem_runs.proofs.Lawful.{run_known}
+use Rattle.txs_theorem_runs.proofs.Sent.{AllSuch, CodeSendsSuch, next_such, run_sends}
+use Rattle.txs_theorem_runs.proofs.ServedKnown.{BookKnown}
+use Rattle.txs_theorem_runs.proofs.Told.{fresh_stands}
+use Rattle.txs_theorem_runs.proofs.Typed.{Body, sends_pure, typed_stands}
+use Rattle.txs_world_shared.specs.SharedState.{PlainShared}
 use Rattle.txs_machine.specs.RunOver.{books_of}
 use Rattle.txs_machine.specs.Running.{IsRunOf}
 use Rattle.txs_machine.specs.declared.player.AgentPlayer.{AgentPlayer}

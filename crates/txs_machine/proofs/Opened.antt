@@ -1,22 +1,22 @@
 -- The actors of a run before its first play, and how many there are.
 use Rattle.std.proofs.Common.{◌≡◌, ◌≤◌, ◌<◌, ◌+◌, ℕ, zero, suc, List, [], ◌∷◌, ◌++◌, length, drop, get_or, Option, Some, None, refl, sym, ap, subst, ◌∙◌, arith}
 use Rattle.std.proofs.lemmas.List.{drop_more}
-use Rattle.txs_asks.specs.declared.event.Event.{Event}
-use Rattle.txs_terms.specs.Places.{nth}
-use Rattle.txs_cells.specs.declared.cell.CellDefinition.{CellDefinition}
-use Rattle.txs_value.specs.declared.value.CellKind.{CellKind}
-use Rattle.txs_value.specs.declared.value.CellKind.TheVariants.{Ref, Atom, Agent}
-use Rattle.txs_code.specs.Machine.{Unfinished}
-use Rattle.txs_code.specs.Opening.{opening}
-use Rattle.txs_code.specs.PlainCode.{PlainCode}
-use Rattle.txs_actor.specs.Laws.{ActorsRun}
-use Rattle.txs_actor.specs.PlainActor.{agents_from, code_of, with_agent}
-use Rattle.txs_actor.specs.Turns.{IsNew}
-use Rattle.txs_book.specs.Served.{cells_of}
+use Rattle.txs_world_protocol.specs.declared.event.Event.{Event}
+use Rattle.txs_value_base.specs.Places.{nth}
+use Rattle.txs_value_cell.specs.declared.cell.CellDefinition.{CellDefinition}
+use Rattle.txs_value_data.specs.declared.value.CellKind.{CellKind}
+use Rattle.txs_value_data.specs.declared.value.CellKind.TheVariants.{Ref, Atom, Agent}
+use Rattle.txs_code_meaning.specs.Machine.{Unfinished}
+use Rattle.txs_code_meaning.specs.Opening.{opening}
+use Rattle.txs_code_meaning.specs.PlainCode.{PlainCode}
+use Rattle.txs_machine_actor.specs.Laws.{ActorsRun}
+use Rattle.txs_machine_actor.specs.PlainActor.{agents_from, code_of, with_agent}
+use Rattle.txs_machine_actor.specs.Turns.{IsNew}
+use Rattle.txs_world_book.specs.Served.{cells_of}
 use Rattle.txs_world.specs.Store.{none_taken}
-use Rattle.txs_runs.specs.Run.{new_actor}
-use Rattle.txs_runs.specs.Shared.{Shared, untouched}
-use Rattle.txs_shared.specs.SharedState.{PlainShared, shared_of}
+use Rattle.txs_theorem_runs.specs.Run.{new_actor}
+use Rattle.txs_theorem_runs.specs.Shared.{Shared, untouched}
+use Rattle.txs_world_shared.specs.SharedState.{PlainShared, shared_of}
 use Rattle.txs_machine.specs.Agents.{agents_of}
 use Rattle.txs_machine.specs.Playing.{AreBetween, AreNew}
 use Rattle.txs_machine.specs.RunOver.{places_of}

@@ -1,25 +1,25 @@
 -- Code that names its own cells alone has constants and opening values in which all cells are the store's.
 use Rattle.std.proofs.Common.{◌≡◌, ℕ, zero, suc, true, List, [], ◌∷◌, ◌-◌, length, Option, Some, None, refl, sym, ap, subst, slice_index_or}
-use Rattle.txs_cells.specs.Forms.{same_kind}
-use Rattle.txs_value.specs.PlainValue.{PlainValue, nil, truth, int, key, text, vector, cell, PlainValues, end, more}
-use Rattle.txs_terms.specs.Places.{nth}
-use Rattle.txs_value.specs.View.{plain_of}
-use Rattle.txs_cells.specs.declared.cell.CellDefinition.{CellDefinition}
-use Rattle.txs_terms.specs.declared.fault.Span.{Span}
-use Rattle.txs_value.specs.declared.value.CellId.{CellId}
-use Rattle.txs_value.specs.declared.value.CellKind.{CellKind}
-use Rattle.txs_value.specs.declared.value.CellKind.TheVariants.{Ref, Atom, Agent}
-use Rattle.txs_value.specs.declared.value.Value.{Value}
-use Rattle.txs_value.specs.declared.value.Value.TheVariants.{Nil}
-use Rattle.txs_code.specs.Machine.{PlainInstr, Push, fetch, instr_at}
-use Rattle.txs_code.specs.OwnCells.{kind_at, HoldsDefined, RowHoldsDefined, NameDefined, OpeningsNameNone, NamesOwnCells}
-use Rattle.txs_code.specs.PlainCode.{CodeBody, PlainCode, parameters_of, plain_instr, plain_instrs, plain_bodies, thread_code}
-use Rattle.txs_code.specs.declared.instr.Instr.{Instr}
-use Rattle.txs_code.specs.declared.instr.Instr.TheVariants as instr
-use Rattle.txs_actor.specs.PlainActor.{agents_from, agent_or_none, own_body, code_of}
-use Rattle.txs_book.specs.Book.{is_of_kind, opening}
-use Rattle.txs_book.specs.Served.{cells_of}
-use Rattle.txs_runs.specs.Lawful.{HasCells, RowHasCells, IsKnown, CodeIsKnown, OpeningIsKnown}
+use Rattle.txs_value_cell.specs.Forms.{same_kind}
+use Rattle.txs_value_data.specs.PlainValue.{PlainValue, nil, truth, int, key, text, vector, cell, PlainValues, end, more}
+use Rattle.txs_value_base.specs.Places.{nth}
+use Rattle.txs_value_data.specs.View.{plain_of}
+use Rattle.txs_value_cell.specs.declared.cell.CellDefinition.{CellDefinition}
+use Rattle.txs_value_base.specs.declared.fault.Span.{Span}
+use Rattle.txs_value_data.specs.declared.value.CellId.{CellId}
+use Rattle.txs_value_data.specs.declared.value.CellKind.{CellKind}
+use Rattle.txs_value_data.specs.declared.value.CellKind.TheVariants.{Ref, Atom, Agent}
+use Rattle.txs_value_data.specs.declared.value.Value.{Value}
+use Rattle.txs_value_data.specs.declared.value.Value.TheVariants.{Nil}
+use Rattle.txs_code_meaning.specs.Machine.{PlainInstr, Push, fetch, instr_at}
+use Rattle.txs_code_meaning.specs.OwnCells.{kind_at, HoldsDefined, RowHoldsDefined, NameDefined, OpeningsNameNone, NamesOwnCells}
+use Rattle.txs_code_meaning.specs.PlainCode.{CodeBody, PlainCode, parameters_of, plain_instr, plain_instrs, plain_bodies, thread_code}
+use Rattle.txs_code_meaning.specs.declared.instr.Instr.{Instr}
+use Rattle.txs_code_meaning.specs.declared.instr.Instr.TheVariants as instr
+use Rattle.txs_machine_actor.specs.PlainActor.{agents_from, agent_or_none, own_body, code_of}
+use Rattle.txs_world_book.specs.Book.{is_of_kind, opening}
+use Rattle.txs_world_book.specs.Served.{cells_of}
+use Rattle.txs_theorem_runs.specs.Lawful.{HasCells, RowHasCells, IsKnown, CodeIsKnown, OpeningIsKnown}
 
 -- ---- cells
 

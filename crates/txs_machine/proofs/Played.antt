@@ -1,16 +1,16 @@
 -- What a play of a thread's or of an agent's actor makes of all actors.
 use Rattle.std.proofs.Common.{◌≡◌, ◌≤◌, ◌<◌, ◌+◌, ℕ, zero, suc, Bool, List, [], ◌∷◌, length, set, Option, Some, None, refl, sym, ap, subst, ◌∙◌, ◌⊎◌, inl, inr, arith}
-use Rattle.txs_asks.specs.declared.event.Event.{Event}
-use Rattle.txs_asks.specs.declared.event.Outcome.{Outcome}
-use Rattle.txs_terms.specs.Places.{nth}
-use Rattle.txs_value.specs.declared.value.CellId.{CellId}
-use Rattle.txs_code.specs.PlainCode.{PlainCode}
-use Rattle.txs_actor.specs.PlainActor.{PlainActor}
-use Rattle.txs_book.specs.Book.{agents_below}
-use Rattle.txs_book.specs.Served.{cells_of}
-use Rattle.txs_runs.specs.Report.{RunTraced}
-use Rattle.txs_runs.proofs.Growing.{Grown}
-use Rattle.txs_shared.specs.SharedState.{PlainShared}
+use Rattle.txs_world_protocol.specs.declared.event.Event.{Event}
+use Rattle.txs_world_protocol.specs.declared.event.Outcome.{Outcome}
+use Rattle.txs_value_base.specs.Places.{nth}
+use Rattle.txs_value_data.specs.declared.value.CellId.{CellId}
+use Rattle.txs_code_meaning.specs.PlainCode.{PlainCode}
+use Rattle.txs_machine_actor.specs.PlainActor.{PlainActor}
+use Rattle.txs_world_book.specs.Book.{agents_below}
+use Rattle.txs_world_book.specs.Served.{cells_of}
+use Rattle.txs_theorem_runs.specs.Report.{RunTraced}
+use Rattle.txs_theorem_runs.proofs.Growing.{Grown}
+use Rattle.txs_world_shared.specs.SharedState.{PlainShared}
 use Rattle.txs_machine.specs.Agents.{agents_of}
 use Rattle.txs_machine.specs.Playing.{IsBetween, AreBetween, ArePlayedAt}
 use Rattle.txs_machine.specs.RunOver.{IsLimited, books_of}

@@ -1,14 +1,14 @@
 -- What a play of one actor makes of it, and of all actors.
 use Rattle.std.proofs.Common.{◌≡◌, ◌<◌, ◌+◌, ℕ, [], length, set, Option, Some, None, refl, sym, ap, subst, ◌∙◌, arith}
 use Rattle.std.proofs.lemmas.List.{length-set}
-use Rattle.txs_asks.specs.declared.event.Outcome.{Outcome}
-use Rattle.txs_terms.specs.Places.{nth}
-use Rattle.txs_code.specs.OwnCells.{NamesOwnCells}
-use Rattle.txs_code.specs.PlainCode.{PlainCode}
-use Rattle.txs_actor.specs.PlainActor.{PlainActor}
+use Rattle.txs_world_protocol.specs.declared.event.Outcome.{Outcome}
+use Rattle.txs_value_base.specs.Places.{nth}
+use Rattle.txs_code_meaning.specs.OwnCells.{NamesOwnCells}
+use Rattle.txs_code_meaning.specs.PlainCode.{PlainCode}
+use Rattle.txs_machine_actor.specs.PlainActor.{PlainActor}
 use Rattle.txs_world.specs.Laws.{ServeKeeps}
-use Rattle.txs_runs.specs.Report.{RunTraced}
-use Rattle.txs_shared.specs.SharedState.{PlainShared}
+use Rattle.txs_theorem_runs.specs.Report.{RunTraced}
+use Rattle.txs_world_shared.specs.SharedState.{PlainShared}
 use Rattle.txs_machine.specs.Agents.{agents_of}
 use Rattle.txs_machine.specs.Playing.{AreLater, ArePlayedAt, IsBetween}
 use Rattle.txs_machine.specs.Plays.{IsRound, IsThreadsPlay, IsAgentsPlay, IsPlayAt}

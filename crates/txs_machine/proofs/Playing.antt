@@ -2,13 +2,13 @@
 use Rattle.std.proofs.Common.{◌≡◌, ◌==◌, ◌≤◌, ◌<◌, ◌+◌, ℕ, zero, suc, Bool, true, false, nat_lt, List, [], ◌∷◌, ◌++◌, length, set, get_or, take, Option, Some, None, refl, sym, ap, subst, ◌∙◌, if◌then◌else◌, arith}
 use Rattle.std.proofs.lemmas.List.{take_more}
 use Rattle.std.proofs.lemmas.Bool.Decides.{nat_tests}
-use Rattle.txs_asks.specs.declared.event.Event.{Event}
-use Rattle.txs_asks.specs.declared.event.Outcome.{Outcome}
-use Rattle.txs_value.proofs.SameLemmas.{and_both, number-itself}
-use Rattle.txs_terms.specs.Places.{nth}
-use Rattle.txs_code.specs.PlainCode.{PlainCode}
-use Rattle.txs_actor.specs.PlainActor.{PlainActor}
-use Rattle.txs_runs.proofs.Growing.{Grown, differ}
+use Rattle.txs_world_protocol.specs.declared.event.Event.{Event}
+use Rattle.txs_world_protocol.specs.declared.event.Outcome.{Outcome}
+use Rattle.txs_value_data.proofs.SameLemmas.{and_both, number-itself}
+use Rattle.txs_value_base.specs.Places.{nth}
+use Rattle.txs_code_meaning.specs.PlainCode.{PlainCode}
+use Rattle.txs_machine_actor.specs.PlainActor.{PlainActor}
+use Rattle.txs_theorem_runs.proofs.Growing.{Grown, differ}
 use Rattle.txs_machine.specs.RunOver.{IsLimited}
 use Rattle.txs_machine.specs.Playing.{IsBetween, AreBetween, IsPlayed, ArePlayedAt, AreLater, HaveSteps, AllEnded, IsUnended, IsReported, AreReported}
 use Rattle.txs_machine.specs.Schedule.{player, plays_of, all_named}

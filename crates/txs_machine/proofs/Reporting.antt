@@ -1,9 +1,9 @@
 -- What a report says, where it tells of all actors behind the last play.
 use Rattle.std.proofs.Common.{ℕ, Bool, List, length, map, Result, Ok, Err, IfOk}
-use Rattle.txs_code.specs.PlainCode.{PlainCode, thread_code}
-use Rattle.txs_runs.specs.Invariant.{SharedStands}
-use Rattle.txs_runs.specs.Report.{CodesStaged}
-use Rattle.txs_shared.specs.SharedState.{PlainShared, shared_of}
+use Rattle.txs_code_meaning.specs.PlainCode.{PlainCode, thread_code}
+use Rattle.txs_theorem_runs.specs.Invariant.{SharedStands}
+use Rattle.txs_theorem_runs.specs.Report.{CodesStaged}
+use Rattle.txs_world_shared.specs.SharedState.{PlainShared, shared_of}
 use Rattle.txs_machine.specs.Playing.{AreReported}
 use Rattle.txs_machine.specs.Plays.{ArePlayedOut, SaysOf}
 use Rattle.txs_machine.specs.RunOver.{books_of}

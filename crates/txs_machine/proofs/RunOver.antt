@@ -2,73 +2,73 @@
 use Rattle.std.proofs.Common.{◌≡◌, ◌==◌, ℕ, zero, suc, List, [], ◌∷◌, ◌++◌, length, map, take, get_or, true, false, Bool, ◌&&◌, nat_lt, ◌≤◌, ◌<◌, Option, Some, None, refl, sym, ap, subst, ◌∙◌, ◌+◌, ◌⊎◌, inl, inr, if◌then◌else◌, arith}
 use Rattle.std.proofs.lemmas.Bool.{false≢true}
 use Rattle.std.proofs.lemmas.Bool.Decides.{nat_tests}
-use Rattle.txs_asks.specs.Ask.{Writes, Exchange}
-use Rattle.txs_asks.specs.SeenEvent.{atoms_below}
-use Rattle.txs_asks.specs.declared.ask.Ask.{Ask}
-use Rattle.txs_asks.specs.declared.ask.Ask.TheVariants as ask
-use Rattle.txs_asks.specs.declared.ask.Reply.{Reply}
-use Rattle.txs_asks.specs.declared.ask.Reply.TheVariants as reply
-use Rattle.txs_asks.specs.declared.event.Event.{Event}
-use Rattle.txs_asks.specs.declared.event.EventKind.{EventKind}
-use Rattle.txs_asks.specs.declared.event.Outcome.{Outcome}
-use Rattle.txs_asks.specs.declared.event.Outcome.TheVariants as outcome
-use Rattle.txs_value.proofs.SameLemmas.{and_both, numbers, number-itself}
-use Rattle.txs_cells.specs.Cells.{World}
-use Rattle.txs_terms.specs.Places.{nth}
-use Rattle.txs_cells.specs.declared.action.Action.{Action}
-use Rattle.txs_cells.specs.declared.cell.CellDefinition.{CellDefinition}
-use Rattle.txs_value.specs.declared.value.CellId.{CellId}
-use Rattle.txs_value.specs.declared.value.Value.{Value}
-use Rattle.txs_code.specs.ActorState.{ActorState}
-use Rattle.txs_code.specs.Machine.{ThreadCode, Configuration, Turned, Ended, Failed, Asking, Unfinished, Stuck, and_then, turn, run}
-use Rattle.txs_code.proofs.Acts.{run_more}
-use Rattle.txs_code.specs.Opening.{given, opening}
-use Rattle.txs_code.specs.PlainCode.{CodeBody, PlainCode, function_codes}
-use Rattle.txs_code.specs.WellTyped.{WellTyped}
-use Rattle.txs_follows.specs.Follows.{Follows}
-use Rattle.txs_follows.specs.RepliesFit.{Out, RepliesFit, Explained}
-use Rattle.txs_follows.specs.RepliesFitTo.{FittingToFits}
-use Rattle.txs_tree.specs.Meaning.{Completion}
-use Rattle.txs_tree.specs.Thread.{ThreadState, thread_meaning}
-use Rattle.txs_tree.specs.Tree.{ThreadSource}
-use Rattle.txs_actor.specs.Laws.{ActorsRun}
-use Rattle.txs_actor.specs.PlainActor.{PlainActor, MayAnswer, Stops, answered, unanswered, configuration_of, state_of, code_of, stands_at, standing, Awaits, AsksLast, HasAsked, HasRun, HasCome, HasEndedSo, own_body, HandsOut}
-use Rattle.txs_actor.specs.Turns.{IsNew, OneStep, Answers, Moves, TurnsFrom, Turns, GoesOnAfter, TurnsOf}
-use Rattle.txs_actor.specs.declared.outcome.Turn.{Turn}
-use Rattle.txs_actor.specs.declared.outcome.Turn.TheVariants as turned
-use Rattle.txs_actor.proofs.Following.{Unstopped, unstopped_if}
-use Rattle.txs_actor.proofs.Saying.{turn_says}
-use Rattle.txs_book.specs.Book as world_book
+use Rattle.txs_world_protocol.specs.Ask.{Writes, Exchange}
+use Rattle.txs_world_protocol.specs.SeenEvent.{atoms_below}
+use Rattle.txs_world_protocol.specs.declared.ask.Ask.{Ask}
+use Rattle.txs_world_protocol.specs.declared.ask.Ask.TheVariants as ask
+use Rattle.txs_world_protocol.specs.declared.ask.Reply.{Reply}
+use Rattle.txs_world_protocol.specs.declared.ask.Reply.TheVariants as reply
+use Rattle.txs_world_protocol.specs.declared.event.Event.{Event}
+use Rattle.txs_world_protocol.specs.declared.event.EventKind.{EventKind}
+use Rattle.txs_world_protocol.specs.declared.event.Outcome.{Outcome}
+use Rattle.txs_world_protocol.specs.declared.event.Outcome.TheVariants as outcome
+use Rattle.txs_value_data.proofs.SameLemmas.{and_both, numbers, number-itself}
+use Rattle.txs_value_cell.specs.Cells.{World}
+use Rattle.txs_value_base.specs.Places.{nth}
+use Rattle.txs_value_cell.specs.declared.action.Action.{Action}
+use Rattle.txs_value_cell.specs.declared.cell.CellDefinition.{CellDefinition}
+use Rattle.txs_value_data.specs.declared.value.CellId.{CellId}
+use Rattle.txs_value_data.specs.declared.value.Value.{Value}
+use Rattle.txs_code_meaning.specs.ActorState.{ActorState}
+use Rattle.txs_code_meaning.specs.Machine.{ThreadCode, Configuration, Turned, Ended, Failed, Asking, Unfinished, Stuck, and_then, turn, run}
+use Rattle.txs_code_meaning.proofs.Acts.{run_more}
+use Rattle.txs_code_meaning.specs.Opening.{given, opening}
+use Rattle.txs_code_meaning.specs.PlainCode.{CodeBody, PlainCode, function_codes}
+use Rattle.txs_code_meaning.specs.WellTyped.{WellTyped}
+use Rattle.txs_theorem_threads.specs.Follows.{Follows}
+use Rattle.txs_theorem_threads.specs.RepliesFit.{Out, RepliesFit, Explained}
+use Rattle.txs_theorem_threads.specs.RepliesFitTo.{FittingToFits}
+use Rattle.txs_tree_meaning.specs.Meaning.{Completion}
+use Rattle.txs_tree_meaning.specs.Thread.{ThreadState, thread_meaning}
+use Rattle.txs_tree_meaning.specs.Tree.{ThreadSource}
+use Rattle.txs_machine_actor.specs.Laws.{ActorsRun}
+use Rattle.txs_machine_actor.specs.PlainActor.{PlainActor, MayAnswer, Stops, answered, unanswered, configuration_of, state_of, code_of, stands_at, standing, Awaits, AsksLast, HasAsked, HasRun, HasCome, HasEndedSo, own_body, HandsOut}
+use Rattle.txs_machine_actor.specs.Turns.{IsNew, OneStep, Answers, Moves, TurnsFrom, Turns, GoesOnAfter, TurnsOf}
+use Rattle.txs_machine_actor.specs.declared.outcome.Turn.{Turn}
+use Rattle.txs_machine_actor.specs.declared.outcome.Turn.TheVariants as turned
+use Rattle.txs_machine_actor.proofs.Following.{Unstopped, unstopped_if}
+use Rattle.txs_machine_actor.proofs.Saying.{turn_says}
+use Rattle.txs_world_book.specs.Book as world_book
 use Rattle.txs_world.proofs.Merging.{joined}
-use Rattle.txs_book.specs.Atom.{closes, closes_at, swapped_since}
-use Rattle.txs_book.specs.Book.{written, least_written, cells_in, is_failed, first_failed, has_cell}
-use Rattle.txs_book.specs.Served as entry
+use Rattle.txs_world_book.specs.Atom.{closes, closes_at, swapped_since}
+use Rattle.txs_world_book.specs.Book.{written, least_written, cells_in, is_failed, first_failed, has_cell}
+use Rattle.txs_world_book.specs.Served as entry
 use Rattle.txs_world.specs.Store as world
-use Rattle.txs_book.specs.Served.{cells_of, Served}
+use Rattle.txs_world_book.specs.Served.{cells_of, Served}
 use Rattle.txs_world.specs.Store.{serve}
-use Rattle.txs_value.specs.Limits.{most_events}
-use Rattle.txs_runs.specs.Invariant.{SharedStands}
-use Rattle.txs_runs.specs.Laws.{with_book, ToldFits, ServedIsTold}
-use Rattle.txs_runs.specs.Run.{entry}
-use Rattle.txs_runs.specs.Shared.{Shared, is_atom, has_atom, atom_of, serve_atom, book_for, serve_on, may_ask, may_close}
-use Rattle.txs_runs.specs.Staged.{StagedCode, TurnIsStaged, IsStaged, StagedFrom, stage_of}
-use Rattle.txs_runs.specs.Stages.{Stage, Idle, AsksIn, stage_after, phase_of}
-use Rattle.txs_runs.specs.Stages as stages
-use Rattle.txs_runs.specs.Told.{Entry, exchange_of, IsExchanged, AllHold, served_at, adding, trace_of, TraceHolds, seen_of, ToldBy}
-use Rattle.txs_runs.specs.Told as told_by
-use Rattle.txs_runs.proofs.Growing as growing
-use Rattle.txs_runs.proofs.Growing.{Grown, IsFull, Serves, nothing_grown, trace_stays, told_stays}
-use Rattle.txs_runs.specs.Printed.{Prints, HasPrinted}
-use Rattle.txs_runs.proofs.Lasts.{apart, still, turn_prints}
-use Rattle.txs_runs.proofs.Serving.{serves}
-use Rattle.txs_code.specs.OwnCells.{NamesOwnCells}
-use Rattle.txs_runs.specs.Standing.{StandingCode}
-use Rattle.txs_runs.specs.Lawful.{OpeningIsKnown, TypedStands}
-use Rattle.txs_runs.proofs.Known.{standing_staged}
-use Rattle.txs_runs.proofs.OneActor.{MayView, idle_view, went_view}
-use Rattle.txs_runs.proofs.ServedKnown.{BookKnown}
-use Rattle.txs_shared.specs.SharedState as shared
-use Rattle.txs_shared.specs.SharedState.{PlainShared, shared_of, numbered_book, is_lawful, answer_to, IsAfter, TakesMemoryFor}
+use Rattle.txs_value_data.specs.Limits.{most_events}
+use Rattle.txs_theorem_runs.specs.Invariant.{SharedStands}
+use Rattle.txs_theorem_runs.specs.Laws.{with_book, ToldFits, ServedIsTold}
+use Rattle.txs_theorem_runs.specs.Run.{entry}
+use Rattle.txs_theorem_runs.specs.Shared.{Shared, is_atom, has_atom, atom_of, serve_atom, book_for, serve_on, may_ask, may_close}
+use Rattle.txs_theorem_runs.specs.Staged.{StagedCode, TurnIsStaged, IsStaged, StagedFrom, stage_of}
+use Rattle.txs_theorem_runs.specs.Stages.{Stage, Idle, AsksIn, stage_after, phase_of}
+use Rattle.txs_theorem_runs.specs.Stages as stages
+use Rattle.txs_theorem_runs.specs.Told.{Entry, exchange_of, IsExchanged, AllHold, served_at, adding, trace_of, TraceHolds, seen_of, ToldBy}
+use Rattle.txs_theorem_runs.specs.Told as told_by
+use Rattle.txs_theorem_runs.proofs.Growing as growing
+use Rattle.txs_theorem_runs.proofs.Growing.{Grown, IsFull, Serves, nothing_grown, trace_stays, told_stays}
+use Rattle.txs_theorem_runs.specs.Printed.{Prints, HasPrinted}
+use Rattle.txs_theorem_runs.proofs.Lasts.{apart, still, turn_prints}
+use Rattle.txs_theorem_runs.proofs.Serving.{serves}
+use Rattle.txs_code_meaning.specs.OwnCells.{NamesOwnCells}
+use Rattle.txs_theorem_runs.specs.Standing.{StandingCode}
+use Rattle.txs_theorem_runs.specs.Lawful.{OpeningIsKnown, TypedStands}
+use Rattle.txs_theorem_runs.proofs.Known.{standing_staged}
+use Rattle.txs_theorem_runs.proofs.OneActor.{MayView, idle_view, went_view}
+use Rattle.txs_theorem_runs.proofs.ServedKnown.{BookKnown}
+use Rattle.txs_world_shared.specs.SharedState as shared
+use Rattle.txs_world_shared.specs.SharedState.{PlainShared, shared_of, numbered_book, is_lawful, answer_to, IsAfter, TakesMemoryFor}
 use Rattle.txs_machine.specs.Followed.{ActorsExplained, told}
 use Rattle.txs_machine.specs.Lawfully.{HasStood, RunLawfully}
 use Rattle.txs_machine.proofs.Lawfully.{ask_lawful, heard_lawfully, heard_stood, is_below, others_lawfully, others_stood}

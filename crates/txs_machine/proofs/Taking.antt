@@ -1,17 +1,17 @@
 -- Of which agents an action is taken, after an ask was served.
 use Rattle.std.proofs.Common.{◌≡◌, ℕ, Bool, List, Some, None, refl, sym, ap, ◌∙◌, inl, inr}
-use Rattle.txs_asks.specs.declared.ask.Ask.{Ask}
-use Rattle.txs_asks.specs.declared.ask.Ask.TheVariants as ask
-use Rattle.txs_asks.specs.declared.ask.Reply.{Reply}
-use Rattle.txs_asks.specs.declared.ask.Reply.TheVariants as reply
-use Rattle.txs_code.specs.PlainCode.{PlainCode}
-use Rattle.txs_actor.specs.PlainActor.{PlainActor, unanswered}
+use Rattle.txs_world_protocol.specs.declared.ask.Ask.{Ask}
+use Rattle.txs_world_protocol.specs.declared.ask.Ask.TheVariants as ask
+use Rattle.txs_world_protocol.specs.declared.ask.Reply.{Reply}
+use Rattle.txs_world_protocol.specs.declared.ask.Reply.TheVariants as reply
+use Rattle.txs_code_meaning.specs.PlainCode.{PlainCode}
+use Rattle.txs_machine_actor.specs.PlainActor.{PlainActor, unanswered}
 use Rattle.txs_world.specs.Store.{taken_after}
-use Rattle.txs_runs.specs.Shared.{Shared}
-use Rattle.txs_runs.specs.Stages.{Stage, AsksIn}
-use Rattle.txs_runs.specs.Stages as stages
-use Rattle.txs_shared.specs.SharedState as shared
-use Rattle.txs_shared.specs.SharedState.{PlainShared, answer_to, IsAfter}
+use Rattle.txs_theorem_runs.specs.Shared.{Shared}
+use Rattle.txs_theorem_runs.specs.Stages.{Stage, AsksIn}
+use Rattle.txs_theorem_runs.specs.Stages as stages
+use Rattle.txs_world_shared.specs.SharedState as shared
+use Rattle.txs_world_shared.specs.SharedState.{PlainShared, answer_to, IsAfter}
 use Rattle.txs_machine.specs.Lawfully.{RunLawfully}
 use Rattle.txs_machine.specs.RunOver.{books_of}
 use Rattle.txs_machine.specs.Serving.{IsServed}

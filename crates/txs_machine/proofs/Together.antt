@@ -1,34 +1,34 @@
 -- All actors of a run together: which agents there are, runs that go on by a play, what a report says of agents, and what a program means of them.
 use Rattle.std.proofs.Common.{◌≡◌, ◌+◌, ◌-◌, ℕ, zero, suc, Bool, true, false, ◌&&◌, List, [], ◌∷◌, ◌++◌, length, map, Option, Some, None, refl, sym, ap, subst, ◌∙◌, ◌⊎◌, inl, inr, arith, if◌then◌else◌}
-use Rattle.txs_asks.specs.declared.event.Event.{Event}
-use Rattle.txs_asks.specs.declared.event.Outcome.{Outcome}
-use Rattle.txs_asks.specs.declared.event.Outcome.TheVariants as outcome
-use Rattle.txs_cells.specs.Forms.{same_kind}
-use Rattle.txs_terms.specs.Places.{nth}
-use Rattle.txs_cells.specs.declared.action.Action.{Action}
-use Rattle.txs_cells.specs.declared.cell.CellDefinition.{CellDefinition}
-use Rattle.txs_value.specs.declared.value.CellId.{CellId}
-use Rattle.txs_value.specs.declared.value.CellKind.{CellKind}
-use Rattle.txs_value.specs.declared.value.CellKind.TheVariants.{Ref, Atom, Agent}
-use Rattle.txs_code.specs.ActorState.{ActorState}
-use Rattle.txs_code.specs.Machine.{PlainBody, ThreadCode, Configuration, Turned}
-use Rattle.txs_code.specs.PlainCode.{CodeBody, PlainCode, thread_code, function_codes}
-use Rattle.txs_follows.specs.FollowsAgent.{GoesOn}
-use Rattle.txs_actor.specs.PlainActor.{PlainActor, agents_from, agent_or_none, code_of, own_body, with_agent}
+use Rattle.txs_world_protocol.specs.declared.event.Event.{Event}
+use Rattle.txs_world_protocol.specs.declared.event.Outcome.{Outcome}
+use Rattle.txs_world_protocol.specs.declared.event.Outcome.TheVariants as outcome
+use Rattle.txs_value_cell.specs.Forms.{same_kind}
+use Rattle.txs_value_base.specs.Places.{nth}
+use Rattle.txs_value_cell.specs.declared.action.Action.{Action}
+use Rattle.txs_value_cell.specs.declared.cell.CellDefinition.{CellDefinition}
+use Rattle.txs_value_data.specs.declared.value.CellId.{CellId}
+use Rattle.txs_value_data.specs.declared.value.CellKind.{CellKind}
+use Rattle.txs_value_data.specs.declared.value.CellKind.TheVariants.{Ref, Atom, Agent}
+use Rattle.txs_code_meaning.specs.ActorState.{ActorState}
+use Rattle.txs_code_meaning.specs.Machine.{PlainBody, ThreadCode, Configuration, Turned}
+use Rattle.txs_code_meaning.specs.PlainCode.{CodeBody, PlainCode, thread_code, function_codes}
+use Rattle.txs_theorem_threads.specs.FollowsAgent.{GoesOn}
+use Rattle.txs_machine_actor.specs.PlainActor.{PlainActor, agents_from, agent_or_none, code_of, own_body, with_agent}
 use Rattle.txs_world.proofs.Merging.{joined}
-use Rattle.txs_book.specs.Book.{agents_below, is_of_kind, has_agent}
-use Rattle.txs_book.specs.Book as world
-use Rattle.txs_book.specs.Served.{cells_of}
+use Rattle.txs_world_book.specs.Book.{agents_below, is_of_kind, has_agent}
+use Rattle.txs_world_book.specs.Book as world
+use Rattle.txs_world_book.specs.Served.{cells_of}
 use Rattle.txs_world.specs.Store.{next_action}
-use Rattle.txs_runs.specs.Agents.{AllSound, ActsMean}
-use Rattle.txs_runs.specs.Explains.{outcome_at}
-use Rattle.txs_runs.specs.Report.{ActorTraced, RunTraced, RunsProgram, ReportExplained, CodesStaged, RunReported}
-use Rattle.txs_runs.specs.Run as run
-use Rattle.txs_runs.specs.Run.{Stop, Actor, State, Play, plays}
-use Rattle.txs_runs.specs.Shared.{Shared, book_for}
-use Rattle.txs_runs.specs.Told.{AllHold, TraceHolds, trace_of}
-use Rattle.txs_runs.proofs.Growing.{Grown, differ, trace_stays}
-use Rattle.txs_shared.specs.SharedState.{PlainShared, shared_of}
+use Rattle.txs_theorem_runs.specs.Agents.{AllSound, ActsMean}
+use Rattle.txs_theorem_runs.specs.Explains.{outcome_at}
+use Rattle.txs_theorem_runs.specs.Report.{ActorTraced, RunTraced, RunsProgram, ReportExplained, CodesStaged, RunReported}
+use Rattle.txs_theorem_runs.specs.Run as run
+use Rattle.txs_theorem_runs.specs.Run.{Stop, Actor, State, Play, plays}
+use Rattle.txs_theorem_runs.specs.Shared.{Shared, book_for}
+use Rattle.txs_theorem_runs.specs.Told.{AllHold, TraceHolds, trace_of}
+use Rattle.txs_theorem_runs.proofs.Growing.{Grown, differ, trace_stays}
+use Rattle.txs_world_shared.specs.SharedState.{PlainShared, shared_of}
 use Rattle.txs_machine.specs.Agents.{agents_of, AgentHasDone, AgentsAreDone, NeverEnds, ExplainsAgent, AreExplainedBy, AreDrained}
 use Rattle.txs_machine.specs.Playing.{IsReported, AreReported}
 use Rattle.txs_machine.specs.RunOver.{books_of, places_of}

@@ -1,15 +1,15 @@
 -- Which agents have something to do.
 use Rattle.std.proofs.Common.{◌≡◌, ◌<◌, ◌≤◌, ℕ, zero, suc, Bool, true, false, List, [], ◌∷◌, ◌++◌, length, Option, Some, None, refl, sym, ap, subst, ◌∙◌, arith}
-use Rattle.txs_asks.specs.declared.event.Event.{Event}
-use Rattle.txs_terms.specs.Places.{nth}
-use Rattle.txs_cells.specs.declared.action.Action.{Action}
-use Rattle.txs_value.specs.declared.value.CellId.{CellId}
-use Rattle.txs_code.specs.PlainCode.{PlainCode}
-use Rattle.txs_book.specs.Book.{has_agent, is_failed, mail_after}
-use Rattle.txs_book.specs.Served.{cells_of}
+use Rattle.txs_world_protocol.specs.declared.event.Event.{Event}
+use Rattle.txs_value_base.specs.Places.{nth}
+use Rattle.txs_value_cell.specs.declared.action.Action.{Action}
+use Rattle.txs_value_data.specs.declared.value.CellId.{CellId}
+use Rattle.txs_code_meaning.specs.PlainCode.{PlainCode}
+use Rattle.txs_world_book.specs.Book.{has_agent, is_failed, mail_after}
+use Rattle.txs_world_book.specs.Served.{cells_of}
 use Rattle.txs_world.specs.Store.{first_action, next_action}
-use Rattle.txs_book.specs.declared.cell.StoreCell.{StoreCell}
-use Rattle.txs_shared.specs.SharedState.{PlainShared, numbered_book}
+use Rattle.txs_world_book.specs.declared.cell.StoreCell.{StoreCell}
+use Rattle.txs_world_shared.specs.SharedState.{PlainShared, numbered_book}
 use Rattle.txs_machine.specs.Agents.{agents_of}
 use Rattle.txs_machine.specs.Playing.{IsUnended}
 use Rattle.txs_machine.specs.RunOver.{IsStateOf, books_of}

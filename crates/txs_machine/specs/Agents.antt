@@ -1,21 +1,21 @@
 -- Agents in runs: which actors there are, what a report says of the agents', what a program says of them, and when rounds are over.
 use Rattle.std.specs.Prelude.{◌≡◌, ◌+◌, ℕ, List, [], length, map, Option, Some, None}
-use Rattle.txs_asks.specs.declared.event.Event.{Event}
-use Rattle.txs_asks.specs.declared.event.Outcome.{Outcome}
-use Rattle.txs_asks.specs.declared.event.Outcome.TheVariants as outcome
-use Rattle.txs_terms.specs.Places.{nth}
-use Rattle.txs_value.specs.declared.value.CellId.{CellId}
-use Rattle.txs_tree.specs.Tree.{PlainProgram}
-use Rattle.txs_code.specs.PlainCode.{PlainCode, thread_code, function_codes}
-use Rattle.txs_follows.specs.FollowsAgent.{FollowsAgents}
-use Rattle.txs_follows.specs.FollowsAll.{FollowsAll}
-use Rattle.txs_follows.specs.Sends.{CodesSendSound}
-use Rattle.txs_actor.specs.PlainActor.{PlainActor, HasRun, agents_from, code_of, unanswered}
-use Rattle.txs_book.specs.Served.{cells_of}
+use Rattle.txs_world_protocol.specs.declared.event.Event.{Event}
+use Rattle.txs_world_protocol.specs.declared.event.Outcome.{Outcome}
+use Rattle.txs_world_protocol.specs.declared.event.Outcome.TheVariants as outcome
+use Rattle.txs_value_base.specs.Places.{nth}
+use Rattle.txs_value_data.specs.declared.value.CellId.{CellId}
+use Rattle.txs_tree_meaning.specs.Tree.{PlainProgram}
+use Rattle.txs_code_meaning.specs.PlainCode.{PlainCode, thread_code, function_codes}
+use Rattle.txs_theorem_threads.specs.FollowsAgent.{FollowsAgents}
+use Rattle.txs_theorem_threads.specs.FollowsAll.{FollowsAll}
+use Rattle.txs_theorem_threads.specs.Sends.{CodesSendSound}
+use Rattle.txs_machine_actor.specs.PlainActor.{PlainActor, HasRun, agents_from, code_of, unanswered}
+use Rattle.txs_world_book.specs.Served.{cells_of}
 use Rattle.txs_world.specs.Store.{next_action}
-use Rattle.txs_runs.specs.Agents.{ActsMean, AllSound}
-use Rattle.txs_runs.specs.Shared.{Shared}
-use Rattle.txs_runs.specs.Told.{Entry, exchange_of, AllHold, TraceHolds, trace_of}
+use Rattle.txs_theorem_runs.specs.Agents.{ActsMean, AllSound}
+use Rattle.txs_theorem_runs.specs.Shared.{Shared}
+use Rattle.txs_theorem_runs.specs.Told.{Entry, exchange_of, AllHold, TraceHolds, trace_of}
 use Rattle.txs_machine.specs.RunOver.{IsLimited, AtFullBook, places_of}
 use Rattle.txs_machine.specs.Schedule.{Explains}
 use Rattle.txs_machine.specs.declared.schedule.ThreadReport.{ThreadReport}

@@ -1,6 +1,6 @@
 -- What a transaction asks before its end, told in few words.
-use Rattle.txs_asks.specs.declared.ask.Ask.{Ask}
-use Rattle.txs_asks.specs.declared.ask.Ask.TheVariants as ask
+use Rattle.txs_world_protocol.specs.declared.ask.Ask.{Ask}
+use Rattle.txs_world_protocol.specs.declared.ask.Ask.TheVariants as ask
 use Rattle.txs_machine.specs.declared.run.Brief.{Brief}
 use Rattle.txs_machine.specs.declared.run.Brief.TheVariants as brief
 

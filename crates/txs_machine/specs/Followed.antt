@@ -1,18 +1,18 @@
 -- What an actor has done is what the code means.
 use Rattle.std.specs.Prelude.{◌≡◌, ℕ, ◌≤◌, List, Option, Some, None}
-use Rattle.txs_asks.specs.Ask.{Exchange}
-use Rattle.txs_asks.specs.declared.ask.Ask.{Ask}
-use Rattle.txs_asks.specs.declared.event.Outcome.{Outcome}
-use Rattle.txs_asks.specs.SeenEvent.{SeenEvent}
-use Rattle.txs_tree.specs.Thread.{thread_meaning}
-use Rattle.txs_tree.specs.Tree.{ThreadSource}
-use Rattle.txs_code.specs.Machine.{Asking}
-use Rattle.txs_code.specs.Machine as machine
-use Rattle.txs_code.specs.Opening.{target}
-use Rattle.txs_code.specs.PlainCode.{PlainCode}
-use Rattle.txs_follows.specs.Follows.{Follows}
-use Rattle.txs_follows.specs.RepliesFit.{Out, RepliesFit, Explained}
-use Rattle.txs_actor.specs.PlainActor.{PlainActor, HasRun, unanswered, code_of, state_of, standing}
+use Rattle.txs_world_protocol.specs.Ask.{Exchange}
+use Rattle.txs_world_protocol.specs.declared.ask.Ask.{Ask}
+use Rattle.txs_world_protocol.specs.declared.event.Outcome.{Outcome}
+use Rattle.txs_world_protocol.specs.SeenEvent.{SeenEvent}
+use Rattle.txs_tree_meaning.specs.Thread.{thread_meaning}
+use Rattle.txs_tree_meaning.specs.Tree.{ThreadSource}
+use Rattle.txs_code_meaning.specs.Machine.{Asking}
+use Rattle.txs_code_meaning.specs.Machine as machine
+use Rattle.txs_code_meaning.specs.Opening.{target}
+use Rattle.txs_code_meaning.specs.PlainCode.{PlainCode}
+use Rattle.txs_theorem_threads.specs.Follows.{Follows}
+use Rattle.txs_theorem_threads.specs.RepliesFit.{Out, RepliesFit, Explained}
+use Rattle.txs_machine_actor.specs.PlainActor.{PlainActor, HasRun, unanswered, code_of, state_of, standing}
 
 -- what the machine's meaning is told of an actor
 abbrev pub told : PlainActor → Option Outcome → Option Ask → machine.Outcome

@@ -1,23 +1,23 @@
 -- Why an actor's next ask is lawful.
 use Rattle.std.specs.Prelude.{◌≡◌, ◌<◌, ℕ, List, [], length, map, Option, Some, None}
-use Rattle.txs_asks.specs.Ask.{Exchange}
-use Rattle.txs_asks.specs.declared.ask.Ask.{Ask}
-use Rattle.txs_asks.specs.declared.event.Event.{Event}
-use Rattle.txs_asks.specs.declared.event.Outcome.{Outcome}
-use Rattle.txs_cells.specs.declared.cell.CellDefinition.{CellDefinition}
-use Rattle.txs_code.specs.Machine.{ThreadCode, Configuration, Unfinished, run}
-use Rattle.txs_code.specs.Opening.{opening}
-use Rattle.txs_code.specs.PlainCode.{PlainCode}
-use Rattle.txs_actor.specs.PlainActor.{PlainActor, Awaits, unanswered, code_of, configuration_of}
-use Rattle.txs_runs.specs.Lawful.{OpeningIsKnown}
-use Rattle.txs_runs.specs.Staged.{stage_of}
-use Rattle.txs_runs.specs.Stages.{Stage}
-use Rattle.txs_runs.specs.Standing.{StandingCode}
-use Rattle.txs_runs.specs.Told.{Entry, exchange_of, trace_of}
-use Rattle.txs_runs.proofs.Naming.{MayName}
-use Rattle.txs_runs.proofs.OneActor.{MayView}
-use Rattle.txs_runs.proofs.ServedKnown.{BookKnown}
-use Rattle.txs_runs.proofs.Values.{TodoKnown}
+use Rattle.txs_world_protocol.specs.Ask.{Exchange}
+use Rattle.txs_world_protocol.specs.declared.ask.Ask.{Ask}
+use Rattle.txs_world_protocol.specs.declared.event.Event.{Event}
+use Rattle.txs_world_protocol.specs.declared.event.Outcome.{Outcome}
+use Rattle.txs_value_cell.specs.declared.cell.CellDefinition.{CellDefinition}
+use Rattle.txs_code_meaning.specs.Machine.{ThreadCode, Configuration, Unfinished, run}
+use Rattle.txs_code_meaning.specs.Opening.{opening}
+use Rattle.txs_code_meaning.specs.PlainCode.{PlainCode}
+use Rattle.txs_machine_actor.specs.PlainActor.{PlainActor, Awaits, unanswered, code_of, configuration_of}
+use Rattle.txs_theorem_runs.specs.Lawful.{OpeningIsKnown}
+use Rattle.txs_theorem_runs.specs.Staged.{stage_of}
+use Rattle.txs_theorem_runs.specs.Stages.{Stage}
+use Rattle.txs_theorem_runs.specs.Standing.{StandingCode}
+use Rattle.txs_theorem_runs.specs.Told.{Entry, exchange_of, trace_of}
+use Rattle.txs_theorem_runs.proofs.Naming.{MayName}
+use Rattle.txs_theorem_runs.proofs.OneActor.{MayView}
+use Rattle.txs_theorem_runs.proofs.ServedKnown.{BookKnown}
+use Rattle.txs_theorem_runs.proofs.Values.{TodoKnown}
 use Rattle.txs_machine.specs.RunOver.{RunOver, places_of}
 use Rattle.txs_machine.specs.declared.player.Place.{Place}
 

@@ -1,9 +1,9 @@
 -- What holds of all actors of a run between two plays, and what a play makes of them.
 use Rattle.std.specs.Prelude.{◌≡◌, ◌≤◌, ◌<◌, ℕ, zero, suc, List, [], ◌∷◌, None}
-use Rattle.txs_asks.specs.declared.event.Event.{Event}
-use Rattle.txs_code.specs.PlainCode.{PlainCode}
-use Rattle.txs_actor.specs.PlainActor.{PlainActor, Lives, unanswered}
-use Rattle.txs_actor.specs.Turns.{IsNew}
+use Rattle.txs_world_protocol.specs.declared.event.Event.{Event}
+use Rattle.txs_code_meaning.specs.PlainCode.{PlainCode}
+use Rattle.txs_machine_actor.specs.PlainActor.{PlainActor, Lives, unanswered}
+use Rattle.txs_machine_actor.specs.Turns.{IsNew}
 use Rattle.txs_machine.specs.Lawfully.{RunLawfully}
 use Rattle.txs_machine.specs.RunOver.{IsLimited}
 use Rattle.txs_machine.specs.Schedule.{plays_of}

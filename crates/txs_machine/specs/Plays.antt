@@ -1,14 +1,14 @@
 -- What a play of one actor makes of it, and of all actors: before the first play, after each, and what a report says behind the last.
 use Rattle.std.specs.Prelude.{◌≡◌, ◌≤◌, ◌<◌, ℕ, Bool, true, List, [], length, Option, None}
-use Rattle.txs_asks.specs.declared.event.Outcome.{Outcome}
-use Rattle.txs_value.specs.declared.value.CellId.{CellId}
-use Rattle.txs_code.specs.PlainCode.{PlainCode}
-use Rattle.txs_actor.specs.PlainActor.{PlainActor, Lives, unanswered}
-use Rattle.txs_book.specs.Served.{cells_of}
+use Rattle.txs_world_protocol.specs.declared.event.Outcome.{Outcome}
+use Rattle.txs_value_data.specs.declared.value.CellId.{CellId}
+use Rattle.txs_code_meaning.specs.PlainCode.{PlainCode}
+use Rattle.txs_machine_actor.specs.PlainActor.{PlainActor, Lives, unanswered}
+use Rattle.txs_world_book.specs.Served.{cells_of}
 use Rattle.txs_world.specs.Store.{none_taken}
-use Rattle.txs_runs.proofs.Growing.{Grown}
-use Rattle.txs_runs.specs.Shared.{untouched}
-use Rattle.txs_shared.specs.SharedState.{PlainShared, shared_of}
+use Rattle.txs_theorem_runs.proofs.Growing.{Grown}
+use Rattle.txs_theorem_runs.specs.Shared.{untouched}
+use Rattle.txs_world_shared.specs.SharedState.{PlainShared, shared_of}
 use Rattle.txs_machine.specs.Agents.{agents_of, AgentsAreDone, AreDrained, AreExplainedBy}
 use Rattle.txs_machine.specs.Lawfully.{RunLawfully}
 use Rattle.txs_machine.specs.Playing.{AllEnded, AreBetween, AreLater, AreNew, ArePlayedAt, HaveSteps, IsBetween, IsPlayed}

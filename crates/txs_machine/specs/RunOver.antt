@@ -1,32 +1,32 @@
 -- What an actor has done over what is shared, and what the source of its thread says of it.
 use Rattle.std.specs.Prelude.{◌≡◌, ◌≤◌, ℕ, List, [], ◌∷◌, ◌++◌, length, map, Option, Some, None}
-use Rattle.txs_asks.specs.Ask.{Exchange}
-use Rattle.txs_asks.specs.declared.ask.Ask.{Ask}
-use Rattle.txs_asks.specs.declared.ask.Reply.{Reply}
-use Rattle.txs_asks.specs.declared.event.Event.{Event}
-use Rattle.txs_asks.specs.declared.event.Outcome.{Outcome}
-use Rattle.txs_asks.specs.declared.event.Outcome.TheVariants.{StepsSpent, JournalFull}
-use Rattle.txs_cells.specs.declared.cell.CellDefinition.{CellDefinition}
-use Rattle.txs_value.specs.declared.value.Value.{Value}
+use Rattle.txs_world_protocol.specs.Ask.{Exchange}
+use Rattle.txs_world_protocol.specs.declared.ask.Ask.{Ask}
+use Rattle.txs_world_protocol.specs.declared.ask.Reply.{Reply}
+use Rattle.txs_world_protocol.specs.declared.event.Event.{Event}
+use Rattle.txs_world_protocol.specs.declared.event.Outcome.{Outcome}
+use Rattle.txs_world_protocol.specs.declared.event.Outcome.TheVariants.{StepsSpent, JournalFull}
+use Rattle.txs_value_cell.specs.declared.cell.CellDefinition.{CellDefinition}
+use Rattle.txs_value_data.specs.declared.value.Value.{Value}
 use Rattle.txs_frame.specs.Frame.{no_work}
-use Rattle.txs_tree.specs.Meaning.{Completion}
-use Rattle.txs_tree.specs.Thread.{ThreadState, thread_meaning}
-use Rattle.txs_tree.specs.Tree.{ThreadSource}
-use Rattle.txs_code.specs.ActorState.{ActorState}
-use Rattle.txs_code.specs.Machine.{ThreadCode, Asking, run}
-use Rattle.txs_code.specs.Opening.{opening as opens}
-use Rattle.txs_code.specs.PlainCode.{PlainCode}
-use Rattle.txs_follows.specs.Follows.{Follows}
-use Rattle.txs_follows.specs.RepliesFit.{Explained}
-use Rattle.txs_actor.specs.PlainActor.{PlainActor, HasRun, AsksLast, MayAnswer, Stops, answered, unanswered, configuration_of, state_of, code_of, stating, standing, stands_at}
-use Rattle.txs_value.specs.Limits.{most_events}
-use Rattle.txs_runs.specs.Printed.{Prints}
-use Rattle.txs_runs.specs.Stages.{Stage, AsksIn, stage_after}
-use Rattle.txs_runs.specs.Staged.{IsStaged, stage_of}
-use Rattle.txs_runs.specs.Shared.{book_for}
-use Rattle.txs_runs.specs.Told as told_by
-use Rattle.txs_runs.specs.Told.{Entry, exchange_of, ToldBy, trace_of, TraceHolds, seen_of}
-use Rattle.txs_shared.specs.SharedState.{PlainShared, shared_of}
+use Rattle.txs_tree_meaning.specs.Meaning.{Completion}
+use Rattle.txs_tree_meaning.specs.Thread.{ThreadState, thread_meaning}
+use Rattle.txs_tree_meaning.specs.Tree.{ThreadSource}
+use Rattle.txs_code_meaning.specs.ActorState.{ActorState}
+use Rattle.txs_code_meaning.specs.Machine.{ThreadCode, Asking, run}
+use Rattle.txs_code_meaning.specs.Opening.{opening as opens}
+use Rattle.txs_code_meaning.specs.PlainCode.{PlainCode}
+use Rattle.txs_theorem_threads.specs.Follows.{Follows}
+use Rattle.txs_theorem_threads.specs.RepliesFit.{Explained}
+use Rattle.txs_machine_actor.specs.PlainActor.{PlainActor, HasRun, AsksLast, MayAnswer, Stops, answered, unanswered, configuration_of, state_of, code_of, stating, standing, stands_at}
+use Rattle.txs_value_data.specs.Limits.{most_events}
+use Rattle.txs_theorem_runs.specs.Printed.{Prints}
+use Rattle.txs_theorem_runs.specs.Stages.{Stage, AsksIn, stage_after}
+use Rattle.txs_theorem_runs.specs.Staged.{IsStaged, stage_of}
+use Rattle.txs_theorem_runs.specs.Shared.{book_for}
+use Rattle.txs_theorem_runs.specs.Told as told_by
+use Rattle.txs_theorem_runs.specs.Told.{Entry, exchange_of, ToldBy, trace_of, TraceHolds, seen_of}
+use Rattle.txs_world_shared.specs.SharedState.{PlainShared, shared_of}
 use Rattle.txs_machine.specs.declared.player.Place.{Place}
 use Rattle.txs_machine.specs.declared.run.Ran.{Ran}
 

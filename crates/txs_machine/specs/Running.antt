@@ -2,25 +2,25 @@
 -- plays.
 use Rattle.std.proofs.Common.{◌⊎◌}
 use Rattle.std.specs.Prelude.{◌≡◌, ◌+◌, ◌-◌, ℕ, suc, Bool, true, false, List, [], ◌∷◌, length, map, Option, Some, None}
-use Rattle.txs_asks.specs.declared.ask.Ask.{Ask}
-use Rattle.txs_asks.specs.declared.ask.Ask.TheVariants as ask
-use Rattle.txs_asks.specs.declared.ask.Reply.{Reply}
-use Rattle.txs_asks.specs.declared.event.Event.{Event}
-use Rattle.txs_asks.specs.declared.event.Outcome.{Outcome}
-use Rattle.txs_asks.specs.declared.event.Outcome.TheVariants as outcome
-use Rattle.txs_terms.specs.Places.{nth}
-use Rattle.txs_cells.specs.declared.action.Action.{Action}
-use Rattle.txs_value.specs.declared.value.CellId.{CellId}
-use Rattle.txs_code.specs.Machine.{Activity, Outside, Restarting, Running, Applying, Swapping, Acting, Configuration, Turned, Ended, Failed, Unfinished}
-use Rattle.txs_code.specs.PlainCode.{PlainCode}
-use Rattle.txs_actor.specs.PlainActor.{PlainActor, HasRun, IsActorOf, Lives, MayAnswer, answered, code_of, configuration_of, state_of, unanswered}
-use Rattle.txs_book.specs.Book.{has_agent, actor_of}
-use Rattle.txs_book.specs.Served.{cells_of}
+use Rattle.txs_world_protocol.specs.declared.ask.Ask.{Ask}
+use Rattle.txs_world_protocol.specs.declared.ask.Ask.TheVariants as ask
+use Rattle.txs_world_protocol.specs.declared.ask.Reply.{Reply}
+use Rattle.txs_world_protocol.specs.declared.event.Event.{Event}
+use Rattle.txs_world_protocol.specs.declared.event.Outcome.{Outcome}
+use Rattle.txs_world_protocol.specs.declared.event.Outcome.TheVariants as outcome
+use Rattle.txs_value_base.specs.Places.{nth}
+use Rattle.txs_value_cell.specs.declared.action.Action.{Action}
+use Rattle.txs_value_data.specs.declared.value.CellId.{CellId}
+use Rattle.txs_code_meaning.specs.Machine.{Activity, Outside, Restarting, Running, Applying, Swapping, Acting, Configuration, Turned, Ended, Failed, Unfinished}
+use Rattle.txs_code_meaning.specs.PlainCode.{PlainCode}
+use Rattle.txs_machine_actor.specs.PlainActor.{PlainActor, HasRun, IsActorOf, Lives, MayAnswer, answered, code_of, configuration_of, state_of, unanswered}
+use Rattle.txs_world_book.specs.Book.{has_agent, actor_of}
+use Rattle.txs_world_book.specs.Served.{cells_of}
 use Rattle.txs_world.specs.Store.{is_taken, next_action}
-use Rattle.txs_runs.specs.Run as run
-use Rattle.txs_runs.specs.Run.{Stop, JournalFull, Memory, TurnsSpent}
-use Rattle.txs_runs.specs.Told.{exchange_of, AllHold, trace_of}
-use Rattle.txs_shared.specs.SharedState.{PlainShared, shared_of, is_lawful}
+use Rattle.txs_theorem_runs.specs.Run as run
+use Rattle.txs_theorem_runs.specs.Run.{Stop, JournalFull, Memory, TurnsSpent}
+use Rattle.txs_theorem_runs.specs.Told.{exchange_of, AllHold, trace_of}
+use Rattle.txs_world_shared.specs.SharedState.{PlainShared, shared_of, is_lawful}
 use Rattle.txs_machine.specs.Agents.{agents_of}
 use Rattle.txs_machine.specs.Playing.{AreBetween}
 use Rattle.txs_machine.specs.RunOver.{IsLimited, AtFullBook, books_of, places_of}

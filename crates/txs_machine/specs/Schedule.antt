@@ -1,24 +1,24 @@
 -- Runs of all threads of a code over what they share, by turns that a schedule names, and what a program's source says of them.
 use Rattle.std.specs.Prelude.{◌≡◌, ◌≤◌, ◌+◌, ℕ, suc, Bool, true, false, ◌&&◌, ◌==◌, nat_lt, List, [], ◌∷◌, ◌++◌, length, map, Option, Some, None, if◌then◌else◌}
 use Rattle.std.proofs.Common.{◌⊎◌}
-use Rattle.txs_asks.specs.SeenEvent.{SeenEvent}
-use Rattle.txs_asks.specs.declared.event.Event.{Event}
-use Rattle.txs_asks.specs.declared.event.Outcome.{Outcome}
-use Rattle.txs_terms.specs.Places.{nth}
-use Rattle.txs_value.specs.declared.value.Value.{Value}
+use Rattle.txs_world_protocol.specs.SeenEvent.{SeenEvent}
+use Rattle.txs_world_protocol.specs.declared.event.Event.{Event}
+use Rattle.txs_world_protocol.specs.declared.event.Outcome.{Outcome}
+use Rattle.txs_value_base.specs.Places.{nth}
+use Rattle.txs_value_data.specs.declared.value.Value.{Value}
 use Rattle.txs_frame.specs.Frame.{no_work}
-use Rattle.txs_tree.specs.Meaning.{Completion}
-use Rattle.txs_tree.specs.Thread.{ThreadState, thread_meaning}
-use Rattle.txs_tree.specs.Tree.{PlainThread, PlainProgram}
-use Rattle.txs_code.specs.PlainCode.{PlainCode, thread_code}
-use Rattle.txs_follows.specs.FollowsAll.{source_of, FollowsAll}
-use Rattle.txs_follows.specs.RepliesFit.{Explained, halted, HasWaited}
-use Rattle.txs_actor.specs.PlainActor.{PlainActor, agents_from, unanswered, stating, standing}
-use Rattle.txs_shared.specs.SharedState.{PlainShared}
-use Rattle.txs_runs.specs.Explains.{BooksStand, CommitsUndisturbed}
-use Rattle.txs_runs.specs.Refused.{RefusalsUndisturbed}
-use Rattle.txs_runs.specs.Shared.{Shared}
-use Rattle.txs_runs.specs.Told.{TraceHolds, trace_of, seen_of}
+use Rattle.txs_tree_meaning.specs.Meaning.{Completion}
+use Rattle.txs_tree_meaning.specs.Thread.{ThreadState, thread_meaning}
+use Rattle.txs_tree_meaning.specs.Tree.{PlainThread, PlainProgram}
+use Rattle.txs_code_meaning.specs.PlainCode.{PlainCode, thread_code}
+use Rattle.txs_theorem_threads.specs.FollowsAll.{source_of, FollowsAll}
+use Rattle.txs_theorem_threads.specs.RepliesFit.{Explained, halted, HasWaited}
+use Rattle.txs_machine_actor.specs.PlainActor.{PlainActor, agents_from, unanswered, stating, standing}
+use Rattle.txs_world_shared.specs.SharedState.{PlainShared}
+use Rattle.txs_theorem_runs.specs.Explains.{BooksStand, CommitsUndisturbed}
+use Rattle.txs_theorem_runs.specs.Refused.{RefusalsUndisturbed}
+use Rattle.txs_theorem_runs.specs.Shared.{Shared}
+use Rattle.txs_theorem_runs.specs.Told.{TraceHolds, trace_of, seen_of}
 use Rattle.txs_machine.specs.RunOver.{RunOver, IsLimited, places_of}
 use Rattle.txs_machine.specs.declared.schedule.Play.{Play}
 use Rattle.txs_machine.specs.declared.schedule.Play.TheVariants as play

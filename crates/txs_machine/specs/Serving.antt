@@ -1,12 +1,12 @@
 -- How a run serves an actor's ask, and keeps the place of the event that it adds.
 use Rattle.std.specs.Prelude.{◌≡◌, ℕ, Bool, true, false, List, [], ◌∷◌, ◌++◌, length, nat_lt, if◌then◌else◌}
 use Rattle.std.proofs.Common.{◌⊎◌}
-use Rattle.txs_asks.specs.declared.ask.Ask.{Ask}
-use Rattle.txs_asks.specs.declared.ask.Ask.TheVariants as ask
-use Rattle.txs_asks.specs.declared.ask.Reply.{Reply}
-use Rattle.txs_asks.specs.declared.ask.Reply.TheVariants.{Memory}
-use Rattle.txs_runs.specs.Shared.{book_for}
-use Rattle.txs_shared.specs.SharedState.{PlainShared, shared_of, answer_to, Answers}
+use Rattle.txs_world_protocol.specs.declared.ask.Ask.{Ask}
+use Rattle.txs_world_protocol.specs.declared.ask.Ask.TheVariants as ask
+use Rattle.txs_world_protocol.specs.declared.ask.Reply.{Reply}
+use Rattle.txs_world_protocol.specs.declared.ask.Reply.TheVariants.{Memory}
+use Rattle.txs_theorem_runs.specs.Shared.{book_for}
+use Rattle.txs_world_shared.specs.SharedState.{PlainShared, shared_of, answer_to, Answers}
 use Rattle.txs_machine.specs.declared.player.Place.{Place}
 
 -- whether an ask may add an event to its book; the others only read one, or take from a mailbox

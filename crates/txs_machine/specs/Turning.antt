@@ -1,14 +1,14 @@
 -- What turns of an actor come to, with the ask that the last of them brings served and answered, whoever's actor it is.
 use Rattle.std.specs.Prelude.{◌≡◌, ℕ, true, List, Option, Some, None}
-use Rattle.txs_asks.specs.declared.ask.Ask.{Ask}
-use Rattle.txs_asks.specs.declared.ask.Reply.{Reply}
-use Rattle.txs_asks.specs.declared.event.Outcome.{Outcome}
-use Rattle.txs_code.specs.PlainCode.{PlainCode}
-use Rattle.txs_actor.specs.PlainActor.{PlainActor, HandsOut, Lives, unanswered}
-use Rattle.txs_actor.specs.Turns.{Says, TurnsOf}
-use Rattle.txs_actor.specs.declared.outcome.Turn.{Turn}
-use Rattle.txs_actor.specs.declared.outcome.Turn.TheVariants as turned
-use Rattle.txs_shared.specs.SharedState.{PlainShared, is_lawful}
+use Rattle.txs_world_protocol.specs.declared.ask.Ask.{Ask}
+use Rattle.txs_world_protocol.specs.declared.ask.Reply.{Reply}
+use Rattle.txs_world_protocol.specs.declared.event.Outcome.{Outcome}
+use Rattle.txs_code_meaning.specs.PlainCode.{PlainCode}
+use Rattle.txs_machine_actor.specs.PlainActor.{PlainActor, HandsOut, Lives, unanswered}
+use Rattle.txs_machine_actor.specs.Turns.{Says, TurnsOf}
+use Rattle.txs_machine_actor.specs.declared.outcome.Turn.{Turn}
+use Rattle.txs_machine_actor.specs.declared.outcome.Turn.TheVariants as turned
+use Rattle.txs_world_shared.specs.SharedState.{PlainShared, is_lawful}
 use Rattle.txs_machine.specs.Running.{IsAnswered}
 use Rattle.txs_machine.specs.Serving.{IsServed}
 use Rattle.txs_machine.specs.declared.player.Place.{Place}

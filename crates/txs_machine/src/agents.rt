@@ -1,13 +1,13 @@
 //! The agents of a run: their actors stand behind those of the threads, and rounds go on as long as one has something to do.
 
 ghost use Rattle.std.specs.Prelude.{◌≡◌, ◌≤◌, ◌<◌, ◌+◌, ℕ, length, take, IfOk, IfSome, IsTrue, Some, None, true, false};
-ghost use Rattle.txs_actor.specs.PlainActor.{agents_from};
-ghost use Rattle.txs_shared.specs.SharedState.{numbered_book};
-ghost use Rattle.txs_cells.specs.declared.action.Action.{Action as AnAction};
-ghost use Rattle.txs_cells.specs.Forms.{same_kind};
-ghost use Rattle.txs_value.specs.declared.value.CellKind.TheVariants.{Agent as AnAgent};
-ghost use Rattle.txs_book.specs.Book.{has_agent};
-ghost use Rattle.txs_book.specs.Served.{cells_of};
+ghost use Rattle.txs_machine_actor.specs.PlainActor.{agents_from};
+ghost use Rattle.txs_world_shared.specs.SharedState.{numbered_book};
+ghost use Rattle.txs_value_cell.specs.declared.action.Action.{Action as AnAction};
+ghost use Rattle.txs_value_cell.specs.Forms.{same_kind};
+ghost use Rattle.txs_value_data.specs.declared.value.CellKind.TheVariants.{Agent as AnAgent};
+ghost use Rattle.txs_world_book.specs.Book.{has_agent};
+ghost use Rattle.txs_world_book.specs.Served.{cells_of};
 ghost use Rattle.txs_world.specs.Store.{next_action};
 ghost use Rattle.txs_machine.specs.Agents.{agents_of};
 ghost use Rattle.txs_machine.specs.Plays.{AreOpenedFor};
@@ -16,10 +16,10 @@ ghost use Rattle.txs_machine.specs.Running.{AreAttending, AreIdle, IsWorking};
 
 use crate::player::{AgentPlayer, Player};
 use std::alloc::{AllocError, Global};
-use txs_actor::Actor;
-use txs_code::Verified;
-use txs_shared::SharedState;
-use txs_value::{CellId, CellKind};
+use txs_code_meaning::Verified;
+use txs_machine_actor::Actor;
+use txs_value_data::{CellId, CellKind};
+use txs_world_shared::SharedState;
 
 /// Whether cells of this kind are agents.
 pub(crate) fn is_agent(kind: CellKind) -> bool

@@ -1,7 +1,7 @@
 //! An actor of a run, with the places of its events.
 
-use txs_actor::Actor;
-use txs_value::CellId;
+use txs_machine_actor::Actor;
+use txs_value_data::CellId;
 
 /// A place in a book: book 0 is the store's, n that of the n-th atom in the order of the cells.
 #[derive(Clone, Copy)]

@@ -1,15 +1,15 @@
 //! A thread's run over what actors share.
 
 ghost use Rattle.std.specs.Prelude.{◌≡◌, ◌≤◌, ◌<◌, length, nat_lt, true, vec_capacity, vec_len, IfOk, IfSome, Some, None};
-ghost use Rattle.txs_actor.specs.PlainActor.{Lives, unanswered};
-ghost use Rattle.txs_runs.specs.Shared.{untouched, book_for};
-ghost use Rattle.txs_shared.specs.SharedState.{shared_of, numbered_book, is_lawful};
-ghost use Rattle.txs_value.specs.Limits.{most_events};
+ghost use Rattle.txs_machine_actor.specs.PlainActor.{Lives, unanswered};
+ghost use Rattle.txs_theorem_runs.specs.Shared.{untouched, book_for};
+ghost use Rattle.txs_world_shared.specs.SharedState.{shared_of, numbered_book, is_lawful};
+ghost use Rattle.txs_value_data.specs.Limits.{most_events};
 ghost use Rattle.txs_machine.specs.Lawfully.{RunLawfully};
 ghost use Rattle.txs_machine.specs.Plays.{IsRanBy};
 ghost use Rattle.txs_machine.specs.RunOver.{IsStateOf, AreOwn, books_of, IsExplained, IsLimited, HasEnded};
 ghost use Rattle.txs_machine.specs.Serving.{may_add, with_place, IsNext, IsServed};
-ghost use Rattle.txs_actor.specs.declared.outcome.Turn.TheVariants.{Asks};
+ghost use Rattle.txs_machine_actor.specs.declared.outcome.Turn.TheVariants.{Asks};
 ghost use Rattle.txs_machine.specs.Briefs.{ask_of};
 ghost use Rattle.txs_machine.specs.Turning.{MayAsk, MayGoOn, HasGoneOn};
 ghost use Rattle.txs_machine.specs.Running.{IsAnswered};
@@ -18,11 +18,11 @@ use crate::player::{Place, Player};
 use crate::schedule::{ThreadReport, report_of};
 use std::alloc::{AllocError, Global};
 use std::mem;
-use txs_actor::{Actor, Turn};
-use txs_asks::{Ask, Outcome, Reply};
-use txs_code::Verified;
-use txs_shared::SharedState;
-use txs_value::CellId;
+use txs_code_meaning::Verified;
+use txs_machine_actor::{Actor, Turn};
+use txs_value_data::CellId;
+use txs_world_protocol::{Ask, Outcome, Reply};
+use txs_world_shared::SharedState;
 
 /// What a thread has printed, how it ended, the places of its events in the order in which it added them, and how many steps it made.
 #[derive(Drop)]

@@ -1,7 +1,7 @@
 //! Runs of all threads and agents over what they share, by turns that a schedule names.
 
 ghost use Rattle.std.specs.Prelude.{◌≡◌, ◌<◌, ◌≤◌, ◌+◌, ℕ, [], length, true, false, IfOk, IfErr, IfSome, IsTrue, OnOk, Some, None};
-ghost use Rattle.txs_actor.specs.PlainActor.{MayRun, with_agent};
+ghost use Rattle.txs_machine_actor.specs.PlainActor.{MayRun, with_agent};
 ghost use Rattle.txs_machine.specs.declared.schedule.ScheduleError.TheVariants.{Memory};
 ghost use Rattle.txs_machine.specs.RunOver.{IsStateOf, books_of};
 ghost use Rattle.txs_machine.specs.Agents.{actors_of, AgentsAreDone, AreExplainedBy, AreDrained};
@@ -9,10 +9,10 @@ ghost use Rattle.txs_machine.specs.Running.{ArePlaying, AreIdle, IsAttending, Is
 ghost use Rattle.txs_machine.specs.Playing.{IsBetween, AreLater, HaveSteps, AllEnded, IsUnended, IsReported, AreReported};
 ghost use Rattle.txs_machine.specs.Plays.{IsThreadsPlay, IsAgentsPlay, IsPlayAt, AreReady, SaysOf};
 ghost use Rattle.txs_machine.specs.Schedule.{player, all_named, AreDone, ArePlayed, HaveEnded, IsExplainedBy, HasNoReport};
-ghost use Rattle.txs_runs.specs.Shared.{untouched};
-ghost use Rattle.txs_shared.specs.SharedState.{shared_of};
-ghost use Rattle.txs_cells.specs.declared.action.Action.{Action as AnAction};
-ghost use Rattle.txs_book.specs.Served.{cells_of};
+ghost use Rattle.txs_theorem_runs.specs.Shared.{untouched};
+ghost use Rattle.txs_world_shared.specs.SharedState.{shared_of};
+ghost use Rattle.txs_value_cell.specs.declared.action.Action.{Action as AnAction};
+ghost use Rattle.txs_world_book.specs.Served.{cells_of};
 ghost use Rattle.txs_world.specs.Store.{next_action};
 
 use crate::agents::{first_working, is_due, open_next};
@@ -21,11 +21,11 @@ use crate::run::go_on;
 use std::alloc::{AllocError, Global};
 use std::fmt::{self, Debug, Display, Formatter, Write};
 use thiserror::Error;
-use txs_actor::Actor;
-use txs_asks::Outcome;
-use txs_code::Verified;
-use txs_shared::SharedState;
-use txs_value::CellKind;
+use txs_code_meaning::Verified;
+use txs_machine_actor::Actor;
+use txs_value_data::CellKind;
+use txs_world_protocol::Outcome;
+use txs_world_shared::SharedState;
 
 /// One play of a schedule: the actor with this number, counted from 0, goes on. Threads come first, and agents behind them.
 #[derive(Clone, Copy)]

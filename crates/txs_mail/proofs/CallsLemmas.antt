@@ -5,7 +5,7 @@ use Rattle.std.specs.Option.{is_some, option_to_list}
 use Rattle.txs_mail.specs.Calls.{Call, may_call_all, called_all, all_put, all_run, RunsNothing}
 use Rattle.txs_mail.specs.Calls.Call.{Put, Take, Finish, Give_back}
 use Rattle.txs_mail.specs.Mailbox.{PlainMailbox, first, next, put, take, finish, give_back}
-use Rattle.txs_cells.specs.declared.action.Action.{Action}
+use Rattle.txs_value_cell.specs.declared.action.Action.{Action}
 
 -- both of two tests
 both : (a b : Bool) → (a && b) ≡ true → (a ≡ true) × (b ≡ true)

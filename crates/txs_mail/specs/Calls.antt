@@ -2,7 +2,7 @@
 use Rattle.std.specs.Prelude.{◌≡◌, Bool, true, not, ◌&&◌, List, [], ◌∷◌, ◌++◌, Option, None}
 use Rattle.std.specs.Option.{option_to_list}
 use Rattle.txs_mail.specs.Mailbox.{PlainMailbox, IsMailbox, empty, put, next, take, finish, give_back}
-use Rattle.txs_cells.specs.declared.action.Action.{Action}
+use Rattle.txs_value_cell.specs.declared.action.Action.{Action}
 
 -- a call that changes a mailbox
 pub data Call : Type 0 where

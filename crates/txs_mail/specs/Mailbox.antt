@@ -1,7 +1,7 @@
 -- Mailboxes: the actions that wait for an agent. An agent runs one action at a time, in the order of the sends; after a fault it
 -- runs no more, unless its `:error-mode` is `:continue` (clojure.org/reference/agents).
 use Rattle.std.specs.Prelude.{◌≡◌, ◌<◌, ℕ, Bool, true, false, not, ◌&&◌, ◌||◌, List, [], ◌∷◌, ◌++◌, length, drop, Option, Some, None, is_some, if◌then◌else◌}
-use Rattle.txs_cells.specs.declared.action.Action.{Action}
+use Rattle.txs_value_cell.specs.declared.action.Action.{Action}
 
 -- a mailbox: the actions in order, whether the first is taken to be run, whether the agent has failed, and whether it goes on after a fault
 pub record PlainMailbox : Type 0 where

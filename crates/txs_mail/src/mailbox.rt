@@ -10,7 +10,7 @@ ghost use Rattle.txs_mail.specs.contracts.mailbox.Mailbox.{the_row};
 use std::alloc::{AllocError, Global};
 use std::collections::VecDeque;
 use std::marker::Model;
-use txs_cells::Action;
+use txs_value_cell::Action;
 
 /// The actions that wait for an agent, in the order of their sends. The first may be taken to be run; it stays in front
 /// until it is finished or given back.
@@ -39,7 +39,7 @@ impl Model for Mailbox {
     ghost use Rattle.std.specs.Prelude.{◌-◌};
     ghost use Rattle.std.specs.VecDeque.{deque_capacity, deque_len};
     ghost use Rattle.txs_mail.specs.Mailbox.{IsMailbox, RoomedMailbox, mailbox_of, with_room};
-    ghost use Rattle.txs_value.specs.contracts.value.Value as value;
+    ghost use Rattle.txs_value_data.specs.contracts.value.Value as value;
 
     ghost Value = { RoomedMailbox };
 

@@ -1,6 +1,6 @@
 -- Which bytes are what, and which words are numbers and symbols.
 use Rattle.std.specs.Prelude.{ℕ, ℤ, pos, negsuc, ◌≡◌, ◌≤◌, ◌^◌, Bool, true, false, not, ◌&&◌, ◌||◌, ◌==◌, nat_le, nat_lt, List, [], ◌∷◌, Result, Ok, Err, if◌then◌else◌, codes, bytes_eq, take, drop, slice_index, length}
-use Rattle.txs_value.specs.Names.{is_symbol_byte}
+use Rattle.txs_value_data.specs.Names.{is_symbol_byte}
 use Rattle.std.specs.Char.{is_ascii_digit}
 use Rattle.std.specs.List.{list_all, list_any}
 use Rattle.std.specs.Str.Parse.{signed_digits_value, without_leading_sign}

@@ -2,7 +2,7 @@
 use Rattle.std.specs.Prelude.{◌≡◌, ◌≤◌, ◌+◌, ◌++◌, ◌∷◌, ℕ, [], List, length, flat_map}
 use Rattle.txs_reader.specs.Tree.{Tree, height, IsNarrow}
 use Rattle.txs_reader.specs.Script.{Piece, Splits, tokens, spelled, Open, begun, WithinLimits, IsFull}
-use Rattle.txs_value.specs.Limits.{most_nesting}
+use Rattle.txs_value_data.specs.Limits.{most_nesting}
 
 -- The bytes up to the rest are what is held and one form more, to which a `@` may stand open.
 pub record Completes (bytes : List ℕ) (open_forms : List Open) (forms : List Tree) (t : Tree) (rest : List ℕ) : Type 0 where

@@ -4,7 +4,7 @@
 #![tactic(auto)]
 
 ghost use Rattle.std.specs.Prelude.{◌≡◌, ◌⊎◌, List, ℕ};
-ghost use Rattle.txs_terms.specs.declared.fault.Span.{Span};
+ghost use Rattle.txs_value_base.specs.declared.fault.Span.{Span};
 ghost use Rattle.txs_reader.specs.declared.error.ReadErrorKind.{ReadErrorKind};
 ghost use Rattle.txs_reader.specs.Tree.{Tree};
 ghost use Rattle.txs_reader.specs.Script.{Reads, ReadStops};

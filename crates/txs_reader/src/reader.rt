@@ -15,9 +15,9 @@ use crate::open_forms::OpenForms;
 use crate::quoted::read_quoted;
 use crate::word::form_of;
 use std::alloc::Global;
-use txs_terms::Span;
-use txs_value::Text;
-use txs_value::limits::{MOST_NESTING, MOST_SCRIPT, MOST_TEXT};
+use txs_value_base::Span;
+use txs_value_data::Text;
+use txs_value_data::limits::{MOST_NESTING, MOST_SCRIPT, MOST_TEXT};
 
 /// Reads an opening bracket, or a `@`.
 fn open(

@@ -4,7 +4,7 @@ ghost use Rattle.std.specs.Prelude.{◌≡◌, ◌≤◌, true, false, bytes_eq,
 ghost use Rattle.std.specs.List.{list_all, list_any};
 ghost use Rattle.std.specs.Char.{is_ascii_digit};
 ghost use Rattle.std.specs.Str.Parse.{signed_digits_value, without_leading_sign};
-ghost use Rattle.txs_value.specs.Names.{is_symbol_byte};
+ghost use Rattle.txs_value_data.specs.Names.{is_symbol_byte};
 ghost use Rattle.txs_reader.specs.Bytes.{is_foreign_byte, is_sign, is_numeric, is_numeral, is_number, is_i64, is_keyword, is_symbol, is_left_out, unread, IsOther, meaning};
 ghost use Rattle.txs_reader.specs.Refused.{IsWordRefusal, IsNameRefusal};
 ghost use Rattle.txs_reader.specs.Tree.{Leaf, leaf, tree};
@@ -12,9 +12,9 @@ ghost use Rattle.txs_reader.specs.Tree.{Leaf, leaf, tree};
 use crate::error::{ReadError, ReadErrorKind};
 use crate::form::Form;
 use std::alloc::Global;
-use txs_terms::Span;
-use txs_value::Name;
-use txs_value::value::is_symbol_byte;
+use txs_value_base::Span;
+use txs_value_data::Name;
+use txs_value_data::value::is_symbol_byte;
 
 /// How many bytes a name may have.
 const MAX_NAME: usize = 255;

@@ -1,20 +1,20 @@
 -- A form that is no list, as a definition's form and at the top level, a list by the form at its head, and a script by its steps.
 use Rattle.std.proofs.Common.{◌≡◌, ◌∷◌, ℕ, ℤ, Bool, List, Option, None, Ok, Err, refl, sym, ap, ◌∙◌, subst}
-use Rattle.txs_terms.specs.declared.fault.Span.{Span}
-use Rattle.txs_names.specs.declared.names.FormName.{FormName}
+use Rattle.txs_value_base.specs.declared.fault.Span.{Span}
+use Rattle.txs_resolve_scope.specs.declared.names.FormName.{FormName}
 use Rattle.txs_reader.specs.declared.form.Bracket.TheVariants.{Round}
 use Rattle.txs_reader.specs.declared.form.Form.{Form, Nil, Truth, Number, Text, Keyword, Symbol}
 use Rattle.txs_reader.specs.Tree.{Tree, Leaf, nil, truth, number, text, keyword, symbol, leaf, group, tree}
 use Rattle.txs_reader.proofs.Trees.{tree-Nil, tree-Truth, tree-Number, tree-Text, tree-Keyword, tree-Symbol}
-use Rattle.txs_expand.specs.declared.error.ResolveErrorKind.TheVariants.{BadForm}
-use Rattle.txs_expand.specs.declared.error.ResolveError.{ResolveError}
-use Rattle.txs_expand.specs.Expansions.{form_at}
-use Rattle.txs_expand.specs.Expressions.{Answer}
-use Rattle.txs_expand.specs.Answers.{◌>>=◌}
-use Rattle.txs_expand.specs.Namespace.{behind_namespace}
-use Rattle.txs_expand.specs.Parts.{plain}
-use Rattle.txs_expression.specs.declared.stop.Stop.{Stop}
-use Rattle.txs_expression.specs.declared.stop.Stop.TheVariants.{Refused}
+use Rattle.txs_resolve_expand.specs.declared.error.ResolveErrorKind.TheVariants.{BadForm}
+use Rattle.txs_resolve_expand.specs.declared.error.ResolveError.{ResolveError}
+use Rattle.txs_resolve_expand.specs.Expansions.{form_at}
+use Rattle.txs_resolve_expand.specs.Expressions.{Answer}
+use Rattle.txs_resolve_expand.specs.Answers.{◌>>=◌}
+use Rattle.txs_resolve_expand.specs.Namespace.{behind_namespace}
+use Rattle.txs_resolve_expand.specs.Parts.{plain}
+use Rattle.txs_resolve_body.specs.declared.stop.Stop.{Stop}
+use Rattle.txs_resolve_body.specs.declared.stop.Stop.TheVariants.{Refused}
 use Rattle.txs_resolve.specs.Given.{Ends, Leaves}
 use Rattle.txs_resolve.specs.Names.{State, defining_of, named_script, nothing, only_literal, program, step, steps, top_level}
 

@@ -1,22 +1,22 @@
 -- What the parts of a top-level form are.
 use Rattle.std.proofs.Common.{◌≡◌, ℕ, false, List, [], ◌∷◌, length, slice_index_or, Option, Some, None, Ok, Err, IsOk, refl, sym, ap, ◌∙◌, subst, arith}
-use Rattle.txs_terms.specs.declared.fault.Span.{Span}
+use Rattle.txs_value_base.specs.declared.fault.Span.{Span}
 use Rattle.txs_reader.specs.declared.form.Form.{Form}
 use Rattle.txs_reader.specs.Tree.{tree, leaf, symbol, first}
-use Rattle.txs_names.specs.declared.names.FormName.TheVariants.{Ns}
-use Rattle.txs_expand.specs.Expressions.{Answer, is_symbol}
-use Rattle.txs_expand.specs.Answers.{◌>>=◌}
-use Rattle.txs_expression.specs.Walk.{Becomes}
-use Rattle.txs_tree.specs.Tree.{Tree}
+use Rattle.txs_resolve_scope.specs.declared.names.FormName.TheVariants.{Ns}
+use Rattle.txs_resolve_expand.specs.Expressions.{Answer, is_symbol}
+use Rattle.txs_resolve_expand.specs.Answers.{◌>>=◌}
+use Rattle.txs_resolve_body.specs.Walk.{Becomes}
+use Rattle.txs_tree_meaning.specs.Tree.{Tree}
 use Rattle.txs_resolve.specs.Given.{Ends, Leaves}
-use Rattle.txs_expand.specs.declared.error.ResolveError.{ResolveError}
-use Rattle.txs_value.specs.declared.value.Value.{Value}
-use Rattle.txs_expression.specs.Given.{Gives, refusal_of}
+use Rattle.txs_resolve_expand.specs.declared.error.ResolveError.{ResolveError}
+use Rattle.txs_value_data.specs.declared.value.Value.{Value}
+use Rattle.txs_resolve_body.specs.Given.{Gives, refusal_of}
 use Rattle.txs_resolve.specs.declared.definition.CellSort.{CellSort}
 use Rattle.txs_resolve.specs.Names.{State, named_form, with_definition}
-use Rattle.txs_expression.specs.declared.stop.Stop.{Stop}
-use Rattle.txs_expression.specs.declared.stop.Stop.TheVariants.{Refused, Memory}
-use Rattle.txs_expand.specs.Parts.{plain}
+use Rattle.txs_resolve_body.specs.declared.stop.Stop.{Stop}
+use Rattle.txs_resolve_body.specs.declared.stop.Stop.TheVariants.{Refused, Memory}
+use Rattle.txs_resolve_expand.specs.Parts.{plain}
 
 pub not_one_form : (name : List ℕ) (at : Span) (fs : List Form) → (length fs ≡ 1 → ⊥) → named_form (first (leaf (symbol name) at) (plain fs)) ≡ None
 not_one_form name at [] h = refl

@@ -1,17 +1,17 @@
 -- What the top-level forms of a script define, told of each form alone: its cell, its name, and where functions and threads stand.
 use Rattle.std.specs.Prelude.{◌≢◌, ℕ, List, [], ◌∷◌, ◌++◌, Option, Some, None, Ok, Err}
-use Rattle.txs_value.specs.Limits.{most_depth}
-use Rattle.txs_cells.specs.declared.cell.CellDefinition.{CellDefinition}
-use Rattle.txs_terms.specs.declared.fault.Span.{Span}
-use Rattle.txs_value.specs.declared.value.Value.{Value}
+use Rattle.txs_value_data.specs.Limits.{most_depth}
+use Rattle.txs_value_cell.specs.declared.cell.CellDefinition.{CellDefinition}
+use Rattle.txs_value_base.specs.declared.fault.Span.{Span}
+use Rattle.txs_value_data.specs.declared.value.Value.{Value}
 use Rattle.txs_reader.specs.declared.form.Bracket.TheVariants.{Round}
 use Rattle.txs_reader.specs.Tree.{Tree as Form, Trees as Forms, group, first}
-use Rattle.txs_names.specs.declared.names.FormName.{FormName}
-use Rattle.txs_names.specs.declared.names.FormName.TheVariants as kind
+use Rattle.txs_resolve_scope.specs.declared.names.FormName.{FormName}
+use Rattle.txs_resolve_scope.specs.declared.names.FormName.TheVariants as kind
 use Rattle.txs_resolve.specs.declared.definition.CellSort.{CellSort}
-use Rattle.txs_expand.specs.Expansions.{form_at}
-use Rattle.txs_expand.specs.Expressions.{Answer}
-use Rattle.txs_expression.specs.Literals.{literal}
+use Rattle.txs_resolve_expand.specs.Expansions.{form_at}
+use Rattle.txs_resolve_expand.specs.Expressions.{Answer}
+use Rattle.txs_resolve_body.specs.Literals.{literal}
 use Rattle.txs_resolve.specs.Names.{Defining, defining_of, NamedForm, named_form, new_cell, Written, written}
 
 -- what top-level forms define: cells, names, and the places of functions and of threads, each in script order

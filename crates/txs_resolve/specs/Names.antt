@@ -1,31 +1,31 @@
 -- Which program the forms of a script are, or the first refusal met.
 use Rattle.std.specs.Prelude.{◌≡◌, ℕ, suc, Bool, true, false, ◌&&◌, bytes_eq, codes, nat_lt, List, [], ◌∷◌, ◌++◌, length, Option, Some, None, Ok, Err, if◌then◌else◌}
-use Rattle.txs_value.specs.Limits.{most_depth, most_levels, most_definitions, most_threads, most_parameters}
-use Rattle.txs_terms.specs.Operations.{op_name}
-use Rattle.txs_terms.specs.declared.fault.Span.{Span}
-use Rattle.txs_cells.specs.declared.cell.CellDefinition.{CellDefinition}
-use Rattle.txs_value.specs.declared.value.CellKind.{CellKind}
-use Rattle.txs_value.specs.declared.value.CellKind.TheVariants.{Ref, Atom, Agent}
-use Rattle.txs_value.specs.declared.value.Value.{Value}
+use Rattle.txs_value_data.specs.Limits.{most_depth, most_levels, most_definitions, most_threads, most_parameters}
+use Rattle.txs_value_base.specs.Operations.{op_name}
+use Rattle.txs_value_base.specs.declared.fault.Span.{Span}
+use Rattle.txs_value_cell.specs.declared.cell.CellDefinition.{CellDefinition}
+use Rattle.txs_value_data.specs.declared.value.CellKind.{CellKind}
+use Rattle.txs_value_data.specs.declared.value.CellKind.TheVariants.{Ref, Atom, Agent}
+use Rattle.txs_value_data.specs.declared.value.Value.{Value}
 use Rattle.txs_reader.specs.declared.form.Bracket.TheVariants.{Round, Square}
 use Rattle.txs_reader.specs.Tree.{Tree as Form, Trees as Forms, leaf, group, first, keyword, place, symbol, text}
 use Rattle.txs_reader.specs.Tree.{none as no_forms}
-use Rattle.txs_tree.specs.Known.{levels, known}
-use Rattle.txs_tree.specs.Tree.{Tree, PlainFunction, PlainThread, PlainProgram}
-use Rattle.txs_expand.specs.declared.error.ResolveError.{ResolveError}
-use Rattle.txs_expand.specs.declared.error.ResolveErrorKind.TheVariants.{Redefined, BadForm, TooMany, Memory}
-use Rattle.txs_names.specs.declared.names.FormName.{FormName}
-use Rattle.txs_names.specs.declared.names.FormName.TheVariants as kind
-use Rattle.txs_names.specs.declared.scope.Definition.TheVariants.{Constant, Cell, Function}
+use Rattle.txs_tree_meaning.specs.Known.{levels, known}
+use Rattle.txs_tree_meaning.specs.Tree.{Tree, PlainFunction, PlainThread, PlainProgram}
+use Rattle.txs_resolve_expand.specs.declared.error.ResolveError.{ResolveError}
+use Rattle.txs_resolve_expand.specs.declared.error.ResolveErrorKind.TheVariants.{Redefined, BadForm, TooMany, Memory}
+use Rattle.txs_resolve_scope.specs.declared.names.FormName.{FormName}
+use Rattle.txs_resolve_scope.specs.declared.names.FormName.TheVariants as kind
+use Rattle.txs_resolve_scope.specs.declared.scope.Definition.TheVariants.{Constant, Cell, Function}
 use Rattle.txs_resolve.specs.declared.definition.CellSort.{CellSort}
-use Rattle.txs_cells.specs.declared.cell.ErrorMode.{ErrorMode}
-use Rattle.txs_cells.specs.declared.cell.ErrorMode.TheVariants.{Fail, Continue}
-use Rattle.txs_expand.specs.Expansions.{body, form_at}
-use Rattle.txs_expand.specs.Expressions.{Answer, is_symbol, named}
-use Rattle.txs_expression.specs.Literals.{is_literal, literal}
-use Rattle.txs_expand.specs.Answers.{◌>>=◌, refuse}
-use Rattle.txs_expand.specs.Namespace.{behind_namespace}
-use Rattle.txs_names.specs.Scope.{Entry, definition_of, with_name, operations, may_bind, is_none}
+use Rattle.txs_value_cell.specs.declared.cell.ErrorMode.{ErrorMode}
+use Rattle.txs_value_cell.specs.declared.cell.ErrorMode.TheVariants.{Fail, Continue}
+use Rattle.txs_resolve_expand.specs.Expansions.{body, form_at}
+use Rattle.txs_resolve_expand.specs.Expressions.{Answer, is_symbol, named}
+use Rattle.txs_resolve_body.specs.Literals.{is_literal, literal}
+use Rattle.txs_resolve_expand.specs.Answers.{◌>>=◌, refuse}
+use Rattle.txs_resolve_expand.specs.Namespace.{behind_namespace}
+use Rattle.txs_resolve_scope.specs.Scope.{Entry, definition_of, with_name, operations, may_bind, is_none}
 
 -- what a script has defined so far: names; cells; functions; threads; and how often `def` stood
 pub record State : Type 0 where

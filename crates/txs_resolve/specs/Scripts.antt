@@ -3,22 +3,22 @@ use Rattle.std.specs.Prelude.{◌≡◌, ◌≤◌, ℕ, List, [], ◌∷◌, le
 use Rattle.std.specs.Borrow.{Bor}
 use Rattle.txs_reader.specs.declared.form.Form.{Form as AForm}
 use Rattle.txs_reader.specs.Tree.{Trees as Forms, tree, trees, trees_of}
-use Rattle.txs_tree.specs.Known.{Known, known}
-use Rattle.txs_tree.specs.Scoped.{ScopedFunctions, ScopedThreads}
-use Rattle.txs_tree.specs.View.{functions_of, threads_of}
-use Rattle.txs_value.specs.Limits.{most_definitions, most_levels, most_threads}
-use Rattle.txs_terms.specs.Places.{nth}
-use Rattle.txs_terms.specs.declared.fault.Span.{Span}
-use Rattle.txs_names.specs.declared.scope.Definition.{Definition}
-use Rattle.txs_names.specs.declared.scope.Definition.TheVariants.{Constant, Cell, Function}
+use Rattle.txs_tree_meaning.specs.Known.{Known, known}
+use Rattle.txs_tree_meaning.specs.Scoped.{ScopedFunctions, ScopedThreads}
+use Rattle.txs_tree_meaning.specs.View.{functions_of, threads_of}
+use Rattle.txs_value_data.specs.Limits.{most_definitions, most_levels, most_threads}
+use Rattle.txs_value_base.specs.Places.{nth}
+use Rattle.txs_value_base.specs.declared.fault.Span.{Span}
+use Rattle.txs_resolve_scope.specs.declared.scope.Definition.{Definition}
+use Rattle.txs_resolve_scope.specs.declared.scope.Definition.TheVariants.{Constant, Cell, Function}
 use Rattle.txs_resolve.specs.declared.definition.Opening.{Opening}
 use Rattle.txs_resolve.specs.declared.script.Script.{Script}
 use Rattle.txs_resolve.specs.declared.script.Signature.{Signature}
 use Rattle.txs_resolve.specs.Names.{State, Defining, Written, NamedForm, with_function}
-use Rattle.txs_names.specs.Scope.{Entry, with_locals}
-use Rattle.txs_expand.specs.Answers.{◌>>=◌}
-use Rattle.txs_expand.specs.Expansions.{body}
-use Rattle.txs_expand.specs.Expressions.{Answer, named}
+use Rattle.txs_resolve_scope.specs.Scope.{Entry, with_locals}
+use Rattle.txs_resolve_expand.specs.Answers.{◌>>=◌}
+use Rattle.txs_resolve_expand.specs.Expansions.{body}
+use Rattle.txs_resolve_expand.specs.Expressions.{Answer, named}
 
 -- what a script has defined so far, as the resolver keeps it
 abbrev pub state_of : Script → State

@@ -2,16 +2,16 @@
 
 ghost use Rattle.std.specs.Prelude.{◌≡◌, Some};
 ghost use Rattle.txs_reader.specs.Tree.{tree, trees, trees_of};
-ghost use Rattle.txs_expand.specs.Expansions.{form_at};
+ghost use Rattle.txs_resolve_expand.specs.Expansions.{form_at};
 ghost use Rattle.txs_resolve.specs.Names.{cell_of, defining_of, is_error_mode, kind_at, mode_behind, mode_of, only_literal};
-ghost use Rattle.txs_expression.specs.Literals.{are_literals, is_literal};
+ghost use Rattle.txs_resolve_body.specs.Literals.{are_literals, is_literal};
 ghost use Rattle.txs_resolve.specs.Scripts.{defining};
 
-use txs_cells::ErrorMode;
-use txs_expand::form_at;
-use txs_names::FormName;
 use txs_reader::{Bracket, Form};
-use txs_value::CellKind;
+use txs_resolve_expand::form_at;
+use txs_resolve_scope::FormName;
+use txs_value_cell::ErrorMode;
+use txs_value_data::CellKind;
 
 /// The kind of a cell, and of an agent its error mode.
 #[derive(Clone, Copy)]

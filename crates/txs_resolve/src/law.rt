@@ -1,25 +1,25 @@
 //! Laws of the resolution of names. Each stands on a function that does nothing when it runs.
 
 ghost use Rattle.std.specs.Prelude.{◌≡◌, ◌≢◌, ◌⊎◌, ℕ, suc, Bool, true, false, List, map, None, Ok, Some};
-ghost use Rattle.txs_names.specs.Nearest.{IsNearest, NoneNamed};
-ghost use Rattle.txs_names.specs.Scope.{Scope, definition_of, is_current, may_bind, operations, with_name};
-ghost use Rattle.txs_names.specs.declared.scope.Definition.TheVariants.{Constant, Cell as ACell};
+ghost use Rattle.txs_resolve_scope.specs.Nearest.{IsNearest, NoneNamed};
+ghost use Rattle.txs_resolve_scope.specs.Scope.{Scope, definition_of, is_current, may_bind, operations, with_name};
+ghost use Rattle.txs_resolve_scope.specs.declared.scope.Definition.TheVariants.{Constant, Cell as ACell};
 ghost use Rattle.txs_reader.specs.Tree.{Tree as Form, leaf, symbol};
-ghost use Rattle.txs_tree.specs.Scoped.{Scoped};
-ghost use Rattle.txs_tree.specs.Tree.{Const, Local, PlainFunction, PlainProgram, PlainThread};
-ghost use Rattle.txs_tree.specs.View.{mark_of};
-ghost use Rattle.txs_terms.specs.Operations.{op_name};
-ghost use Rattle.txs_terms.specs.declared.fault.Span.{Span};
-ghost use Rattle.txs_value.specs.declared.value.CellId.{CellId};
-ghost use Rattle.txs_value.specs.declared.value.Value.{Value};
-ghost use Rattle.txs_value.specs.declared.value.Value.TheVariants.{Cell};
-ghost use Rattle.txs_expand.specs.Answers.{refuse};
+ghost use Rattle.txs_tree_meaning.specs.Scoped.{Scoped};
+ghost use Rattle.txs_tree_meaning.specs.Tree.{Const, Local, PlainFunction, PlainProgram, PlainThread};
+ghost use Rattle.txs_tree_meaning.specs.View.{mark_of};
+ghost use Rattle.txs_value_base.specs.Operations.{op_name};
+ghost use Rattle.txs_value_base.specs.declared.fault.Span.{Span};
+ghost use Rattle.txs_value_data.specs.declared.value.CellId.{CellId};
+ghost use Rattle.txs_value_data.specs.declared.value.Value.{Value};
+ghost use Rattle.txs_value_data.specs.declared.value.Value.TheVariants.{Cell};
+ghost use Rattle.txs_resolve_expand.specs.Answers.{refuse};
 ghost use Rattle.txs_resolve.specs.Defined.{AllDiffer, define_all};
-ghost use Rattle.txs_expand.specs.Namespace.{behind_namespace};
+ghost use Rattle.txs_resolve_expand.specs.Namespace.{behind_namespace};
 ghost use Rattle.txs_resolve.specs.Names.{Resolves, ResolveStops};
-ghost use Rattle.txs_expand.specs.Expressions.{named};
-ghost use Rattle.txs_expand.specs.declared.error.ResolveError.{ResolveError};
-ghost use Rattle.txs_expand.specs.declared.error.ResolveErrorKind.TheVariants.{Memory, UnknownName};
+ghost use Rattle.txs_resolve_expand.specs.Expressions.{named};
+ghost use Rattle.txs_resolve_expand.specs.declared.error.ResolveError.{ResolveError};
+ghost use Rattle.txs_resolve_expand.specs.declared.error.ResolveErrorKind.TheVariants.{Memory, UnknownName};
 
 /// The program that forms are is scoped: each local and function that it names is there, and the limits are kept.
 pub fn resolved_is_scoped()

@@ -2,22 +2,22 @@
 
 ghost use Rattle.std.specs.Prelude.{◌≡◌, ◌≢◌, IfOk, IfErr, OnOk};
 ghost use Rattle.txs_resolve.specs.Given.{Ends};
-ghost use Rattle.txs_expand.specs.Namespace.{behind_namespace};
+ghost use Rattle.txs_resolve_expand.specs.Namespace.{behind_namespace};
 ghost use Rattle.txs_resolve.specs.Names.{Resolves, ResolveStops, no_memory, nothing, steps};
 ghost use Rattle.txs_resolve.specs.Memory.{FirstResolves};
 ghost use Rattle.txs_resolve.specs.Scripts.{state_of, IsScript};
-ghost use Rattle.txs_expression.specs.declared.stop.Stop.TheVariants as stop;
-ghost use Rattle.txs_expand.specs.declared.error.ResolveErrorKind.TheVariants.{Memory};
+ghost use Rattle.txs_resolve_body.specs.declared.stop.Stop.TheVariants as stop;
+ghost use Rattle.txs_resolve_expand.specs.declared.error.ResolveErrorKind.TheVariants.{Memory};
 ghost use Rattle.txs_reader.specs.Tree.{trees};
-ghost use Rattle.txs_tree.specs.View.{program_of};
+ghost use Rattle.txs_tree_meaning.specs.View.{program_of};
 
 use crate::script::{Script, step};
 use std::alloc::Global;
-use txs_expand::{ResolveError, ResolveErrorKind, behind_namespace};
-use txs_expression::Stop;
 use txs_reader::Form;
-use txs_terms::Span;
-use txs_tree::Raw;
+use txs_resolve_body::Stop;
+use txs_resolve_expand::{ResolveError, ResolveErrorKind, behind_namespace};
+use txs_tree_meaning::Raw;
+use txs_value_base::Span;
 
 /// Defines what all top-level forms define.
 fn steps<'a>(alloc: Global, script: &mut Script<'a>, forms: &'a [Form]) -> Result<(), Stop>

@@ -2,31 +2,33 @@
 
 ghost use Rattle.std.specs.Prelude.{◌≡◌, ◌<◌, ◌≤◌, [], ◌∷◌, ◌++◌, length, Some, None, OnOk, Ok, IfOk};
 ghost use Rattle.txs_resolve.specs.Given.{GivesLocals, Leaves};
-ghost use Rattle.txs_expand.specs.Parts.{seen};
-ghost use Rattle.txs_expand.specs.Expansions.{body, form_at};
+ghost use Rattle.txs_resolve_expand.specs.Parts.{seen};
+ghost use Rattle.txs_resolve_expand.specs.Expansions.{body, form_at};
 ghost use Rattle.txs_resolve.specs.Names.{nothing, entered, new_cell, new_name, named_form, define, untold, written, function, future, parameter, parameters, are_symbols, step, with_cell, with_constant, with_definition, with_function};
-ghost use Rattle.txs_expand.specs.Expressions.{named};
-ghost use Rattle.txs_names.specs.declared.scope.Definition.TheVariants.{Function as AFunction};
-ghost use Rattle.txs_names.specs.Scope.{definition_of, with_locals};
+ghost use Rattle.txs_resolve_expand.specs.Expressions.{named};
+ghost use Rattle.txs_resolve_scope.specs.declared.scope.Definition.TheVariants.{Function as AFunction};
+ghost use Rattle.txs_resolve_scope.specs.Scope.{definition_of, with_locals};
 ghost use Rattle.txs_resolve.specs.Scripts.{at_top, function_with, opened_as, state_of, IsScript, written_in, name_and_form};
 ghost use Rattle.txs_reader.specs.declared.form.Bracket.TheVariants.{Round};
 ghost use Rattle.txs_reader.specs.Tree.{tree, trees, trees_of, group};
-ghost use Rattle.txs_tree.specs.Known.{known, levels};
-ghost use Rattle.txs_tree.specs.Scoped.{ScopedTree};
-ghost use Rattle.txs_tree.specs.View.{functions_of, threads_of, tree_of};
-ghost use Rattle.txs_value.specs.Limits.{most_definitions, most_levels, most_parameters, most_threads};
+ghost use Rattle.txs_tree_meaning.specs.Known.{known, levels};
+ghost use Rattle.txs_tree_meaning.specs.Scoped.{ScopedTree};
+ghost use Rattle.txs_tree_meaning.specs.View.{functions_of, threads_of, tree_of};
+ghost use Rattle.txs_value_data.specs.Limits.{most_definitions, most_levels, most_parameters, most_threads};
 
 use crate::definition::{CellSort, Opening, defining_of};
 use std::alloc::{AllocError, Global};
-use txs_cells::CellDefinition;
-use txs_expand::{ResolveError, ResolveErrorKind, Spot, form_at, is_symbol, refusal};
-use txs_expression::{Stop, body, fits, levels, literal, refused};
-use txs_names::{Definition, FormName, Scope, may_bind, operation_of};
 use txs_reader::{Bracket, Form};
-use txs_terms::Span;
-use txs_tree::{Function, Node, Thread};
-use txs_value::limits::{MOST_DEFINITIONS, MOST_DEPTH, MOST_LEVELS, MOST_PARAMETERS, MOST_THREADS};
-use txs_value::{CellId, Name, Value};
+use txs_resolve_body::{Stop, body, fits, levels, literal, refused};
+use txs_resolve_expand::{ResolveError, ResolveErrorKind, Spot, form_at, is_symbol, refusal};
+use txs_resolve_scope::{Definition, FormName, Scope, may_bind, operation_of};
+use txs_tree_meaning::{Function, Node, Thread};
+use txs_value_base::Span;
+use txs_value_cell::CellDefinition;
+use txs_value_data::limits::{
+    MOST_DEFINITIONS, MOST_DEPTH, MOST_LEVELS, MOST_PARAMETERS, MOST_THREADS,
+};
+use txs_value_data::{CellId, Name, Value};
 
 /// What a script has defined so far: names, cells, functions and threads, the levels of the functions by their
 /// numbers, and how often `def` stood.

@@ -1,22 +1,22 @@
 -- The agents of a code, in the order of its cells, and what the workers left of them.
 use Rattle.std.proofs.Common.{◌≡◌, ◌≤◌, ◌<◌, ◌+◌, ℕ, zero, suc, true, List, [], ◌∷◌, length, get_or, Option, Some, None, sym, ap, subst, ◌∙◌, arith}
-use Rattle.txs_terms.specs.Places.{nth}
-use Rattle.txs_cells.specs.declared.cell.CellDefinition.{CellDefinition}
-use Rattle.txs_value.specs.declared.value.CellId.{CellId}
-use Rattle.txs_value.specs.declared.value.CellKind.{CellKind}
-use Rattle.txs_value.specs.declared.value.CellKind.TheVariants.{Ref, Atom, Agent}
-use Rattle.txs_code.specs.PlainCode.{PlainCode}
-use Rattle.txs_actor.specs.PlainActor.{IsActorOf, agents_from, with_agent}
-use Rattle.txs_book.specs.Book.{has_agent}
-use Rattle.txs_book.specs.Served.{cells_of}
+use Rattle.txs_value_base.specs.Places.{nth}
+use Rattle.txs_value_cell.specs.declared.cell.CellDefinition.{CellDefinition}
+use Rattle.txs_value_data.specs.declared.value.CellId.{CellId}
+use Rattle.txs_value_data.specs.declared.value.CellKind.{CellKind}
+use Rattle.txs_value_data.specs.declared.value.CellKind.TheVariants.{Ref, Atom, Agent}
+use Rattle.txs_code_meaning.specs.PlainCode.{PlainCode}
+use Rattle.txs_machine_actor.specs.PlainActor.{IsActorOf, agents_from, with_agent}
+use Rattle.txs_world_book.specs.Book.{has_agent}
+use Rattle.txs_world_book.specs.Served.{cells_of}
 use Rattle.txs_world.specs.Store.{next_action}
-use Rattle.txs_shared.specs.SharedState.{PlainShared, shared_of}
+use Rattle.txs_world_shared.specs.SharedState.{PlainShared, shared_of}
 use Rattle.txs_machine.specs.Agents.{agents_of, AreDrained}
 use Rattle.txs_machine.specs.RunOver.{IsStateOf}
 use Rattle.txs_machine.specs.declared.schedule.ThreadReport.{ThreadReport}
 use Rattle.txs_machine.proofs.Together.{agent_at}
-use Rattle.txs_played.specs.Gather.{Agrees}
-use Rattle.txs_played.specs.Played.{PlainPlayed}
+use Rattle.txs_threads_gather.specs.Gather.{Agrees}
+use Rattle.txs_threads_gather.specs.Played.{PlainPlayed}
 use Rattle.txs_threads.specs.Run.{AreAgents, IsDrained, AllDrained}
 
 abbrev is_some : {A : Type 0} → Option A → Type 0

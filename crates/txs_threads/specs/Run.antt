@@ -1,16 +1,16 @@
 -- What several workers did.
 use Rattle.std.specs.Prelude.{◌≡◌, ℕ, true, List, [], ◌∷◌, length, Some, None}
-use Rattle.txs_code.specs.PlainCode.{PlainCode}
+use Rattle.txs_code_meaning.specs.PlainCode.{PlainCode}
 use Rattle.txs_machine.specs.Agents.{agents_of, AreDrained, AreExplainedBy}
 use Rattle.txs_machine.specs.RunOver.{IsStateOf}
 use Rattle.txs_machine.specs.Schedule.{HaveEnded, IsExplainedBy}
 use Rattle.txs_machine.specs.declared.schedule.ThreadReport.{ThreadReport}
-use Rattle.txs_played.specs.Gather.{AllHaveDone, AllHaveAttended}
-use Rattle.txs_shared.specs.SharedState.{PlainShared, numbered_book, shared_of}
-use Rattle.txs_terms.specs.Places.{nth}
-use Rattle.txs_value.specs.declared.value.CellId.{CellId}
-use Rattle.txs_book.specs.Book.{has_agent}
-use Rattle.txs_book.specs.Served.{cells_of}
+use Rattle.txs_threads_gather.specs.Gather.{AllHaveDone, AllHaveAttended}
+use Rattle.txs_world_shared.specs.SharedState.{PlainShared, numbered_book, shared_of}
+use Rattle.txs_value_base.specs.Places.{nth}
+use Rattle.txs_value_data.specs.declared.value.CellId.{CellId}
+use Rattle.txs_world_book.specs.Book.{has_agent}
+use Rattle.txs_world_book.specs.Served.{cells_of}
 use Rattle.txs_world.specs.Store.{next_action}
 
 -- every thread has ended

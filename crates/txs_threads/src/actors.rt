@@ -1,17 +1,17 @@
 //! The actors of a code before their first turns: one for each thread, and behind them one for each agent.
 
 ghost use Rattle.std.specs.Prelude.{◌≡◌, ◌<◌, ◌≤◌, ◌+◌, ◌++◌, [], length, IfOk, OnOk};
-ghost use Rattle.txs_actor.specs.PlainActor.{Lives, with_agent};
-ghost use Rattle.txs_actor.specs.Turns.{IsNew};
+ghost use Rattle.txs_machine_actor.specs.PlainActor.{Lives, with_agent};
+ghost use Rattle.txs_machine_actor.specs.Turns.{IsNew};
 ghost use Rattle.txs_machine.specs.Agents.{agents_of};
-ghost use Rattle.txs_played.specs.Callees.{AreCallees};
+ghost use Rattle.txs_threads_gather.specs.Callees.{AreCallees};
 
 use crate::desk::{Actors, agent_at};
 use std::alloc::{AllocError, Global};
-use txs_actor::Actor;
-use txs_code::Verified;
-use txs_played::Played;
-use txs_value::{CellId, CellKind};
+use txs_code_meaning::Verified;
+use txs_machine_actor::Actor;
+use txs_threads_gather::Played;
+use txs_value_data::{CellId, CellKind};
 
 /// Adds the cell with this number, where it is an agent.
 fn add_agent(agents: &mut Vec<CellId>, kind: CellKind, number: u16) -> Result<(), AllocError>
@@ -62,7 +62,7 @@ fn actor_at(
 }
 
 /// All actors, before their first turns, the last one first: those of threads are ready, and those of agents are parked, since nothing waits for them yet.
-#[tactic(auto, using(txs_played::proofs::Playing::renewed))]
+#[tactic(auto, using(txs_threads_gather::proofs::Playing::renewed))]
 pub(crate) fn open_all<'a>(
     actors: &mut Actors<Played<'a>>,
     alloc: Global,

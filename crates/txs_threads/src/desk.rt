@@ -2,15 +2,15 @@
 
 ghost use Rattle.std.proofs.Common.{get_or};
 ghost use Rattle.std.specs.Prelude.{◌≡◌, ◌<◌, ◌≤◌, ◌+◌, ◌-◌, ◌++◌, ◌∷◌, [], false, length, vec_capacity, IfSome, OnOk, None};
-ghost use Rattle.txs_shared.specs.SharedState.{is_lawful, answer_to, Answers};
+ghost use Rattle.txs_world_shared.specs.SharedState.{is_lawful, answer_to, Answers};
 
 use crate::player::Player;
 use std::alloc::{AllocError, Global};
 use std::mem;
-use txs_asks::{Ask, Event, EventKind, Reply};
-use txs_replay::replay::is_exchanged;
-use txs_shared::SharedState;
-use txs_value::CellId;
+use txs_threads_replay::replay::is_exchanged;
+use txs_value_data::CellId;
+use txs_world_protocol::{Ask, Event, EventKind, Reply};
+use txs_world_shared::SharedState;
 
 /// What all actors share, and how many of their asks were served and kept so far.
 #[derive(Drop)]

@@ -1,6 +1,6 @@
 //! What a worker passes between an actor's steps.
 
-use txs_asks::Ask;
+use txs_world_protocol::Ask;
 
 /// Which ask was answered.
 #[derive(Clone, Copy, PartialEq, Eq)]

@@ -4,18 +4,18 @@ ghost use Rattle.std.specs.Prelude.{◌≡◌, ◌⊎◌, length, true, IsTrue, 
 ghost use Rattle.txs_machine.specs.Agents.{agents_of};
 ghost use Rattle.txs_machine.specs.declared.run_error.RunError.TheVariants.{JournalMismatch, Memory};
 ghost use Rattle.txs_threads.specs.Run.{AllEnded, AreAgents, IsDrained, AllDrained, IsLeft};
-ghost use Rattle.txs_book.specs.Book.{has_agent};
-ghost use Rattle.txs_book.specs.Served.{cells_of};
+ghost use Rattle.txs_world_book.specs.Book.{has_agent};
+ghost use Rattle.txs_world_book.specs.Served.{cells_of};
 
 use crate::desk::{Actors, Desk, Server};
 use crate::player::{Next, Player};
 use std::alloc::Global;
-use txs_actor::Turn;
-use txs_code::Verified;
+use txs_code_meaning::Verified;
 use txs_machine::{RunError, ThreadReport};
-use txs_played::{Gathered, Played, gather};
-use txs_shared::SharedState;
-use txs_value::CellId;
+use txs_machine_actor::Turn;
+use txs_threads_gather::{Gathered, Played, gather};
+use txs_value_data::CellId;
+use txs_world_shared::SharedState;
 
 /// Rounds of one ask of each actor that hasn't ended, until none goes on: each is turned up to its next ask, which is served and answered, or to its end.
 fn play_rounds<P: Player>(server: &mut Server, actors: &mut [P]) {

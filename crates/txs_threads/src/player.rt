@@ -1,9 +1,9 @@
 //! What workers know of an actor.
 
 use crate::desk::Served;
-use txs_actor::Turn;
-use txs_asks::Reply;
-use txs_played::Played;
+use txs_machine_actor::Turn;
+use txs_threads_gather::Played;
+use txs_world_protocol::Reply;
 
 /// What an actor that asked is to do next.
 #[derive(Clone, Copy)]

@@ -6,9 +6,9 @@ ghost use Rattle.txs_machine.specs.Agents.{agents_of, AreDrained, AreExplainedBy
 ghost use Rattle.txs_machine.specs.RunOver.{IsStateOf};
 ghost use Rattle.txs_machine.specs.Schedule.{HaveEnded, IsExplainedBy};
 ghost use Rattle.txs_machine.specs.declared.run_error.RunError.TheVariants.{NoThread, JournalMismatch, Memory};
-ghost use Rattle.txs_played.specs.Callees.{AreCallees};
-ghost use Rattle.txs_played.specs.Gather.{AllHaveDone, AllHaveAttended};
-ghost use Rattle.txs_shared.specs.SharedState.{shared_of};
+ghost use Rattle.txs_threads_gather.specs.Callees.{AreCallees};
+ghost use Rattle.txs_threads_gather.specs.Gather.{AllHaveDone, AllHaveAttended};
+ghost use Rattle.txs_world_shared.specs.SharedState.{shared_of};
 ghost use Rattle.txs_threads.specs.Run.{IsLeft};
 
 use crate::actors::{agents_in, open_all};
@@ -22,13 +22,13 @@ use std::hint::spin_loop;
 use std::sync::{Mutex, MutexGuard, Wait};
 use std::thread;
 use std::thread::Threads;
-use txs_actor::Turn;
-use txs_asks::Ask;
-use txs_code::Verified;
+use txs_code_meaning::Verified;
 use txs_machine::RunError;
-use txs_played::{Gathered, Played, sent_functions};
-use txs_shared::SharedState;
-use txs_value::CellId;
+use txs_machine_actor::Turn;
+use txs_threads_gather::{Gathered, Played, sent_functions};
+use txs_value_data::CellId;
+use txs_world_protocol::Ask;
+use txs_world_shared::SharedState;
 
 /// After so many asks an actor is handed on, so that others have their turns.
 const ASKS: u32 = 64;

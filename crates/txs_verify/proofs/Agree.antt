@@ -1,9 +1,9 @@
 -- A table of depths has at each place that the code comes to the depth of the path.
 use Rattle.std.proofs.Common.{arith, inl, inr, ◌≡◌, ◌+◌, ◌-◌, ◌≤◌, ℕ, zero, suc, List, Some, sym, ap, subst, ◌∙◌}
-use Rattle.txs_code.specs.PlainCode.{CodeBody}
-use Rattle.txs_code.specs.WellTyped.{Owner, Depths, depth_at, Fits, IsTable}
-use Rattle.txs_code.specs.declared.instr.Instr.{Instr}
-use Rattle.txs_code.specs.declared.instr.Instr.TheVariants.{Const, Local, Store, Pop, Jump, JumpFalse, Core, Call, Return, Vector, Print, Look, Put, TxBegin, TxEnd, Open, Close, Send, Halt}
+use Rattle.txs_code_meaning.specs.PlainCode.{CodeBody}
+use Rattle.txs_code_meaning.specs.WellTyped.{Owner, Depths, depth_at, Fits, IsTable}
+use Rattle.txs_code_meaning.specs.declared.instr.Instr.{Instr}
+use Rattle.txs_code_meaning.specs.declared.instr.Instr.TheVariants.{Const, Local, Store, Pop, Jump, JumpFalse, Core, Call, Return, Vector, Print, Look, Put, TxBegin, TxEnd, Open, Close, Send, Halt}
 use Rattle.txs_verify.specs.Paths.{or_none, wants, depth_behind, LeadsTo, Steps, ComesIn}
 
 some_is : {A : Type 0} (x y : A) → Some x ≡ Some y → x ≡ y

@@ -1,15 +1,15 @@
 -- All bodies together: refusals, and well-typed code.
 use Rattle.std.proofs.Common.{arith, ◌≡◌, ◌∙◌, ℕ, zero, suc, ◌+◌, ◌<◌, ◌≤◌, List, [], ◌∷◌, length, Bool, true, false, not, ◌&&◌, nat_eq, Option, Some, None, refl, sym, ap, subst}
-use Rattle.txs_terms.specs.Places.{nth}
-use Rattle.txs_cells.specs.declared.form.Standing.{Standing}
-use Rattle.txs_cells.specs.declared.form.Standing.TheVariants.{Anywhere, Inside, Outside}
-use Rattle.txs_value.specs.declared.value.Value.{Value}
-use Rattle.txs_cells.specs.declared.form.CellForm.TheVariants as form
-use Rattle.txs_cells.specs.Forms.{rule}
-use Rattle.txs_code.specs.PlainCode.{CodeBody, PlainCode, parameters_of}
-use Rattle.txs_code.specs.WellTyped.{Functions, FunctionKind, a_thread, a_function, form_of, IsKind, WellTypedBody, WellTypedThreads, WellTypedFunctions, WellTyped}
-use Rattle.txs_code.specs.declared.instr.Instr.{Instr}
-use Rattle.txs_code.specs.declared.instr.Instr.TheVariants.{Call, Print, Look, Put, TxBegin, Open, Send}
+use Rattle.txs_value_base.specs.Places.{nth}
+use Rattle.txs_value_cell.specs.declared.form.Standing.{Standing}
+use Rattle.txs_value_cell.specs.declared.form.Standing.TheVariants.{Anywhere, Inside, Outside}
+use Rattle.txs_value_data.specs.declared.value.Value.{Value}
+use Rattle.txs_value_cell.specs.declared.form.CellForm.TheVariants as form
+use Rattle.txs_value_cell.specs.Forms.{rule}
+use Rattle.txs_code_meaning.specs.PlainCode.{CodeBody, PlainCode, parameters_of}
+use Rattle.txs_code_meaning.specs.WellTyped.{Functions, FunctionKind, a_thread, a_function, form_of, IsKind, WellTypedBody, WellTypedThreads, WellTypedFunctions, WellTyped}
+use Rattle.txs_code_meaning.specs.declared.instr.Instr.{Instr}
+use Rattle.txs_code_meaning.specs.declared.instr.Instr.TheVariants.{Call, Print, Look, Put, TxBegin, Open, Send}
 use Rattle.txs_verify.specs.declared.error.Stop.{Stop}
 use Rattle.txs_verify.specs.declared.error.Stop.TheVariants as stop
 use Rattle.txs_verify.specs.declared.error.VerifyError.{VerifyError}

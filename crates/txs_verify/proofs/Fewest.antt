@@ -1,9 +1,9 @@
 -- The rooms that are computed are the least with which the code is well typed.
 use Rattle.std.proofs.Common.{arith, ◌≡◌, ◌∙◌, ℕ, zero, suc, ◌≤◌, List, [], ◌∷◌, length, Bool, true, false, Some, None, ap, subst}
-use Rattle.txs_terms.specs.Places.{nth}
-use Rattle.txs_value.specs.declared.value.Value.{Value}
-use Rattle.txs_code.specs.PlainCode.{CodeBody, PlainCode, parameters_of}
-use Rattle.txs_code.specs.WellTyped.{FunctionKind, Functions, Owner, a_thread, a_function, IsTable, WellTypedBody, WellTypedFunctions, WellTypedThreads, WellTyped}
+use Rattle.txs_value_base.specs.Places.{nth}
+use Rattle.txs_value_data.specs.declared.value.Value.{Value}
+use Rattle.txs_code_meaning.specs.PlainCode.{CodeBody, PlainCode, parameters_of}
+use Rattle.txs_code_meaning.specs.WellTyped.{FunctionKind, Functions, Owner, a_thread, a_function, IsTable, WellTypedBody, WellTypedFunctions, WellTypedThreads, WellTyped}
 use Rattle.txs_verify.specs.declared.standing.Kind.{Kind}
 use Rattle.txs_verify.specs.Verdict.{IsWalked, AreWalked, AreWalkedThreads, AreLeastRooms, kinds_before}
 use Rattle.txs_verify.proofs.Agree.{has_depth}

@@ -1,15 +1,15 @@
 -- No refusal is true of well-typed code.
 use Rattle.std.proofs.Common.{arith, inl, inr, ◌≡◌, ◌⊎◌, ◌∙◌, ℕ, zero, suc, ◌+◌, ◌<◌, ◌≤◌, List, [], ◌∷◌, length, Bool, true, false, Option, Some, None, refl, sym, ap, subst}
-use Rattle.txs_terms.specs.Places.{nth}
-use Rattle.txs_terms.specs.declared.op.Callee.{Callee}
-use Rattle.txs_terms.specs.declared.op.Callee.TheVariants as callee
-use Rattle.txs_value.specs.declared.value.Value.{Value}
-use Rattle.txs_code.specs.PlainCode.{CodeBody, PlainCode, parameters_of}
-use Rattle.txs_code.specs.WellTyped.{FunctionKind, Functions, Owner, a_thread, a_function, CalleeTakes, NamedTakes, IsLawful, IsPureFunction, Stage, plain, opened, applied, Stages, FitsStage, WellTypedBody, WellTyped}
-use Rattle.txs_code.specs.declared.instr.OpenForm.{OpenForm}
-use Rattle.txs_code.specs.declared.instr.OpenForm.TheVariants as open_form
-use Rattle.txs_code.specs.declared.instr.Instr.{Instr}
-use Rattle.txs_code.specs.declared.instr.Instr.TheVariants.{Local, Store, Jump, JumpFalse, Core, Call, Return, Open, Close, Send, Halt}
+use Rattle.txs_value_base.specs.Places.{nth}
+use Rattle.txs_value_base.specs.declared.op.Callee.{Callee}
+use Rattle.txs_value_base.specs.declared.op.Callee.TheVariants as callee
+use Rattle.txs_value_data.specs.declared.value.Value.{Value}
+use Rattle.txs_code_meaning.specs.PlainCode.{CodeBody, PlainCode, parameters_of}
+use Rattle.txs_code_meaning.specs.WellTyped.{FunctionKind, Functions, Owner, a_thread, a_function, CalleeTakes, NamedTakes, IsLawful, IsPureFunction, Stage, plain, opened, applied, Stages, FitsStage, WellTypedBody, WellTyped}
+use Rattle.txs_code_meaning.specs.declared.instr.OpenForm.{OpenForm}
+use Rattle.txs_code_meaning.specs.declared.instr.OpenForm.TheVariants as open_form
+use Rattle.txs_code_meaning.specs.declared.instr.Instr.{Instr}
+use Rattle.txs_code_meaning.specs.declared.instr.Instr.TheVariants.{Local, Store, Jump, JumpFalse, Core, Call, Return, Open, Close, Send, Halt}
 use Rattle.txs_verify.specs.declared.error.VerifyError.{VerifyError}
 use Rattle.txs_verify.specs.declared.error.VerifyErrorKind.{VerifyErrorKind}
 use Rattle.txs_verify.specs.declared.error.VerifyErrorKind.TheVariants.{JumpOut, StackLow, StackDiffers, LocalOut, ArityWrong, CallOrder, TxNesting, FallsOff, Memory}

@@ -1,23 +1,23 @@
 -- The tests of an instruction alone say what is wanted of it; and what is right alone is lawful.
 use Rattle.std.proofs.Common.{arith, inl, inr, ◌≡◌, ◌⊎◌, ◌∙◌, ℕ, zero, suc, ◌+◌, ◌<◌, ◌≤◌, List, [], ◌∷◌, length, get_or, Bool, true, false, not, ◌&&◌, ◌||◌, nat_eq, nat_lt, if◌then◌else◌, is_some, Option, Some, None, refl, sym, ap, subst}
 use Rattle.std.proofs.lemmas.Bool.{eqb-true, eqb-false, eq-eqb, ltb-true, ltb-false}
-use Rattle.txs_asks.specs.Ask.{same_callee}
-use Rattle.txs_terms.specs.Operations.{op_number}
-use Rattle.txs_terms.specs.Places.{nth}
-use Rattle.txs_cells.specs.declared.form.UpdateForm.{UpdateForm}
-use Rattle.txs_cells.specs.declared.form.UpdateForm.TheVariants as update
-use Rattle.txs_terms.specs.declared.op.Callee.{Callee}
-use Rattle.txs_terms.specs.declared.op.Callee.TheVariants as callee
-use Rattle.txs_terms.specs.declared.op.Op.{Op}
-use Rattle.txs_terms.specs.declared.op.Op.TheVariants as op
-use Rattle.txs_value.specs.declared.value.Value.{Value}
-use Rattle.txs_terms.proofs.OperationsLemmas.{operations, operations-at_number}
-use Rattle.txs_code.specs.PlainCode.{CodeBody}
-use Rattle.txs_code.specs.WellTyped.{form_of, IsNamed, CalleeTakes, NamedTakes, Applies, IsBehindOpen, IsFollowed, IsOpened, IsLawful}
-use Rattle.txs_code.specs.declared.instr.OpenForm.{OpenForm}
-use Rattle.txs_code.specs.declared.instr.OpenForm.TheVariants as open_form
-use Rattle.txs_code.specs.declared.instr.Instr.{Instr}
-use Rattle.txs_code.specs.declared.instr.Instr.TheVariants.{Const, Local, Store, Pop, Jump, JumpFalse, Core, Call, Return, Vector, Print, Look, Put, TxBegin, TxEnd, Open, Close, Send, Halt}
+use Rattle.txs_world_protocol.specs.Ask.{same_callee}
+use Rattle.txs_value_base.specs.Operations.{op_number}
+use Rattle.txs_value_base.specs.Places.{nth}
+use Rattle.txs_value_cell.specs.declared.form.UpdateForm.{UpdateForm}
+use Rattle.txs_value_cell.specs.declared.form.UpdateForm.TheVariants as update
+use Rattle.txs_value_base.specs.declared.op.Callee.{Callee}
+use Rattle.txs_value_base.specs.declared.op.Callee.TheVariants as callee
+use Rattle.txs_value_base.specs.declared.op.Op.{Op}
+use Rattle.txs_value_base.specs.declared.op.Op.TheVariants as op
+use Rattle.txs_value_data.specs.declared.value.Value.{Value}
+use Rattle.txs_value_base.proofs.OperationsLemmas.{operations, operations-at_number}
+use Rattle.txs_code_meaning.specs.PlainCode.{CodeBody}
+use Rattle.txs_code_meaning.specs.WellTyped.{form_of, IsNamed, CalleeTakes, NamedTakes, Applies, IsBehindOpen, IsFollowed, IsOpened, IsLawful}
+use Rattle.txs_code_meaning.specs.declared.instr.OpenForm.{OpenForm}
+use Rattle.txs_code_meaning.specs.declared.instr.OpenForm.TheVariants as open_form
+use Rattle.txs_code_meaning.specs.declared.instr.Instr.{Instr}
+use Rattle.txs_code_meaning.specs.declared.instr.Instr.TheVariants.{Const, Local, Store, Pop, Jump, JumpFalse, Core, Call, Return, Vector, Print, Look, Put, TxBegin, TxEnd, Open, Close, Send, Halt}
 use Rattle.txs_verify.specs.declared.error.VerifyErrorKind.{VerifyErrorKind}
 use Rattle.txs_verify.specs.declared.error.VerifyErrorKind.TheVariants.{JumpOut, LocalOut, ArityWrong, CallOrder}
 use Rattle.txs_verify.specs.Alone.{HasConstant, HasLocal, TakesSo, NamedTakesSo, HasCount, IsBelow, NamedIsBelow, IsInOrder, IsRight, IsRightBody, IsWrongAlone, jumps_within, has_local, is_so_many, takes_so, has_count, is_below, named_is_below, is_named, same_form, has_so_many, applies, closes, opens_form, is_behind, is_followed, in_order, fault}

@@ -2,16 +2,16 @@
 -- impure is so.
 use Rattle.std.proofs.Common.{arith, ◌≡◌, ◌∙◌, ℕ, zero, suc, ◌+◌, ◌<◌, ◌≤◌, List, [], ◌∷◌, length, Bool, true, false, ◌&&◌, nat_eq, Option, Some, None, refl, sym, ap, subst}
 use Rattle.std.proofs.lemmas.Bool.{eqb-true}
-use Rattle.txs_cells.specs.Forms.{rule}
-use Rattle.txs_terms.specs.Places.{nth}
-use Rattle.txs_cells.specs.declared.form.CellForm.TheVariants as form
-use Rattle.txs_cells.specs.declared.form.Standing.{Standing}
-use Rattle.txs_cells.specs.declared.form.Standing.TheVariants.{Anywhere, Inside, Outside}
-use Rattle.txs_value.specs.declared.value.Value.{Value}
-use Rattle.txs_code.specs.PlainCode.{CodeBody}
-use Rattle.txs_code.specs.WellTyped.{FunctionKind, Functions, Owner, a_thread, a_function, IsImpure, MayStand, KindMayStand, IsKind, Stage, plain, opened, applied, Stages, FitsStage, form_of, WellTypedBody, WellTypedFunctions, WellTypedThreads}
-use Rattle.txs_code.specs.declared.instr.Instr.{Instr}
-use Rattle.txs_code.specs.declared.instr.Instr.TheVariants.{Const, Local, Store, Pop, Jump, JumpFalse, Core, Call, Return, Vector, Print, Look, Put, TxBegin, TxEnd, Open, Close, Send, Halt}
+use Rattle.txs_value_cell.specs.Forms.{rule}
+use Rattle.txs_value_base.specs.Places.{nth}
+use Rattle.txs_value_cell.specs.declared.form.CellForm.TheVariants as form
+use Rattle.txs_value_cell.specs.declared.form.Standing.{Standing}
+use Rattle.txs_value_cell.specs.declared.form.Standing.TheVariants.{Anywhere, Inside, Outside}
+use Rattle.txs_value_data.specs.declared.value.Value.{Value}
+use Rattle.txs_code_meaning.specs.PlainCode.{CodeBody}
+use Rattle.txs_code_meaning.specs.WellTyped.{FunctionKind, Functions, Owner, a_thread, a_function, IsImpure, MayStand, KindMayStand, IsKind, Stage, plain, opened, applied, Stages, FitsStage, form_of, WellTypedBody, WellTypedFunctions, WellTypedThreads}
+use Rattle.txs_code_meaning.specs.declared.instr.Instr.{Instr}
+use Rattle.txs_code_meaning.specs.declared.instr.Instr.TheVariants.{Const, Local, Store, Pop, Jump, JumpFalse, Core, Call, Return, Vector, Print, Look, Put, TxBegin, TxEnd, Open, Close, Send, Halt}
 use Rattle.txs_verify.specs.declared.standing.Kind.{Kind}
 use Rattle.txs_verify.specs.Paths.{stage_for}
 use Rattle.txs_verify.specs.Refused.{IsMet}

@@ -1,10 +1,10 @@
 -- The parameters of a function among those of all.
 use Rattle.std.proofs.Common.{arith, ap, sym, ◌∙◌, ◌-◌, ◌≡◌, ◌<◌, ◌≤◌, ℕ, zero, suc, List, [], ◌∷◌, length, get_or, Option, Some, None, refl}
-use Rattle.txs_terms.specs.Places.{nth}
-use Rattle.txs_code.specs.PlainCode.{CodeBody, parameters_of}
+use Rattle.txs_value_base.specs.Places.{nth}
+use Rattle.txs_code_meaning.specs.PlainCode.{CodeBody, parameters_of}
 use Rattle.txs_verify.specs.declared.walk.Mark.{Mark}
 use Rattle.txs_verify.specs.Marks.{Marks, mark_at}
-use Rattle.txs_code.specs.declared.instr.Instr.{Instr}
+use Rattle.txs_code_meaning.specs.declared.instr.Instr.{Instr}
 use Rattle.txs_verify.specs.declared.standing.Kind.{Kind}
 use Rattle.txs_verify.specs.Paths.{or_none, opens, before, before_that}
 use Rattle.txs_verify.specs.Standing.{or_pure, pure_kind}

@@ -1,12 +1,12 @@
 -- What a path comes to in a well-typed body, so that no such body is refused.
 use Rattle.std.proofs.Common.{arith, ◌≡◌, ◌≤◌, ℕ, List, Option, Some, None, refl, sym, ap, subst, ◌∙◌}
-use Rattle.txs_terms.specs.Places.{nth}
-use Rattle.txs_value.specs.declared.value.Value.{Value}
-use Rattle.txs_code.specs.PlainCode.{CodeBody}
-use Rattle.txs_code.specs.WellTyped.{Functions, Owner, Stage, plain, opened, applied, Depths, Fits, Stages, FitsStage, WellTypedBody}
-use Rattle.txs_code.specs.declared.instr.OpenForm.{OpenForm}
-use Rattle.txs_code.specs.declared.instr.Instr.{Instr}
-use Rattle.txs_code.specs.declared.instr.Instr.TheVariants.{Const, Local, Store, Pop, Jump, JumpFalse, Core, Call, Return, Vector, Print, Look, Put, TxBegin, TxEnd, Open, Close, Send, Halt}
+use Rattle.txs_value_base.specs.Places.{nth}
+use Rattle.txs_value_data.specs.declared.value.Value.{Value}
+use Rattle.txs_code_meaning.specs.PlainCode.{CodeBody}
+use Rattle.txs_code_meaning.specs.WellTyped.{Functions, Owner, Stage, plain, opened, applied, Depths, Fits, Stages, FitsStage, WellTypedBody}
+use Rattle.txs_code_meaning.specs.declared.instr.OpenForm.{OpenForm}
+use Rattle.txs_code_meaning.specs.declared.instr.Instr.{Instr}
+use Rattle.txs_code_meaning.specs.declared.instr.Instr.TheVariants.{Const, Local, Store, Pop, Jump, JumpFalse, Core, Call, Return, Vector, Print, Look, Put, TxBegin, TxEnd, Open, Close, Send, Halt}
 use Rattle.txs_verify.specs.Paths.{wants, EndsWell, IsAllowed, MayEnd, opens, before, before_that, stage_behind, stage_for}
 use Rattle.txs_verify.specs.Refused.{Comes, IsMet, IsLow, HasTwoDepths, HasTwoNestings, EndsNothing, GoesPast, EndsBadly, IsMisplaced}
 use Rattle.txs_verify.proofs.Agree.{enough_of, has_depth}

@@ -1,7 +1,7 @@
 -- What is reached, by cases.
 use Rattle.std.proofs.Common.{◌≡◌, ◌∙◌, ℕ, ◌≤◌, ◌<◌, lt-ltb, true, false, nat_lt, if◌then◌else◌, ◌++◌, [], ◌∷◌, set, sym, ap, subst, refl, Option, Some, None, Ok, Err, List, Result}
 use Rattle.std.proofs.lemmas.Bool.{le-ltb}
-use Rattle.txs_code.specs.declared.instr.Instr.{Instr}
+use Rattle.txs_code_meaning.specs.declared.instr.Instr.{Instr}
 use Rattle.txs_verify.specs.Marks.{Marks, mark_at, mark_behind}
 use Rattle.txs_verify.specs.Paths.{wants, depth_behind, txs_behind}
 use Rattle.txs_verify.specs.Walk.{Walk, Gives, reached, reached_each, ◌>>=◌, refusal, next_places, ends_nothing, passed}

@@ -1,14 +1,14 @@
 -- Room for marks, and bodies whose paths were looked at.
 use Rattle.std.proofs.Common.{arith, inl, inr, ◌≡◌, ◌⊎◌, ◌∙◌, ℕ, zero, suc, ◌+◌, ◌<◌, ◌≤◌, List, [], ◌∷◌, ◌++◌, length, Bool, true, false, nat_eq, Option, Some, None, refl, sym, ap, subst, length-append}
 use Rattle.std.proofs.lemmas.Bool.{eqb-true, eqb-false}
-use Rattle.txs_terms.specs.Places.{nth}
-use Rattle.txs_terms.specs.declared.op.Callee.{Callee}
-use Rattle.txs_terms.specs.declared.op.Callee.TheVariants as callee
-use Rattle.txs_value.specs.declared.value.Value.{Value}
-use Rattle.txs_code.specs.PlainCode.{CodeBody, parameters_of}
-use Rattle.txs_code.specs.WellTyped.{FunctionKind, Owner, Stages, Stage, plain, opened, FitsStage, IsStaging, IsPureFunction, IsPureCallee, WellTypedBody}
-use Rattle.txs_code.specs.declared.instr.Instr.{Instr}
-use Rattle.txs_code.specs.declared.instr.Instr.TheVariants.{Call, Send}
+use Rattle.txs_value_base.specs.Places.{nth}
+use Rattle.txs_value_base.specs.declared.op.Callee.{Callee}
+use Rattle.txs_value_base.specs.declared.op.Callee.TheVariants as callee
+use Rattle.txs_value_data.specs.declared.value.Value.{Value}
+use Rattle.txs_code_meaning.specs.PlainCode.{CodeBody, parameters_of}
+use Rattle.txs_code_meaning.specs.WellTyped.{FunctionKind, Owner, Stages, Stage, plain, opened, FitsStage, IsStaging, IsPureFunction, IsPureCallee, WellTypedBody}
+use Rattle.txs_code_meaning.specs.declared.instr.Instr.{Instr}
+use Rattle.txs_code_meaning.specs.declared.instr.Instr.TheVariants.{Call, Send}
 use Rattle.txs_verify.specs.declared.error.Stop.{Stop}
 use Rattle.txs_verify.specs.declared.error.Stop.TheVariants.{Refused, Memory}
 use Rattle.txs_verify.specs.declared.standing.Kind.{Kind}

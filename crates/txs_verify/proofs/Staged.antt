@@ -1,12 +1,12 @@
 -- A staging has at each place that the code comes to the stage that the instructions before it make, in as many transactions as the path.
 use Rattle.std.proofs.Common.{arith, inl, inr, ◌≡◌, ◌+◌, ◌-◌, ℕ, zero, suc, List, Option, Some, None, refl, sym, ap, subst, ◌∙◌}
-use Rattle.txs_terms.specs.Places.{nth}
-use Rattle.txs_code.specs.PlainCode.{CodeBody}
-use Rattle.txs_code.specs.WellTyped.{Functions, Owner, plain, opened, applied, form_of, Stages, stage_at, FitsStage, IsStaging, IsBehindOpen}
-use Rattle.txs_code.specs.declared.instr.OpenForm.{OpenForm}
-use Rattle.txs_cells.specs.declared.form.UpdateForm.{UpdateForm}
-use Rattle.txs_code.specs.declared.instr.Instr.{Instr}
-use Rattle.txs_code.specs.declared.instr.Instr.TheVariants.{Const, Local, Store, Pop, Jump, JumpFalse, Core, Call, Return, Vector, Print, Look, Put, TxBegin, TxEnd, Open, Close, Send, Halt}
+use Rattle.txs_value_base.specs.Places.{nth}
+use Rattle.txs_code_meaning.specs.PlainCode.{CodeBody}
+use Rattle.txs_code_meaning.specs.WellTyped.{Functions, Owner, plain, opened, applied, form_of, Stages, stage_at, FitsStage, IsStaging, IsBehindOpen}
+use Rattle.txs_code_meaning.specs.declared.instr.OpenForm.{OpenForm}
+use Rattle.txs_value_cell.specs.declared.form.UpdateForm.{UpdateForm}
+use Rattle.txs_code_meaning.specs.declared.instr.Instr.{Instr}
+use Rattle.txs_code_meaning.specs.declared.instr.Instr.TheVariants.{Const, Local, Store, Pop, Jump, JumpFalse, Core, Call, Return, Vector, Print, Look, Put, TxBegin, TxEnd, Open, Close, Send, Halt}
 use Rattle.txs_verify.specs.Paths.{txs_behind, LeadsTo, Steps, ComesIn, opens, before, before_that, stage_behind, stage_for}
 
 some_is : {A : Type 0} (x y : A) → Some x ≡ Some y → x ≡ y

@@ -2,17 +2,17 @@
 use Rattle.std.proofs.Common.{arith, inl, inr, ◌≡◌, ◌⊎◌, ◌∙◌, ℕ, zero, suc, ◌-◌, ◌<◌, List, [], ◌∷◌, length, Bool, true, false, not, ◌&&◌, nat_eq, if◌then◌else◌, is_some, Option, Some, None, refl, sym, ap, subst}
 use Rattle.std.proofs.Math.Dec.{eqb-suc-zero}
 use Rattle.std.proofs.lemmas.Bool.{eqb-true, eqb-false, eq-eqb}
-use Rattle.txs_cells.specs.Forms.{rule}
-use Rattle.txs_terms.specs.Places.{nth}
-use Rattle.txs_cells.specs.declared.form.CellForm.TheVariants as form
-use Rattle.txs_cells.specs.declared.form.Standing.{Standing}
-use Rattle.txs_cells.specs.declared.form.Standing.TheVariants.{Anywhere, Inside, Outside}
-use Rattle.txs_terms.specs.declared.op.Callee.{Callee}
-use Rattle.txs_terms.specs.declared.op.Callee.TheVariants as callee
-use Rattle.txs_code.specs.WellTyped.{Owner, a_thread, a_function, opened, IsImpure, MayStand, KindMayStand, IsPureFunction, IsPureCallee, form_of}
-use Rattle.txs_code.specs.declared.instr.OpenForm.{OpenForm}
-use Rattle.txs_code.specs.declared.instr.Instr.{Instr}
-use Rattle.txs_code.specs.declared.instr.Instr.TheVariants.{Call, Return, Print, Look, Put, TxBegin, Open, Send, Halt}
+use Rattle.txs_value_cell.specs.Forms.{rule}
+use Rattle.txs_value_base.specs.Places.{nth}
+use Rattle.txs_value_cell.specs.declared.form.CellForm.TheVariants as form
+use Rattle.txs_value_cell.specs.declared.form.Standing.{Standing}
+use Rattle.txs_value_cell.specs.declared.form.Standing.TheVariants.{Anywhere, Inside, Outside}
+use Rattle.txs_value_base.specs.declared.op.Callee.{Callee}
+use Rattle.txs_value_base.specs.declared.op.Callee.TheVariants as callee
+use Rattle.txs_code_meaning.specs.WellTyped.{Owner, a_thread, a_function, opened, IsImpure, MayStand, KindMayStand, IsPureFunction, IsPureCallee, form_of}
+use Rattle.txs_code_meaning.specs.declared.instr.OpenForm.{OpenForm}
+use Rattle.txs_code_meaning.specs.declared.instr.Instr.{Instr}
+use Rattle.txs_code_meaning.specs.declared.instr.Instr.TheVariants.{Call, Return, Print, Look, Put, TxBegin, Open, Send, Halt}
 use Rattle.txs_verify.specs.declared.error.Refusal.{Refusal}
 use Rattle.txs_verify.specs.declared.error.VerifyErrorKind.{VerifyErrorKind}
 use Rattle.txs_verify.specs.declared.error.VerifyErrorKind.TheVariants.{StackDiffers, TxNesting, FallsOff}

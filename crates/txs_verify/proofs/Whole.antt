@@ -1,16 +1,16 @@
 -- Closed marks of lawful code whose instructions may all stand there make a body well typed.
 use Rattle.std.proofs.Common.{arith, ◌≡◌, ◌+◌, ◌<◌, ◌≤◌, ℕ, zero, suc, true, List, [], ◌∷◌, Option, Some, None, refl, sym, ap, subst, ◌∙◌, length}
-use Rattle.txs_operations.specs.Core.{takes}
-use Rattle.txs_terms.specs.Places.{nth}
-use Rattle.txs_cells.specs.declared.form.UpdateForm.{UpdateForm}
-use Rattle.txs_terms.specs.declared.op.Op.{Op}
-use Rattle.txs_terms.specs.declared.op.Op.TheVariants as op
-use Rattle.txs_value.specs.declared.value.Value.{Value}
-use Rattle.txs_code.specs.PlainCode.{CodeBody}
-use Rattle.txs_code.specs.WellTyped.{Functions, Owner, Stage, opened, form_of, depth_at, Fits, IsTable, Stages, stage_at, FitsStage, IsStaging, IsLawful, IsFollowed, IsOpened, Applies, WellTypedBody}
-use Rattle.txs_code.specs.declared.instr.OpenForm.{OpenForm}
-use Rattle.txs_code.specs.declared.instr.Instr.{Instr}
-use Rattle.txs_code.specs.declared.instr.Instr.TheVariants.{Const, Local, Store, Pop, Jump, JumpFalse, Core, Call, Return, Vector, Print, Look, Put, TxBegin, TxEnd, Open, Close, Send, Halt}
+use Rattle.txs_value_apply.specs.Core.{takes}
+use Rattle.txs_value_base.specs.Places.{nth}
+use Rattle.txs_value_cell.specs.declared.form.UpdateForm.{UpdateForm}
+use Rattle.txs_value_base.specs.declared.op.Op.{Op}
+use Rattle.txs_value_base.specs.declared.op.Op.TheVariants as op
+use Rattle.txs_value_data.specs.declared.value.Value.{Value}
+use Rattle.txs_code_meaning.specs.PlainCode.{CodeBody}
+use Rattle.txs_code_meaning.specs.WellTyped.{Functions, Owner, Stage, opened, form_of, depth_at, Fits, IsTable, Stages, stage_at, FitsStage, IsStaging, IsLawful, IsFollowed, IsOpened, Applies, WellTypedBody}
+use Rattle.txs_code_meaning.specs.declared.instr.OpenForm.{OpenForm}
+use Rattle.txs_code_meaning.specs.declared.instr.Instr.{Instr}
+use Rattle.txs_code_meaning.specs.declared.instr.Instr.TheVariants.{Const, Local, Store, Pop, Jump, JumpFalse, Core, Call, Return, Vector, Print, Look, Put, TxBegin, TxEnd, Open, Close, Send, Halt}
 use Rattle.txs_verify.specs.declared.walk.Mark.{Mark}
 use Rattle.txs_verify.specs.Marks.{Marks, mark_at, depth_part, depths_of, stages_from, mark_behind, IsClosed}
 use Rattle.txs_verify.specs.Paths.{EndsWell, IsAllowed, MayEnd, opens, before, before_that, stage_behind, stage_for}

@@ -1,8 +1,8 @@
 -- The loop over the places that wait: what it keeps.
 use Rattle.std.specs.Prelude.{◌≡◌, ◌⊎◌, ℕ, zero, suc, ◌+◌, ◌<◌, ◌≤◌, List, [], ◌∷◌, length, Some, None}
-use Rattle.txs_terms.specs.Places.{nth}
-use Rattle.txs_code.specs.declared.instr.Instr.{Instr}
-use Rattle.txs_code.specs.declared.instr.Instr.TheVariants.{Jump, JumpFalse}
+use Rattle.txs_value_base.specs.Places.{nth}
+use Rattle.txs_code_meaning.specs.declared.instr.Instr.{Instr}
+use Rattle.txs_code_meaning.specs.declared.instr.Instr.TheVariants.{Jump, JumpFalse}
 use Rattle.txs_verify.specs.declared.walk.Mark.{Mark}
 use Rattle.txs_verify.specs.Marks.{Marks, mark_at, IsDone}
 use Rattle.txs_verify.specs.Refused.{Comes}

@@ -1,12 +1,12 @@
 -- The places that a body's code comes to, each with the depth of the stack and the number of open transactions.
 use Rattle.std.specs.Prelude.{◌≡◌, ◌⊎◌, ℕ, zero, suc, ◌+◌, ◌-◌, ◌<◌, ◌≤◌, List, Option, Some, None}
-use Rattle.txs_terms.specs.Places.{nth}
-use Rattle.txs_cells.specs.declared.form.CellForm.TheVariants as form
-use Rattle.txs_cells.specs.declared.form.Standing.TheVariants.{Outside}
-use Rattle.txs_code.specs.WellTyped.{Functions, Owner, Returns, Halts, IsImpure, MayStand, FormMayStand, MayCall, IsPureFunction, IsPureCallee, Stage, plain, opened, applied, form_of}
-use Rattle.txs_code.specs.declared.instr.OpenForm.{OpenForm}
-use Rattle.txs_code.specs.declared.instr.Instr.{Instr}
-use Rattle.txs_code.specs.declared.instr.Instr.TheVariants.{Const, Local, Store, Pop, Jump, JumpFalse, Core, Call, Return, Vector, Print, Look, Put, TxBegin, TxEnd, Open, Close, Send, Halt}
+use Rattle.txs_value_base.specs.Places.{nth}
+use Rattle.txs_value_cell.specs.declared.form.CellForm.TheVariants as form
+use Rattle.txs_value_cell.specs.declared.form.Standing.TheVariants.{Outside}
+use Rattle.txs_code_meaning.specs.WellTyped.{Functions, Owner, Returns, Halts, IsImpure, MayStand, FormMayStand, MayCall, IsPureFunction, IsPureCallee, Stage, plain, opened, applied, form_of}
+use Rattle.txs_code_meaning.specs.declared.instr.OpenForm.{OpenForm}
+use Rattle.txs_code_meaning.specs.declared.instr.Instr.{Instr}
+use Rattle.txs_code_meaning.specs.declared.instr.Instr.TheVariants.{Const, Local, Store, Pop, Jump, JumpFalse, Core, Call, Return, Vector, Print, Look, Put, TxBegin, TxEnd, Open, Close, Send, Halt}
 
 -- how many parameters a function has; 0 of one that isn't there
 abbrev pub or_none : Option ℕ → ℕ

@@ -1,9 +1,9 @@
 -- The verdict on code.
 use Rattle.std.specs.Prelude.{◌≡◌, ◌⊎◌, ℕ, zero, suc, ◌<◌, ◌≤◌, Bool, true, false, List, [], ◌∷◌, length, Some}
-use Rattle.txs_terms.specs.Places.{nth}
-use Rattle.txs_code.specs.PlainCode.{CodeBody, PlainCode, parameters_of}
-use Rattle.txs_code.specs.WellTyped.{WellTyped}
-use Rattle.txs_code.specs.declared.instr.Instr.{Instr}
+use Rattle.txs_value_base.specs.Places.{nth}
+use Rattle.txs_code_meaning.specs.PlainCode.{CodeBody, PlainCode, parameters_of}
+use Rattle.txs_code_meaning.specs.WellTyped.{WellTyped}
+use Rattle.txs_code_meaning.specs.declared.instr.Instr.{Instr}
 use Rattle.txs_verify.specs.Alone.{HasConstant, IsRight, IsRightBody, IsWrongAlone}
 use Rattle.txs_verify.specs.Going.{AreReached}
 use Rattle.txs_verify.specs.Marks.{Marks, mark_at, IsClosed}

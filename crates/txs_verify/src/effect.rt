@@ -1,11 +1,11 @@
 //! What instructions do to the depth of the stack and to the number of open transactions.
 
 ghost use Rattle.std.specs.Prelude.{◌≡◌, ◌<◌, ◌≤◌};
-ghost use Rattle.txs_code.specs.PlainCode.{parameters_of};
-ghost use Rattle.txs_terms.specs.Places.{nth};
+ghost use Rattle.txs_code_meaning.specs.PlainCode.{parameters_of};
+ghost use Rattle.txs_value_base.specs.Places.{nth};
 ghost use Rattle.txs_verify.specs.Paths.{depth_behind, or_none, wants, MayEnd, txs_behind};
 
-use txs_code::{Body, Instr};
+use txs_code_meaning::{Body, Instr};
 
 /// How many parameters a function has; 0 of one that isn't there.
 fn parameters(functions: &[Body], f: u16) -> usize

@@ -1,10 +1,10 @@
 //! The verifier: looks at all bodies of code.
 
 ghost use Rattle.std.specs.Prelude.{◌≡◌, ◌<◌, ◌≤◌, ◌+◌, ℕ, List, [], length, true, false, IfOk, IfErr, OnOk, Some};
-ghost use Rattle.txs_code.specs.PlainCode.{CodeBody, parameters_of};
-ghost use Rattle.txs_code.specs.WellTyped.{WellTyped};
-ghost use Rattle.txs_code.specs.declared.instr.Instr.{Instr as AnInstr};
-ghost use Rattle.txs_terms.specs.Places.{nth};
+ghost use Rattle.txs_code_meaning.specs.PlainCode.{CodeBody, parameters_of};
+ghost use Rattle.txs_code_meaning.specs.WellTyped.{WellTyped};
+ghost use Rattle.txs_code_meaning.specs.declared.instr.Instr.{Instr as AnInstr};
+ghost use Rattle.txs_value_base.specs.Places.{nth};
 ghost use Rattle.txs_verify.specs.Alone.{IsRight, IsRightBody, IsWrongAlone};
 ghost use Rattle.txs_verify.specs.Going.{AllJumpWithin};
 ghost use Rattle.txs_verify.specs.Marks.{mark_at};
@@ -17,7 +17,7 @@ use crate::error::{BodyName, Refusal, Stop, VerifyError, VerifyErrorKind};
 use crate::standing::{Kind, look_over};
 use crate::walk::{Mark, mark_places};
 use std::alloc::Global;
-use txs_code::{Body, Code, Instr};
+use txs_code_meaning::{Body, Code, Instr};
 
 /// How many values the stack of each function and of each thread needs at most.
 #[derive(Drop)]

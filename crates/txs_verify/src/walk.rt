@@ -1,8 +1,8 @@
 //! The places that the code of a body comes to, each found once.
 
 ghost use Rattle.std.specs.Prelude.{◌≡◌, ◌<◌, ◌≤◌, ◌+◌, ℕ, List, [], length, Some, IfOk, IfErr, OnOk};
-ghost use Rattle.txs_code.specs.PlainCode.{parameters_of};
-ghost use Rattle.txs_terms.specs.Places.{nth};
+ghost use Rattle.txs_code_meaning.specs.PlainCode.{parameters_of};
+ghost use Rattle.txs_value_base.specs.Places.{nth};
 ghost use Rattle.txs_verify.specs.Going.{AllJumpWithin, AreReached, Goes, JumpsWithin, no_marks};
 ghost use Rattle.txs_verify.specs.Marks.{mark_at, IsClosed};
 ghost use Rattle.txs_verify.specs.Refused.{BreaksOff};
@@ -12,7 +12,7 @@ ghost use Rattle.txs_verify.specs.Walk.{Gives, Walk, WhereRefused, ends_nothing,
 use crate::effect::{depth_behind, txs_behind, wants};
 use crate::error::{Refusal, Stop, VerifyErrorKind};
 use std::alloc::{AllocError, Global};
-use txs_code::{Body, Instr};
+use txs_code_meaning::{Body, Instr};
 
 /// How many values are on the stack at a place, and how many transactions of the body are open.
 #[derive(Clone, Copy)]

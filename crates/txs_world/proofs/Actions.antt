@@ -1,27 +1,27 @@
 -- The action that an agent runs next stays so until the agent has run one.
 use Rattle.std.proofs.Common.{◌≡◌, ℕ, suc, nat_le, Bool, true, false, not, ◌&&◌, ◌==◌, List, [], ◌∷◌, ◌++◌, length, Option, Some, None, Result, Ok, Err, refl, sym, ap, subst, ◌∙◌, append_assoc, if◌then◌else◌}
 use Rattle.std.proofs.lemmas.Bool.{false≢true}
-use Rattle.txs_asks.specs.Ask.{Writes, buffered}
-use Rattle.txs_asks.specs.declared.event.Event.{Event}
-use Rattle.txs_asks.specs.declared.event.EventKind.{EventKind}
-use Rattle.txs_asks.specs.declared.event.EventKind.TheVariants.{Read, Commit, Retry, Fail, Refused, Send, SendRefused, Act, Swap, Broke}
-use Rattle.txs_cells.specs.Cells.{World}
-use Rattle.txs_cells.specs.Forms.{same_kind}
-use Rattle.txs_terms.specs.Places.{nth}
-use Rattle.txs_cells.specs.declared.action.Action.{Action}
-use Rattle.txs_terms.specs.declared.fault.Fault.{Fault}
-use Rattle.txs_value.specs.declared.value.CellId.{CellId}
-use Rattle.txs_value.specs.declared.value.CellKind.{CellKind}
-use Rattle.txs_value.specs.declared.value.CellKind.TheVariants.{Ref, Atom, Agent}
-use Rattle.txs_value.specs.declared.value.Value.{Value}
-use Rattle.txs_book.specs.Book.{is_of_kind, has_cell, has_ref, has_agent, cells_in, are_refs, opening, goes_on, state_of, writes_to, is_there, after, newest, Mail, no_mail, sent_to, acted, mail_changed, mail_after, LegalKind, Each}
+use Rattle.txs_world_protocol.specs.Ask.{Writes, buffered}
+use Rattle.txs_world_protocol.specs.declared.event.Event.{Event}
+use Rattle.txs_world_protocol.specs.declared.event.EventKind.{EventKind}
+use Rattle.txs_world_protocol.specs.declared.event.EventKind.TheVariants.{Read, Commit, Retry, Fail, Refused, Send, SendRefused, Act, Swap, Broke}
+use Rattle.txs_value_cell.specs.Cells.{World}
+use Rattle.txs_value_cell.specs.Forms.{same_kind}
+use Rattle.txs_value_base.specs.Places.{nth}
+use Rattle.txs_value_cell.specs.declared.action.Action.{Action}
+use Rattle.txs_value_base.specs.declared.fault.Fault.{Fault}
+use Rattle.txs_value_data.specs.declared.value.CellId.{CellId}
+use Rattle.txs_value_data.specs.declared.value.CellKind.{CellKind}
+use Rattle.txs_value_data.specs.declared.value.CellKind.TheVariants.{Ref, Atom, Agent}
+use Rattle.txs_value_data.specs.declared.value.Value.{Value}
+use Rattle.txs_world_book.specs.Book.{is_of_kind, has_cell, has_ref, has_agent, cells_in, are_refs, opening, goes_on, state_of, writes_to, is_there, after, newest, Mail, no_mail, sent_to, acted, mail_changed, mail_after, LegalKind, Each}
 use Rattle.txs_world.specs.Laws.{acts_for, no_acts}
 use Rattle.txs_world.specs.Store.{first_action, next_action}
-use Rattle.txs_book.specs.declared.cell.StoreCell.{StoreCell}
-use Rattle.txs_book.proofs.Growth.{after_last, mail_last}
+use Rattle.txs_world_book.specs.declared.cell.StoreCell.{StoreCell}
+use Rattle.txs_world_book.proofs.Growth.{after_last, mail_last}
 use Rattle.txs_world.proofs.Mailing.{equal}
-use Rattle.txs_book.proofs.Outcomes.{both}
-use Rattle.txs_book.proofs.Older.{unset}
+use Rattle.txs_world_book.proofs.Outcomes.{both}
+use Rattle.txs_world_book.proofs.Older.{unset}
 
 -- ---- the agent's state
 

@@ -3,27 +3,27 @@ use Rattle.std.proofs.Common.{◌≡◌, ◌<◌, ◌≤◌, ℕ, suc, Bool, tru
 use Rattle.std.specs.Prelude.{is_some, ◌↔◌}
 use Rattle.std.proofs.lemmas.Bool.{false≢true, ltb-true}
 use Rattle.std.proofs.lemmas.Bool.Decides.{nat_tests}
-use Rattle.txs_asks.specs.Ask.{Writes}
-use Rattle.txs_asks.specs.declared.ask.Ask.TheVariants as ask
-use Rattle.txs_asks.specs.declared.ask.Reply.{Reply}
-use Rattle.txs_asks.specs.declared.ask.Reply.TheVariants as reply
-use Rattle.txs_asks.specs.declared.event.Event.{Event}
-use Rattle.txs_asks.specs.declared.event.EventKind.{EventKind}
-use Rattle.txs_asks.specs.declared.event.EventKind.TheVariants.{Commit, Retry, Refused, Act}
-use Rattle.txs_cells.specs.Cells.{World}
-use Rattle.txs_value.specs.Limits.{most_events}
-use Rattle.txs_cells.specs.declared.action.Action.{Action}
-use Rattle.txs_terms.specs.declared.fault.Fault.{Fault}
-use Rattle.txs_value.specs.declared.value.CellId.{CellId}
-use Rattle.txs_value.specs.declared.value.Value.{Value}
-use Rattle.txs_book.specs.Book.{cells_in, opening, after, newest, written, least_written, first_failed, is_failed, mail_after, LegalKind, Guarded}
+use Rattle.txs_world_protocol.specs.Ask.{Writes}
+use Rattle.txs_world_protocol.specs.declared.ask.Ask.TheVariants as ask
+use Rattle.txs_world_protocol.specs.declared.ask.Reply.{Reply}
+use Rattle.txs_world_protocol.specs.declared.ask.Reply.TheVariants as reply
+use Rattle.txs_world_protocol.specs.declared.event.Event.{Event}
+use Rattle.txs_world_protocol.specs.declared.event.EventKind.{EventKind}
+use Rattle.txs_world_protocol.specs.declared.event.EventKind.TheVariants.{Commit, Retry, Refused, Act}
+use Rattle.txs_value_cell.specs.Cells.{World}
+use Rattle.txs_value_data.specs.Limits.{most_events}
+use Rattle.txs_value_cell.specs.declared.action.Action.{Action}
+use Rattle.txs_value_base.specs.declared.fault.Fault.{Fault}
+use Rattle.txs_value_data.specs.declared.value.CellId.{CellId}
+use Rattle.txs_value_data.specs.declared.value.Value.{Value}
+use Rattle.txs_world_book.specs.Book.{cells_in, opening, after, newest, written, least_written, first_failed, is_failed, mail_after, LegalKind, Guarded}
 use Rattle.txs_world.specs.Kept.{IsEnd}
 use Rattle.txs_world.specs.Store.{PlainStore, store_with, merged, is_lawful, looks, commits, first_action, next_action, takes, hands_out, serve, store_after, TakesMemory, sends_to, Answers, Replies}
-use Rattle.txs_book.specs.Served.{Served, served, adds, event_of}
+use Rattle.txs_world_book.specs.Served.{Served, served, adds, event_of}
 use Rattle.txs_world.specs.declared.commit.End.{End}
 use Rattle.txs_world.specs.declared.commit.End.TheVariants.{Reruns, Redoes, Refuses, Commits}
 use Rattle.txs_world.proofs.Merging.{ltb_yes, ltb_no, refs_has, Finds, finds, untouched_parts}
-use Rattle.txs_book.proofs.Older.{after_unwritten, ends}
+use Rattle.txs_world_book.proofs.Older.{after_unwritten, ends}
 use Rattle.txs_world.proofs.Serves.{Lawful, lawful_commit, refs_tested, legal_commit, guarded_commit, FindsFailed, finds_failed}
 
 -- ---- reads

@@ -3,32 +3,32 @@ use Rattle.std.proofs.Common.{◌≡◌, ◌≢◌, ◌<◌, ℕ, zero, suc, Boo
 use Rattle.std.proofs.lemmas.Bool.{ltb-true, false≢true}
 use Rattle.std.proofs.lemmas.Bool.Decides.{nat_tests}
 use Rattle.std.proofs.lemmas.List.{get_or-set_same, get_or-set_other, length-set}
-use Rattle.txs_asks.specs.Ask.{Writes, buffered}
+use Rattle.txs_world_protocol.specs.Ask.{Writes, buffered}
 use Rattle.txs_mail.specs.Mailbox.{IsMailbox}
-use Rattle.txs_cells.specs.Cells.{World}
-use Rattle.txs_cells.specs.Forms.{same_kind}
-use Rattle.txs_terms.specs.Places.{nth}
-use Rattle.txs_asks.specs.declared.event.Event.{Event}
-use Rattle.txs_asks.specs.declared.event.EventKind.{EventKind}
-use Rattle.txs_asks.specs.declared.event.EventKind.TheVariants.{Read, Commit, Retry, Fail, Refused, Send, SendRefused, Act, Swap, Broke}
-use Rattle.txs_cells.specs.declared.action.Action.{Action}
-use Rattle.txs_terms.specs.declared.fault.Fault.{Fault}
-use Rattle.txs_value.specs.declared.value.CellId.{CellId}
-use Rattle.txs_value.specs.declared.value.CellKind.TheVariants.{Ref, Agent}
-use Rattle.txs_value.specs.declared.value.Value.{Value}
-use Rattle.txs_book.specs.Book.{is_of_kind, goes_on, opening, are_refs, are_sends, cells_in, value_or, state_of, writes_of, changed, after, is_there, writes_to, counts, no_mail, Mail, waits, acted, mailed, sent_to, mail_after, mail_changed, has_cell, has_ref, has_agent, makes, LegalKind, Guarded}
-use Rattle.txs_value.specs.Limits.{most_events}
+use Rattle.txs_value_cell.specs.Cells.{World}
+use Rattle.txs_value_cell.specs.Forms.{same_kind}
+use Rattle.txs_value_base.specs.Places.{nth}
+use Rattle.txs_world_protocol.specs.declared.event.Event.{Event}
+use Rattle.txs_world_protocol.specs.declared.event.EventKind.{EventKind}
+use Rattle.txs_world_protocol.specs.declared.event.EventKind.TheVariants.{Read, Commit, Retry, Fail, Refused, Send, SendRefused, Act, Swap, Broke}
+use Rattle.txs_value_cell.specs.declared.action.Action.{Action}
+use Rattle.txs_value_base.specs.declared.fault.Fault.{Fault}
+use Rattle.txs_value_data.specs.declared.value.CellId.{CellId}
+use Rattle.txs_value_data.specs.declared.value.CellKind.TheVariants.{Ref, Agent}
+use Rattle.txs_value_data.specs.declared.value.Value.{Value}
+use Rattle.txs_world_book.specs.Book.{is_of_kind, goes_on, opening, are_refs, are_sends, cells_in, value_or, state_of, writes_of, changed, after, is_there, writes_to, counts, no_mail, Mail, waits, acted, mailed, sent_to, mail_after, mail_changed, has_cell, has_ref, has_agent, makes, LegalKind, Guarded}
+use Rattle.txs_value_data.specs.Limits.{most_events}
 use Rattle.txs_world.specs.Inboxes.{PlainInbox, no_inbox, open_inboxes, inbox_of, mailed_all, all_sent_below, finished, fault_of, taken_up}
 use Rattle.txs_world.specs.Kept.{slot_of, no_slot, IsSlot, open_slots, put_all, all_below, IsInbox, ChangesNothing, IsKept}
-use Rattle.txs_book.specs.Stands.{StandsAt, Marked, StandAsBefore}
-use Rattle.txs_book.specs.Served.{event_of}
-use Rattle.txs_book.specs.declared.cell.StoreCell.{StoreCell}
+use Rattle.txs_world_book.specs.Stands.{StandsAt, Marked, StandAsBefore}
+use Rattle.txs_world_book.specs.Served.{event_of}
+use Rattle.txs_world_book.specs.declared.cell.StoreCell.{StoreCell}
 use Rattle.txs_world.specs.declared.slot.Slot.{Slot}
-use Rattle.txs_book.proofs.Growth.{after_last, unwritten_more, written_more, written_end, mail_last}
+use Rattle.txs_world_book.proofs.Growth.{after_last, unwritten_more, written_more, written_end, mail_last}
 use Rattle.txs_world.proofs.Mailing.{equal, unequal, mailed_many, mailed_at, is_inbox, inbox_entered, inbox_taken, inbox_finished, no_fault, failed_is}
-use Rattle.txs_book.proofs.Outcomes.{both}
-use Rattle.txs_book.proofs.Standing.{actor_more}
-use Rattle.txs_book.proofs.Older.{unset}
+use Rattle.txs_world_book.proofs.Outcomes.{both}
+use Rattle.txs_world_book.proofs.Standing.{actor_more}
+use Rattle.txs_world_book.proofs.Older.{unset}
 use Rattle.txs_world.proofs.Serves.{keeps}
 
 -- ---- the opening

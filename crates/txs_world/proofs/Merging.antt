@@ -3,17 +3,17 @@ use Rattle.std.proofs.Common.{◌≡◌, ◌≢◌, ◌≤◌, ◌<◌, ◌+◌,
 use Rattle.std.specs.Prelude.{nat_lt, nat_le}
 use Rattle.std.proofs.lemmas.Bool.{false≢true, ltb-true, ltb-false, eqb-true}
 use Rattle.std.proofs.lemmas.Bool.Decides.{nat_tests}
-use Rattle.txs_asks.specs.Ask.{Writes, with_write}
-use Rattle.txs_asks.specs.declared.event.Event.{Event}
-use Rattle.txs_cells.specs.Forms.{same_kind}
-use Rattle.txs_value.specs.declared.value.CellId.{CellId}
-use Rattle.txs_value.specs.declared.value.CellKind.TheVariants.{Ref}
-use Rattle.txs_value.specs.declared.value.Value.{Value}
-use Rattle.txs_book.specs.Book.{has_cell, has_ref, cells_in, are_refs, has_refs, written, least, least_written, Untouched}
+use Rattle.txs_world_protocol.specs.Ask.{Writes, with_write}
+use Rattle.txs_world_protocol.specs.declared.event.Event.{Event}
+use Rattle.txs_value_cell.specs.Forms.{same_kind}
+use Rattle.txs_value_data.specs.declared.value.CellId.{CellId}
+use Rattle.txs_value_data.specs.declared.value.CellKind.TheVariants.{Ref}
+use Rattle.txs_value_data.specs.declared.value.Value.{Value}
+use Rattle.txs_world_book.specs.Book.{has_cell, has_ref, cells_in, are_refs, has_refs, written, least, least_written, Untouched}
 use Rattle.txs_world.specs.Store.{merged}
-use Rattle.txs_book.specs.declared.cell.StoreCell.{StoreCell}
-use Rattle.txs_book.proofs.Outcomes.{both}
-use Rattle.txs_book.proofs.Growth.{unwritten_later}
+use Rattle.txs_world_book.specs.declared.cell.StoreCell.{StoreCell}
+use Rattle.txs_world_book.proofs.Outcomes.{both}
+use Rattle.txs_world_book.proofs.Growth.{unwritten_later}
 
 pub joined : (a b : Bool) → a ≡ true → b ≡ true → (a && b) ≡ true
 joined a b p q = ap (λ t. t && b) p ∙ q

@@ -2,29 +2,29 @@
 use Rattle.std.proofs.Common.{◌≡◌, ◌<◌, ℕ, zero, suc, Bool, true, false, not, ◌==◌, nat_lt, nat_le, List, [], ◌∷◌, ◌++◌, length, get_or, set, Option, Some, None, refl, sym, ap, subst, ◌∙◌, arith, length-append, if◌then◌else◌}
 use Rattle.std.proofs.lemmas.Bool.{ltb-true, false≢true}
 use Rattle.std.proofs.lemmas.List.{get_or-set_other}
-use Rattle.txs_asks.specs.Ask.{Writes}
-use Rattle.txs_asks.specs.declared.ask.Ask.{Ask}
-use Rattle.txs_asks.specs.declared.ask.Ask.TheVariants as ask
-use Rattle.txs_asks.specs.declared.ask.Reply.{Reply}
-use Rattle.txs_asks.specs.declared.ask.Reply.TheVariants as reply
-use Rattle.txs_asks.specs.declared.event.Event.{Event}
-use Rattle.txs_asks.specs.declared.event.EventKind.{EventKind}
-use Rattle.txs_asks.specs.declared.event.EventKind.TheVariants.{Read, Commit, Retry, Fail, Refused, Send, SendRefused, Act, Swap, Broke}
-use Rattle.txs_cells.specs.declared.action.Action.{Action}
-use Rattle.txs_value.specs.declared.value.CellId.{CellId}
-use Rattle.txs_value.specs.declared.value.Value.{Value}
-use Rattle.txs_value.specs.Limits.{most_events}
-use Rattle.txs_terms.specs.Places.{nth}
-use Rattle.txs_book.specs.Book.{has_ref, has_agent, cells_in, are_refs, has_refs, are_sends, makes, least, least_written, goes_on, is_there, Mail, no_mail, sent_to, acted, mail_after, mail_changed, is_failed, first_failed, waits, may_name, may_end, written, LegalKind, Untouched, Guarded, Legal, Undisturbed, opening}
+use Rattle.txs_world_protocol.specs.Ask.{Writes}
+use Rattle.txs_world_protocol.specs.declared.ask.Ask.{Ask}
+use Rattle.txs_world_protocol.specs.declared.ask.Ask.TheVariants as ask
+use Rattle.txs_world_protocol.specs.declared.ask.Reply.{Reply}
+use Rattle.txs_world_protocol.specs.declared.ask.Reply.TheVariants as reply
+use Rattle.txs_world_protocol.specs.declared.event.Event.{Event}
+use Rattle.txs_world_protocol.specs.declared.event.EventKind.{EventKind}
+use Rattle.txs_world_protocol.specs.declared.event.EventKind.TheVariants.{Read, Commit, Retry, Fail, Refused, Send, SendRefused, Act, Swap, Broke}
+use Rattle.txs_value_cell.specs.declared.action.Action.{Action}
+use Rattle.txs_value_data.specs.declared.value.CellId.{CellId}
+use Rattle.txs_value_data.specs.declared.value.Value.{Value}
+use Rattle.txs_value_data.specs.Limits.{most_events}
+use Rattle.txs_value_base.specs.Places.{nth}
+use Rattle.txs_world_book.specs.Book.{has_ref, has_agent, cells_in, are_refs, has_refs, are_sends, makes, least, least_written, goes_on, is_there, Mail, no_mail, sent_to, acted, mail_after, mail_changed, is_failed, first_failed, waits, may_name, may_end, written, LegalKind, Untouched, Guarded, Legal, Undisturbed, opening}
 use Rattle.txs_world.specs.Laws.{TakenWait, StoreStands}
 use Rattle.txs_world.specs.Store.{PlainStore, store_with, may_ask, has_named, is_lawful, is_taken, are_apart, merged, looks, commits, sends_to, first_action, takes, hands_out, is_done, serve, store_after}
-use Rattle.txs_book.specs.Served.{event_of, adds, served}
-use Rattle.txs_book.specs.declared.cell.StoreCell.{StoreCell}
-use Rattle.txs_book.proofs.Growth.{each_more, mail_last}
+use Rattle.txs_world_book.specs.Served.{event_of, adds, served}
+use Rattle.txs_world_book.specs.declared.cell.StoreCell.{StoreCell}
+use Rattle.txs_world_book.proofs.Growth.{each_more, mail_last}
 use Rattle.txs_world.proofs.Mailing.{equal, unequal}
-use Rattle.txs_book.proofs.Outcomes.{both}
+use Rattle.txs_world_book.proofs.Outcomes.{both}
 use Rattle.txs_world.proofs.Merging.{Finds, finds, refs_has, refs_joined, untouched_parts, refs_merged, untouched_merged, untouched_later}
-use Rattle.txs_book.proofs.Older.{ends}
+use Rattle.txs_world_book.proofs.Older.{ends}
 
 abbrev pub Kept : List StoreCell → ℕ → List Event → Type 0
 Kept cells threads book = Legal cells threads book × Undisturbed book

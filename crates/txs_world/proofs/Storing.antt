@@ -3,26 +3,26 @@ use Rattle.std.proofs.Common.{◌≡◌, ◌≤◌, ◌<◌, ◌+◌, ℕ, zero,
 use Rattle.std.specs.Prelude.{is_some}
 use Rattle.std.proofs.lemmas.Bool.{ltb-true}
 use Rattle.std.proofs.lemmas.Bool.Decides.{nat_tests}
-use Rattle.txs_asks.specs.declared.event.Event.{Event}
-use Rattle.txs_asks.specs.declared.event.EventKind.TheVariants.{Act}
+use Rattle.txs_world_protocol.specs.declared.event.Event.{Event}
+use Rattle.txs_world_protocol.specs.declared.event.EventKind.TheVariants.{Act}
 use Rattle.txs_mail.specs.Mailbox.{IsMailbox, next}
-use Rattle.txs_value.specs.Limits.{most_events}
-use Rattle.txs_terms.specs.Places.{nth}
-use Rattle.txs_cells.specs.declared.action.Action.{Action}
-use Rattle.txs_terms.specs.declared.fault.Fault.{Fault}
-use Rattle.txs_value.specs.declared.value.CellId.{CellId}
-use Rattle.txs_value.specs.declared.value.Value.{Value}
-use Rattle.txs_book.specs.Book.{goes_on, has_agent, has_cell, has_ref, is_failed, mail_after, newest, opening, waits, written}
+use Rattle.txs_value_data.specs.Limits.{most_events}
+use Rattle.txs_value_base.specs.Places.{nth}
+use Rattle.txs_value_cell.specs.declared.action.Action.{Action}
+use Rattle.txs_value_base.specs.declared.fault.Fault.{Fault}
+use Rattle.txs_value_data.specs.declared.value.CellId.{CellId}
+use Rattle.txs_value_data.specs.declared.value.Value.{Value}
+use Rattle.txs_world_book.specs.Book.{goes_on, has_agent, has_cell, has_ref, is_failed, mail_after, newest, opening, waits, written}
 use Rattle.txs_world.specs.Inboxes.{PlainInbox, plain_inbox, plain_inboxes, no_inbox, open_inboxes, mailed_all, finished, taken_up, taken_of}
 use Rattle.txs_world.specs.Kept.{IsKept, IsSlot, no_slot}
 use Rattle.txs_world.specs.Store.{PlainStore, store_with, is_taken, next_action, none_taken}
-use Rattle.txs_book.specs.Served.{event_of}
-use Rattle.txs_book.specs.declared.cell.StoreCell.{StoreCell}
+use Rattle.txs_world_book.specs.Served.{event_of}
+use Rattle.txs_world_book.specs.declared.cell.StoreCell.{StoreCell}
 use Rattle.txs_world.specs.declared.inbox.Inbox.{Inbox}
 use Rattle.txs_world.specs.declared.slot.Slot.{Slot}
 use Rattle.txs_world.proofs.Kept.{agent_in, cell_in, ref_in, taken_waits}
 use Rattle.txs_world.proofs.Mailing.{inbox_is, next_is, few_acts, taken_is, taken_set, taken_mailed, none_open, many_inboxes}
-use Rattle.txs_book.proofs.Sizes.{fits_next}
+use Rattle.txs_world_book.proofs.Sizes.{fits_next}
 
 -- a store as it opens
 pub opened_store : (cells ds : List StoreCell) (threads : ℕ) (book : List Event) (bs : List PlainInbox) → cells ≡ ds → book ≡ [] → bs ≡ open_inboxes cells → store_with cells threads book (taken_of bs) ≡ store_with ds threads [] (none_taken ds)

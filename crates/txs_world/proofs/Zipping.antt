@@ -2,15 +2,15 @@
 use Rattle.std.proofs.Common.{◌≡◌, ◌≢◌, ◌≤◌, ◌<◌, ◌+◌, ℕ, zero, suc, Bool, true, false, not, ◌&&◌, ◌||◌, ◌==◌, List, [], ◌∷◌, ◌++◌, length, take, drop, get_or, refl, sym, ap, ◌∙◌, subst, arith, append_assoc, if◌then◌else◌}
 use Rattle.std.specs.Prelude.{nat_lt, nat_le}
 use Rattle.std.proofs.lemmas.Bool.{false≢true, ltb-true, ltb-false, eqb-true}
-use Rattle.txs_asks.specs.Ask.{Writes, with_write}
-use Rattle.txs_value.specs.declared.value.CellId.{CellId}
-use Rattle.txs_value.specs.declared.value.Value.{Value}
-use Rattle.txs_book.specs.Book.{has_ref, cells_in, are_refs}
+use Rattle.txs_world_protocol.specs.Ask.{Writes, with_write}
+use Rattle.txs_value_data.specs.declared.value.CellId.{CellId}
+use Rattle.txs_value_data.specs.declared.value.Value.{Value}
+use Rattle.txs_world_book.specs.Book.{has_ref, cells_in, are_refs}
 use Rattle.txs_world.specs.Places.{place_of, Ascend, is_first}
 use Rattle.txs_world.specs.Store.{is_among, are_apart, merged}
-use Rattle.txs_book.specs.declared.cell.StoreCell.{StoreCell}
-use Rattle.txs_book.proofs.Growth.{neither}
-use Rattle.txs_book.proofs.Outcomes.{both}
+use Rattle.txs_world_book.specs.declared.cell.StoreCell.{StoreCell}
+use Rattle.txs_world_book.proofs.Growth.{neither}
+use Rattle.txs_world_book.proofs.Outcomes.{both}
 use Rattle.txs_world.proofs.Merging.{true_le, tested, eqb_no, ltb_no}
 
 -- refs that ascend, as what is written

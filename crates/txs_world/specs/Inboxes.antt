@@ -2,11 +2,11 @@
 use Rattle.std.specs.Prelude.{◌≡◌, ◌≤◌, ℕ, suc, Bool, true, false, ◌&&◌, nat_lt, List, [], ◌∷◌, length, map, Option, Some, None, Result, Ok, Err, is_some}
 use Rattle.std.proofs.Common.{get_or, set}
 use Rattle.txs_mail.specs.Mailbox.{PlainMailbox, empty, put, take, finish}
-use Rattle.txs_cells.specs.declared.action.Action.{Action}
-use Rattle.txs_terms.specs.declared.fault.Fault.{Fault}
-use Rattle.txs_value.specs.declared.value.Value.{Value}
-use Rattle.txs_book.specs.Book.{Mail, sent_to}
-use Rattle.txs_book.specs.declared.cell.StoreCell.{StoreCell}
+use Rattle.txs_value_cell.specs.declared.action.Action.{Action}
+use Rattle.txs_value_base.specs.declared.fault.Fault.{Fault}
+use Rattle.txs_value_data.specs.declared.value.Value.{Value}
+use Rattle.txs_world_book.specs.Book.{Mail, sent_to}
+use Rattle.txs_world_book.specs.declared.cell.StoreCell.{StoreCell}
 use Rattle.txs_world.specs.declared.inbox.Inbox.{Inbox}
 
 -- an inbox without its room

@@ -1,21 +1,21 @@
 -- How a store keeps its newest values, the places of its actors and the agents' mail beside its book, and of its cells which actor is whose.
 use Rattle.std.specs.Prelude.{◌≡◌, ◌<◌, ◌≤◌, ℕ, true, false, Bool, ◌&&◌, ◌==◌, nat_lt, List, [], ◌∷◌, length, map, slice_index, Option, Some, None, if◌then◌else◌}
 use Rattle.std.proofs.Common.{get_or, set}
-use Rattle.txs_asks.specs.Ask.{Writes}
-use Rattle.txs_cells.specs.Cells.{World}
-use Rattle.txs_terms.specs.Places.{nth}
-use Rattle.txs_asks.specs.declared.event.Event.{Event}
-use Rattle.txs_asks.specs.declared.event.EventKind.{EventKind}
-use Rattle.txs_asks.specs.declared.event.EventKind.TheVariants.{Read, Commit, Retry, Fail, Refused, Send, SendRefused, Act, Swap, Broke}
-use Rattle.txs_value.specs.declared.value.CellId.{CellId}
-use Rattle.txs_value.specs.declared.value.Value.{Value}
-use Rattle.txs_value.specs.declared.value.Value.TheVariants.{Nil}
-use Rattle.txs_book.specs.Book.{opening, newest, written, goes_on, Mail, mail_after, Legal, Undisturbed}
+use Rattle.txs_world_protocol.specs.Ask.{Writes}
+use Rattle.txs_value_cell.specs.Cells.{World}
+use Rattle.txs_value_base.specs.Places.{nth}
+use Rattle.txs_world_protocol.specs.declared.event.Event.{Event}
+use Rattle.txs_world_protocol.specs.declared.event.EventKind.{EventKind}
+use Rattle.txs_world_protocol.specs.declared.event.EventKind.TheVariants.{Read, Commit, Retry, Fail, Refused, Send, SendRefused, Act, Swap, Broke}
+use Rattle.txs_value_data.specs.declared.value.CellId.{CellId}
+use Rattle.txs_value_data.specs.declared.value.Value.{Value}
+use Rattle.txs_value_data.specs.declared.value.Value.TheVariants.{Nil}
+use Rattle.txs_world_book.specs.Book.{opening, newest, written, goes_on, Mail, mail_after, Legal, Undisturbed}
 use Rattle.txs_world.specs.Inboxes.{PlainInbox, inbox_of, no_inbox}
 use Rattle.txs_world.specs.declared.commit.End.{End}
 use Rattle.txs_world.specs.declared.commit.End.TheVariants.{Reruns, Redoes, Refuses, Commits}
-use Rattle.txs_book.specs.Stands.{StandsAt}
-use Rattle.txs_book.specs.declared.cell.StoreCell.{StoreCell}
+use Rattle.txs_world_book.specs.Stands.{StandsAt}
+use Rattle.txs_world_book.specs.declared.cell.StoreCell.{StoreCell}
 use Rattle.txs_world.specs.declared.slot.Slot.{Slot}
 
 -- a value, and how many events there are up to the one that wrote it

@@ -1,19 +1,19 @@
 -- What holds of books and of what the store answers.
 use Rattle.std.specs.Prelude.{◌≡◌, ◌≤◌, ℕ, Bool, true, false, not, ◌&&◌, ◌==◌, List, [], ◌∷◌, ◌++◌, length, Some}
 use Rattle.std.proofs.Common.{get_or}
-use Rattle.txs_asks.specs.Ask.{Writes}
-use Rattle.txs_asks.specs.declared.ask.Ask.{Ask}
-use Rattle.txs_asks.specs.declared.ask.Ask.TheVariants.{Commit}
-use Rattle.txs_asks.specs.declared.ask.Reply.TheVariants.{Done, AgentIsFailed}
-use Rattle.txs_cells.specs.declared.action.Action.{Action}
-use Rattle.txs_value.specs.declared.value.CellId.{CellId}
-use Rattle.txs_value.specs.declared.value.Value.{Value}
-use Rattle.txs_asks.specs.declared.event.Event.{Event}
-use Rattle.txs_asks.specs.declared.event.EventKind.{EventKind}
-use Rattle.txs_asks.specs.declared.event.EventKind.TheVariants as event
-use Rattle.txs_book.specs.Book.{cells_in, has_agent, opening, is_there, newest, mail_after, first_failed, waits, Legal, Untouched, Undisturbed}
+use Rattle.txs_world_protocol.specs.Ask.{Writes}
+use Rattle.txs_world_protocol.specs.declared.ask.Ask.{Ask}
+use Rattle.txs_world_protocol.specs.declared.ask.Ask.TheVariants.{Commit}
+use Rattle.txs_world_protocol.specs.declared.ask.Reply.TheVariants.{Done, AgentIsFailed}
+use Rattle.txs_value_cell.specs.declared.action.Action.{Action}
+use Rattle.txs_value_data.specs.declared.value.CellId.{CellId}
+use Rattle.txs_value_data.specs.declared.value.Value.{Value}
+use Rattle.txs_world_protocol.specs.declared.event.Event.{Event}
+use Rattle.txs_world_protocol.specs.declared.event.EventKind.{EventKind}
+use Rattle.txs_world_protocol.specs.declared.event.EventKind.TheVariants as event
+use Rattle.txs_world_book.specs.Book.{cells_in, has_agent, opening, is_there, newest, mail_after, first_failed, waits, Legal, Untouched, Undisturbed}
 use Rattle.txs_world.specs.Store.{PlainStore, next_action, serve, store_after, is_lawful}
-use Rattle.txs_book.specs.declared.cell.StoreCell.{StoreCell}
+use Rattle.txs_world_book.specs.declared.cell.StoreCell.{StoreCell}
 
 -- the first action of each agent that is taken waits, and the agent hasn't failed
 abbrev pub TakenWait : PlainStore → Type 0

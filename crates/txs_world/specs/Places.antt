@@ -1,6 +1,6 @@
 -- Places among writes, and writes whose refs ascend.
 use Rattle.std.specs.Prelude.{◌≤◌, ℕ, suc, Bool, false, ◌==◌, nat_lt, [], ◌∷◌, if◌then◌else◌}
-use Rattle.txs_asks.specs.Ask.{Writes}
+use Rattle.txs_world_protocol.specs.Ask.{Writes}
 
 -- how many writes there are before the first whose cell has no lesser number
 abbrev pub place_of : ℕ → Writes → ℕ

@@ -1,25 +1,25 @@
 -- What the store answers, and what becomes of its book.
 use Rattle.std.specs.Prelude.{◌≡◌, ℕ, suc, Bool, true, false, not, ◌&&◌, ◌||◌, ◌==◌, nat_lt, List, [], ◌∷◌, ◌++◌, length, map, set, Option, Some, None, if◌then◌else◌}
 use Rattle.std.proofs.Common.{get_or}
-use Rattle.txs_asks.specs.Ask.{Writes, with_write}
-use Rattle.txs_cells.specs.Cells.{World}
-use Rattle.txs_asks.specs.declared.ask.Ask.{Ask}
-use Rattle.txs_asks.specs.declared.ask.Ask.TheVariants as ask
-use Rattle.txs_asks.specs.declared.ask.Reply.{Reply}
-use Rattle.txs_asks.specs.declared.ask.Reply.TheVariants as reply
-use Rattle.txs_cells.specs.declared.action.Action.{Action}
-use Rattle.txs_cells.specs.declared.cell.CellDefinition.{CellDefinition}
-use Rattle.txs_cells.specs.declared.cell.ErrorMode.{ErrorMode}
-use Rattle.txs_cells.specs.declared.cell.ErrorMode.TheVariants as mode
-use Rattle.txs_asks.specs.declared.event.Event.{Event}
-use Rattle.txs_asks.specs.declared.event.EventKind.{EventKind}
-use Rattle.txs_asks.specs.declared.event.EventKind.TheVariants.{Read, Commit, Retry, Fail, Refused, Send, SendRefused, Act}
-use Rattle.txs_value.specs.declared.value.CellId.{CellId}
-use Rattle.txs_value.specs.declared.value.Value.{Value}
-use Rattle.txs_book.specs.Book.{has_ref, has_agent, has_readable, cells_in, are_refs, has_refs, are_sends, actor_of, may_name, may_end, opening, after, newest, written, least_written, mail_after, is_failed, first_failed}
-use Rattle.txs_value.specs.Limits.{most_events}
-use Rattle.txs_book.specs.Served.{Served, served, adds}
-use Rattle.txs_book.specs.declared.cell.StoreCell.{StoreCell}
+use Rattle.txs_world_protocol.specs.Ask.{Writes, with_write}
+use Rattle.txs_value_cell.specs.Cells.{World}
+use Rattle.txs_world_protocol.specs.declared.ask.Ask.{Ask}
+use Rattle.txs_world_protocol.specs.declared.ask.Ask.TheVariants as ask
+use Rattle.txs_world_protocol.specs.declared.ask.Reply.{Reply}
+use Rattle.txs_world_protocol.specs.declared.ask.Reply.TheVariants as reply
+use Rattle.txs_value_cell.specs.declared.action.Action.{Action}
+use Rattle.txs_value_cell.specs.declared.cell.CellDefinition.{CellDefinition}
+use Rattle.txs_value_cell.specs.declared.cell.ErrorMode.{ErrorMode}
+use Rattle.txs_value_cell.specs.declared.cell.ErrorMode.TheVariants as mode
+use Rattle.txs_world_protocol.specs.declared.event.Event.{Event}
+use Rattle.txs_world_protocol.specs.declared.event.EventKind.{EventKind}
+use Rattle.txs_world_protocol.specs.declared.event.EventKind.TheVariants.{Read, Commit, Retry, Fail, Refused, Send, SendRefused, Act}
+use Rattle.txs_value_data.specs.declared.value.CellId.{CellId}
+use Rattle.txs_value_data.specs.declared.value.Value.{Value}
+use Rattle.txs_world_book.specs.Book.{has_ref, has_agent, has_readable, cells_in, are_refs, has_refs, are_sends, actor_of, may_name, may_end, opening, after, newest, written, least_written, mail_after, is_failed, first_failed}
+use Rattle.txs_value_data.specs.Limits.{most_events}
+use Rattle.txs_world_book.specs.Served.{Served, served, adds}
+use Rattle.txs_world_book.specs.declared.cell.StoreCell.{StoreCell}
 
 -- a store as contracts see it: its cells as they opened, how many threads there are, its book, and of each cell whether it is an agent whose first action is taken
 pub record PlainStore : Type 0 where

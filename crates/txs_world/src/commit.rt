@@ -1,25 +1,25 @@
 //! How a transaction ends that has not faulted.
 
 ghost use Rattle.std.specs.Prelude.{◌≡◌, ◌<◌, nat_lt, ◌++◌, ◌∷◌, [], length, true, false, OnOk};
-ghost use Rattle.txs_asks.specs.declared.ask.Ask.TheVariants as ask;
-ghost use Rattle.txs_asks.specs.declared.ask.Reply.TheVariants as reply;
-ghost use Rattle.txs_asks.specs.declared.event.EventKind.TheVariants as event;
-ghost use Rattle.txs_value.specs.Limits.{most_events};
-ghost use Rattle.txs_book.specs.Book.{cells_in, are_refs, are_sends, has_ref, has_refs, has_agent, may_end, least, least_written, first_failed, is_failed, LegalKind, Guarded};
+ghost use Rattle.txs_world_protocol.specs.declared.ask.Ask.TheVariants as ask;
+ghost use Rattle.txs_world_protocol.specs.declared.ask.Reply.TheVariants as reply;
+ghost use Rattle.txs_world_protocol.specs.declared.event.EventKind.TheVariants as event;
+ghost use Rattle.txs_value_data.specs.Limits.{most_events};
+ghost use Rattle.txs_world_book.specs.Book.{cells_in, are_refs, are_sends, has_ref, has_refs, has_agent, may_end, least, least_written, first_failed, is_failed, LegalKind, Guarded};
 ghost use Rattle.txs_world.specs.Inboxes.{plain_inboxes, all_sent_below, rooms, HaveRoom};
 ghost use Rattle.txs_world.specs.Kept.{IsEnd};
 ghost use Rattle.txs_world.specs.Places.{Ascend};
 ghost use Rattle.txs_world.specs.Store.{is_lawful, are_apart, merged, serve, Replies};
-ghost use Rattle.txs_book.specs.Served.{adds};
+ghost use Rattle.txs_world_book.specs.Served.{adds};
 
 use crate::inbox::{Inbox, fill_queue, mail_all, make_room_for};
 use crate::slot::{append, join_writes, put_all};
 use crate::store::Store;
 use std::alloc::{AllocError, Global};
 use std::collections::VecDeque;
-use txs_asks::{EventKind, Reply};
-use txs_cells::Action;
-use txs_value::{CellId, Listed, Value};
+use txs_value_cell::Action;
+use txs_value_data::{CellId, Listed, Value};
+use txs_world_protocol::{EventKind, Reply};
 
 /// What the tests of a commit come to.
 #[derive(Clone, Copy)]

@@ -1,17 +1,17 @@
 //! Which asks the store takes.
 
 ghost use Rattle.std.specs.Prelude.{◌≡◌, ◌≤◌, ◌<◌, ◌==◌, ◌↔◌, length, true, false, IsTrue};
-ghost use Rattle.txs_asks.specs.declared.ask.Ask.TheVariants as ask;
-ghost use Rattle.txs_book.specs.Book.{has_cell, has_ref, has_agent, has_readable, are_refs, has_refs, are_sends, cells_in, actor_of, all_before, may_name, may_end};
-ghost use Rattle.txs_book.specs.Stands.{StandsAt};
+ghost use Rattle.txs_world_protocol.specs.declared.ask.Ask.TheVariants as ask;
+ghost use Rattle.txs_world_book.specs.Book.{has_cell, has_ref, has_agent, has_readable, are_refs, has_refs, are_sends, cells_in, actor_of, all_before, may_name, may_end};
+ghost use Rattle.txs_world_book.specs.Stands.{StandsAt};
 ghost use Rattle.txs_world.specs.Store.{is_lawful, may_ask, has_named, is_taken};
 
 use crate::slot::are_apart;
 use crate::store::Store;
-use txs_asks::Ask;
-use txs_book::stand_of;
-use txs_cells::Action;
-use txs_value::{CellId, CellKind, Listed, Value};
+use txs_value_cell::Action;
+use txs_value_data::{CellId, CellKind, Listed, Value};
+use txs_world_book::stand_of;
+use txs_world_protocol::Ask;
 
 impl Store {
     /// Whether the actor may ask this of the store: it makes such asks, and the store has what it names.
@@ -89,7 +89,7 @@ impl Store {
     }
 
     /// Whether this is the agent's actor.
-    #[tactic(auto, using(txs_book::proofs::Counting::agents_few))]
+    #[tactic(auto, using(txs_world_book::proofs::Counting::agents_few))]
     fn is_actor_of(&self, actor: u16, agent: CellId) -> bool
         ensures { result ≡ (actor == actor_of self.now.threads self.now.cells agent) }
     {

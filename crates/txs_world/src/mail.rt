@@ -1,8 +1,8 @@
 //! Sends outside transactions, and the actions of agents.
 
 ghost use Rattle.std.specs.Prelude.{◌≡◌, ◌==◌, nat_lt, suc, true, false, is_some, OnOk};
-ghost use Rattle.txs_asks.specs.declared.ask.Ask.TheVariants as ask;
-ghost use Rattle.txs_book.specs.Book.{has_agent, actor_of, is_failed, mail_after, state_of, waits};
+ghost use Rattle.txs_world_protocol.specs.declared.ask.Ask.TheVariants as ask;
+ghost use Rattle.txs_world_book.specs.Book.{has_agent, actor_of, is_failed, mail_after, state_of, waits};
 ghost use Rattle.txs_world.specs.Inboxes.{fault_of};
 ghost use Rattle.txs_world.specs.Store.{is_taken, sends_to, next_action, serve, store_after, Answers, Replies};
 
@@ -10,10 +10,10 @@ use crate::inbox::{finish_at, put_at, ready_at, take_at};
 use crate::slot::{push_copy, put_all};
 use crate::store::Store;
 use std::alloc::AllocError;
-use txs_asks::{EventKind, Reply};
-use txs_cells::Action;
-use txs_terms::Fault;
-use txs_value::{CellId, Value};
+use txs_value_base::Fault;
+use txs_value_cell::Action;
+use txs_value_data::{CellId, Value};
+use txs_world_protocol::{EventKind, Reply};
 
 /// The fault that an action came to, if it faulted.
 fn fault_of(new: &Result<Value, Fault>) -> Option<Fault>

@@ -1,19 +1,19 @@
 //! What the store answers.
 
 ghost use Rattle.std.specs.Prelude.{◌≡◌, ◌≤◌, ◌<◌, nat_lt, [], ◌↔◌, map, length, true, false, IsTrue, IfOk, OnOk};
-ghost use Rattle.txs_book.specs.Book.{has_cell, has_ref, has_readable, has_refs, may_name, may_end, opening, newest, written, makes, LegalKind};
-ghost use Rattle.txs_value.specs.Limits.{most_events};
+ghost use Rattle.txs_world_book.specs.Book.{has_cell, has_ref, has_readable, has_refs, may_name, may_end, opening, newest, written, makes, LegalKind};
+ghost use Rattle.txs_value_data.specs.Limits.{most_events};
 ghost use Rattle.txs_world.specs.Kept.{ChangesNothing};
 ghost use Rattle.txs_world.specs.Store.{is_lawful, looks, serve, store_after, TakesMemory, Answers, Replies};
-ghost use Rattle.txs_book.specs.Served.{adds, served};
-ghost use Rattle.txs_asks.specs.declared.ask.Reply.TheVariants as reply;
-ghost use Rattle.txs_asks.specs.declared.event.EventKind.TheVariants as event;
+ghost use Rattle.txs_world_book.specs.Served.{adds, served};
+ghost use Rattle.txs_world_protocol.specs.declared.ask.Reply.TheVariants as reply;
+ghost use Rattle.txs_world_protocol.specs.declared.event.EventKind.TheVariants as event;
 
 use crate::store::Store;
 use std::alloc::AllocError;
-use txs_asks::{Ask, Event, EventKind, Reply};
-use txs_value::limits::MOST_EVENTS;
-use txs_value::{CellId, Listed, Value, copy_value};
+use txs_value_data::limits::MOST_EVENTS;
+use txs_value_data::{CellId, Listed, Value, copy_value};
+use txs_world_protocol::{Ask, Event, EventKind, Reply};
 
 impl Store {
     /// Answers an ask of an actor, as a whole. The reply is `Full` exactly where the book has as many events as it may have and
@@ -60,7 +60,7 @@ impl Store {
     }
 
     /// How many events there are.
-    #[tactic(auto, unfolding(txs_value::specs::Limits::most_events))]
+    #[tactic(auto, unfolding(txs_value_data::specs::Limits::most_events))]
     fn read_point(&self) -> u32
         ensures { result ≡ length self.now.book }
     {
@@ -68,7 +68,7 @@ impl Store {
     }
 
     /// Whether there is no room for one more event.
-    #[tactic(auto, unfolding(txs_value::specs::Limits::most_events))]
+    #[tactic(auto, unfolding(txs_value_data::specs::Limits::most_events))]
     pub(crate) fn is_full(&self) -> bool
         ensures { IsTrue result ↔ (most_events ≤ length self.now.book) }
     {

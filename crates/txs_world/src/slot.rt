@@ -1,14 +1,14 @@
 //! The newest values of cells, and the lists of what an event writes.
 
 ghost use Rattle.std.specs.Prelude.{◌≡◌, ◌≤◌, ◌++◌, ◌∷◌, [], length, true, IfOk, OnOk};
-ghost use Rattle.txs_book.specs.Book.{cells_in};
+ghost use Rattle.txs_world_book.specs.Book.{cells_in};
 ghost use Rattle.txs_world.specs.Kept.{open_slots, put_all, all_below};
 ghost use Rattle.txs_world.specs.Store.{are_apart, merged};
 ghost use Rattle.txs_world.specs.Places.{place_of, Ascend, is_first};
 
 use std::alloc::{AllocError, Global};
-use txs_book::StoreCell;
-use txs_value::{CellId, Listed, Value, copy_value};
+use txs_value_data::{CellId, Listed, Value, copy_value};
+use txs_world_book::StoreCell;
 
 /// The newest value of a cell, and how many events the book has up to the last one that wrote it: 0
 /// where none did.

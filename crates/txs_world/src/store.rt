@@ -1,20 +1,20 @@
 //! The store of refs and agents, with its book.
 
 ghost use Rattle.std.specs.Prelude.{◌≡◌, ◌↔◌, [], length, true, false, IsTrue, IfOk};
-ghost use Rattle.txs_book.specs.Book.{has_cell, has_agent, opening, newest, mail_after, Legal, Undisturbed};
+ghost use Rattle.txs_world_book.specs.Book.{has_cell, has_agent, opening, newest, mail_after, Legal, Undisturbed};
 ghost use Rattle.txs_world.specs.Store.{PlainStore, store_with, none_taken};
-ghost use Rattle.txs_book.specs.Served.{cell_of, cells_of};
+ghost use Rattle.txs_world_book.specs.Served.{cell_of, cells_of};
 
 use crate::inbox::{Inbox, open_inboxes};
 use crate::slot::{Slot, open_slots};
 use std::alloc::{AllocError, Global};
 use std::collections::VecDeque;
 use std::marker::Model;
-use txs_asks::Event;
-use txs_book::{Cells, Journal, StoreCell, continues};
-use txs_cells::{Action, CellDefinition};
-use txs_terms::Fault;
-use txs_value::{CellId, Value, same};
+use txs_value_base::Fault;
+use txs_value_cell::{Action, CellDefinition};
+use txs_value_data::{CellId, Value, same};
+use txs_world_book::{Cells, Journal, StoreCell, continues};
+use txs_world_protocol::Event;
 
 /// The refs and agents that threads share, with the book of what actors did to them. Each atom has a book of its own.
 #[derive(Drop)]
@@ -35,7 +35,7 @@ impl Model for Store {
     ghost use Rattle.txs_world.specs.Store.{PlainStore, store_with};
     ghost use Rattle.txs_world.specs.Inboxes.{plain_inboxes, taken_of};
     ghost use Rattle.std.specs.Coded.{codes};
-    ghost use Rattle.txs_value.specs.contracts.value.Value as value;
+    ghost use Rattle.txs_value_data.specs.contracts.value.Value as value;
 
     ghost Value = { PlainStore };
 

@@ -1,5 +1,5 @@
 use Rattle.std.proofs.Common.{rules, ◌≡◌, ◌+◌, true, map, drop, Err, sym, ap, ◌∙◌}
-use Rattle.txs_tree.specs.View.{tree_of, function_of, functions_of, threads_of}
+use Rattle.txs_tree_meaning.specs.View.{tree_of, function_of, functions_of, threads_of}
 use Rattle.txs_check.specs.declared.place.Target.TheVariants.{Nearest}
 use Rattle.txs_check.specs.declared.place.Zone.TheVariants.{InFunction}
 use Rattle.txs_check.specs.Refused.{◌>>◌, checked, checked_body, checked_bodies, function_body, thread_body, in_order}

@@ -1,5 +1,5 @@
 use Rattle.std.proofs.Common.{◌≡◌, drop}
-use Rattle.txs_tree.specs.View.{functions_of, threads_of}
+use Rattle.txs_tree_meaning.specs.View.{functions_of, threads_of}
 use Rattle.txs_check.specs.Refused.{checked_bodies, in_order}
 use Rattle.txs_check.specs.Signatures.{known_as}
 use Rattle.txs_check.proofs.bodies.check_bodies.Given as goal

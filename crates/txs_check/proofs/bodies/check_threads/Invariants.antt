@@ -1,5 +1,5 @@
 use Rattle.std.proofs.Common.{◌≡◌, drop, map}
-use Rattle.txs_tree.specs.View.{threads_of}
+use Rattle.txs_tree_meaning.specs.View.{threads_of}
 use Rattle.txs_check.specs.Refused.{checked_bodies, thread_body}
 use Rattle.txs_check.specs.Signatures.{known_as}
 use Rattle.txs_check.proofs.bodies.check_threads.Given as goal

@@ -1,5 +1,5 @@
 use Rattle.std.proofs.Common.{◌≡◌, ◌+◌, drop}
-use Rattle.txs_tree.specs.View.{threads_of}
+use Rattle.txs_tree_meaning.specs.View.{threads_of}
 use Rattle.txs_check.specs.Refused.{before}
 use Rattle.txs_check.proofs.bodies.count_before.Given as goal
 

@@ -1,5 +1,5 @@
 use Rattle.std.proofs.Common.{rules, ◌≡◌, ◌+◌, ℕ, map, drop, Result, Err, sym, ap, ◌∙◌}
-use Rattle.txs_tree.specs.View.{tree_of, functions_of, threads_of}
+use Rattle.txs_tree_meaning.specs.View.{tree_of, functions_of, threads_of}
 use Rattle.txs_check.specs.declared.error.CheckError.{CheckError}
 use Rattle.txs_check.specs.Refused.{◌>>=◌, in_order, room, taken, thread_body}
 use Rattle.txs_check.proofs.Lists.{room_step}

@@ -1,5 +1,5 @@
 use Rattle.std.proofs.Common.{◌≡◌, drop}
-use Rattle.txs_tree.specs.View.{functions_of, threads_of}
+use Rattle.txs_tree_meaning.specs.View.{functions_of, threads_of}
 use Rattle.txs_check.specs.Refused.{in_order, room}
 use Rattle.txs_check.proofs.bodies.room_after_all.Given as goal
 

@@ -1,5 +1,5 @@
 use Rattle.std.proofs.Common.{◌≡◌, drop, map}
-use Rattle.txs_tree.specs.View.{threads_of}
+use Rattle.txs_tree_meaning.specs.View.{threads_of}
 use Rattle.txs_check.specs.Refused.{room, thread_body}
 use Rattle.txs_check.proofs.bodies.room_after_threads.Given as goal
 

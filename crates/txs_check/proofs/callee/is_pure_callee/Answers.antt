@@ -1,8 +1,8 @@
 use Rattle.std.proofs.Common.{◌≡◌, true, sym, ap, ◌∙◌, subst}
-use Rattle.txs_terms.specs.declared.op.Callee.{Callee}
-use Rattle.txs_tree.specs.Known.{known}
-use Rattle.txs_tree.specs.Pure.{PureCallee}
-use Rattle.txs_tree.specs.View.{functions_of}
+use Rattle.txs_value_base.specs.declared.op.Callee.{Callee}
+use Rattle.txs_tree_meaning.specs.Known.{known}
+use Rattle.txs_tree_meaning.specs.Pure.{PureCallee}
+use Rattle.txs_tree_meaning.specs.View.{functions_of}
 use Rattle.txs_check.specs.Signatures.{bare, is_pure_call, known_as}
 use Rattle.txs_check.proofs.Callees.{call_same, told_pure, pure_told}
 use Rattle.txs_check.proofs.callee.is_pure_callee.Goals as goal

@@ -1,5 +1,5 @@
 use Rattle.std.proofs.Common.{sym, ap, ◌∙◌}
-use Rattle.txs_tree.specs.View.{tree_of}
+use Rattle.txs_tree_meaning.specs.View.{tree_of}
 use Rattle.txs_check.specs.Signatures.{joined, class_above, class_in_all, known_as}
 use Rattle.txs_check.proofs.Rows.{class_rows}
 use Rattle.txs_check.proofs.class.+class.Goals as goal

@@ -1,6 +1,6 @@
 use Rattle.std.proofs.Common.{◌+◌, [], ◌∷◌, ◌++◌, drop, sym, ap, ◌∙◌}
-use Rattle.txs_tree.specs.Known.{known_of, known_from}
-use Rattle.txs_tree.specs.View.{function_of, functions_of}
+use Rattle.txs_tree_meaning.specs.Known.{known_of, known_from}
+use Rattle.txs_tree_meaning.specs.View.{function_of, functions_of}
 use Rattle.txs_check.specs.Signatures.{bare, class_in, known_as}
 use Rattle.txs_check.proofs.Lists.{functions_left}
 use Rattle.txs_check.proofs.Same.{signature, row_same, from_same}

@@ -1,6 +1,6 @@
 use Rattle.std.proofs.Common.{◌≡◌, drop}
-use Rattle.txs_tree.specs.Known.{known, known_from}
-use Rattle.txs_tree.specs.View.{functions_of}
+use Rattle.txs_tree_meaning.specs.Known.{known, known_from}
+use Rattle.txs_tree_meaning.specs.View.{functions_of}
 use Rattle.txs_check.specs.Signatures.{bare, known_as}
 use Rattle.txs_check.proofs.class.signatures_of.Given as goal
 

@@ -1,12 +1,12 @@
 use Rattle.std.proofs.Common.{◌≡◌, ◌⊎◌, ℕ, List, inl, inr, sym, ap, ◌∙◌, Vec, Global, Box}
-use Rattle.txs_cells.specs.declared.form.UpdateForm.{UpdateForm}
-use Rattle.txs_terms.specs.declared.op.Callee.{Callee}
-use Rattle.txs_terms.specs.declared.op.Op.{Op}
-use Rattle.txs_tree.specs.declared.node.Node.{Node}
-use Rattle.txs_tree.specs.declared.node.NodeKind.TheVariants.{Do, Let, Loop, Recur, Core, Call, Vector, Println, Update, Send}
-use Rattle.txs_tree.specs.Tree.{none}
-use Rattle.txs_tree.specs.View.{tree_of, trees_of}
-use Rattle.txs_tree.proofs.Trees.{do_node, let_node, loop_node, recur_node, core_node, call_node, vector_node, println_node, update_node, send_node}
+use Rattle.txs_value_cell.specs.declared.form.UpdateForm.{UpdateForm}
+use Rattle.txs_value_base.specs.declared.op.Callee.{Callee}
+use Rattle.txs_value_base.specs.declared.op.Op.{Op}
+use Rattle.txs_tree_meaning.specs.declared.node.Node.{Node}
+use Rattle.txs_tree_meaning.specs.declared.node.NodeKind.TheVariants.{Do, Let, Loop, Recur, Core, Call, Vector, Println, Update, Send}
+use Rattle.txs_tree_meaning.specs.Tree.{none}
+use Rattle.txs_tree_meaning.specs.View.{tree_of, trees_of}
+use Rattle.txs_tree_meaning.proofs.Trees.{do_node, let_node, loop_node, recur_node, core_node, call_node, vector_node, println_node, update_node, send_node}
 use Rattle.txs_check.specs.Rows.{alone, rows, rows_of}
 use Rattle.txs_check.proofs.parts.parts.Goals as goal
 

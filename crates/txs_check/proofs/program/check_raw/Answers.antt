@@ -1,6 +1,6 @@
 use Rattle.std.proofs.Common.{rules, ◌≡◌, ◌≢◌, Err, IfErr, sym, ap, ◌∙◌, subst}
-use Rattle.txs_tree.specs.Known.{known}
-use Rattle.txs_tree.specs.View.{functions_of, threads_of, program_of}
+use Rattle.txs_tree_meaning.specs.Known.{known}
+use Rattle.txs_tree_meaning.specs.View.{functions_of, threads_of, program_of}
 use Rattle.txs_check.specs.Errors.{out_of_memory}
 use Rattle.txs_check.specs.Refused.{◌>>◌, CheckStops, checked_bodies, few, fine, in_order, refusal, room}
 use Rattle.txs_check.specs.Signatures.{bare, known_as}

@@ -1,5 +1,5 @@
 use Rattle.std.proofs.Common.{arith}
-use Rattle.txs_tree.specs.View.{tree_of}
+use Rattle.txs_tree_meaning.specs.View.{tree_of}
 use Rattle.txs_check.proofs.Counting.{nodes-some}
 use Rattle.txs_check.proofs.size.+nodes.Goals as goal
 

@@ -1,6 +1,6 @@
 use Rattle.std.proofs.Common.{◌≡◌, ◌≤◌, ◌+◌, ◌*◌, drop}
-use Rattle.txs_tree.specs.Sound.{nodes, nodes_in}
-use Rattle.txs_tree.specs.View.{tree_of, trees_of}
+use Rattle.txs_tree_meaning.specs.Sound.{nodes, nodes_in}
+use Rattle.txs_tree_meaning.specs.View.{tree_of, trees_of}
 use Rattle.txs_check.proofs.size.+nodes.Given as goal
 
 abbrev pub invariant-all_nodes_left-loop-node : goal.invariant-all_nodes_left-loop-node

@@ -1,12 +1,12 @@
 use Rattle.std.proofs.Common.{rules, ◌≡◌, ◌⊎◌, ℕ, true, false, length, List, [], ◌∷◌, ◌++◌, Err, inl, inr, refl, sym, ap, ◌∙◌, Vec, Global, Box}
-use Rattle.txs_cells.specs.declared.form.UpdateForm.{UpdateForm}
-use Rattle.txs_terms.specs.declared.op.Callee.{Callee}
-use Rattle.txs_terms.specs.declared.op.Op.{Op}
-use Rattle.txs_tree.specs.declared.node.Node.{Node}
-use Rattle.txs_tree.specs.declared.node.NodeKind.TheVariants.{Recur, Core, Call, Vector, Println, Update, Send}
-use Rattle.txs_tree.specs.Known.{Known}
-use Rattle.txs_tree.specs.Tree.{Tree, Trees, count}
-use Rattle.txs_tree.specs.View.{mark_of, tree_of, trees_of}
+use Rattle.txs_value_cell.specs.declared.form.UpdateForm.{UpdateForm}
+use Rattle.txs_value_base.specs.declared.op.Callee.{Callee}
+use Rattle.txs_value_base.specs.declared.op.Op.{Op}
+use Rattle.txs_tree_meaning.specs.declared.node.Node.{Node}
+use Rattle.txs_tree_meaning.specs.declared.node.NodeKind.TheVariants.{Recur, Core, Call, Vector, Println, Update, Send}
+use Rattle.txs_tree_meaning.specs.Known.{Known}
+use Rattle.txs_tree_meaning.specs.Tree.{Tree, Trees, count}
+use Rattle.txs_tree_meaning.specs.View.{mark_of, tree_of, trees_of}
 use Rattle.txs_check.specs.declared.place.Target.{Target}
 use Rattle.txs_check.specs.declared.place.Target.TheVariants.{Nearest}
 use Rattle.txs_check.specs.declared.place.Zone.{Zone}
@@ -14,7 +14,7 @@ use Rattle.txs_check.specs.declared.place.Zone.TheVariants.{InDosync}
 use Rattle.txs_check.specs.Refused.{Checked, ◌>>◌, here, inner, in_turn, turned, turned_in, checked, checked_all, checked_do}
 use Rattle.txs_check.specs.Signatures.{known_as}
 use Rattle.txs_check.proofs.Lists.{count_nodes, branches_in_turn, do_nothing, do_parts}
-use Rattle.txs_tree.proofs.Trees.{if_node, dosync_node, look_node, put_node, do_node, let_node, loop_node, recur_node, core_node, call_node, vector_node, println_node, update_node, send_node}
+use Rattle.txs_tree_meaning.proofs.Trees.{if_node, dosync_node, look_node, put_node, do_node, let_node, loop_node, recur_node, core_node, call_node, vector_node, println_node, update_node, send_node}
 use Rattle.txs_check.proofs.walk.+walk.Goals as goal
 
 module _ (ks : List Known) (z : Zone) (t0 : Target) where

@@ -1,5 +1,5 @@
 use Rattle.std.proofs.Common.{◌≡◌, drop}
-use Rattle.txs_tree.specs.View.{trees_of}
+use Rattle.txs_tree_meaning.specs.View.{trees_of}
 use Rattle.txs_check.specs.Refused.{checked_all}
 use Rattle.txs_check.specs.Signatures.{known_as}
 use Rattle.txs_check.proofs.walk.+walk.Given as goal

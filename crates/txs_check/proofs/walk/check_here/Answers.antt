@@ -1,12 +1,12 @@
 use Rattle.std.proofs.Common.{rules, ◌≡◌, suc, length, refl, sym, ap, ◌∙◌}
-use Rattle.txs_cells.specs.declared.form.CellForm.TheVariants as form_of
-use Rattle.txs_tree.specs.Tree.{count}
-use Rattle.txs_tree.specs.View.{trees_of}
+use Rattle.txs_value_cell.specs.declared.form.CellForm.TheVariants as form_of
+use Rattle.txs_tree_meaning.specs.Tree.{count}
+use Rattle.txs_tree_meaning.specs.View.{trees_of}
 use Rattle.txs_check.specs.declared.error.CheckErrorKind.TheVariants.{Arity}
 use Rattle.txs_check.specs.Refused.{applied, calls, here, only, operates, recurs}
 use Rattle.txs_check.specs.Signatures.{known_as}
 use Rattle.txs_check.proofs.Lists.{count_nodes}
-use Rattle.txs_tree.proofs.Trees.{recur_node, core_node, call_node, update_node, send_node}
+use Rattle.txs_tree_meaning.proofs.Trees.{recur_node, core_node, call_node, update_node, send_node}
 use Rattle.txs_check.proofs.walk.check_here.Goals as goal
 
 pub returns-in-Recur : goal.returns-in-Recur

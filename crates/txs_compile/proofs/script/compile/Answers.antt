@@ -1,4 +1,4 @@
-use Rattle.txs_tree.specs.View.{program_of}
+use Rattle.txs_tree_meaning.specs.View.{program_of}
 use Rattle.txs_gen.proofs.OwnCells.{code_names_own_cells}
 use Rattle.txs_compile.proofs.script.compile.Goals as goal
 

@@ -1,7 +1,7 @@
 use Rattle.std.proofs.Common.{◌≡◌, ◌++◌, ◌∙◌, ap, append_assoc, subst, sym}
 use Rattle.std.specs.Prelude.{codes, decimal, OnOk}
-use Rattle.txs_value.specs.Printed.{printed}
-use Rattle.txs_value.specs.View.{plain_of}
+use Rattle.txs_value_data.specs.Printed.{printed}
+use Rattle.txs_value_data.specs.View.{plain_of}
 use Rattle.txs_disasm.specs.Listing.{kind_name, mode_words, word}
 use Rattle.txs_disasm.proofs.LineLemmas.{last_put, two_put}
 use Rattle.txs_disasm.proofs.lines.put_cell.Goals as goal

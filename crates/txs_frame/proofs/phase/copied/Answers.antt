@@ -1,8 +1,8 @@
 use Rattle.std.proofs.Common.{◌∙◌, ◌+◌, ◌++◌, ◌∷◌, [], ap, sym, length, length-append, take}
 use Rattle.std.proofs.lemmas.List.{take_all}
-use Rattle.txs_asks.specs.Ask.{Writes}
-use Rattle.txs_value.specs.declared.value.CellId.{CellId}
-use Rattle.txs_value.specs.declared.value.Value.{Value}
+use Rattle.txs_world_protocol.specs.Ask.{Writes}
+use Rattle.txs_value_data.specs.declared.value.CellId.{CellId}
+use Rattle.txs_value_data.specs.declared.value.Value.{Value}
 use Rattle.txs_frame.proofs.Turns.{one_more}
 use Rattle.txs_frame.proofs.phase.copied.Goals as goal
 

@@ -1,5 +1,5 @@
 use Rattle.std.proofs.Common.{refl, subst, sym, ◌∙◌}
-use Rattle.txs_asks.specs.Ask.{Writes}
+use Rattle.txs_world_protocol.specs.Ask.{Writes}
 use Rattle.txs_frame.specs.Kept.{IsPlaceOf}
 use Rattle.txs_frame.specs.Phase.{write_number}
 use Rattle.txs_frame.proofs.Phasing.{written}

@@ -1,12 +1,12 @@
 use Rattle.std.proofs.Common.{arith, ◌≡◌, ◌+◌, ◌-◌, Some, None, [], ◌∷◌, eqb, length, drop, refl, sym, ap, ◌∙◌, subst, OnOk, length-drop, length-append}
-use Rattle.txs_tree.specs.Sound.{nodes, nodes_in}
-use Rattle.txs_tree.specs.Tree.{count, is_none}
-use Rattle.txs_tree.specs.View.{tree_of, trees_of, mark_of}
-use Rattle.txs_code.specs.declared.instr.Instr.TheVariants as instr
+use Rattle.txs_tree_meaning.specs.Sound.{nodes, nodes_in}
+use Rattle.txs_tree_meaning.specs.Tree.{count, is_none}
+use Rattle.txs_tree_meaning.specs.View.{tree_of, trees_of, mark_of}
+use Rattle.txs_code_meaning.specs.declared.instr.Instr.TheVariants as instr
 use Rattle.txs_gen.specs.Emission.{Emission, emission, above, emits, emits_all, emits_do, emits_let, in_transaction, IsPlaced, IsPlacedAll, IsPlacedLet, IsWithin, with_instr, with_locals, with_pop, with_room, with_set, with_stores, with_update}
 use Rattle.txs_gen.proofs.Emissions.{IsPlacedLeft, around, emits_const, emits_local, emits_do_is, emits_core, emits_call, emits_vector, emits_println, emits_bound_is, bound_made, emits_if_is, emits_loop_is, emits_dosync_is, emits_look, emits_put, emits_update_is, whole_update, emits_send, emits_recur_is, emits_all_none, emits_all_more, emits_let_none, emits_let_more, emits_do_none, emits_do_more, is_none_trees, left_placed, left_first, left_rest, within_more, nodes_positive, emits_constants, emits_let_constants, emits_instrs, emits_let_instrs, let_locals, left_is, nothing_left, nodes_left, pop_constants, pop_instrs, put_instrs, set_instrs, emits_grows, if_tested, if_first, if_else, if_made, loop_made, dosync_made, recur_made, callee_few}
-use Rattle.txs_tree.proofs.Soundness.{count-trees_of}
-use Rattle.txs_tree.proofs.Trees.{const_node, local_node, if_node, do_node, let_node, loop_node, recur_node, core_node, call_node, vector_node, println_node, dosync_node, look_node, put_node, update_node, send_node}
+use Rattle.txs_tree_meaning.proofs.Soundness.{count-trees_of}
+use Rattle.txs_tree_meaning.proofs.Trees.{const_node, local_node, if_node, do_node, let_node, loop_node, recur_node, core_node, call_node, vector_node, println_node, dosync_node, look_node, put_node, update_node, send_node}
 use Rattle.txs_gen.proofs.emit.+emit.Goals as goal
 
 pub emit_do-loop-item-init : goal.emit_do-loop-item-init

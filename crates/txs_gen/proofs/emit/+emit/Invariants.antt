@@ -1,7 +1,7 @@
 use Rattle.std.proofs.Common.{◌≡◌, ◌+◌, ◌*◌, ◌≤◌, length, drop}
-use Rattle.txs_tree.specs.Sound.{nodes, nodes_in}
-use Rattle.txs_tree.specs.Tree.{count}
-use Rattle.txs_tree.specs.View.{tree_of, trees_of}
+use Rattle.txs_tree_meaning.specs.Sound.{nodes, nodes_in}
+use Rattle.txs_tree_meaning.specs.Tree.{count}
+use Rattle.txs_tree_meaning.specs.View.{tree_of, trees_of}
 use Rattle.txs_gen.specs.Emission.{emission, emits_all, emits_do, emits_let, IsPlacedAll, IsPlacedLet}
 use Rattle.txs_gen.proofs.Emissions.{IsPlacedLeft, around}
 use Rattle.txs_gen.proofs.emit.+emit.Given as goal

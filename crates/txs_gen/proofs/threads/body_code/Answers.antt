@@ -1,5 +1,5 @@
 use Rattle.std.proofs.Common.{ap, ◌∙◌}
-use Rattle.txs_tree.specs.View.{tree_of}
+use Rattle.txs_tree_meaning.specs.View.{tree_of}
 use Rattle.txs_gen.specs.Bodies.{finished, outermost}
 use Rattle.txs_gen.specs.Emission.{emits, with_instr}
 use Rattle.txs_gen.proofs.Bodies.{fresh_is}

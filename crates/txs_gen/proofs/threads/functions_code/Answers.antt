@@ -1,9 +1,9 @@
 use Rattle.std.proofs.Common.{arith, ◌+◌, Some, [], ◌∷◌, ◌++◌, length, drop, sym, ap, ◌∙◌, subst, append_assoc, length-append}
 use Rattle.std.proofs.lemmas.List.{append-nil}
-use Rattle.txs_tree.specs.Known.{known_of}
-use Rattle.txs_tree.specs.Sound.{in_function, nodes_of_functions}
-use Rattle.txs_tree.specs.View.{function_of, functions_of}
-use Rattle.txs_code.specs.declared.instr.Instr.TheVariants.{Return}
+use Rattle.txs_tree_meaning.specs.Known.{known_of}
+use Rattle.txs_tree_meaning.specs.Sound.{in_function, nodes_of_functions}
+use Rattle.txs_tree_meaning.specs.View.{function_of, functions_of}
+use Rattle.txs_code_meaning.specs.declared.instr.Instr.TheVariants.{Return}
 use Rattle.txs_gen.specs.Bodies.{made_at, functions_from, function_rooms, AreSoundFunctions}
 use Rattle.txs_gen.specs.Emission.{Emission, Place}
 use Rattle.txs_gen.specs.Generated.{constants_of, constants_of_functions}

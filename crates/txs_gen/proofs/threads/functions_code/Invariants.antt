@@ -1,6 +1,6 @@
 use Rattle.std.proofs.Common.{◌≡◌, ◌+◌, ◌≤◌, ◌++◌, length, drop}
-use Rattle.txs_tree.specs.Sound.{nodes_of_functions}
-use Rattle.txs_tree.specs.View.{functions_of}
+use Rattle.txs_tree_meaning.specs.Sound.{nodes_of_functions}
+use Rattle.txs_tree_meaning.specs.View.{functions_of}
 use Rattle.txs_gen.specs.Bodies.{functions_from, function_rooms, AreSoundFunctions}
 use Rattle.txs_gen.specs.Generated.{constants_of_functions}
 use Rattle.txs_gen.proofs.threads.functions_code.Given as goal

@@ -1,9 +1,9 @@
 use Rattle.std.proofs.Common.{◌≡◌, Result, Ok, Err, IfOk, arith, ◌+◌, ◌≤◌, ◌++◌, [], length, refl, sym, ap, ◌∙◌, subst}
-use Rattle.txs_tree.specs.Known.{known}
-use Rattle.txs_tree.specs.Sound.{SoundFunctions, SoundThreads, nodes_of_functions, nodes_of_all}
-use Rattle.txs_tree.specs.View.{functions_of, threads_of, program_of}
-use Rattle.txs_code.specs.OwnCells.{NamesOwnCells}
-use Rattle.txs_code.specs.WellTyped.{WellTyped}
+use Rattle.txs_tree_meaning.specs.Known.{known}
+use Rattle.txs_tree_meaning.specs.Sound.{SoundFunctions, SoundThreads, nodes_of_functions, nodes_of_all}
+use Rattle.txs_tree_meaning.specs.View.{functions_of, threads_of, program_of}
+use Rattle.txs_code_meaning.specs.OwnCells.{NamesOwnCells}
+use Rattle.txs_code_meaning.specs.WellTyped.{WellTyped}
 use Rattle.txs_gen.specs.Bodies.{functions_from, function_rooms, threads_from, thread_rooms}
 use Rattle.txs_gen.specs.Generated.{constants_of_functions, constants_of_threads, IsCodeOf}
 use Rattle.txs_gen.proofs.Bodies.{code_from, code_is, code_right, code_well_typed, functions_nodes, lawful_none, lawful_from}

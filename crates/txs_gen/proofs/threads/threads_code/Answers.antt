@@ -1,8 +1,8 @@
 use Rattle.std.proofs.Common.{arith, ◌+◌, None, [], ◌∷◌, ◌++◌, length, drop, refl, sym, ap, ◌∙◌, subst, append_assoc, length-append}
 use Rattle.std.proofs.lemmas.List.{append-nil}
-use Rattle.txs_tree.specs.Sound.{in_thread, nodes_of_all}
-use Rattle.txs_tree.specs.View.{thread_of, threads_of}
-use Rattle.txs_code.specs.declared.instr.Instr.TheVariants.{Halt}
+use Rattle.txs_tree_meaning.specs.Sound.{in_thread, nodes_of_all}
+use Rattle.txs_tree_meaning.specs.View.{thread_of, threads_of}
+use Rattle.txs_code_meaning.specs.declared.instr.Instr.TheVariants.{Halt}
 use Rattle.txs_gen.specs.Bodies.{made_at, threads_from, thread_rooms, AreSoundThreads}
 use Rattle.txs_gen.specs.Emission.{Emission, Place}
 use Rattle.txs_gen.specs.Generated.{constants_of, constants_of_threads}

@@ -1,6 +1,6 @@
 use Rattle.std.proofs.Common.{◌≡◌, ◌+◌, ◌≤◌, ◌++◌, length, drop}
-use Rattle.txs_tree.specs.Sound.{nodes_of_all}
-use Rattle.txs_tree.specs.View.{threads_of}
+use Rattle.txs_tree_meaning.specs.Sound.{nodes_of_all}
+use Rattle.txs_tree_meaning.specs.View.{threads_of}
 use Rattle.txs_gen.specs.Bodies.{threads_from, thread_rooms, AreSoundThreads}
 use Rattle.txs_gen.specs.Generated.{constants_of_threads}
 use Rattle.txs_gen.proofs.threads.threads_code.Given as goal

@@ -1,8 +1,8 @@
 use Rattle.std.proofs.Common.{◌≡◌, ◌<◌, ◌≤◌, false, length, rules, arith}
 use Rattle.std.proofs.lemmas.Bool.Decides.{nat_tests}
-use Rattle.txs_shared.specs.SharedState.{numbered_book}
-use Rattle.txs_book.specs.Book.{is_failed, mail_after}
-use Rattle.txs_book.specs.Served.{cells_of}
+use Rattle.txs_world_shared.specs.SharedState.{numbered_book}
+use Rattle.txs_world_book.specs.Book.{is_failed, mail_after}
+use Rattle.txs_world_book.specs.Served.{cells_of}
 use Rattle.txs_machine.proofs.Working.{next_there, none_next}
 use Rattle.txs_machine.proofs.agents.is_working.Goals as goal
 

@@ -1,10 +1,10 @@
 use Rattle.std.proofs.Common.{◌≡◌, ◌+◌, ◌++◌, ◌∷◌, List, [], length, get_or, take, true, false, rules, refl, sym, ap, subst, ◌∙◌, arith}
-use Rattle.txs_cells.specs.Forms.{same_kind}
-use Rattle.txs_cells.specs.declared.cell.CellDefinition.{CellDefinition}
-use Rattle.txs_code.specs.PlainCode.{PlainCode}
-use Rattle.txs_value.specs.declared.value.CellId.{CellId}
-use Rattle.txs_value.specs.declared.value.CellKind.TheVariants.{Agent}
-use Rattle.txs_actor.specs.PlainActor.{agents_from}
+use Rattle.txs_value_cell.specs.Forms.{same_kind}
+use Rattle.txs_value_cell.specs.declared.cell.CellDefinition.{CellDefinition}
+use Rattle.txs_code_meaning.specs.PlainCode.{PlainCode}
+use Rattle.txs_value_data.specs.declared.value.CellId.{CellId}
+use Rattle.txs_value_data.specs.declared.value.CellKind.TheVariants.{Agent}
+use Rattle.txs_machine_actor.specs.PlainActor.{agents_from}
 use Rattle.txs_machine.specs.Plays.{AreOpenedFor}
 use Rattle.txs_machine.specs.Running.{IsAgentAt}
 use Rattle.txs_machine.specs.declared.player.AgentPlayer.{AgentPlayer}

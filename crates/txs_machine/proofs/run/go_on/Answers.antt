@@ -1,7 +1,7 @@
 use Rattle.std.proofs.Common.{refl, subst}
-use Rattle.txs_actor.specs.Turns.{Says, TurnsOf}
-use Rattle.txs_actor.specs.declared.outcome.Turn.{Turn}
-use Rattle.txs_actor.specs.declared.outcome.Turn.TheVariants.{Went, Asks, Ended}
+use Rattle.txs_machine_actor.specs.Turns.{Says, TurnsOf}
+use Rattle.txs_machine_actor.specs.declared.outcome.Turn.{Turn}
+use Rattle.txs_machine_actor.specs.declared.outcome.Turn.TheVariants.{Went, Asks, Ended}
 use Rattle.txs_machine.specs.Briefs.{ask_of}
 use Rattle.txs_machine.proofs.run.go_on.Goals as goal
 

@@ -1,5 +1,5 @@
 use Rattle.std.proofs.Common.{Some, ap, sym, subst, ◌∙◌}
-use Rattle.txs_asks.specs.declared.ask.Ask.{Ask}
+use Rattle.txs_world_protocol.specs.declared.ask.Ask.{Ask}
 use Rattle.txs_machine.specs.Running.{IsAnswered}
 use Rattle.txs_machine.specs.Turning.{MayAsk}
 use Rattle.txs_machine.proofs.run.meet.Goals as goal

@@ -1,8 +1,8 @@
 use Rattle.std.proofs.Common.{◌≤◌, ℕ, List, length, rules, sym, subst}
-use Rattle.txs_asks.specs.declared.event.Event.{Event}
-use Rattle.txs_shared.specs.SharedState.{numbered_book}
-use Rattle.txs_value.specs.Limits.{most_events}
-use Rattle.txs_book.proofs.Sizes.{fits_place}
+use Rattle.txs_world_protocol.specs.declared.event.Event.{Event}
+use Rattle.txs_world_shared.specs.SharedState.{numbered_book}
+use Rattle.txs_value_data.specs.Limits.{most_events}
+use Rattle.txs_world_book.proofs.Sizes.{fits_place}
 use Rattle.txs_machine.proofs.run.next_place.Goals as goal
 
 pub overflow_cast-result-2 : goal.overflow_cast-result-2

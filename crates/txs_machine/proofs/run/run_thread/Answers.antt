@@ -1,12 +1,12 @@
 use Rattle.std.proofs.Common.{ℕ, List, Some, refl, sym, subst, ◌∙◌, ap}
-use Rattle.txs_asks.specs.declared.event.Event.{Event}
-use Rattle.txs_asks.specs.declared.event.Outcome.{Outcome}
-use Rattle.txs_tree.specs.Thread.{thread_meaning}
-use Rattle.txs_tree.specs.Tree.{ThreadSource}
-use Rattle.txs_actor.proofs.Following.{actors_run}
-use Rattle.txs_runs.proofs.Typed.{typed_stands}
-use Rattle.txs_runs.specs.Shared.{Shared}
-use Rattle.txs_runs.specs.Told.{TraceHolds, seen_of}
+use Rattle.txs_world_protocol.specs.declared.event.Event.{Event}
+use Rattle.txs_world_protocol.specs.declared.event.Outcome.{Outcome}
+use Rattle.txs_tree_meaning.specs.Thread.{thread_meaning}
+use Rattle.txs_tree_meaning.specs.Tree.{ThreadSource}
+use Rattle.txs_machine_actor.proofs.Following.{actors_run}
+use Rattle.txs_theorem_runs.proofs.Typed.{typed_stands}
+use Rattle.txs_theorem_runs.specs.Shared.{Shared}
+use Rattle.txs_theorem_runs.specs.Told.{TraceHolds, seen_of}
 use Rattle.txs_machine.specs.Lawfully.{RunLawfully}
 use Rattle.txs_machine.specs.RunOver.{books_of, places_of, AreOwn, ExplainsEnd, HasEnded, IsExplained, IsLimited}
 use Rattle.txs_machine.specs.Plays.{IsRanBy}

@@ -1,8 +1,8 @@
 use Rattle.std.proofs.Common.{◌≡◌, ℕ, Option, None, rules, subst}
-use Rattle.txs_asks.specs.declared.event.Outcome.{Outcome}
-use Rattle.txs_actor.specs.PlainActor.{unanswered}
-use Rattle.txs_actor.proofs.Following.{actors_run}
-use Rattle.txs_runs.proofs.Told.{served_is_told}
+use Rattle.txs_world_protocol.specs.declared.event.Outcome.{Outcome}
+use Rattle.txs_machine_actor.specs.PlainActor.{unanswered}
+use Rattle.txs_machine_actor.proofs.Following.{actors_run}
+use Rattle.txs_theorem_runs.proofs.Told.{served_is_told}
 use Rattle.txs_machine.specs.RunOver.{IsAfter, IsLimited, books_of}
 use Rattle.txs_machine.proofs.Limits.{rounds_less, self_limited}
 use Rattle.txs_machine.proofs.RunOver.{own_grown}

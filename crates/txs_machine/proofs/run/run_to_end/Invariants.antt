@@ -1,4 +1,4 @@
-use Rattle.txs_actor.specs.PlainActor.{Lives}
+use Rattle.txs_machine_actor.specs.PlainActor.{Lives}
 use Rattle.txs_machine.specs.Lawfully.{RunLawfully}
 use Rattle.txs_machine.specs.RunOver.{IsStateOf, books_of, AreOwn, IsAfter, IsLimited}
 use Rattle.txs_machine.proofs.Limits.{rounds_left}

@@ -1,7 +1,7 @@
 use Rattle.std.proofs.Common.{◌≡◌, ◌≤◌, ◌+◌, ◌∙◌, ℕ, List, Result, Ok, Err, OnOk, ap, arith, false, inl, inr, is_err, length, nat_lt, refl, rules, true, vec_capacity, vec_len}
 use Rattle.txs_machine.specs.declared.player.Place.{Place}
-use Rattle.txs_runs.specs.Shared.{book_for}
-use Rattle.txs_shared.specs.SharedState.{numbered_book}
+use Rattle.txs_theorem_runs.specs.Shared.{book_for}
+use Rattle.txs_world_shared.specs.SharedState.{numbered_book}
 use Rattle.txs_machine.specs.Serving.{may_add, with_place}
 use Rattle.txs_machine.proofs.RunOver.{reads_alone}
 use Rattle.txs_machine.proofs.run.serve_noted.Goals as goal

@@ -1,7 +1,7 @@
 use Rattle.std.proofs.Common.{◌≡◌, ℕ, true, Option, None, sym, subst}
-use Rattle.txs_asks.specs.declared.ask.Ask.{Ask}
-use Rattle.txs_actor.specs.PlainActor.{PlainActor, MayAnswerIf, unanswered}
-use Rattle.txs_shared.specs.SharedState.{is_lawful}
+use Rattle.txs_world_protocol.specs.declared.ask.Ask.{Ask}
+use Rattle.txs_machine_actor.specs.PlainActor.{PlainActor, MayAnswerIf, unanswered}
+use Rattle.txs_world_shared.specs.SharedState.{is_lawful}
 use Rattle.txs_machine.specs.Serving.{IsServed}
 use Rattle.txs_machine.proofs.RunOver.{served_may}
 use Rattle.txs_machine.proofs.run.take_ask.Goals as goal

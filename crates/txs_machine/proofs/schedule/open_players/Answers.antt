@@ -1,11 +1,11 @@
 use Rattle.std.proofs.Common.{◌≡◌, ◌<◌, ◌≤◌, ◌+◌, ◌++◌, ◌∷◌, ℕ, [], List, length, take, rules, sym, ap, subst, ◌∙◌, arith}
-use Rattle.txs_cells.specs.declared.cell.CellDefinition.{CellDefinition}
-use Rattle.txs_code.specs.PlainCode.{PlainCode}
-use Rattle.txs_actor.proofs.Following.{actors_run}
-use Rattle.txs_actor.specs.PlainActor.{agents_from}
-use Rattle.txs_actor.specs.Turns.{IsNew}
-use Rattle.txs_runs.proofs.Typed.{typed_stands}
-use Rattle.txs_book.specs.Served.{cells_of}
+use Rattle.txs_value_cell.specs.declared.cell.CellDefinition.{CellDefinition}
+use Rattle.txs_code_meaning.specs.PlainCode.{PlainCode}
+use Rattle.txs_machine_actor.proofs.Following.{actors_run}
+use Rattle.txs_machine_actor.specs.PlainActor.{agents_from}
+use Rattle.txs_machine_actor.specs.Turns.{IsNew}
+use Rattle.txs_theorem_runs.proofs.Typed.{typed_stands}
+use Rattle.txs_world_book.specs.Served.{cells_of}
 use Rattle.txs_world.specs.Store.{none_taken}
 use Rattle.txs_machine.specs.Agents.{agents_of}
 use Rattle.txs_machine.specs.Playing.{IsBetween, AreBetween, AreNew}

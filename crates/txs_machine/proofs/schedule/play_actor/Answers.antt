@@ -1,6 +1,6 @@
 use Rattle.std.proofs.Common.{◌≡◌, None, rules}
-use Rattle.txs_actor.proofs.Following.{actors_run}
-use Rattle.txs_runs.proofs.Told.{served_is_told}
+use Rattle.txs_machine_actor.proofs.Following.{actors_run}
+use Rattle.txs_theorem_runs.proofs.Told.{served_is_told}
 use Rattle.txs_machine.proofs.Limits.{self_limited}
 use Rattle.txs_machine.proofs.PlayedAt.{thread_rests, thread_plays}
 use Rattle.txs_machine.proofs.Turning.{thread_asks, thread_round}

@@ -1,8 +1,8 @@
 use Rattle.std.proofs.Common.{◌≡◌, None, refl, rules}
-use Rattle.txs_actor.proofs.Following.{actors_run}
-use Rattle.txs_book.specs.Served.{cells_of}
+use Rattle.txs_machine_actor.proofs.Following.{actors_run}
+use Rattle.txs_world_book.specs.Served.{cells_of}
 use Rattle.txs_world.specs.Store.{next_action}
-use Rattle.txs_shared.specs.SharedState.{numbered_book}
+use Rattle.txs_world_shared.specs.SharedState.{numbered_book}
 use Rattle.txs_machine.proofs.Turning.{agent_rests, agent_asks, agent_plays}
 use Rattle.txs_machine.proofs.schedule.play_agent.Goals as goal
 

@@ -1,7 +1,7 @@
 use Rattle.std.proofs.Common.{◌≡◌, ◌+◌, length, true, IfOk, subst, arith}
-use Rattle.txs_runs.proofs.Report.{typed_staged}
-use Rattle.txs_runs.specs.Invariant.{SharedStands}
-use Rattle.txs_shared.specs.SharedState.{shared_of}
+use Rattle.txs_theorem_runs.proofs.Report.{typed_staged}
+use Rattle.txs_theorem_runs.specs.Invariant.{SharedStands}
+use Rattle.txs_world_shared.specs.SharedState.{shared_of}
 use Rattle.txs_machine.specs.Playing.{AreReported}
 use Rattle.txs_machine.specs.Plays.{ArePlayedOut}
 use Rattle.txs_machine.specs.Running.{attendants}

@@ -1,8 +1,8 @@
 use Rattle.std.proofs.Common.{◌≡◌, ◌∷◌, List, [], None, length, refl, sym, ap, ◌∙◌}
-use Rattle.txs_value.specs.declared.value.CellKind.TheVariants.{Agent}
+use Rattle.txs_value_data.specs.declared.value.CellKind.TheVariants.{Agent}
 use Rattle.txs_reader.specs.declared.form.Form.{Form}
 use Rattle.txs_resolve.specs.Names.{mode_behind}
-use Rattle.txs_expand.specs.Parts.{plain}
+use Rattle.txs_resolve_expand.specs.Parts.{plain}
 use Rattle.txs_resolve.proofs.definition.mode_behind.Goals as goal
 
 -- more than a keyword and a mode

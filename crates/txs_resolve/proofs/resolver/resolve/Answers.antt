@@ -1,7 +1,7 @@
 use Rattle.std.proofs.Common.{Ok, sym, ap, ◌∙◌, subst}
 use Rattle.txs_reader.specs.Tree.{trees}
-use Rattle.txs_expand.specs.Namespace.{behind_namespace}
-use Rattle.txs_tree.specs.View.{program_of}
+use Rattle.txs_resolve_expand.specs.Namespace.{behind_namespace}
+use Rattle.txs_tree_meaning.specs.View.{program_of}
 use Rattle.txs_resolve.specs.Memory.{FirstResolves}
 use Rattle.txs_resolve.specs.Scripts.{state_of}
 use Rattle.txs_resolve.proofs.Openings.{script_as, script_refused}

@@ -2,9 +2,9 @@ use Rattle.std.proofs.Common.{◌≡◌, ◌<◌, ◌+◌, ◌∷◌, ℕ, List,
 use Rattle.std.proofs.lemmas.Result.{err_from_is_err_and}
 use Rattle.txs_reader.specs.declared.form.Form.{Form}
 use Rattle.txs_reader.specs.Tree.{tree, trees}
-use Rattle.txs_expand.specs.Answers.{◌>>=◌}
-use Rattle.txs_expand.proofs.Rows.{drop_all}
-use Rattle.txs_expand.specs.Expressions.{Answer}
+use Rattle.txs_resolve_expand.specs.Answers.{◌>>=◌}
+use Rattle.txs_resolve_expand.proofs.Rows.{drop_all}
+use Rattle.txs_resolve_expand.specs.Expressions.{Answer}
 use Rattle.txs_resolve.specs.Memory.{FirstResolves}
 use Rattle.txs_resolve.specs.Names.{State, step, steps}
 use Rattle.txs_resolve.specs.Scripts.{state_of}

@@ -1,9 +1,9 @@
 use Rattle.std.proofs.Common.{◌+◌, ◌&&◌, drop, sym, ap, ◌∙◌}
 use Rattle.txs_reader.specs.Tree.{tree}
-use Rattle.txs_expand.specs.Expressions.{is_symbol}
+use Rattle.txs_resolve_expand.specs.Expressions.{is_symbol}
 use Rattle.txs_resolve.specs.Names.{are_symbols}
-use Rattle.txs_expand.specs.Parts.{plain}
-use Rattle.txs_expand.proofs.Rows.{plain_at, drop_all}
+use Rattle.txs_resolve_expand.specs.Parts.{plain}
+use Rattle.txs_resolve_expand.proofs.Rows.{plain_at, drop_all}
 use Rattle.txs_resolve.proofs.script.are_symbols.Goals as goal
 
 pub returns-then-not-is_symbol : goal.returns-then-not-is_symbol

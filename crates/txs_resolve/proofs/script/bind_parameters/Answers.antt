@@ -1,12 +1,12 @@
 use Rattle.std.proofs.Common.{◌≡◌, ◌+◌, ℕ, List, ◌∷◌, length, drop, refl, sym, ap, ◌∙◌, subst, arith, Ok}
 use Rattle.txs_reader.specs.Tree.{tree}
-use Rattle.txs_expand.specs.Expressions.{Answer}
+use Rattle.txs_resolve_expand.specs.Expressions.{Answer}
 use Rattle.txs_resolve.specs.Names.{parameter, parameters}
-use Rattle.txs_expand.specs.Answers.{◌>>=◌}
-use Rattle.txs_names.specs.Scope.{Scope, with_local, with_locals}
+use Rattle.txs_resolve_expand.specs.Answers.{◌>>=◌}
+use Rattle.txs_resolve_scope.specs.Scope.{Scope, with_local, with_locals}
 use Rattle.std.proofs.lemmas.Result.{err_from_is_err_and}
-use Rattle.txs_expand.specs.Parts.{plain}
-use Rattle.txs_expand.proofs.Rows.{plain_at, drop_all}
+use Rattle.txs_resolve_expand.specs.Parts.{plain}
+use Rattle.txs_resolve_expand.proofs.Rows.{plain_at, drop_all}
 use Rattle.txs_resolve.proofs.script.bind_parameters.Goals as goal
 
 pub loop-form-init : goal.loop-form-init

@@ -1,9 +1,9 @@
 use Rattle.std.proofs.Common.{◌≡◌, ℕ, None, Some, Ok, Err, sym, subst}
-use Rattle.txs_value.specs.declared.value.Value.{Value}
-use Rattle.txs_expression.specs.Given.{Gives, refusal_of}
+use Rattle.txs_value_data.specs.declared.value.Value.{Value}
+use Rattle.txs_resolve_body.specs.Given.{Gives, refusal_of}
 use Rattle.std.proofs.lemmas.Result.{err_from_is_err_and}
 use Rattle.txs_reader.specs.Tree.{tree}
-use Rattle.txs_expression.specs.Literals.{literal}
+use Rattle.txs_resolve_body.specs.Literals.{literal}
 use Rattle.txs_resolve.specs.Given.{Leaves}
 use Rattle.txs_resolve.specs.Names.{new_name}
 use Rattle.txs_resolve.specs.Scripts.{state_of}

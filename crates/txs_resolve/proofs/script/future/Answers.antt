@@ -1,14 +1,14 @@
 use Rattle.std.proofs.Common.{sym, ap, ◌∙◌, subst, arith, false, refl, Ok, Err, IsOk}
 use Rattle.std.proofs.lemmas.Result.{err_from_is_err_and}
-use Rattle.txs_tree.specs.Tree.{Tree}
-use Rattle.txs_tree.specs.View.{tree_of}
-use Rattle.txs_expand.specs.Expansions.{body}
-use Rattle.txs_expand.specs.Expressions.{Answer, named}
+use Rattle.txs_tree_meaning.specs.Tree.{Tree}
+use Rattle.txs_tree_meaning.specs.View.{tree_of}
+use Rattle.txs_resolve_expand.specs.Expansions.{body}
+use Rattle.txs_resolve_expand.specs.Expressions.{Answer, named}
 use Rattle.txs_resolve.specs.Given.{Leaves}
 use Rattle.txs_resolve.specs.Names.{State, future, with_thread}
 use Rattle.txs_resolve.specs.Scripts.{ScopedState, state_of}
-use Rattle.txs_expression.specs.declared.stop.Stop.{Stop}
-use Rattle.txs_expand.specs.Parts.{plain}
+use Rattle.txs_resolve_body.specs.declared.stop.Stop.{Stop}
+use Rattle.txs_resolve_expand.specs.Parts.{plain}
 use Rattle.txs_resolve.proofs.TopLevel.{failed_body}
 use Rattle.txs_resolve.proofs.Scoping.{Every}
 use Rattle.txs_resolve.proofs.ScopedScripts.{future_scoped}

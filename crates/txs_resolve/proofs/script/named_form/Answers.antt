@@ -2,7 +2,7 @@ use Rattle.std.proofs.Common.{sym, ap, ◌∙◌, Some}
 use Rattle.txs_reader.proofs.Trees.{tree-Symbol}
 use Rattle.txs_reader.specs.Tree.{tree, first}
 use Rattle.txs_resolve.specs.Names.{named_form}
-use Rattle.txs_expand.specs.Parts.{plain}
+use Rattle.txs_resolve_expand.specs.Parts.{plain}
 use Rattle.txs_resolve.proofs.TopLevel.{not_one_form, one_form}
 use Rattle.txs_resolve.proofs.script.named_form.Goals as goal
 

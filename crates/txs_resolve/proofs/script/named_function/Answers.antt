@@ -1,16 +1,16 @@
 use Rattle.std.proofs.Common.{ℕ, true, sym, ap, ◌∙◌, subst, Ok, length}
 use Rattle.std.proofs.lemmas.Result.{err_from_is_err_and}
 use Rattle.txs_reader.specs.Tree.{none as no_forms}
-use Rattle.txs_tree.specs.Scoped.{ScopedTree}
-use Rattle.txs_tree.specs.Tree.{Tree}
-use Rattle.txs_tree.specs.View.{tree_of}
-use Rattle.txs_expand.specs.Answers.{◌>>=◌}
-use Rattle.txs_expand.specs.Expansions.{body}
-use Rattle.txs_expand.specs.Expressions.{named}
+use Rattle.txs_tree_meaning.specs.Scoped.{ScopedTree}
+use Rattle.txs_tree_meaning.specs.Tree.{Tree}
+use Rattle.txs_tree_meaning.specs.View.{tree_of}
+use Rattle.txs_resolve_expand.specs.Answers.{◌>>=◌}
+use Rattle.txs_resolve_expand.specs.Expansions.{body}
+use Rattle.txs_resolve_expand.specs.Expressions.{named}
 use Rattle.txs_resolve.specs.Names.{Written, with_function}
-use Rattle.txs_names.specs.Scope.{Scope}
+use Rattle.txs_resolve_scope.specs.Scope.{Scope}
 use Rattle.txs_resolve.specs.Scripts.{at_top, function_with, state_of}
-use Rattle.txs_expand.specs.Parts.{plain}
+use Rattle.txs_resolve_expand.specs.Parts.{plain}
 use Rattle.txs_resolve.proofs.TopLevel.{failed_body}
 use Rattle.txs_resolve.proofs.Tops.{known_in, body_placed}
 use Rattle.txs_resolve.proofs.script.named_function.Goals as goal

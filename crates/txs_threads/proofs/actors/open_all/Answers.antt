@@ -1,5 +1,5 @@
 use Rattle.std.proofs.Common.{List, length, arith, ap}
-use Rattle.txs_value.specs.declared.value.CellId.{CellId}
+use Rattle.txs_value_data.specs.declared.value.CellId.{CellId}
 use Rattle.txs_threads.proofs.Agents.{agents_few}
 use Rattle.txs_threads.proofs.actors.open_all.Goals as goal
 

@@ -1,5 +1,5 @@
 use Rattle.std.proofs.Common.{rules}
-use Rattle.txs_code.specs.declared.instr.Instr.TheVariants.{Const}
+use Rattle.txs_code_meaning.specs.declared.instr.Instr.TheVariants.{Const}
 use Rattle.txs_verify.proofs.Lists.{nth_is, nth_past}
 use Rattle.txs_verify.proofs.alone.instr_at.Goals as goal
 

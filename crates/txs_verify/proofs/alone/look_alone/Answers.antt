@@ -1,6 +1,6 @@
 use Rattle.std.proofs.Common.{rules, arith}
 use Rattle.std.proofs.lemmas.Result.{err_from_is_err_and}
-use Rattle.txs_code.specs.PlainCode.{parameters_of}
+use Rattle.txs_code_meaning.specs.PlainCode.{parameters_of}
 use Rattle.txs_verify.proofs.Lawfulness.{all_right, right_body}
 use Rattle.txs_verify.proofs.alone.look_alone.Goals as goal
 

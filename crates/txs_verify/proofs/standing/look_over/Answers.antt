@@ -1,6 +1,6 @@
 use Rattle.std.proofs.Common.{rules, sym, subst, None}
 use Rattle.std.proofs.lemmas.Result.{err_from_is_err_and}
-use Rattle.txs_code.specs.declared.instr.Instr.TheVariants.{Halt}
+use Rattle.txs_code_meaning.specs.declared.instr.Instr.TheVariants.{Halt}
 use Rattle.txs_verify.specs.Standing.{IsSeen}
 use Rattle.txs_verify.proofs.Lists.{mark_is, nth_is}
 use Rattle.txs_verify.proofs.Seen.{seen_first, seen_on, wrong_on}

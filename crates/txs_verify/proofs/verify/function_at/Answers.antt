@@ -1,4 +1,4 @@
-use Rattle.txs_code.specs.PlainCode.{parameters_of}
+use Rattle.txs_code_meaning.specs.PlainCode.{parameters_of}
 use Rattle.txs_verify.proofs.Ends.{paths_wrong}
 use Rattle.txs_verify.proofs.verify.function_at.Goals as goal
 

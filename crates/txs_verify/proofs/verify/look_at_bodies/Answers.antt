@@ -1,6 +1,6 @@
 use Rattle.std.proofs.Common.{rules, []}
 use Rattle.std.proofs.lemmas.Result.{err_from_is_err_and}
-use Rattle.txs_code.specs.PlainCode.{CodeBody}
+use Rattle.txs_code_meaning.specs.PlainCode.{CodeBody}
 use Rattle.txs_verify.proofs.Lists.{nth_is}
 use Rattle.txs_verify.proofs.Roomy.{right_more, right_whole}
 use Rattle.txs_verify.proofs.verify.look_at_bodies.Goals as goal

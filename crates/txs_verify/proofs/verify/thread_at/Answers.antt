@@ -1,4 +1,4 @@
-use Rattle.txs_code.specs.PlainCode.{parameters_of}
+use Rattle.txs_code_meaning.specs.PlainCode.{parameters_of}
 use Rattle.txs_verify.proofs.Ends.{paths_wrong_alone}
 use Rattle.txs_verify.proofs.verify.thread_at.Goals as goal
 

@@ -1,6 +1,6 @@
 use Rattle.std.proofs.Common.{[], length, ap, sym, subst}
 use Rattle.std.proofs.lemmas.Result.{err_from_is_err_and}
-use Rattle.txs_code.specs.PlainCode.{parameters_of}
+use Rattle.txs_code_meaning.specs.PlainCode.{parameters_of}
 use Rattle.txs_verify.specs.Verdict.{AreWalked}
 use Rattle.txs_verify.proofs.Ends.{function_wrong}
 use Rattle.txs_verify.proofs.Roomy.{walked_none}

@@ -1,5 +1,5 @@
 use Rattle.std.proofs.Common.{length, ap, sym, subst}
-use Rattle.txs_code.specs.PlainCode.{parameters_of}
+use Rattle.txs_code_meaning.specs.PlainCode.{parameters_of}
 use Rattle.txs_verify.specs.Verdict.{AreWalkedThreads}
 use Rattle.txs_verify.proofs.Roomy.{thread_none}
 use Rattle.txs_verify.proofs.verify.walk_threads.Goals as goal

@@ -1,5 +1,5 @@
 use Rattle.std.proofs.Common.{◌≡◌, ◌∙◌, sym, ap, subst, Some, None}
-use Rattle.txs_code.specs.PlainCode.{parameters_of}
+use Rattle.txs_code_meaning.specs.PlainCode.{parameters_of}
 use Rattle.txs_verify.specs.Marks.{mark_at}
 use Rattle.txs_verify.specs.Walk.{Gives, looked}
 use Rattle.txs_verify.proofs.Lists.{mark_is}

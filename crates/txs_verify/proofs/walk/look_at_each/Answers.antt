@@ -1,6 +1,6 @@
 use Rattle.std.proofs.Common.{arith, ◌∷◌, [], length, ap, subst, length-append}
 use Rattle.std.proofs.lemmas.Result.{err_from_is_err_and}
-use Rattle.txs_code.specs.PlainCode.{parameters_of}
+use Rattle.txs_code_meaning.specs.PlainCode.{parameters_of}
 use Rattle.txs_verify.specs.Going.{Goes}
 use Rattle.txs_verify.proofs.Going.{looked_on, stop_is, taken, taken_below}
 use Rattle.txs_verify.proofs.walk.look_at_each.Goals as goal

@@ -1,5 +1,5 @@
 use Rattle.std.proofs.Common.{rules, arith, ◌≡◌, ◌+◌, ◌∷◌, [], ap, length, set, Some}
-use Rattle.txs_code.specs.PlainCode.{parameters_of}
+use Rattle.txs_code_meaning.specs.PlainCode.{parameters_of}
 use Rattle.txs_verify.specs.Going.{no_marks}
 use Rattle.txs_verify.proofs.Going.{closed_is, goes_from}
 use Rattle.txs_verify.proofs.walk.mark_places.Goals as goal

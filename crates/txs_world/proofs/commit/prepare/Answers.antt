@@ -1,6 +1,6 @@
 use Rattle.std.proofs.Common.{◌≡◌, ◌∙◌, ◌++◌, ap, length, Result, Ok, Err, subst, sym, true}
 use Rattle.std.specs.Prelude.{OnOk}
-use Rattle.txs_book.proofs.Outcomes.{on_ok}
+use Rattle.txs_world_book.proofs.Outcomes.{on_ok}
 use Rattle.txs_world.specs.Inboxes.{all_sent_below, rooms, HaveRoom}
 use Rattle.txs_world.proofs.commit.prepare.Goals as goal
 

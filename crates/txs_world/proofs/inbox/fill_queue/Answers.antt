@@ -1,6 +1,6 @@
 use Rattle.std.proofs.lemmas.List.{take_all}
 use Rattle.std.proofs.Common.{◌≤◌, ◌+◌, ◌∙◌, ap, length, subst, sym, arith}
-use Rattle.txs_book.proofs.Lists.{take_next}
+use Rattle.txs_world_book.proofs.Lists.{take_next}
 use Rattle.txs_world.proofs.inbox.fill_queue.Goals as goal
 
 pub loop-action-preserved : goal.loop-action-preserved

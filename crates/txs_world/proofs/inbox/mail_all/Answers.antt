@@ -1,7 +1,7 @@
 use Rattle.std.proofs.Common.{◌≡◌, ap, refl, rules, sym, ◌∙◌, subst, length, true, nat_lt}
 use Rattle.std.proofs.lemmas.Bool.{ltb-true}
 use Rattle.txs_world.specs.Inboxes.{plain_inboxes, mailed_all, all_sent_below, rooms, HaveRoom}
-use Rattle.txs_book.proofs.Outcomes.{both}
+use Rattle.txs_world_book.proofs.Outcomes.{both}
 use Rattle.txs_world.proofs.Mailing.{none_mailed, room_first, room_used}
 use Rattle.txs_world.proofs.inbox.mail_all.Goals as goal
 

@@ -1,6 +1,6 @@
 use Rattle.std.proofs.Common.{refl}
 use Rattle.std.proofs.lemmas.List.{length-set}
-use Rattle.txs_book.proofs.Outcomes.{on_ok}
+use Rattle.txs_world_book.proofs.Outcomes.{on_ok}
 use Rattle.txs_world.proofs.Mailing.{same_plain, same_promises, no_less_room, new_room, with_mailbox, plain_mailbox}
 use Rattle.txs_world.proofs.inbox.reserve_at.Goals as goal
 

@@ -1,6 +1,6 @@
 use Rattle.std.proofs.Common.{◌≡◌, ◌==◌, ◌∙◌, ◌∷◌, [], ap, arith, length, refl, subst, suc, sym, true}
-use Rattle.txs_asks.specs.Ask.{Writes}
-use Rattle.txs_book.specs.Book.{cells_in}
+use Rattle.txs_world_protocol.specs.Ask.{Writes}
+use Rattle.txs_world_book.specs.Book.{cells_in}
 use Rattle.txs_world.specs.Store.{are_apart, merged}
 use Rattle.txs_world.proofs.Mailing.{equal}
 use Rattle.txs_world.proofs.slot.join_writes.Goals as goal

@@ -1,6 +1,6 @@
 use Rattle.std.proofs.Common.{◌≡◌, ◌+◌, ◌++◌, ◌∷◌, [], ◌∙◌, ap, arith, drop, sym, take}
 use Rattle.txs_world.specs.Places.{place_of}
-use Rattle.txs_book.proofs.Outcomes.{on_ok}
+use Rattle.txs_world_book.proofs.Outcomes.{on_ok}
 use Rattle.txs_world.proofs.Zipping.{merged_zips, zip_last, zip_next, zipped}
 use Rattle.txs_world.proofs.slot.merge.Goals as goal
 

@@ -1,8 +1,8 @@
 use Rattle.std.proofs.lemmas.List.{take_all}
 use Rattle.std.proofs.Common.{◌∙◌, ap, length, arith}
 use Rattle.txs_world.specs.Kept.{slot_of, open_slots}
-use Rattle.txs_book.specs.declared.cell.StoreCell.{StoreCell}
-use Rattle.txs_book.proofs.Lists.{map_next, one_more}
+use Rattle.txs_world_book.specs.declared.cell.StoreCell.{StoreCell}
+use Rattle.txs_world_book.proofs.Lists.{map_next, one_more}
 use Rattle.txs_world.proofs.slot.open_slots.Goals as goal
 
 pub loop-cell-init : goal.loop-cell-init

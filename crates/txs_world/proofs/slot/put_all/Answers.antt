@@ -1,7 +1,7 @@
 use Rattle.std.proofs.Common.{◌≡◌, ap, arith, sym, ◌∙◌, set, subst, length, true}
 use Rattle.std.proofs.lemmas.List.{length-set}
-use Rattle.txs_value.specs.declared.value.CellId.{CellId}
-use Rattle.txs_value.specs.declared.value.Value.{Value}
+use Rattle.txs_value_data.specs.declared.value.CellId.{CellId}
+use Rattle.txs_value_data.specs.declared.value.Value.{Value}
 use Rattle.txs_world.specs.Kept.{all_below, put_all, slot_of}
 use Rattle.txs_world.proofs.Kept.{put_back, below_back}
 use Rattle.txs_world.proofs.slot.put_all.Goals as goal

@@ -1,6 +1,6 @@
 use Rattle.std.proofs.Common.{ap, sym, ◌∙◌, List, Vec, Global, [], ◌∷◌, ◌++◌}
 use Rattle.std.proofs.lemmas.List.{take_all}
-use Rattle.txs_value.specs.declared.value.CellId.{CellId}
+use Rattle.txs_value_data.specs.declared.value.CellId.{CellId}
 use Rattle.txs_frame.specs.Frame.{commuted}
 use Rattle.txs_frame.specs.Kept.{cells_by, only_commuted, ref_cell}
 use Rattle.txs_frame.proofs.Frames.{commuted_is}

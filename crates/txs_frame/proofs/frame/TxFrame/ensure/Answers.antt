@@ -1,5 +1,5 @@
 use Rattle.std.proofs.Common.{ap, subst, sym, ◌∙◌, List}
-use Rattle.txs_value.specs.declared.value.CellId.{CellId}
+use Rattle.txs_value_data.specs.declared.value.CellId.{CellId}
 use Rattle.txs_frame.specs.Frame.{ensure_ref}
 use Rattle.txs_frame.specs.Kept.{IsPlaceOf, IsKept, work_of, cell_number}
 use Rattle.txs_frame.proofs.Frames.{ensure_done, ensure_kept, ensure_stays}

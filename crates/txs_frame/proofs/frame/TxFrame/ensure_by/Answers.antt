@@ -1,5 +1,5 @@
 use Rattle.std.proofs.Common.{◌∙◌, List, ap, rules, subst, sym}
-use Rattle.txs_value.specs.declared.value.CellId.{CellId}
+use Rattle.txs_value_data.specs.declared.value.CellId.{CellId}
 use Rattle.txs_frame.specs.Frame.{Work, with_cell}
 use Rattle.txs_frame.specs.Kept.{IsKept}
 use Rattle.txs_frame.proofs.Frames.{ensured_kept}

@@ -1,9 +1,9 @@
 use Rattle.std.proofs.Common.{◌≡◌, ap, sym, subst, ◌∙◌, ◌+◌, List, [], ◌∷◌, ◌++◌, take, get_or, length, length-append}
 use Rattle.std.proofs.lemmas.List.{take_all, take_more}
-use Rattle.txs_asks.specs.Ask.{Writes}
-use Rattle.txs_value.specs.declared.value.CellId.{CellId}
-use Rattle.txs_value.specs.declared.value.CellKind.TheVariants.{Ref}
-use Rattle.txs_value.specs.declared.value.Value.TheVariants.{Nil}
+use Rattle.txs_world_protocol.specs.Ask.{Writes}
+use Rattle.txs_value_data.specs.declared.value.CellId.{CellId}
+use Rattle.txs_value_data.specs.declared.value.CellKind.TheVariants.{Ref}
+use Rattle.txs_value_data.specs.declared.value.Value.TheVariants.{Nil}
 use Rattle.txs_frame.specs.Frame.{Work, by_ref, commuted, phase_work}
 use Rattle.txs_frame.specs.Phase.{blank, IsPhase, PlainPhase}
 use Rattle.txs_frame.specs.declared.frame.Commute.{Commute}

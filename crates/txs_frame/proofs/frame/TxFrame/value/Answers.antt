@@ -1,5 +1,5 @@
 use Rattle.std.proofs.Common.{ap, subst, sym, ◌∙◌, ◌||◌, List, is_some}
-use Rattle.txs_asks.specs.Ask.{buffered}
+use Rattle.txs_world_protocol.specs.Ask.{buffered}
 use Rattle.txs_frame.specs.Frame.{Work, is_set, is_commuted}
 use Rattle.txs_frame.specs.declared.own.Own.{Own}
 use Rattle.txs_frame.specs.Kept.{number_of, IsPlaceOf}

@@ -1,6 +1,6 @@
 use Rattle.std.proofs.Common.{◌≡◌, ◌∙◌, List, Vec, Global, ap, subst}
 use Rattle.std.specs.Prelude.{insert}
-use Rattle.txs_value.specs.declared.value.CellId.{CellId}
+use Rattle.txs_value_data.specs.declared.value.CellId.{CellId}
 use Rattle.txs_frame.specs.Frame.{Work, with_cell}
 use Rattle.txs_frame.specs.Kept.{IsPlaceOf, cell_number}
 use Rattle.txs_frame.proofs.Frames.{joined, stayed}

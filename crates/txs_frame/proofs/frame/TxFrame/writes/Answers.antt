@@ -1,8 +1,8 @@
 use Rattle.std.proofs.Common.{◌≡◌, ◌≤◌, ◌+◌, ap, sym, ◌∙◌, Vec, Global, [], ◌∷◌, ◌++◌, length, take, length-append, vec_capacity, arith}
 use Rattle.std.proofs.lemmas.List.{take_all}
-use Rattle.txs_asks.specs.Ask.{Writes}
-use Rattle.txs_value.specs.declared.value.CellId.{CellId}
-use Rattle.txs_value.specs.declared.value.Value.{Value}
+use Rattle.txs_world_protocol.specs.Ask.{Writes}
+use Rattle.txs_value_data.specs.declared.value.CellId.{CellId}
+use Rattle.txs_value_data.specs.declared.value.Value.{Value}
 use Rattle.txs_frame.specs.Frame.{set_writes}
 use Rattle.txs_frame.specs.Kept.{writes_by, was_set, ref_cell}
 use Rattle.txs_frame.proofs.Frames.{writes_is}

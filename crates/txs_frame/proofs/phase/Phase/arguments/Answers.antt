@@ -1,8 +1,8 @@
 use Rattle.std.proofs.Common.{◌≡◌, ◌+◌, ◌<◌, ◌∙◌, ◌++◌, ◌∷◌, [], List, ap, append_assoc, arith, sym, subst, length, length-append, take}
 use Rattle.std.specs.Prelude.{drop}
 use Rattle.std.proofs.lemmas.List.{append-nil, take_all, drop_more}
-use Rattle.txs_asks.specs.Ask.{Writes, buffered}
-use Rattle.txs_value.specs.declared.value.Value.{Value}
+use Rattle.txs_world_protocol.specs.Ask.{Writes, buffered}
+use Rattle.txs_value_data.specs.declared.value.Value.{Value}
 use Rattle.txs_frame.specs.Phase.{PlainPhase, next_arguments, value_or_nil, write_number}
 use Rattle.txs_frame.specs.Kept.{Ascends}
 use Rattle.txs_frame.specs.declared.frame.Commute.{Commute}

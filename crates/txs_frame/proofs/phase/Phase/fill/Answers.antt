@@ -1,6 +1,6 @@
 use Rattle.std.proofs.Common.{◌≡◌, ◌∙◌, ap, length, subst, sym}
 use Rattle.std.specs.Prelude.{drop}
-use Rattle.txs_asks.specs.Ask.{Writes}
+use Rattle.txs_world_protocol.specs.Ask.{Writes}
 use Rattle.txs_frame.specs.Phase.{IsPhase, PlainPhase, filled}
 use Rattle.txs_frame.proofs.Phasing.{fills}
 use Rattle.txs_frame.proofs.phase.Phase.fill.Goals as goal

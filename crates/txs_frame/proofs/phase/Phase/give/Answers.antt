@@ -1,7 +1,7 @@
 use Rattle.std.proofs.Common.{◌≡◌, ◌+◌, ◌<◌, ◌∷◌, List, length, subst, sym, ap, ◌∙◌, arith}
 use Rattle.std.specs.Prelude.{drop}
 use Rattle.std.proofs.lemmas.List.{drop_more}
-use Rattle.txs_asks.specs.Ask.{Writes}
+use Rattle.txs_world_protocol.specs.Ask.{Writes}
 use Rattle.txs_frame.specs.Phase.{IsPhase, PlainPhase, given}
 use Rattle.txs_frame.specs.declared.frame.Commute.{Commute}
 use Rattle.txs_frame.proofs.Phasing.{gives, some_left}

@@ -1,7 +1,7 @@
 use Rattle.std.proofs.Common.{◌+◌, ◌&&◌, ◌∙◌, ap, drop, sym}
 use Rattle.std.proofs.lemmas.List.{at_drop_more}
-use Rattle.txs_cells.specs.declared.action.Action.{Action}
-use Rattle.txs_book.specs.Book.{are_sends, has_agent}
+use Rattle.txs_value_cell.specs.declared.action.Action.{Action}
+use Rattle.txs_world_book.specs.Book.{are_sends, has_agent}
 use Rattle.txs_world.proofs.store.Store.are_sends.Goals as goal
 
 pub loop-action-preserved : goal.loop-action-preserved

@@ -1,5 +1,5 @@
 use Rattle.std.proofs.Common.{◌≡◌, drop}
-use Rattle.txs_book.specs.Book.{are_sends}
+use Rattle.txs_world_book.specs.Book.{are_sends}
 use Rattle.txs_world.proofs.store.Store.are_sends.Given as goal
 
 abbrev pub invariant-loop-action : goal.invariant-loop-action

@@ -1,5 +1,5 @@
 use Rattle.std.proofs.Common.{◌≡◌, drop}
-use Rattle.txs_book.specs.Book.{are_refs, cells_in}
+use Rattle.txs_world_book.specs.Book.{are_refs, cells_in}
 use Rattle.txs_world.proofs.store.Store.are_written.Given as goal
 
 abbrev pub invariant-loop-write : goal.invariant-loop-write

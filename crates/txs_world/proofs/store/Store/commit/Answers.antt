@@ -1,5 +1,5 @@
 use Rattle.std.proofs.Common.{◌≡◌, sym, subst, true}
-use Rattle.txs_book.specs.Book.{cells_in, has_refs, are_sends}
+use Rattle.txs_world_book.specs.Book.{cells_in, has_refs, are_sends}
 use Rattle.txs_world.specs.declared.commit.End.TheVariants.{Reruns, Redoes, Refuses, Commits}
 use Rattle.txs_world.proofs.Answering.{ended_as, commit_ends}
 use Rattle.txs_world.proofs.Merging.{refs_has}

@@ -1,9 +1,9 @@
 use Rattle.std.proofs.Common.{length, refl, subst, sym}
-use Rattle.txs_asks.specs.declared.ask.Reply.TheVariants as reply
-use Rattle.txs_asks.specs.declared.event.EventKind.TheVariants.{Commit}
-use Rattle.txs_value.specs.Limits.{most_events}
-use Rattle.txs_book.specs.Book.{Guarded, LegalKind}
-use Rattle.txs_book.specs.Served.{adds}
+use Rattle.txs_world_protocol.specs.declared.ask.Reply.TheVariants as reply
+use Rattle.txs_world_protocol.specs.declared.event.EventKind.TheVariants.{Commit}
+use Rattle.txs_value_data.specs.Limits.{most_events}
+use Rattle.txs_world_book.specs.Book.{Guarded, LegalKind}
+use Rattle.txs_world_book.specs.Served.{adds}
 use Rattle.txs_world.specs.Store.{merged, Replies}
 use Rattle.txs_world.proofs.Answering.{has_room, told_full, told_not}
 use Rattle.txs_world.proofs.store.Store.done.Goals as goal

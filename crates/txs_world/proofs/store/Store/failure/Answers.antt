@@ -1,6 +1,6 @@
 use Rattle.txs_world.proofs.Storing.{fault_read}
 use Rattle.std.proofs.Common.{◌≡◌, arith, subst, sym, true}
-use Rattle.txs_book.specs.Book.{has_agent}
+use Rattle.txs_world_book.specs.Book.{has_agent}
 use Rattle.txs_world.specs.Store.{PlainStore}
 use Rattle.txs_world.proofs.Kept.{agent_in}
 use Rattle.txs_world.proofs.Mailing.{many_inboxes}

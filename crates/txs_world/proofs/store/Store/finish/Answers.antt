@@ -1,7 +1,7 @@
 use Rattle.std.proofs.Common.{◌≡◌, ◌<◌, ◌∙◌, ap, arith, false, refl, sym, subst, length, true, set, get_or}
-use Rattle.txs_asks.specs.declared.event.EventKind.TheVariants.{Act}
-use Rattle.txs_value.specs.Limits.{most_events}
-use Rattle.txs_book.specs.Book.{makes, LegalKind, has_agent}
+use Rattle.txs_world_protocol.specs.declared.event.EventKind.TheVariants.{Act}
+use Rattle.txs_value_data.specs.Limits.{most_events}
+use Rattle.txs_world_book.specs.Book.{makes, LegalKind, has_agent}
 use Rattle.txs_world.specs.Inboxes.{plain_inboxes, finished, no_inbox, taken_of}
 use Rattle.txs_world.specs.Kept.{all_below, put_all}
 use Rattle.txs_world.specs.Store.{PlainStore, store_with}

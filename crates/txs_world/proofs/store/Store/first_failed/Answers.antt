@@ -1,7 +1,7 @@
 use Rattle.std.proofs.Common.{◌≡◌, ◌+◌, ◌∷◌, ◌∙◌, Some, ap, drop, if◌then◌else◌, subst, sym, true}
 use Rattle.std.proofs.lemmas.List.{drop_more}
-use Rattle.txs_book.specs.Book.{are_sends, first_failed, has_agent, is_failed}
-use Rattle.txs_book.proofs.Outcomes.{both}
+use Rattle.txs_world_book.specs.Book.{are_sends, first_failed, has_agent, is_failed}
+use Rattle.txs_world_book.proofs.Outcomes.{both}
 use Rattle.txs_world.proofs.store.Store.first_failed.Goals as goal
 
 pub loop-action-preserved : goal.loop-action-preserved

@@ -1,5 +1,5 @@
 use Rattle.std.proofs.Common.{◌≡◌, drop, true}
-use Rattle.txs_book.specs.Book.{are_sends, first_failed}
+use Rattle.txs_world_book.specs.Book.{are_sends, first_failed}
 use Rattle.txs_world.proofs.store.Store.first_failed.Given as goal
 
 -- the actions to come are for agents of the store, and the first of them whose agent has failed is the answer

@@ -1,5 +1,5 @@
 use Rattle.std.proofs.Common.{◌≡◌, drop}
-use Rattle.txs_book.specs.Book.{has_refs}
+use Rattle.txs_world_book.specs.Book.{has_refs}
 use Rattle.txs_world.proofs.store.Store.has_refs.Given as goal
 
 abbrev pub invariant-loop-cell : goal.invariant-loop-cell

@@ -1,5 +1,5 @@
 use Rattle.std.proofs.Common.{◌∙◌, ap, sym}
-use Rattle.txs_book.specs.Book.{cells_in, least, least_written}
+use Rattle.txs_world_book.specs.Book.{cells_in, least, least_written}
 use Rattle.txs_world.proofs.Merging.{least_joined}
 use Rattle.txs_world.proofs.store.Store.least_tested.Goals as goal
 

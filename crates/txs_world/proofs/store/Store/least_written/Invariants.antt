@@ -1,5 +1,5 @@
 use Rattle.std.proofs.Common.{◌≡◌, drop, true}
-use Rattle.txs_book.specs.Book.{cells_in, has_refs, least, least_written}
+use Rattle.txs_world_book.specs.Book.{cells_in, has_refs, least, least_written}
 use Rattle.txs_world.proofs.store.Store.least_written.Given as goal
 
 -- the refs to come are the store's, and with what was found they give the answer

@@ -1,5 +1,5 @@
 use Rattle.std.proofs.Common.{sym, subst}
-use Rattle.txs_book.specs.Book.{opening}
+use Rattle.txs_world_book.specs.Book.{opening}
 use Rattle.txs_world.specs.Store.{looks, Replies}
 use Rattle.txs_world.proofs.Answering.{looked, looked_not}
 use Rattle.txs_world.proofs.store.Store.look.Goals as goal

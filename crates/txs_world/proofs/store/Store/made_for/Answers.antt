@@ -1,6 +1,6 @@
 use Rattle.std.proofs.Common.{◌∙◌, ap, arith, refl, sym}
 use Rattle.std.proofs.lemmas.List.{take_all}
-use Rattle.txs_book.specs.Served.{cells_of}
+use Rattle.txs_world_book.specs.Served.{cells_of}
 use Rattle.txs_world.proofs.store.Store.made_for.Goals as goal
 
 pub loop-i-init : goal.loop-i-init

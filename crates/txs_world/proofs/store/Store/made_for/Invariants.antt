@@ -1,5 +1,5 @@
 use Rattle.std.proofs.Common.{◌≡◌, take}
-use Rattle.txs_book.specs.Served.{cells_of}
+use Rattle.txs_world_book.specs.Served.{cells_of}
 use Rattle.txs_world.proofs.store.Store.made_for.Given as goal
 
 abbrev pub invariant-loop-i : goal.invariant-loop-i

@@ -1,7 +1,7 @@
 use Rattle.txs_world.specs.Inboxes.{plain_inboxes}
 use Rattle.txs_world.proofs.Storing.{newest_read}
 use Rattle.std.proofs.Common.{◌≡◌, arith, subst, sym, true}
-use Rattle.txs_book.specs.Book.{has_cell}
+use Rattle.txs_world_book.specs.Book.{has_cell}
 use Rattle.txs_world.specs.Store.{PlainStore}
 use Rattle.txs_world.proofs.Kept.{cell_in}
 use Rattle.txs_world.proofs.store.Store.newest.Goals as goal

@@ -1,6 +1,6 @@
 use Rattle.std.proofs.Common.{arith, ◌≡◌, subst, sym, true}
 use Rattle.txs_world.proofs.Storing.{acts_read, next_fits}
-use Rattle.txs_book.specs.Book.{has_agent}
+use Rattle.txs_world_book.specs.Book.{has_agent}
 use Rattle.txs_world.specs.Store.{PlainStore}
 use Rattle.txs_world.proofs.Kept.{agent_in}
 use Rattle.txs_world.proofs.Mailing.{many_inboxes}

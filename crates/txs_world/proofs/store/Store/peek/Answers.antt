@@ -1,7 +1,7 @@
 use Rattle.std.proofs.Common.{subst}
-use Rattle.txs_asks.specs.declared.ask.Reply.TheVariants as reply
-use Rattle.txs_asks.specs.declared.event.EventKind.TheVariants.{Read}
-use Rattle.txs_book.specs.Served.{adds}
+use Rattle.txs_world_protocol.specs.declared.ask.Reply.TheVariants as reply
+use Rattle.txs_world_protocol.specs.declared.event.EventKind.TheVariants.{Read}
+use Rattle.txs_world_book.specs.Served.{adds}
 use Rattle.txs_world.specs.Store.{Replies}
 use Rattle.txs_world.proofs.store.Store.peek.Goals as goal
 

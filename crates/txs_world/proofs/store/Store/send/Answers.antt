@@ -1,13 +1,13 @@
 use Rattle.txs_world.proofs.Mailing.{many_inboxes}
-use Rattle.txs_cells.specs.declared.action.Action.{Action}
+use Rattle.txs_value_cell.specs.declared.action.Action.{Action}
 use Rattle.std.proofs.Common.{◌≡◌, ◌<◌, ◌∙◌, ◌∷◌, [], ap, refl, sym, subst, length, true, false, arith, get_or}
-use Rattle.txs_asks.specs.declared.ask.Reply.TheVariants as reply
-use Rattle.txs_asks.specs.declared.event.EventKind.TheVariants.{Send}
-use Rattle.txs_value.specs.Limits.{most_events}
-use Rattle.txs_book.specs.Book.{makes, LegalKind, has_agent}
+use Rattle.txs_world_protocol.specs.declared.ask.Reply.TheVariants as reply
+use Rattle.txs_world_protocol.specs.declared.event.EventKind.TheVariants.{Send}
+use Rattle.txs_value_data.specs.Limits.{most_events}
+use Rattle.txs_world_book.specs.Book.{makes, LegalKind, has_agent}
 use Rattle.txs_world.specs.Inboxes.{plain_inboxes, mailed_all, taken_of, rooms}
 use Rattle.txs_world.specs.Store.{PlainStore, store_with}
-use Rattle.txs_book.specs.Served.{event_of}
+use Rattle.txs_world_book.specs.Served.{event_of}
 use Rattle.txs_world.proofs.Answering.{has_room, sends_so, told, told_full, told_not}
 use Rattle.txs_world.proofs.Kept.{sent, same_stands, agent_in}
 use Rattle.txs_world.proofs.Storing.{stored, unstored, entered_leaves}

@@ -1,12 +1,12 @@
 use Rattle.std.proofs.Common.{◌≡◌, ℕ, Bool, ap, false, length, map, not, refl, subst, sym, true}
-use Rattle.txs_asks.specs.declared.ask.Ask.{Ask}
-use Rattle.txs_asks.specs.declared.ask.Ask.TheVariants as ask
-use Rattle.txs_asks.specs.declared.ask.Reply.{Reply}
-use Rattle.txs_asks.specs.declared.ask.Reply.TheVariants as reply
-use Rattle.txs_book.specs.Book.{has_agent, has_ref, may_name, opening, newest, has_refs}
+use Rattle.txs_world_protocol.specs.declared.ask.Ask.{Ask}
+use Rattle.txs_world_protocol.specs.declared.ask.Ask.TheVariants as ask
+use Rattle.txs_world_protocol.specs.declared.ask.Reply.{Reply}
+use Rattle.txs_world_protocol.specs.declared.ask.Reply.TheVariants as reply
+use Rattle.txs_world_book.specs.Book.{has_agent, has_ref, may_name, opening, newest, has_refs}
 use Rattle.txs_world.specs.Store.{PlainStore, has_named, is_lawful, is_taken, may_ask, serve, store_after, Answers, Replies}
-use Rattle.txs_book.specs.Served.{served}
-use Rattle.txs_book.proofs.Outcomes.{both}
+use Rattle.txs_world_book.specs.Served.{served}
+use Rattle.txs_world_book.proofs.Outcomes.{both}
 use Rattle.txs_world.proofs.Serves.{lawful}
 use Rattle.txs_world.proofs.store.Store.serve.Goals as goal
 

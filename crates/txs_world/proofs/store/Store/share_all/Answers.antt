@@ -1,9 +1,9 @@
 use Rattle.txs_world.proofs.Merging.{next_there}
 use Rattle.std.proofs.lemmas.List.{take_all}
 use Rattle.std.proofs.Common.{◌≤◌, length, subst, sym, arith, ◌∙◌, ap, map}
-use Rattle.txs_value.specs.declared.value.CellId.{CellId}
-use Rattle.txs_book.specs.Book.{newest, opening}
-use Rattle.txs_book.proofs.Lists.{map_more, one_more, refs_later}
+use Rattle.txs_value_data.specs.declared.value.CellId.{CellId}
+use Rattle.txs_world_book.specs.Book.{newest, opening}
+use Rattle.txs_world_book.proofs.Lists.{map_more, one_more, refs_later}
 use Rattle.txs_world.proofs.store.Store.share_all.Goals as goal
 
 pub loop-cell-preserved : goal.loop-cell-preserved

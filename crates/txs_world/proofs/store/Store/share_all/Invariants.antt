@@ -1,5 +1,5 @@
 use Rattle.std.proofs.Common.{◌≡◌, ◌≤◌, length, take, drop, map, true, vec_capacity}
-use Rattle.txs_book.specs.Book.{opening, newest, has_refs}
+use Rattle.txs_world_book.specs.Book.{opening, newest, has_refs}
 use Rattle.txs_world.proofs.store.Store.share_all.Given as goal
 
 abbrev pub invariant-loop-cell : goal.invariant-loop-cell

@@ -1,7 +1,7 @@
 use Rattle.std.proofs.Common.{◌≡◌, ◌∙◌, ap, arith, false, get_or, refl, subst, sym, true}
 use Rattle.std.specs.Prelude.{is_some}
-use Rattle.txs_asks.specs.declared.ask.Ask.TheVariants as ask
-use Rattle.txs_book.specs.Book.{has_agent}
+use Rattle.txs_world_protocol.specs.declared.ask.Ask.TheVariants as ask
+use Rattle.txs_world_book.specs.Book.{has_agent}
 use Rattle.txs_world.specs.Inboxes.{plain_inboxes, taken_of}
 use Rattle.txs_world.specs.Store.{Answers, PlainStore, serve, store_after, store_with}
 use Rattle.txs_world.proofs.Answering.{hands, hands_not, idles, none_of}

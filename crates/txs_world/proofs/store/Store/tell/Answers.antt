@@ -1,9 +1,9 @@
 use Rattle.std.proofs.Common.{◌≡◌, ◌<◌, refl, sym, subst, length, true}
-use Rattle.txs_value.specs.Limits.{most_events}
-use Rattle.txs_book.specs.Book.{makes, LegalKind}
+use Rattle.txs_value_data.specs.Limits.{most_events}
+use Rattle.txs_world_book.specs.Book.{makes, LegalKind}
 use Rattle.txs_world.specs.Inboxes.{plain_inboxes, taken_of}
 use Rattle.txs_world.specs.Store.{PlainStore, Replies, store_with}
-use Rattle.txs_book.specs.Served.{adds, event_of}
+use Rattle.txs_world_book.specs.Served.{adds, event_of}
 use Rattle.txs_world.proofs.Answering.{has_room, told, told_full, told_not}
 use Rattle.txs_world.proofs.Kept.{kept_quiet, same_stands}
 use Rattle.txs_world.proofs.Storing.{stored, unstored}

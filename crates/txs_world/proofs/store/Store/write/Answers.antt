@@ -1,12 +1,12 @@
 use Rattle.std.proofs.Common.{◌≡◌, ◌<◌, ◌∙◌, ap, refl, sym, subst, length, true}
-use Rattle.txs_asks.specs.declared.ask.Reply.TheVariants as reply
-use Rattle.txs_asks.specs.declared.event.EventKind.TheVariants.{Commit}
-use Rattle.txs_value.specs.Limits.{most_events}
-use Rattle.txs_book.specs.Book.{makes, LegalKind, Guarded}
+use Rattle.txs_world_protocol.specs.declared.ask.Reply.TheVariants as reply
+use Rattle.txs_world_protocol.specs.declared.event.EventKind.TheVariants.{Commit}
+use Rattle.txs_value_data.specs.Limits.{most_events}
+use Rattle.txs_world_book.specs.Book.{makes, LegalKind, Guarded}
 use Rattle.txs_world.specs.Inboxes.{plain_inboxes, mailed_all, all_sent_below, rooms, taken_of, HaveRoom}
 use Rattle.txs_world.specs.Kept.{all_below, put_all}
 use Rattle.txs_world.specs.Store.{PlainStore, store_with}
-use Rattle.txs_book.specs.Served.{event_of}
+use Rattle.txs_world_book.specs.Served.{event_of}
 use Rattle.txs_world.proofs.Answering.{told, told_not}
 use Rattle.txs_world.proofs.Kept.{committed, same_stands, refs_below, sends_below}
 use Rattle.txs_world.proofs.Mailing.{many_inboxes, plain_same_many}

@@ -1,5 +1,0 @@
-use Rattle.txs_actor.proofs.Following
-use Rattle.txs_actor.proofs.law.actors_run.Goals as goal
-
-pub returns : goal.returns
-returns c = Following.actors_run

@@ -1,5 +1,0 @@
-use Rattle.txs_book.proofs.Growth.{after_front}
-use Rattle.txs_book.proofs.law.worlds_stay.Goals as goal
-
-pub returns : goal.returns
-returns c = after_front

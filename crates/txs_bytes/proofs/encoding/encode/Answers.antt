@@ -1,5 +1,0 @@
-use Rattle.txs_decode.proofs.FormLemmas.{code_small}
-use Rattle.txs_bytes.proofs.encoding.encode.Goals as goal
-
-pub written-requires : goal.written-requires
-written-requires c = code_small c.args.code.now c.requires

@@ -1,6 +1,0 @@
-use Rattle.std.proofs.Common.{take}
-use Rattle.txs_decode.specs.CodeForm.{AreBodies}
-use Rattle.txs_bytes.proofs.small.are_bodies.Given as goal
-
-abbrev pub invariant-loop-body : goal.invariant-loop-body
-invariant-loop-body l = AreBodies (take l.body-index l.bodies)

@@ -1,6 +1,0 @@
-use Rattle.std.proofs.Common.{take}
-use Rattle.txs_decode.specs.CodeForm.{AreConstants}
-use Rattle.txs_bytes.proofs.small.are_constants.Given as goal
-
-abbrev pub invariant-loop-value : goal.invariant-loop-value
-invariant-loop-value l = AreConstants (take l.value-index l.values)

@@ -1,5 +1,0 @@
-use Rattle.std.proofs.Common.{rules}
-use Rattle.txs_cells.proofs.form.CellForm.rule.Goals as goal
-
-pub returns-in-Update-Swap : goal.returns-in-Update-Swap
-returns-in-Update-Swap c = search rules

@@ -1,0 +1,46 @@
+-- What is told of a run is told of the script, or of the bytes, whose code has run.
+use Rattle.std.proofs.Common.{◌≡◌, ◌++◌, ◌∙◌, ℕ, Bool, List, ap, subst, sym}
+use Rattle.txs_code_meaning.specs.PlainCode.{PlainCode}
+use Rattle.txs_code_load.specs.Load.{IsFormOf}
+use Rattle.txs_world_shared.specs.SharedState.{numbered_book}
+use Rattle.txs_cli_report.specs.Lines.{Script, all_printed}
+use Rattle.txs_cli_report.specs.Told.{Told, EndsTold, IsCompiled, cells_told, events_told}
+use Rattle.txs_cli.specs.CodeTold.{no_script}
+use Rattle.txs_cli.specs.CodeWorkersTold as code_told
+use Rattle.txs_cli.specs.CodeWorkersTold.{WorkedCodeTells}
+use Rattle.txs_cli.specs.RunTold.{RunTold, of_failure, of_report}
+use Rattle.txs_cli.specs.WorkersTold as script_told
+use Rattle.txs_cli.specs.WorkersTold.{WorkedTells}
+use Rattle.txs_tree_meaning.specs.Tree.{PlainProgram}
+use Rattle.txs_value_cell.specs.declared.cell.CellDefinition.{CellDefinition}
+
+-- of a script, whose program explains the run, and has the code's cells
+pub of_script : (script : Script) (p : PlainProgram) (code : PlainCode) (steps : ℕ) (cells events : Bool) (t : Told)
+    → IsCompiled script.text p code → RunTold code script steps cells events t → WorkedTells script steps cells events t
+of_script script p code steps cells events t compiled (of_report shared report worked told) =
+    script_told.of_run p code compiled
+    (record {
+      shared = shared;
+      report = report;
+      worked = worked;
+      explained = worked.explained p (sym compiled.same) compiled.follows compiled.agents compiled.sends;
+      output = told.output ∙ ap (λ (ds : List CellDefinition). (all_printed report.threads.items ++ cells_told cells ds shared) ++ events_told events (numbered_book shared 0)) compiled.same;
+      errors = told.errors;
+      status = told.status;
+    })
+of_script script p code steps cells events t compiled (of_failure failure told) = script_told.of_failure p compiled.program failure told.told told.output told.errors told.status
+
+-- of bytes, of which no line is explained
+pub of_bytes : (bytes : List ℕ) (code : PlainCode) (script : Script) (steps : ℕ) (cells events : Bool) (t : Told)
+    → IsFormOf bytes code → script ≡ no_script → RunTold code script steps cells events t → WorkedCodeTells bytes steps cells events t
+of_bytes bytes code script steps cells events t of none (of_report shared report worked told) =
+    code_told.of_run code of
+    (record {
+      shared = shared;
+      report = report;
+      worked = worked;
+      output = told.output;
+      errors = subst (λ (s : Script). EndsTold code.cells s shared report.threads.items report.agents.items t.errors) none told.errors;
+      status = told.status;
+    })
+of_bytes bytes code script steps cells events t of none (of_failure failure told) = code_told.of_failure code of failure told.told told.output told.errors told.status

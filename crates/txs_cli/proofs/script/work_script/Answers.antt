@@ -1,0 +1,34 @@
+use Rattle.txs_code_load.proofs.Formed.{few_cells, few_threads}
+use Rattle.txs_cli_report.proofs.Fronts.{ok_maps}
+use Rattle.txs_cli_report.specs.Lent.{script_of, told_of}
+use Rattle.txs_cli_report.specs.Told.{IsCompiled, ScriptTells, Wanted}
+use Rattle.txs_cli.proofs.Ran.{of_script}
+use Rattle.txs_cli.proofs.script.work_script.Goals as goal
+use Rattle.txs_cli.specs.RunTold.{RunTold}
+use Rattle.txs_cli.specs.WorkersTold.{WorkedTells, of_refused}
+use Rattle.txs_tree_meaning.specs.View.{program_of}
+
+-- code that has a form has no more threads and cells than the limits allow
+pub run_told-requires-clause-few_threads : goal.run_told-requires-clause-few_threads
+run_told-requires-clause-few_threads g c = few_threads c.in-Ok.compiled.1 c.in-Ok.ensures.form
+
+pub run_told-requires-clause-few_cells : goal.run_told-requires-clause-few_cells
+run_told-requires-clause-few_cells g c = few_cells c.in-Ok.compiled.1 c.in-Ok.ensures.form
+
+pub returns-in-Ok : goal.returns-in-Ok
+returns-in-Ok g c =
+    let p = program_of c.in-Ok.compiled.0 in
+    let code = c.in-Ok.compiled.1 in
+    let of = c.in-Ok.ensures in
+    let script = script_of c.args.script in
+    let working = c.args.working in
+    let compiled : IsCompiled script.text p code = record { program = of.program; generated = of.generated; follows = of.code; agents = of.agents; sends = of.sends; same = of.cells } in
+    ok_maps c.run_told.result (λ t. RunTold code script working.steps working.cells working.events (told_of t)) (λ t. WorkedTells script working.steps working.cells working.events (told_of t))
+    (λ t told. of_script script p code working.steps working.cells working.events (told_of t) compiled told) c.run_told.ensures
+
+-- the script is refused
+pub returns-in-Err : goal.returns-in-Err
+returns-in-Err g c =
+    let script = script_of c.args.script in
+    let working = c.args.working in
+    ok_maps c.refused.result (λ t. (wanted : Wanted) → ScriptTells script (told_of t) wanted) (λ t. WorkedTells script working.steps working.cells working.events (told_of t)) (λ t told. of_refused told) c.refused.ensures

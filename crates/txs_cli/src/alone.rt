@@ -1,0 +1,67 @@
+//! Code whose one actor has nobody to run beside goes on in turn, and starts no worker.
+
+ghost use Rattle.std.specs.Prelude.{◌≡◌, ◌≤◌, length, IsTrue, IfOk, IfErr};
+ghost use Rattle.txs_machine.specs.declared.run_error.RunError.TheVariants.{Memory};
+ghost use Rattle.txs_cli.specs.Runner.{IsRunnable, RunsLawfully};
+
+use crate::script::Working;
+use std::alloc::Global;
+use txs_cli_report::script::open_state;
+use txs_code_meaning::Verified;
+use txs_machine::{Report, RunError, run_schedule};
+use txs_value_data::CellKind;
+use txs_world_shared::SharedState;
+
+/// Whether the code has one thread at most, and no agent.
+fn is_alone(code: &Verified) -> bool
+    ensures { IsTrue result → length code.now.threads ≤ 1 }
+{
+    let code = code.code();
+    if code.threads().len() > 1 {
+        return false;
+    }
+    for cell in code.cells() {
+        if let CellKind::Agent = cell.kind {
+            return false;
+        }
+    }
+    true
+}
+
+/// Runs all threads and agents of the code in rounds.
+fn run_in_turn(
+    alloc: Global,
+    code: &Verified,
+    steps: u64,
+) -> Result<(SharedState, Report), RunError>
+    requires runnable { IsRunnable code.now }
+    requires few { length code.now.threads ≤ 64 }
+    ensures lawful { RunsLawfully code.now steps result }
+    ensures refused { IfErr result (λ e. e ≡ Memory) }
+{
+    let mut shared = open_state(alloc, code)?;
+    match run_schedule(alloc, code, &[], steps, true, &mut shared) {
+        Ok(report) => Ok((shared, report)),
+        Err(_) => Err(RunError::Memory),
+    }
+}
+
+/// Runs all threads and agents of the code by the runner; but one thread alone goes on in turn, which is the same run without a worker.
+pub(crate) fn run_all<
+    X: Fn(Global, &Verified, usize, u64) -> Result<(SharedState, Report), RunError>,
+>(
+    alloc: Global,
+    runner: &X,
+    code: &Verified,
+    working: Working,
+) -> Result<(SharedState, Report), RunError>
+    requires call { (a : _) (code : _) (n : _) (steps : _) → IsRunnable code.now → X.pre runner.now a code n steps }
+    requires ran { (a : _) (code : _) (n : _) (steps : _) (r : _) → X.post runner.now a code n steps r → RunsLawfully code.now steps r }
+    requires runnable { IsRunnable code.now }
+    ensures { RunsLawfully code.now working.steps result }
+{
+    if is_alone(code) {
+        return run_in_turn(alloc, code, working.steps);
+    }
+    runner(alloc, code, working.workers, working.steps)
+}

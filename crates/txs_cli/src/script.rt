@@ -1,0 +1,38 @@
+//! What is told of a script whose threads and agents workers run.
+
+ghost use Rattle.std.specs.Prelude.{IfOk};
+ghost use Rattle.txs_cli.specs.Runner.{IsRunnable, RunsLawfully};
+ghost use Rattle.txs_cli.specs.WorkersTold.{WorkedTells};
+ghost use Rattle.txs_cli_report.specs.Lent.{script_of, told_of};
+
+use crate::run::run_told;
+use std::alloc::{AllocError, Global};
+use txs_cli_report::explain::Script;
+use txs_cli_report::told::{Told, refused};
+use txs_code_meaning::Verified;
+use txs_compile::compile;
+use txs_machine::{Report, RunError};
+use txs_world_shared::SharedState;
+
+/// How the program tells of a run by workers.
+#[derive(Clone, Copy)]
+pub(crate) struct Working {
+    pub(crate) workers: usize,
+    pub(crate) steps: u64,
+    pub(crate) cells: bool,
+    pub(crate) events: bool,
+}
+
+/// Runs the script's threads and agents by workers, and tells of its cells and events where they are wanted.
+pub(crate) fn work_script<
+    X: Fn(Global, &Verified, usize, u64) -> Result<(SharedState, Report), RunError>,
+>(alloc: Global, runner: &X, script: Script<'_>, working: Working) -> Result<Told, AllocError>
+    requires call { (a : _) (code : _) (n : _) (steps : _) → IsRunnable code.now → X.pre runner.now a code n steps }
+    requires ran { (a : _) (code : _) (n : _) (steps : _) (r : _) → X.post runner.now a code n steps r → RunsLawfully code.now steps r }
+    ensures { IfOk result (λ t. WorkedTells (script_of script.entry) working.steps working.cells working.events (told_of t)) }
+{
+    match compile(alloc, script.text) {
+        Ok(compiled) => run_told(alloc, runner, script, &compiled.1, working),
+        Err(error) => refused(alloc, script, &error),
+    }
+}

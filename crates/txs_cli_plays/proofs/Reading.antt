@@ -1,0 +1,66 @@
+-- Lists of plays, read item by item: the plays so far, and those that the rest says, are those of the whole text.
+use Rattle.std.proofs.Common.{◌≡◌, ◌≢◌, ℕ, ◌+◌, true, false, eqb, List, [], ◌∷◌, ◌++◌, length, Option, Some, None, Result, Ok, Err, refl, sym, ap, ◌∙◌, append_assoc}
+use Rattle.std.proofs.lemmas.Bool.{true≢false}
+use Rattle.std.proofs.lemmas.List.{append-nil}
+use Rattle.txs_machine.specs.declared.schedule.Play.{Play}
+use Rattle.txs_cli_plays.specs.declared.plays.WrongPlay.{WrongPlay}
+use Rattle.txs_cli_plays.specs.declared.plays.ListError.{ListError}
+use Rattle.txs_cli_plays.specs.declared.plays.ListError.TheVariants.{Wrong, Memory}
+use Rattle.txs_cli_plays.specs.Plays.{item_in, items_in, followed, with_item, plays_of, plays_in, IsListError, IsItemError}
+use Rattle.txs_cli_plays.proofs.Cutting.{IsWithout, one_item, first_item}
+
+abbrev Said : Type 0
+Said = Result (List Play) WrongPlay
+
+abbrev said : List Play → Said
+said ps = Ok ps
+
+abbrev wrong : WrongPlay → Said
+wrong w = Err w
+
+abbrev pub wrong_at : ℕ → List ℕ → WrongPlay
+wrong_at from text = record { from = from; length = length text }
+
+-- a text that isn't empty says what its items say
+pub text_said : (text : List ℕ) → eqb (length text) 0 ≡ false → plays_in text ≡ plays_of 0 (items_in text)
+text_said [] h = absurd (true≢false h)
+text_said (b ∷ bs) h = refl
+
+followed_twice : (ps qs : List Play) (r : Said) → followed ps (followed qs r) ≡ followed (ps ++ qs) r
+followed_twice ps qs (Ok rs) = ap said (sym (append_assoc ps qs rs))
+followed_twice ps qs (Err w) = refl
+
+-- one more item is read
+pub said_more : (plays ps new : List Play) (k next : ℕ) (rest item later : List ℕ) (whole : Said) → rest ≡ item ++ 44 ∷ later → IsWithout 44 item → item_in item ≡ Some ps → new ≡ plays ++ ps
+    → next ≡ k + length item + 1 → followed plays (plays_of k (items_in rest)) ≡ whole → followed new (plays_of next (items_in later)) ≡ whole
+said_more plays ps new k next rest item later whole cut without says pushed is before =
+    let left : Said = plays_of (k + length item + 1) (items_in later) in
+    ap (λ (n : ℕ). followed new (plays_of n (items_in later))) is ∙ ap (λ (l : List Play). followed l left) pushed ∙ sym (followed_twice plays ps left)
+    ∙ ap (λ (o : Option (List Play)). followed plays (with_item k item o left)) (sym says)
+    ∙ ap (λ (ts : List (List ℕ)). followed plays (plays_of k ts)) (sym (ap items_in cut ∙ first_item item later without)) ∙ before
+
+-- the last item is read
+pub said_last : (plays ps new : List Play) (k : ℕ) (rest : List ℕ) (whole : Said) → IsWithout 44 rest → item_in rest ≡ Some ps → new ≡ plays ++ ps → followed plays (plays_of k (items_in rest)) ≡ whole → whole ≡ Ok new
+said_last plays ps new k rest whole without says pushed before =
+    sym before ∙ ap (λ (ts : List (List ℕ)). followed plays (plays_of k ts)) (one_item rest without)
+    ∙ ap (λ (o : Option (List Play)). followed plays (with_item k rest o (said []))) says
+    ∙ ap (λ (l : List Play). said (plays ++ l)) (append-nil ps) ∙ ap said (sym pushed)
+
+-- an item says no play
+said_wrong : (plays : List Play) (k : ℕ) (rest item : List ℕ) (ts : List (List ℕ)) (whole : Said) → items_in rest ≡ item ∷ ts → item_in item ≡ None → followed plays (plays_of k (items_in rest)) ≡ whole → whole ≡ Err (wrong_at k item)
+said_wrong plays k rest item ts whole parts none before =
+    sym before ∙ ap (λ (l : List (List ℕ)). followed plays (plays_of k l)) parts ∙ ap (λ (o : Option (List Play)). followed plays (with_item k item o (plays_of (k + length item + 1) ts))) none
+
+list_error : (whole : Said) (k : ℕ) (item : List ℕ) (e : ListError) → (item_in item ≡ None → whole ≡ Err (wrong_at k item)) → IsItemError k item e → IsListError whole e
+list_error whole k item (Wrong w) f h = f h.0 ∙ ap wrong (sym h.1)
+list_error whole k item Memory f h = tt
+
+-- the item before a comma says no play, or there is no memory
+pub item_wrong : (plays : List Play) (k : ℕ) (rest item later : List ℕ) (whole : Said) (e : ListError) → rest ≡ item ++ 44 ∷ later → IsWithout 44 item → followed plays (plays_of k (items_in rest)) ≡ whole → IsItemError k item e → IsListError whole e
+item_wrong plays k rest item later whole e cut without before h =
+    list_error whole k item e (λ none. said_wrong plays k rest item (items_in later) whole (ap items_in cut ∙ first_item item later without) none before) h
+
+-- so does the last item
+pub last_wrong : (plays : List Play) (k : ℕ) (rest : List ℕ) (whole : Said) (e : ListError) → IsWithout 44 rest → followed plays (plays_of k (items_in rest)) ≡ whole → IsItemError k rest e → IsListError whole e
+last_wrong plays k rest whole e without before h =
+    list_error whole k rest e (λ none. said_wrong plays k rest rest [] whole (one_item rest without) none before) h

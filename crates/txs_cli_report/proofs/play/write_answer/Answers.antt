@@ -1,0 +1,15 @@
+use Rattle.std.proofs.Common.{sym, subst, subst₂}
+use Rattle.txs_cli_report.specs.Lent.{answer_of}
+use Rattle.txs_cli_report.specs.Told.{Told, Written}
+use Rattle.txs_cli_report.proofs.play.write_answer.Goals as goal
+
+pub returns-in-Ok : goal.returns-in-Ok
+returns-in-Ok g c =
+    let writes : Told → Type 0 = λ t. Written (g.W.Write.contents c.args.writer.now) (g.W.Write.contents c.write_told.new.writer) (g.F.Write.contents c.args.faults.now) (g.F.Write.contents c.write_told.new.faults) t c.write_told.result in
+    let written = subst₂ (λ o e. writes (record { output = o; errors = e; status = c.in-Ok.told.status })) c.as_slice.ensures.value c.as_slice-in-Ok.ensures.value c.write_told.ensures in
+    subst (λ r. writes (answer_of r)) (sym c.in-Ok.is) written
+
+pub returns-in-Err : goal.returns-in-Err
+returns-in-Err g c =
+    let writes : Told → Type 0 = λ t. Written (g.W.Write.contents c.args.writer.now) (g.W.Write.contents c.write_told-in-Err.new.writer) (g.F.Write.contents c.args.faults.now) (g.F.Write.contents c.write_told-in-Err.new.faults) t c.write_told-in-Err.result in
+    subst (λ r. writes (answer_of r)) (sym c.in-Err.is) c.write_told-in-Err.ensures

@@ -1,0 +1,100 @@
+//! Plays a script: reads it, does with it what is wanted, and writes what is told of it.
+
+ghost use Rattle.std.specs.Prelude.{◌++◌, codes, IfOk, IfSome};
+ghost use Rattle.txs_cli_report.specs.Lent.{answer_of, text_in, told_of, wanted_of};
+ghost use Rattle.txs_cli_report.specs.Told.{Told as PlainTold, IsBegun, StreamTells, Tells, Written, front};
+
+use crate::explain::Script;
+use crate::script::use_script;
+use crate::streams::{ReadFault, read_bytes, write_bytes};
+use crate::told::{SPENT, Told, UNUSABLE, Use, complaint};
+use std::alloc::{AllocError, Global};
+use std::io::{Read, Write};
+
+/// Reads the script and uses it.
+fn use_stream<R: Read>(
+    alloc: Global,
+    wanted: Use<'_>,
+    file: Option<&str>,
+    reader: &mut R,
+) -> Result<Told, AllocError>
+    ensures { IfOk result (λ t. IfSome (R.remaining reader.old) (λ input. StreamTells (record { text = front input; file = text_in file.entry }) (wanted_of wanted.entry) (told_of t))) }
+{
+    match read_bytes(alloc, reader) {
+        Ok(bytes) => {
+            let text = bytes.as_slice();
+            use_script(alloc, Script { text, file }, wanted)
+        }
+        Err(ReadFault::Failed) => complaint(alloc, UNUSABLE, "read failed"),
+        Err(ReadFault::Memory) => Err(AllocError),
+    }
+}
+
+/// Writes the standard error where the standard output couldn't be written, and behind it a line that says so.
+fn write_fault<F: Write>(faults: &mut F, errors: &[u8])
+    ensures { IsBegun (F.contents faults.old) (F.contents faults.new) (errors.now ++ codes "write failed\n") }
+{
+    if write_bytes(faults, errors).is_ok() {
+        let _ = write_bytes(faults, b"write failed\n");
+    }
+}
+
+/// Writes the standard output, and then the standard error. Answers the status, which is 2 at least where one of them
+/// couldn't be written.
+pub fn write_told<W: Write, F: Write>(
+    output: &[u8],
+    errors: &[u8],
+    status: u8,
+    writer: &mut W,
+    faults: &mut F,
+) -> u8
+    ensures { Written (W.contents writer.old) (W.contents writer.new) (F.contents faults.old) (F.contents faults.new) (record { output = output.now; errors = errors.now; status = status }) result }
+{
+    if write_bytes(writer, output).is_err() {
+        write_fault(faults, errors);
+        return status.max(UNUSABLE);
+    }
+    if write_bytes(faults, errors).is_err() {
+        return status.max(UNUSABLE);
+    }
+    status
+}
+
+/// Writes what is told, or that there was no memory for it. Answers the status.
+pub(crate) fn write_answer<W: Write, F: Write>(
+    told: Result<Told, AllocError>,
+    writer: &mut W,
+    faults: &mut F,
+) -> u8
+    ensures { Written (W.contents writer.old) (W.contents writer.new) (F.contents faults.old) (F.contents faults.new) (answer_of told) result }
+{
+    match told {
+        Ok(told) => write_told(
+            told.output.as_slice(),
+            told.errors.as_slice(),
+            told.status,
+            writer,
+            faults,
+        ),
+        Err(_) => write_told(&[], b"out of memory\n", SPENT, writer, faults),
+    }
+}
+
+/// Does with the reader's script what is wanted, and writes what is told of it. Where a file is named, lines on the
+/// standard error are explained under its name. Answers the status: 0 where all ended, 1 for a script that is refused, 2
+/// for a play that names no actor or a stream that couldn't be read or written, 3 for a thread or an agent that failed, 4 for want of steps or memory; the highest
+/// that applies.
+pub fn play_script<R: Read, W: Write, F: Write>(
+    alloc: Global,
+    wanted: Use<'_>,
+    file: Option<&str>,
+    reader: &mut R,
+    writer: &mut W,
+    faults: &mut F,
+) -> u8
+    ensures { IfSome (R.remaining reader.old) (λ input. (t : PlainTold) × Tells (record { text = front input; file = text_in file.entry }) (wanted_of wanted.entry) t
+        × Written (W.contents writer.old) (W.contents writer.new) (F.contents faults.old) (F.contents faults.new) t result) }
+{
+    let told = use_stream(alloc, wanted, file, reader);
+    write_answer(told, writer, faults)
+}

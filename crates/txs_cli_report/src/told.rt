@@ -1,0 +1,354 @@
+//! What the program tells of a script: its lines on both streams, and its status.
+
+ghost use Rattle.std.specs.Prelude.{◌≡◌, ◌≢◌, ◌≤◌, ◌++◌, ℕ, List, max, length, [], codes, decimal, Some, None, IfOk, IfSome, OnOk};
+ghost use Rattle.txs_compile.specs.Compiled.{IsRefusal};
+ghost use Rattle.txs_compile.specs.declared.compile_error.CompileError.TheVariants.{Memory};
+ghost use Rattle.txs_cli_report.specs.Lent.{front_of, text_in, script_of, told_of};
+ghost use Rattle.txs_cli_report.specs.Lines.{IsLesson, at_place, lesson_of, list_place, refusal_line, refused_line, refused_place, thread_front, failed_line, stopped_line, end_line, end_place, status_of, how_ended, all_printed, status_from, AreLessons};
+ghost use Rattle.txs_cli_report.specs.Told.{ScriptTells, Wanted};
+
+use crate::advice::{
+    OF_JOURNAL, OF_LIST, OF_MEMORY, OF_STEPS, of_check, of_fault, of_read, of_resolve,
+};
+use crate::explain::{Script, write_both, write_explained, write_number};
+use std::alloc::{AllocError, Global};
+use txs_cli_plays::WrongPlay;
+use txs_compile::CompileError;
+use txs_machine::{Play, Report, ThreadReport};
+use txs_value_base::{Fault, Span};
+use txs_world_protocol::Outcome;
+
+/// What the program tells: its standard output and error, and its status.
+pub struct Told {
+    pub output: Vec<u8>,
+    pub errors: Vec<u8>,
+    pub status: u8,
+}
+
+// Dropped by a call that is proved here, so that no crate above proves it again.
+impl Drop for Told {
+    fn drop(self) {
+        let Told {
+            output,
+            errors,
+            status: _,
+        } = self;
+        drop(output);
+        drop(errors);
+    }
+}
+
+/// Of whom a line tells: of the thread with this number, or of the agent with this name.
+#[derive(Clone, Copy)]
+pub(crate) enum Front<'a> {
+    Thread(u16),
+    Agent(&'a [u8]),
+}
+
+/// What the line of a refusal tells: its number and name, the place, and what to do about it.
+#[derive(Clone, Copy)]
+struct Refusal {
+    number: u8,
+    name: &'static str,
+    at: Span,
+    advice: Option<&'static str>,
+}
+
+/// What is done with a script.
+#[derive(Clone, Copy)]
+pub enum Use<'a> {
+    /// It is compiled, and nothing runs.
+    Check,
+    /// It is compiled, and its code is listed.
+    Listing,
+    /// It is compiled, and its code is written in its byte form.
+    Build,
+    /// Its threads and agents run by these plays and then in rounds, each for so many steps at most, with its
+    /// cells and the events of the run told or not.
+    Run {
+        plays: &'a [Play],
+        steps: u64,
+        cells: bool,
+        events: bool,
+    },
+}
+
+/// All threads ended, and no agent has failed.
+pub const DONE: u8 = 0;
+
+/// The script was refused.
+pub const REFUSED: u8 = 1;
+
+/// The words can't be used, a play names no actor, or a stream couldn't be read or written.
+pub const UNUSABLE: u8 = 2;
+
+/// A thread or an agent failed.
+const FAILED: u8 = 3;
+
+/// Steps or memory didn't suffice.
+pub const SPENT: u8 = 4;
+
+/// A text on the standard output alone.
+pub fn answer(output: Vec<u8>, alloc: Global) -> Told
+    ensures output { result.output.items ≡ output.items }
+    ensures errors { result.errors.items ≡ [] }
+    ensures status { result.status ≡ 0 }
+{
+    Told {
+        output,
+        errors: Vec::new(alloc),
+        status: DONE,
+    }
+}
+
+/// A line on the standard error alone.
+pub fn complaint(alloc: Global, status: u8, line: &str) -> Result<Told, AllocError>
+    ensures output { IfOk result (λ t. t.output.items ≡ []) }
+    ensures errors { IfOk result (λ t. t.errors.items ≡ line.now ++ codes "\n") }
+    ensures status { IfOk result (λ t. t.status ≡ status) }
+{
+    let mut errors = Vec::new(alloc);
+    write_both(&mut errors, line.as_bytes(), b"\n")?;
+    Ok(Told {
+        output: Vec::new(alloc),
+        errors,
+        status,
+    })
+}
+
+/// Appends what explains a line, where a file is named.
+fn explain(
+    errors: &mut Vec<u8>,
+    script: Script<'_>,
+    at: Option<Span>,
+    advice: &str,
+) -> Result<(), AllocError>
+    ensures { OnOk result (errors.new.items ≡ errors.old.items ++ lesson_of (text_in script.entry.file) script.entry.text.now at (Some advice.now)) }
+{
+    match script.file {
+        Some(file) => write_explained(errors, file, script.text, at, advice),
+        None => Ok(()),
+    }
+}
+
+/// Appends where a line ends with a place.
+fn write_place(line: &mut Vec<u8>, at: Span) -> Result<(), AllocError>
+    ensures { OnOk result (line.new.items ≡ line.old.items ++ at_place at) }
+{
+    write_number(line, b" at ", at.from as usize)?;
+    write_number(line, b"..", at.to as usize)?;
+    line.extend_from_slice(b"\n")
+}
+
+/// Appends the line of a refusal, and what explains it.
+fn write_refusal(
+    errors: &mut Vec<u8>,
+    script: Script<'_>,
+    refusal: &Refusal,
+    advice: &str,
+) -> Result<(), AllocError>
+    ensures { OnOk result (errors.new.items ≡ (errors.old.items ++ refusal_line refusal.now.number refusal.now.name.now refusal.now.at) ++ lesson_of (text_in script.entry.file) script.entry.text.now (Some refusal.now.at) (Some advice.now)) }
+{
+    write_number(errors, b"refused ", refusal.number as usize)?;
+    write_both(errors, b" ", refusal.name.as_bytes())?;
+    write_place(errors, refusal.at)?;
+    explain(errors, script, Some(refusal.at), advice)
+}
+
+/// Appends how a line begins.
+fn write_front(line: &mut Vec<u8>, front: Front<'_>) -> Result<(), AllocError>
+    ensures { OnOk result (line.new.items ≡ line.old.items ++ front_of front.entry) }
+{
+    match front {
+        Front::Thread(k) => write_number(line, b"thread ", k as usize),
+        Front::Agent(name) => write_both(line, b"agent ", name),
+    }
+}
+
+/// The refusal of a script that isn't compiled, but for one for want of memory, of which the program tells otherwise.
+fn refusal_of(error: &CompileError) -> Option<Refusal>
+    ensures told { IfSome result (λ r. error.now ≢ Memory) }
+    ensures line { IfSome result (λ r. refused_line error.now ≡ refusal_line r.number r.name.now r.at) }
+    ensures place { IfSome result (λ r. refused_place error.now ≡ Some r.at) }
+{
+    match error {
+        CompileError::Read(e) => Some(Refusal {
+            number: e.kind.number(),
+            name: e.kind.name(),
+            at: e.at,
+            advice: of_read(e.kind),
+        }),
+        CompileError::Resolve(e) => Some(Refusal {
+            number: e.kind.number(),
+            name: e.kind.name(),
+            at: e.at,
+            advice: of_resolve(e.kind),
+        }),
+        CompileError::Check(e) => Some(Refusal {
+            number: e.kind.number(),
+            name: e.kind.name(),
+            at: e.at,
+            advice: of_check(e.kind),
+        }),
+        CompileError::Memory => None,
+    }
+}
+
+/// What is told of a script that isn't compiled, whatever is wanted of it.
+pub fn refused(alloc: Global, script: Script<'_>, error: &CompileError) -> Result<Told, AllocError>
+    requires { IsRefusal script.text.now error.now }
+    ensures { IfOk result (λ t. (wanted : Wanted) → ScriptTells (script_of script.entry) (told_of t) wanted) }
+{
+    let Some(refusal) = refusal_of(error) else {
+        return Err(AllocError);
+    };
+    let Some(advice) = refusal.advice else {
+        return Err(AllocError);
+    };
+    let mut errors = Vec::new(alloc);
+    write_refusal(&mut errors, script, &refusal, advice)?;
+    Ok(Told {
+        output: Vec::new(alloc),
+        errors,
+        status: REFUSED,
+    })
+}
+
+/// Where the item stands that says no play, if its places are numbers of 32 bits.
+fn list_place(wrong: WrongPlay) -> Option<Span>
+    ensures { result ≡ list_place wrong }
+{
+    let to = wrong.from.checked_add(wrong.length)?;
+    if to > u32::MAX as usize {
+        return None;
+    }
+    Some(Span {
+        from: wrong.from as u32,
+        to: to as u32,
+    })
+}
+
+/// What is told of a list of plays that has an item which says none.
+pub fn wrong_list(alloc: Global, list: Script<'_>, wrong: WrongPlay) -> Result<Told, AllocError>
+    ensures output { IfOk result (λ t. t.output.items ≡ []) }
+    ensures errors { IfOk result (λ t. IsLesson (script_of list.entry) (codes "wrong list\n") (list_place wrong) t.errors.items) }
+    ensures status { IfOk result (λ t. t.status ≡ 2) }
+{
+    let mut told = complaint(alloc, UNUSABLE, "wrong list")?;
+    explain(&mut told.errors, list, list_place(wrong), OF_LIST)?;
+    Ok(told)
+}
+
+/// Appends the line of one that failed, and what explains it.
+fn write_failed(
+    errors: &mut Vec<u8>,
+    script: Script<'_>,
+    front: Front<'_>,
+    fault: Fault,
+) -> Result<(), AllocError>
+    ensures { OnOk result ((line : List ℕ) × IsLesson (script_of script.entry) (failed_line (front_of front.entry) fault) (Some fault.span) line × (errors.new.items ≡ errors.old.items ++ line)) }
+{
+    write_front(errors, front)?;
+    write_both(errors, b" failed: ", fault.kind.name().as_bytes())?;
+    write_place(errors, fault.span)?;
+    explain(errors, script, Some(fault.span), of_fault(fault.kind))
+}
+
+/// Appends the line of one that was stopped, and what explains it.
+fn write_stopped(
+    errors: &mut Vec<u8>,
+    script: Script<'_>,
+    front: Front<'_>,
+    why: &[u8],
+    advice: &str,
+) -> Result<(), AllocError>
+    ensures { OnOk result ((line : List ℕ) × IsLesson (script_of script.entry) (stopped_line (front_of front.entry) why.now) None line × (errors.new.items ≡ errors.old.items ++ line)) }
+{
+    write_front(errors, front)?;
+    write_both(errors, b" stopped: ", why)?;
+    errors.extend_from_slice(b"\n")?;
+    explain(errors, script, None, advice)
+}
+
+/// Appends the line that tells how a thread, an agent or an agent's actor ended, if there is one, and what explains it.
+fn write_end(
+    errors: &mut Vec<u8>,
+    script: Script<'_>,
+    front: Front<'_>,
+    outcome: Outcome,
+) -> Result<(), AllocError>
+    ensures { OnOk result ((line : List ℕ) × IsLesson (script_of script.entry) (end_line (front_of front.entry) outcome) (end_place outcome) line × (errors.new.items ≡ errors.old.items ++ line)) }
+{
+    match outcome {
+        Outcome::Done => Ok(()),
+        Outcome::Failed(fault) => write_failed(errors, script, front, fault),
+        Outcome::StepsSpent => write_stopped(errors, script, front, b"StepsSpent", OF_STEPS),
+        Outcome::JournalFull => write_stopped(errors, script, front, b"JournalFull", OF_JOURNAL),
+        Outcome::Memory => write_stopped(errors, script, front, b"Memory", OF_MEMORY),
+    }
+}
+
+/// How one that ended so counts in the status.
+fn status_of(outcome: Outcome) -> u8
+    ensures { result ≡ status_of outcome }
+{
+    match outcome {
+        Outcome::Done => DONE,
+        Outcome::Failed(_) => FAILED,
+        Outcome::StepsSpent | Outcome::JournalFull | Outcome::Memory => SPENT,
+    }
+}
+
+/// Adds what is told of a thread, an agent or an agent's actor that ended so, but for what it printed: its line, if there is one, and the status, where it is higher.
+pub(crate) fn tell_end(
+    told: &mut Told,
+    script: Script<'_>,
+    front: Front<'_>,
+    outcome: Outcome,
+) -> Result<(), AllocError>
+    ensures output { told.new.output.items ≡ told.old.output.items }
+    ensures errors { OnOk result ((line : List ℕ) × IsLesson (script_of script.entry) (end_line (front_of front.entry) outcome) (end_place outcome) line × (told.new.errors.items ≡ told.old.errors.items ++ line)) }
+    ensures status { told.new.status ≡ max told.old.status (status_of outcome) }
+{
+    told.status = told.status.max(status_of(outcome));
+    write_end(&mut told.errors, script, front, outcome)
+}
+
+/// How a thread ended; every thread of a run has. Of one that hasn't, nothing is told, as of one that is done.
+pub(crate) fn how_ended(outcome: Option<Outcome>) -> Outcome
+    ensures { result ≡ how_ended outcome }
+{
+    match outcome {
+        Some(outcome) => outcome,
+        None => Outcome::Done,
+    }
+}
+
+/// Adds what is told of a thread that has run: what it printed, the line that tells how it ended, and the status, where it is higher.
+fn add_thread(
+    told: &mut Told,
+    script: Script<'_>,
+    k: u16,
+    thread: &ThreadReport,
+) -> Result<(), AllocError>
+    ensures output { OnOk result (told.new.output.items ≡ told.old.output.items ++ thread.now.printed.items) }
+    ensures errors { OnOk result ((line : List ℕ) × IsLesson (script_of script.entry) (end_line (thread_front k) (how_ended thread.now.outcome)) (end_place (how_ended thread.now.outcome)) line × (told.new.errors.items ≡ told.old.errors.items ++ line)) }
+    ensures status { OnOk result (told.new.status ≡ max told.old.status (status_of (how_ended thread.now.outcome))) }
+{
+    told.output.extend_from_slice(thread.printed.as_slice())?;
+    tell_end(told, script, Front::Thread(k), how_ended(thread.outcome))
+}
+
+/// What is told of all threads that have run, in their order.
+pub fn of_threads(alloc: Global, script: Script<'_>, report: &Report) -> Result<Told, AllocError>
+    requires few { length report.now.threads.items ≤ 64 }
+    ensures output { IfOk result (λ t. t.output.items ≡ all_printed report.now.threads.items) }
+    ensures errors { IfOk result (λ t. AreLessons (script_of script.entry) 0 report.now.threads.items t.errors.items) }
+    ensures status { IfOk result (λ t. t.status ≡ status_from 0 report.now.threads.items) }
+{
+    let mut told = answer(Vec::new(alloc), alloc);
+    for (k, thread) in report.threads.iter().enumerate() {
+        add_thread(&mut told, script, k as u16, thread)?;
+    }
+    Ok(told)
+}

@@ -1,5 +1,0 @@
-use Rattle.txs_code.proofs.Once as once
-use Rattle.txs_code.proofs.law.turn_asks_once.Goals as goal
-
-pub returns : goal.returns
-returns c = once.turn_asks_once

@@ -1,0 +1,58 @@
+//! The bytes that tell what stands behind them.
+
+ghost use Rattle.std.specs.Prelude.{◌≡◌};
+ghost use Rattle.txs_value_base.specs.Places.{nth};
+ghost use Rattle.txs_code_decode.specs.InstrForm.{callee_tags};
+ghost use Rattle.txs_code_decode.specs.ValueForm.{tags};
+
+/// What a value is.
+#[derive(Clone, Copy)]
+pub(crate) enum Tag {
+    Nil,
+    False,
+    True,
+    Int,
+    Key,
+    Text,
+    Vector,
+    Cell,
+}
+
+/// What a callee is.
+#[derive(Clone, Copy)]
+pub(crate) enum CalleeTag {
+    Core,
+    Function,
+}
+
+impl Tag {
+    /// The tag of this byte, if there is one.
+    pub(crate) fn from_byte(byte: u8) -> Option<Tag>
+        ensures { result ≡ nth tags byte }
+    {
+        match byte {
+            0 => Some(Tag::Nil),
+            1 => Some(Tag::False),
+            2 => Some(Tag::True),
+            3 => Some(Tag::Int),
+            4 => Some(Tag::Key),
+            5 => Some(Tag::Text),
+            6 => Some(Tag::Vector),
+            7 => Some(Tag::Cell),
+            _ => None,
+        }
+    }
+}
+
+impl CalleeTag {
+    /// The tag of this byte, if there is one.
+    pub(crate) fn from_byte(byte: u8) -> Option<CalleeTag>
+        ensures { result ≡ nth callee_tags byte }
+    {
+        match byte {
+            0 => Some(CalleeTag::Core),
+            1 => Some(CalleeTag::Function),
+            _ => None,
+        }
+    }
+}

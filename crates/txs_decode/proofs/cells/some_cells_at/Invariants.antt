@@ -1,9 +1,0 @@
-use Rattle.std.proofs.Common.{◌≡◌, ◌-◌}
-use Rattle.std.specs.Prelude.{true}
-use Rattle.txs_decode.specs.CellForm.{cell_format}
-use Rattle.txs_decode.specs.Format.{many_at}
-use Rattle.txs_decode.proofs.Many.{with_front}
-use Rattle.txs_decode.proofs.cells.some_cells_at.Given as goal
-
-abbrev pub invariant-loop : goal.invariant-loop
-invariant-loop l = with_front l.cells.items (many_at cell_format.read (l.count - l.counter) l.rest) ≡ many_at cell_format.read l.count l.bytes

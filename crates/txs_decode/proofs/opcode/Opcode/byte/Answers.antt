@@ -1,5 +1,0 @@
-use Rattle.std.proofs.Common.{rules}
-use Rattle.txs_decode.proofs.opcode.Opcode.byte.Goals as goal
-
-pub returns-in-Halt : goal.returns-in-Halt
-returns-in-Halt c = search rules

@@ -1,5 +1,0 @@
-use Rattle.std.proofs.Common.{rules}
-use Rattle.txs_decode.proofs.opcode.Opcode.of.Goals as goal
-
-pub returns-in-TxEnd : goal.returns-in-TxEnd
-returns-in-TxEnd c = search rules

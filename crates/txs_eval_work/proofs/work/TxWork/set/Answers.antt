@@ -1,6 +1,0 @@
-use Rattle.std.proofs.Common.{rules, arith}
-use Rattle.std.proofs.lemmas.Grind.{common_steps}
-use Rattle.txs_eval_work.proofs.work.TxWork.set.Goals as goal
-
-pub returns-in-Err-SetAfterCommute : goal.returns-in-Err-SetAfterCommute
-returns-in-Err-SetAfterCommute c = first_of (search rules, grind (arith, common_steps))

@@ -1,6 +1,0 @@
-use Rattle.std.proofs.Common.{◌≡◌, drop}
-use Rattle.txs_tree.specs.Transaction.{merged}
-use Rattle.txs_eval_work.proofs.writes.merge.Given as goal
-
-abbrev pub invariant-loop-other : goal.invariant-loop-other
-invariant-loop-other l = merged l.writes.items (drop l.other-index l.others) ≡ merged l.fn.writes.items l.others

@@ -1,7 +1,0 @@
-use Rattle.std.proofs.Common.{◌≡◌, take}
-use Rattle.txs_tree.specs.Transaction.{valued}
-use Rattle.txs_eval_work.specs.Views.{plain_view, world_of}
-use Rattle.txs_eval_work.proofs.writes.valued.Given as goal
-
-abbrev pub invariant-loop-cell : goal.invariant-loop-cell
-invariant-loop-cell l = l.writes.items ≡ valued (take l.cell-index l.cells) (world_of (plain_view l.world))

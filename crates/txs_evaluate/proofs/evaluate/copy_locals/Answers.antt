@@ -1,7 +1,0 @@
-use Rattle.std.proofs.Common.{◌≡◌, ◌++◌, [], ap, ◌∙◌, rules}
-use Rattle.txs_evaluate.proofs.evaluate.copy_locals.Goals as goal
-
-pub returns : goal.returns
-returns c =
-    let empty : c.new-copies.result.items ≡ [] = search rules in
-    c.in_ok-push_copies.ensures ∙ ap (λ l. l ++ c.args.values.now) empty

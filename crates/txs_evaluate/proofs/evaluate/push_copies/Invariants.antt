@@ -1,5 +1,0 @@
-use Rattle.std.proofs.Common.{◌≡◌, ◌++◌, take}
-use Rattle.txs_evaluate.proofs.evaluate.push_copies.Given as goal
-
-abbrev pub invariant-loop-other : goal.invariant-loop-other
-invariant-loop-other l = l.values.items ≡ l.fn.values.items ++ take l.other-index l.others

@@ -1,6 +1,0 @@
-use Rattle.std.proofs.Common.{ap, ◌∙◌}
-use Rattle.txs_tree.specs.Transaction.{merged}
-use Rattle.txs_evaluate.proofs.evaluate.with_sets.Goals as goal
-
-pub returns : goal.returns
-returns c = c.in_ok-merge.ensures ∙ ap (λ l. merged l c.args.writes.now) c.in_ok-last.ensures

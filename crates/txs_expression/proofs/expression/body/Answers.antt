@@ -1,9 +1,0 @@
-use Rattle.std.proofs.Common.{◌∷◌, [], Ok, sym, ap, ◌∙◌}
-use Rattle.txs_tree.specs.Tree.{Tree}
-use Rattle.txs_expression.proofs.Fillings.{shown}
-use Rattle.txs_expression.proofs.expression.body.Goals as goal
-
-pub returns-in-Some-clause-node : goal.returns-in-Some-clause-node
-returns-in-Some-clause-node c =
-    let n = c.in_ok-expression.ensures.node in
-    n.1 ∙ ap (λ (t : Tree). Ok t) (sym (c.in-Some.ensures.node n.0 (shown c.new-nodes.result c.expression.new.nodes (n.0 ∷ []) c.new-nodes.ensures.none n.2)))

@@ -1,5 +1,0 @@
-use Rattle.txs_follows.proofs.Fitted.{fits_more}
-use Rattle.txs_follows.proofs.one_more_fits.Goals as goal
-
-pub returns : goal.returns
-returns c = fits_more

@@ -1,5 +1,0 @@
-use Rattle.txs_follows.proofs.Actions.{sound_follows_agents}
-use Rattle.txs_follows.proofs.sound_follows_agents.Goals as goal
-
-pub returns : goal.returns
-returns c = sound_follows_agents

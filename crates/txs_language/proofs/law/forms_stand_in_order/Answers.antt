@@ -1,5 +1,0 @@
-use Rattle.txs_language.proofs.Reading.{forms_nest}
-use Rattle.txs_language.proofs.law.forms_stand_in_order.Goals as goal
-
-pub returns : goal.returns
-returns c = forms_nest

@@ -1,0 +1,25 @@
+use Rattle.std.proofs.Common.{◌≡◌, ◌≤◌, ◌∙◌, length, ap, subst, rules}
+use Rattle.txs_code_meaning.specs.PlainCode.{CodeBody}
+use Rattle.txs_machine_actor.specs.PlainActor.{PlainActor}
+use Rattle.txs_machine_actor.specs.Turns.{applied_on}
+use Rattle.txs_machine_actor.proofs.Calling.{one_there, evaluation_so}
+use Rattle.txs_machine_actor.proofs.actor.Actor.evaluation.Goals as goal
+
+pub function_of-most-requires : goal.function_of-most-requires
+function_of-most-requires c = (c.requires.body, c.requires.is_body)
+
+pub of_function-requires-clause-many : goal.of_function-requires-clause-many
+of_function-requires-clause-many c =
+    let given : c.in_ok-args.args.items ≡ applied_on c.self.inside.tx = first_of (search rules, cc) in
+    let here : applied_on c.self.inside.tx ≡ applied_on c.args.self.now.tx = ap (λ (a : PlainActor). applied_on a.tx) c.self.view_is in
+    ap length (given ∙ here) ∙ c.requires.many ∙ ap (λ (x : CodeBody). x.parameters) (one_there c.requires.is_body c.function_of-most.ensures.body)
+
+pub of_function-requires-clause-fits : goal.of_function-requires-clause-fits
+of_function-requires-clause-fits c = subst (λ (x : CodeBody). x.parameters ≤ x.locals) (one_there c.requires.is_body c.function_of-most.ensures.body) c.requires.parameters
+
+pub returns : goal.returns
+returns c =
+    let given : c.in_ok-args.args.items ≡ applied_on c.self.inside.tx = first_of (search rules, cc) in
+    let here : applied_on c.self.inside.tx ≡ applied_on c.args.self.now.tx = ap (λ (a : PlainActor). applied_on a.tx) c.self.view_is in
+    let g = c.function_of-most in
+    evaluation_so c.args.code.now c.args.self.now c.args.f g.result.0.now g.result.1 c.in_ok-args.args.items c.of_function.result g.ensures.body g.ensures.needs (given ∙ here) c.of_function.ensures

@@ -1,0 +1,52 @@
+use Rattle.std.proofs.Common.{◌≡◌, ◌∙◌, ℕ, Option, None, ap, sym, subst, refl}
+use Rattle.txs_world_protocol.specs.declared.ask.Reply.{Reply}
+use Rattle.txs_world_protocol.specs.declared.ask.Reply.TheVariants as reply
+use Rattle.txs_value_data.specs.declared.value.Value.{Value}
+use Rattle.txs_machine_actor.specs.PlainActor.{PlainActor, answered, answered_if}
+use Rattle.txs_machine_transaction.specs.Kept.{IsWanted}
+use Rattle.txs_machine_transaction.specs.declared.kept.Wanted.{Wanted}
+use Rattle.txs_machine_transaction.specs.declared.state.Pending.{Pending}
+use Rattle.txs_machine_transaction.specs.declared.state.Transaction.{Transaction}
+use Rattle.txs_machine_transaction.specs.declared.state.Transaction.TheVariants.{Outside}
+use Rattle.txs_machine_actor.specs.RareAnswers.{IsRareAnswer}
+use Rattle.txs_machine_actor.proofs.actor.Actor.take_answer.Goals as goal
+
+-- the other answers
+rare : (r : Reply) → ((p : ℕ) → r ≡ reply.At p → ⊥) → ((v : Value) → r ≡ reply.Is v → ⊥) → (r ≡ reply.Done → ⊥) → IsRareAnswer r
+rare (reply.At p) at is done = at p refl
+rare (reply.Is v) at is done = is v refl
+rare (reply.Opened p v) at is done = tt
+rare (reply.Views q vs) at is done = tt
+rare reply.Done at is done = done refl
+rare (reply.Retry d) at is done = tt
+rare (reply.Changed d) at is done = tt
+rare (reply.AgentIsFailed g) at is done = tt
+rare (reply.Action n x v) at is done = tt
+rare reply.Idle at is done = tt
+rare reply.Full at is done = tt
+rare reply.Memory at is done = tt
+
+pub take_rare_answer-requires-clause-rare : goal.take_rare_answer-requires-clause-rare
+take_rare_answer-requires-clause-rare c = rare c.args.reply c.in_default.not-At c.in_default.not-Is c.in_default.not-Done
+
+pub returns-in-At : goal.returns-in-At
+returns-in-At c = c.take_read_point.ensures ∙ ap (answered c.args.self.now) (sym c.in-At.is)
+
+pub returns-in-Is : goal.returns-in-Is
+returns-in-Is c = c.take_value.ensures ∙ ap (answered c.args.self.now) (sym c.in-Is.is)
+
+pub returns-in_default-wanted : goal.returns-in_default-wanted
+returns-in_default-wanted c = c.take_whole_done.ensures ∙ ap (answered c.args.self.now) (sym c.in-Done.is)
+
+pub returns-in-Commit : goal.returns-in-Commit
+returns-in-Commit c =
+    let a = c.args.self.now in
+    let x = c.self-in-Commit.inside in
+    let k = x.stack in
+    let v : PlainActor = record { number = x.number; body = k.body; frames = k.frames; locals = k.locals; place = k.place; values = k.values; printed = x.printed.items; at = x.at; view = x.view; done = x.frame; commuting = x.commuting; tx = x.tx; pending = x.pending; outcome = x.outcome; steps = x.steps; limit = x.limit; room = k.room } in
+    let waits = subst (λ (w : Wanted). IsWanted w c.self.inside.pending) c.in-Commit.is c.wanted.ensures in
+    ap (λ (t : Transaction). record v { tx = t; pending = c.clear.new.self }) c.leave.ensures
+    ∙ ap (λ (o : Option Pending). record v { tx = Outside; pending = o }) c.clear.ensures
+    ∙ ap (λ (y : PlainActor). record y { tx = Outside; pending = None }) (c.self-in-Commit.view_is ∙ c.step_on.ensures)
+    ∙ ap (λ (o : Option Pending). answered_if a o reply.Done) (sym waits ∙ ap (λ (y : PlainActor). y.pending) c.self.view_is)
+    ∙ ap (answered a) (sym c.in-Done.is)

@@ -1,0 +1,10 @@
+-- Answers to an actor's asks, by how often they come.
+use Rattle.txs_world_protocol.specs.declared.ask.Reply.{Reply}
+use Rattle.txs_world_protocol.specs.declared.ask.Reply.TheVariants as reply
+
+-- an answer that not each transaction gets: neither a read point, nor a value, nor that it is done
+abbrev pub IsRareAnswer : Reply → Type 0
+IsRareAnswer (reply.At p) = ⊥
+IsRareAnswer (reply.Is v) = ⊥
+IsRareAnswer reply.Done = ⊥
+IsRareAnswer _ = Unit {0}

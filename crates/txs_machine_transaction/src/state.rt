@@ -1,0 +1,96 @@
+//! What an actor keeps of its transaction and of its unanswered ask.
+
+use txs_frame::{Commute, Phase};
+use txs_machine_stack::Stack;
+use txs_value_base::{Fault, Span};
+use txs_value_cell::Action;
+use txs_value_data::{CellId, Listed, Value};
+
+/// Where a transaction or a swap began: its span, and the stack there, whose body goes on at its first instruction.
+#[derive(Drop)]
+pub struct Origin {
+    pub span: Span,
+    pub stack: Stack,
+}
+
+/// The transaction of an actor, or the swap that it has in hand, or the action of an agent's.
+#[derive(Drop)]
+pub enum Transaction {
+    /// None.
+    Outside,
+    /// It begins anew, and may run again so many times.
+    Restarting {
+        left: u16,
+    },
+    /// It runs, with so many inner ones, and may run again so many times from where it began.
+    Running {
+        left: u16,
+        inner: u64,
+        from: Origin,
+    },
+    /// At its end its commutes are applied, and it may run again so many times from where it began.
+    Applying {
+        left: u16,
+        from: Origin,
+        phase: Phase,
+    },
+    /// The function of one of its commutes runs, in a stack of its own: that of the transaction is put aside.
+    Evaluating {
+        left: u16,
+        from: Origin,
+        phase: Phase,
+        aside: Stack,
+    },
+    /// There is none, and the callee of a swap is applied, whose atom was opened at this place of its book. It goes again from
+    /// where it began.
+    Swapping {
+        cell: CellId,
+        at: u32,
+        from: Origin,
+    },
+    /// An agent is in its own body, with the action that it has taken, if it has.
+    Attending {
+        agent: CellId,
+        action: Option<Action>,
+    },
+    /// The function of an agent's action runs, in a stack of its own: that of the agent's body is put aside.
+    Acting {
+        agent: CellId,
+        action: Action,
+        aside: Stack,
+    },
+}
+
+/// What an actor's unanswered ask is for.
+#[derive(Drop)]
+pub enum Pending {
+    /// A transaction begins, which may run again so many times from here.
+    Begin { left: u16, from: Origin },
+    /// A cell's value takes the cell's place at the top of the stack.
+    Read(CellId),
+    /// A ref's value takes the ref's place at the top of the stack, and these refs are ensured then.
+    Ensure(CellId, Listed<CellId>),
+    /// A ref's value goes between the ref and so many arguments, and this commute is open then, if one is.
+    Open(CellId, u16, Option<Commute>),
+    /// The refs that were commuted and not set are viewed, for this commute phase.
+    View(Phase),
+    /// An atom gets this value, which stands at the top of the stack and takes the atom's place, too.
+    Reset(CellId, Value),
+    /// An action is sent, and its agent takes the place of itself and so many arguments at the top of the stack.
+    Send(Action, u16),
+    /// An atom's value goes between the atom and so many arguments, and a swap is in hand then, which goes again from here.
+    Swap(CellId, u16, Origin),
+    /// A swap ends: its atom, which was opened at this place, gets this value, which stands at the top of the stack and takes the
+    /// atom's place, too.
+    Close(CellId, u32, Value),
+    /// A transaction ends.
+    Commit,
+    /// A transaction has ended with a fault.
+    Fail(Fault),
+    /// A swap of this atom, which was opened at this place, has ended with a fault.
+    Broke(CellId, u32, Fault),
+    /// An agent takes the first action of its mailbox.
+    Take(CellId),
+    /// An agent's action is over, with the agent's new state or with a fault.
+    Finish(CellId, Result<Value, Fault>),
+}

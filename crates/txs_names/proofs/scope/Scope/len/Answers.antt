@@ -1,6 +1,0 @@
-use Rattle.std.proofs.Common.{rules, arith}
-use Rattle.std.proofs.lemmas.Grind.{common_steps}
-use Rattle.txs_names.proofs.scope.Scope.len.Goals as goal
-
-pub returns : goal.returns
-returns c = grind (arith, common_steps)

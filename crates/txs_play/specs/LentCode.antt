@@ -1,9 +1,0 @@
--- What is wanted of code, as it is lent.
-use Rattle.txs_play.specs.CodeTold.{CodeWanted, Listed, Ran}
-use Rattle.txs_play.specs.declared.usage.CodeUse.{CodeUse}
-use Rattle.txs_play.specs.declared.usage.CodeUse.TheVariants as lent
-
--- as plain data
-abbrev pub code_wanted_of : CodeUse → CodeWanted
-code_wanted_of lent.Listing = Listed
-code_wanted_of (lent.Run plays steps cells events) = Ran plays.now steps cells events

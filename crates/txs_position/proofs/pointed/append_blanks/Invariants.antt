@@ -1,6 +1,0 @@
-use Rattle.std.proofs.Common.{◌≡◌, ◌++◌, take}
-use Rattle.txs_position.specs.Pointed.{blanks}
-use Rattle.txs_position.proofs.pointed.append_blanks.Given as goal
-
-abbrev pub invariant-loop-byte : goal.invariant-loop-byte
-invariant-loop-byte l = l.out.items ≡ l.fn.out.items ++ blanks (take l.byte-index l.bytes)

@@ -1,6 +1,0 @@
-use Rattle.txs_runs.proofs.Agents.{run_acts_mean}
-use Rattle.txs_runs.proofs.Told.{fresh_stands}
-use Rattle.txs_runs.proofs.law.every_action_means.Goals as goal
-
-pub returns : goal.returns
-returns c = run_acts_mean c.serve_keeps.ensures c.action_stays.ensures fresh_stands

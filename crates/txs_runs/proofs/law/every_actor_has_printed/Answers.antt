@@ -1,6 +1,0 @@
-use Rattle.txs_runs.proofs.Lasts.{run_prints}
-use Rattle.txs_runs.proofs.Told.{fresh_stands}
-use Rattle.txs_runs.proofs.law.every_actor_has_printed.Goals as goal
-
-pub returns : goal.returns
-returns c = run_prints (record { stays = c.unwritten_stays.ensures; done = c.done_is_undisturbed.ensures; fit = c.replies_fit.ensures }) c.serve_keeps.ensures fresh_stands

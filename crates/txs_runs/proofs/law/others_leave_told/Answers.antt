@@ -1,5 +1,0 @@
-use Rattle.txs_runs.proofs.Told as told
-use Rattle.txs_runs.proofs.law.others_leave_told.Goals as goal
-
-pub returns : goal.returns
-returns c = told.others_leave_told

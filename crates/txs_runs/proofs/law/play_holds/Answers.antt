@@ -1,5 +1,0 @@
-use Rattle.txs_runs.proofs.Steps as steps
-use Rattle.txs_runs.proofs.law.play_holds.Goals as goal
-
-pub returns : goal.returns
-returns c = λ cells threads codes y st h. steps.play_holds c.serve_keeps.ensures cells threads codes y st h

@@ -1,9 +1,0 @@
-use Rattle.std.proofs.Common.{rules, arith}
-use Rattle.std.proofs.lemmas.Grind.{common_steps}
-use Rattle.txs_shared.proofs.state.SharedState.books.Goals as goal
-
-pub returns-clause-number : goal.returns-clause-number
-returns-clause-number c = grind (arith, common_steps)
-
-pub returns-clause-rest : goal.returns-clause-rest
-returns-clause-rest c = grind (arith, common_steps)

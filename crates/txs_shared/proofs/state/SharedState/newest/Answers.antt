@@ -1,5 +1,0 @@
-use Rattle.std.proofs.Common.{rules}
-use Rattle.txs_shared.proofs.state.SharedState.newest.Goals as goal
-
-pub returns-in-Atom : goal.returns-in-Atom
-returns-in-Atom c = search rules

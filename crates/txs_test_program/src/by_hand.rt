@@ -1,0 +1,320 @@
+// The comparison of parts that were played by hand: what agrees is gathered, and what doesn't is told.
+ghost use Rattle.txs_threads_gather.specs.Callees.{AreCallees};
+
+use crate::seen::{code_of, has_left};
+use std::alloc::Global;
+use std::mem;
+use txs_code_meaning::Verified;
+use txs_machine::ThreadReport;
+use txs_machine_actor::{Actor, Turn};
+use txs_threads::{Gathered, Played, RunError, gather};
+use txs_threads_gather::sent_functions;
+use txs_value_data::Value;
+use txs_world_protocol::{Ask, Reply};
+use txs_world_shared::SharedState;
+
+/// Two threads that add one to a ref by a commute.
+const ADDERS: &str =
+    "(def c (ref 0)) (future (dosync (commute c inc))) (future (dosync (commute c inc)))";
+
+/// The same, but they take one.
+const TAKERS: &str =
+    "(def c (ref 0)) (future (dosync (commute c dec))) (future (dosync (commute c dec)))";
+
+/// The same over a ref that begins with 1.
+const FROM_ONE: &str =
+    "(def c (ref 1)) (future (dosync (commute c inc))) (future (dosync (commute c inc)))";
+
+/// How many steps an actor may make.
+const STEPS: u64 = 1_000;
+
+/// What two actors shared, how many of their asks were served, and what they did.
+#[derive(Drop)]
+struct Parts<'a> {
+    shared: SharedState,
+    served: u64,
+    both: Vec<Played<'a>>,
+}
+
+/// What is changed of parts that agree, in their making or behind it.
+enum Change {
+    Nothing,
+    /// The second actor makes three turns alone.
+    Middle,
+    /// The second actor reads 7 in place of what is there.
+    Read,
+    /// The second actor has asked, and isn't answered.
+    NoReply,
+    /// The second actor isn't there.
+    NoActor,
+    /// The second actor stands before the first.
+    Order,
+    /// One ask less was served.
+    NoEntry,
+    /// The state is one to which nothing was done.
+    NoEvents,
+    /// The state is one that the actors of another script have made.
+    State(&'static str),
+    /// They are compared by another limit of steps than that by which they were played.
+    Limit,
+}
+
+/// The reply that an actor is told, where another may be told in place of the one that was served.
+fn told(reply: Reply, change: &Change) -> Reply {
+    match change {
+        Change::Read if matches!(reply, Reply::Is(_)) => {
+            drop(reply);
+            Reply::Is(Value::Int(7))
+        }
+        _ => reply,
+    }
+}
+
+/// Serves and answers an actor's ask: whether it goes on.
+fn answer(parts: &mut Parts<'_>, played: &mut Played<'_>, ask: Ask, change: &Change) -> bool {
+    if matches!(change, Change::NoReply) || !parts.shared.lawful(played.number(), &ask) {
+        drop(ask);
+        return false;
+    }
+    let events = parts
+        .shared
+        .numbered_events(parts.shared.book_for(&ask))
+        .len();
+    let at = u32::try_from(events).unwrap_or(u32::MAX);
+    let reply = told(parts.shared.serve(played.number(), ask), change);
+    if !played.may_answer(&reply) {
+        drop(reply);
+        return false;
+    }
+    played.answer(parts.served, at, reply);
+    parts.served = parts.served.saturating_add(1);
+    true
+}
+
+/// One turn of an actor, with its ask served and answered: whether it goes on.
+fn step(parts: &mut Parts<'_>, played: &mut Played<'_>, change: &Change) -> bool {
+    if played.is_asking() {
+        return false;
+    }
+    match played.turn() {
+        Turn::Went => true,
+        Turn::Ended(_) => false,
+        Turn::Asks(ask) => answer(parts, played, ask, change),
+    }
+}
+
+/// Plays an actor up to where it doesn't go on, or three turns.
+fn play(parts: &mut Parts<'_>, played: &mut Played<'_>, change: &Change) {
+    let turns = match change {
+        Change::Middle => 3,
+        _ => 1_000,
+    };
+    for _ in 0..turns {
+        if !step(parts, played, change) {
+            return;
+        }
+    }
+}
+
+/// Plays the actor of a thread, with this change, up to where it doesn't go on, and puts it behind the others: whether there is one.
+#[tactic(auto, using(txs_threads_gather::proofs::Playing::renewed))]
+fn add<'a>(
+    alloc: Global,
+    code: &'a Verified,
+    callees: &'a [bool],
+    parts: &mut Parts<'a>,
+    k: u16,
+    change: &Change,
+) -> bool
+    requires { AreCallees code.now callees.now }
+{
+    if usize::from(k) >= code.code().threads().len() {
+        return false;
+    }
+    let Ok(actor) = Actor::thread(alloc, code, k, STEPS) else {
+        return false;
+    };
+    let mut played = Played::new(alloc, code, callees, actor, STEPS);
+    play(parts, &mut played, change);
+    match parts.both.push(played) {
+        Ok(()) => true,
+        Err(back) => {
+            drop(back);
+            false
+        }
+    }
+}
+
+/// What both did over a state of their own, the second with this change.
+fn play_both<'a>(
+    alloc: Global,
+    code: &'a Verified,
+    callees: &'a [bool],
+    change: &Change,
+) -> Option<Parts<'a>>
+    requires { AreCallees code.now callees.now }
+{
+    let Ok(shared) = SharedState::open(alloc, code.code().cells(), 2) else {
+        return None;
+    };
+    let mut parts = Parts {
+        shared,
+        served: 0,
+        both: Vec::new(alloc),
+    };
+    if add(alloc, code, callees, &mut parts, 0, &Change::Nothing)
+        && add(alloc, code, callees, &mut parts, 1, change)
+    {
+        return Some(parts);
+    }
+    drop(parts);
+    None
+}
+
+/// The state that the actors of a script have made.
+fn state_of(alloc: Global, script: &str) -> Option<SharedState> {
+    let Ok(code) = code_of(alloc, script) else {
+        return None;
+    };
+    let Ok(callees) = sent_functions(alloc, &code) else {
+        return None;
+    };
+    match play_both(alloc, &code, callees.as_slice(), &Change::Nothing) {
+        Some(Parts { shared, both, .. }) => {
+            drop(both);
+            Some(shared)
+        }
+        None => None,
+    }
+}
+
+/// Changes the state for another: whether there is one.
+fn renew(shared: &mut SharedState, other: Option<SharedState>) -> bool {
+    match other {
+        Some(other) => {
+            drop(mem::replace(shared, other));
+            true
+        }
+        None => false,
+    }
+}
+
+/// Changes what was played: whether that can be done.
+fn alter(alloc: Global, code: &Verified, parts: &mut Parts<'_>, change: &Change) -> bool {
+    match change {
+        Change::NoActor => drop(parts.both.pop()),
+        Change::Order => parts.both.reverse(),
+        Change::NoEntry => parts.served = parts.served.saturating_sub(1),
+        Change::NoEvents => {
+            let state = SharedState::open(alloc, code.code().cells(), 2).ok();
+            return renew(&mut parts.shared, state);
+        }
+        Change::State(script) => return renew(&mut parts.shared, state_of(alloc, script)),
+        _ => {}
+    }
+    true
+}
+
+/// Whether parts that agree are gathered as they are. There are two threads: where nothing was changed, the second has one place in its trace, behind
+/// the event of the first, and where it stopped in the middle, it goes on after three steps.
+fn is_gathered(alloc: Global, gathered: &Gathered, change: &Change) -> bool {
+    match gathered.report.threads.as_slice() {
+        [_, second] => match (change, second.trace.as_slice()) {
+            (Change::Nothing, [place]) => {
+                u64::from(place.at) == 1 && has_left(alloc, gathered, STEPS, "done done 2 ")
+            }
+            (Change::Middle, _) => second.outcome.is_none() && second.steps == 3,
+            _ => false,
+        },
+        _ => false,
+    }
+}
+
+/// Whether parts are gathered where they agree, and else told to disagree, when they are compared by this code.
+fn is_told(alloc: Global, by: &Verified, parts: Parts<'_>, change: &Change) -> bool {
+    let steps = match change {
+        Change::Limit => STEPS + 1,
+        _ => STEPS,
+    };
+    let Parts {
+        shared,
+        served,
+        both,
+    } = parts;
+    match gather(alloc, by, steps, shared, served, both) {
+        Ok(gathered) => {
+            let told = is_gathered(alloc, &gathered, change);
+            drop(gathered);
+            told
+        }
+        Err(e) => {
+            e == RunError::JournalMismatch && !matches!(change, Change::Nothing | Change::Middle)
+        }
+    }
+}
+
+/// Plays a code's actors, makes the change, compares them by this code, and says whether that tells what it should.
+fn tells_by(
+    alloc: Global,
+    by: &Verified,
+    code: &Verified,
+    callees: &[bool],
+    change: &Change,
+) -> bool
+    requires { AreCallees code.now callees.now }
+{
+    let Some(mut parts) = play_both(alloc, code, callees, change) else {
+        return false;
+    };
+    if alter(alloc, code, &mut parts, change) {
+        return is_told(alloc, by, parts, change);
+    }
+    drop(parts);
+    false
+}
+
+/// The same, with the code of a script.
+fn tells(alloc: Global, by: &Verified, script: &str, change: &Change) -> bool {
+    let Ok(code) = code_of(alloc, script) else {
+        return false;
+    };
+    let Ok(callees) = sent_functions(alloc, &code) else {
+        return false;
+    };
+    tells_by(alloc, by, &code, callees.as_slice(), change)
+}
+
+/// Scripts whose actors are played, what is changed, and its name.
+const CHANGES: [(&str, Change, &str); 11] = [
+    (ADDERS, Change::Nothing, "nothing"),
+    (ADDERS, Change::Middle, "in the middle"),
+    (ADDERS, Change::NoActor, "no actor"),
+    (ADDERS, Change::NoEvents, "no events"),
+    (ADDERS, Change::NoEntry, "no entry"),
+    (ADDERS, Change::NoReply, "no reply"),
+    (ADDERS, Change::Order, "order"),
+    (ADDERS, Change::Read, "read"),
+    (TAKERS, Change::State(ADDERS), "other code"),
+    (ADDERS, Change::State(FROM_ONE), "other cells"),
+    (ADDERS, Change::Limit, "limit"),
+];
+
+/// The name of the first of these changes of which the comparison by the code of the adders doesn't tell what it should, or nothing.
+fn first_other(alloc: Global, rows: &[(&str, Change, &'static str)]) -> &'static str {
+    let Ok(by) = code_of(alloc, ADDERS) else {
+        return "no code";
+    };
+    let mut other = "";
+    for (script, change, name) in rows {
+        if other.is_empty() && !tells(alloc, &by, script, change) {
+            other = name;
+        }
+    }
+    other
+}
+
+#[test]
+fn agrees_or_is_told(rt: HostRuntime) {
+    let other = first_other(rt.alloc(), &CHANGES);
+    assert!(rt; other.is_empty(), "{other}");
+}

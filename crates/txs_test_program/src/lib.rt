@@ -1,0 +1,27 @@
+//! What no contract says of the program, and no row of txs_test_examples shows: the program beside the evaluators, streams that
+//! fail, and the limits of programs; and of running threads: that a report comes and is no mismatch, that workers run at once,
+//! and that parts that don't agree are told.
+#![tactic(auto)]
+
+#[cfg(test)]
+mod at_once;
+#[cfg(test)]
+mod by_hand;
+#[cfg(test)]
+mod code;
+#[cfg(test)]
+mod every_schedule;
+#[cfg(test)]
+mod limits;
+#[cfg(test)]
+mod meanings;
+#[cfg(test)]
+mod program;
+#[cfg(test)]
+mod runs;
+#[cfg(test)]
+mod seen;
+#[cfg(test)]
+mod streams;
+#[cfg(test)]
+mod workers;

@@ -1,0 +1,113 @@
+// The program, where workers run what it is told to run: as `main` does it, with `run_threads` handed in.
+ghost use Rattle.std.specs.Thread.{IsSync};
+ghost use Rattle.txs_cli.specs.Runner.{IsRunnable, RunsLawfully};
+
+use std::alloc::Global;
+use std::sync::Wait;
+use std::thread::Threads;
+use txs_cli::play_with;
+use txs_cli_args::Words;
+use txs_code_meaning::Verified;
+use txs_machine::{Report, RunError};
+use txs_threads::{Gathered, OpenGate, run_threads};
+use txs_world_shared::SharedState;
+
+/// Writes what the program does for these words and this input, and to the standard error: its status.
+fn written<T: Threads + Wait + Sync>(
+    threads: &T,
+    alloc: Global,
+    words: &Words,
+    input: &[u8],
+    output: &mut Vec<u8>,
+    errors: &mut Vec<u8>,
+) -> u8 {
+    let mut reader = input;
+    play_with(
+        alloc,
+        &|alloc: Global, code: &Verified, workers: usize, steps: u64| -> Result<
+            (SharedState, Report),
+            RunError,
+        >
+            requires sync { IsSync T.row }
+            requires few { IsRunnable code.now }
+            ensures { RunsLawfully code.now steps result }
+        {
+            let Gathered { shared, report } = run_threads(
+                threads, alloc, code, workers, steps, &OpenGate,
+            )?;
+            Ok((shared, report))
+        },
+        words,
+        &mut reader,
+        output,
+        errors,
+    )
+}
+
+/// Two threads, of which one waits for the other, and an agent to which a transaction sends.
+const SCRIPT: &[u8] = b"(def r (ref 0)) (def g (agent 0))
+(defn wait [] (if (= (dosync @r) 5) (println :done) (recur)))
+(future (dosync (alter r + 1) (send g + 2)))
+(future (dosync (alter r + 4)) (wait))";
+
+/// Whether the program ends so for these words and this input, where it writes this, and this to the standard error.
+fn writes<T: Threads + Wait + Sync>(
+    threads: &T,
+    alloc: Global,
+    words: Words,
+    input: &[u8],
+    status: u8,
+    text: &[u8],
+    fault: &[u8],
+) -> bool {
+    let mut output = Vec::new(alloc);
+    let mut errors = Vec::new(alloc);
+    let ended = written(threads, alloc, &words, input, &mut output, &mut errors);
+    drop(words);
+    ended == status && output.as_slice() == text && errors.as_slice() == fault
+}
+
+/// The words of a run of a script by so many workers, with the cells behind it.
+fn work(workers: u64) -> Words {
+    Words::Work {
+        file: None,
+        workers,
+        steps: 100_000_000,
+        cells: true,
+        events: false,
+        explain: false,
+    }
+}
+
+/// What the script leaves.
+const LEFT: &[u8] = b":done\nr 5\ng 2\n";
+
+/// Whether two workers leave the same where they run the script's code in its byte form.
+fn code_leaves<T: Threads + Wait + Sync>(threads: &T, alloc: Global) -> bool {
+    let words = Words::Build {
+        file: None,
+        out: String::new(alloc),
+        explain: false,
+    };
+    let mut code = Vec::new(alloc);
+    let mut errors = Vec::new(alloc);
+    let status = written(threads, alloc, &words, SCRIPT, &mut code, &mut errors);
+    drop(words);
+    let words = Words::WorkCode {
+        file: None,
+        workers: 2,
+        steps: 100_000_000,
+        cells: true,
+        events: false,
+    };
+    status == 0 && writes(threads, alloc, words, code.as_slice(), 0, LEFT, b"")
+}
+
+#[test]
+fn workers_run_a_script_and_its_code(rt: HostRuntime) {
+    let alloc = rt.alloc();
+    let none = b"run failed: NoThread\n".as_slice();
+    assert!(rt; writes(&rt, alloc, work(2), SCRIPT, 0, LEFT, b""));
+    assert!(rt; writes(&rt, alloc, work(0), SCRIPT, 4, b"", none));
+    assert!(rt; code_leaves(&rt, alloc));
+}

@@ -1,0 +1,156 @@
+// What no clause says: that copies of asks, replies, events and actions are made with ample memory.
+use crate::asks::{action_of, ask_of};
+use std::alloc::Global;
+use txs_value_base::{Callee, Fault, FaultKind, Op, Span};
+use txs_value_cell::{Action, copy_action};
+use txs_value_data::{CellId, CellKind, Listed, Value};
+use txs_world_protocol::{
+    Ask, Event, EventKind, Reply, copy_ask, copy_event, copy_reply, copy_writes,
+};
+
+const REF: CellId = CellId {
+    kind: CellKind::Ref,
+    number: 3,
+};
+
+const AGENT: CellId = CellId {
+    kind: CellKind::Agent,
+    number: 0,
+};
+
+const FAULT: Fault = Fault {
+    kind: FaultKind::DivideByZero,
+    span: Span { from: 27, to: 42 },
+};
+
+// `(send g quot 0)`
+fn quotient(alloc: Global) -> Action {
+    action_of(alloc, AGENT, Op::Quot, "0", FAULT.span)
+}
+
+// Whether an action is that.
+fn is_quotient(action: &Action) -> bool {
+    matches!(action.args.as_slice(), [Value::Int(divisor)] if *divisor == 0)
+        && action.agent == AGENT
+        && action.callee == Callee::Core(Op::Quot)
+        && action.span == FAULT.span
+}
+
+// Whether such an action is copied, and an ask that sends it.
+fn are_sends_copied(alloc: Global) -> bool {
+    let action = quotient(alloc);
+    let is = match copy_action(alloc, &action) {
+        Ok(copy) => is_quotient(&copy),
+        Err(_) => false,
+    };
+    let ask = Ask::Send { action };
+    let copy = copy_ask(alloc, &ask);
+    drop(ask);
+    let sends = matches!(&copy, Ok(Ask::Send { action }) if is_quotient(action));
+    drop(copy);
+    is && sends
+}
+
+// Whether writes set a ref to 7.
+fn set_seven(writes: &Listed<(CellId, Value)>) -> bool {
+    matches!(writes.as_slice(), [(cell, Value::Int(n))] if *cell == REF && *n == 7)
+}
+
+// Whether an ask is a commit that sets it to 7, and so does the copy of its writes.
+fn is_commit(alloc: Global, ask: &Ask) -> bool {
+    let Ask::Commit { at, sets, view, .. } = ask else {
+        return false;
+    };
+    let copied = match copy_writes(alloc, sets) {
+        Ok(copy) => set_seven(&copy),
+        Err(_) => false,
+    };
+    copied && *at == 5 && *view == 6 && set_seven(sets)
+}
+
+// Whether that commit is copied.
+fn is_commit_copied(alloc: Global) -> bool {
+    let mut words = "commit 5 6 3=7 - - -".split_whitespace();
+    let ask = ask_of(alloc, &mut words);
+    let copy = copy_ask(alloc, &ask);
+    drop(ask);
+    let is = matches!(&copy, Ok(copy) if is_commit(alloc, copy));
+    drop(copy);
+    is
+}
+
+// Whether a reply is copied, as that action which is an agent's first, on the state 10, or as a value, which is true.
+fn is_reply_copied(alloc: Global, reply: Reply) -> bool {
+    let copy = copy_reply(alloc, &reply);
+    drop(reply);
+    let is = match &copy {
+        Ok(
+            Reply::Action {
+                number,
+                action,
+                state: Value::Int(state),
+            },
+        ) => *number == 1 && *state == 10 && is_quotient(action),
+        Ok(Reply::Is(Value::Truth(truth))) => *truth,
+        _ => false,
+    };
+    drop(copy);
+    is
+}
+
+// Whether an event of the third actor is copied, as what is told of that ref or of that agent's first action, which came to that fault.
+fn is_event_copied(alloc: Global, kind: EventKind) -> bool {
+    let event = Event { actor: 2, kind };
+    let copy = copy_event(alloc, &event);
+    drop(event);
+    let is = match &copy {
+        Ok(Event { actor: 2, kind }) => match kind {
+            EventKind::Retry {
+                since,
+                cell,
+                commute,
+            } => *since == 4 && *cell == REF && *commute,
+            EventKind::Act {
+                agent,
+                number,
+                new: Err(fault),
+            } => *agent == AGENT && *number == 1 && *fault == FAULT,
+            _ => false,
+        },
+        _ => false,
+    };
+    drop(copy);
+    is
+}
+
+#[test]
+fn copies_asks(rt: HostRuntime) {
+    assert!(rt; are_sends_copied(rt.alloc()) && is_commit_copied(rt.alloc()));
+}
+
+#[test]
+fn copies_replies(rt: HostRuntime) {
+    let first = Reply::Action {
+        number: 1,
+        action: quotient(rt.alloc()),
+        state: Value::Int(10),
+    };
+    let is = is_reply_copied(rt.alloc(), first);
+    assert!(rt; is && is_reply_copied(rt.alloc(), Reply::Is(Value::Truth(true))));
+}
+
+#[test]
+fn copies_events(rt: HostRuntime) {
+    let retry = EventKind::Retry {
+        since: 4,
+        cell: REF,
+        commute: true,
+    };
+    let is = is_event_copied(rt.alloc(), retry);
+    let act = EventKind::Act {
+        agent: AGENT,
+        number: 1,
+        new: Err(FAULT),
+    };
+    assert!(rt; is_event_copied(rt.alloc(), act) && is);
+}

@@ -1,0 +1,65 @@
+-- A program explains all that its threads and its agents did in one run.
+use Rattle.std.proofs.Common.{◌≡◌, ℕ, zero, suc, true, nat_lt, List, [], ◌∷◌, length, Some, refl, sym, subst, arith}
+use Rattle.std.proofs.lemmas.Bool.Decides.{nat_tests}
+use Rattle.txs_value_base.specs.Places.{nth}
+use Rattle.txs_tree_meaning.specs.Tree.{PlainThread, PlainProgram}
+use Rattle.txs_code_meaning.specs.Machine.{PlainBody, ThreadCode}
+use Rattle.txs_theorem_threads.specs.Follows.{Follows}
+use Rattle.txs_theorem_threads.specs.FollowsAgent.{FollowsAgents}
+use Rattle.txs_theorem_threads.specs.FollowsAll.{source_of, FollowsAll}
+use Rattle.txs_theorem_threads.specs.Sends.{CodeSendsSound, CodesSendSound}
+use Rattle.txs_world.specs.Laws.{ServeKeeps, ActionStays, RefusedIsUndisturbed}
+use Rattle.txs_theorem_runs.specs.Agents.{ThreadsSendSound}
+use Rattle.txs_theorem_runs.specs.Explains.{Explains, code_or_none, ProgramExplains}
+use Rattle.txs_theorem_runs.specs.Report.{RunsProgram, CodesStaged, TypedAreStaged, RunReported}
+use Rattle.txs_theorem_runs.specs.Run.{Play, plays}
+use Rattle.txs_theorem_runs.specs.Staged.{StagedCode}
+use Rattle.txs_theorem_runs.specs.Standing.{StandingCode}
+use Rattle.txs_theorem_runs.proofs.Agents.{run_acts_mean}
+use Rattle.txs_theorem_runs.proofs.Known.{standing_staged}
+use Rattle.txs_theorem_runs.proofs.Refused.{run_refusals}
+use Rattle.txs_theorem_runs.proofs.Tracing.{run_traced}
+use Rattle.txs_theorem_runs.proofs.Typed as typed
+use Rattle.txs_theorem_runs.proofs.Whole.{Lower, FreshStands, has_code, run_explained}
+
+-- a code there is for each number below their count
+code_below : (cs : List ThreadCode) (a : ℕ) → nat_lt a (length cs) ≡ true → (c : ThreadCode) × (nth cs a ≡ Some c)
+code_below [] a lt = absurd (grind (arith, nat_tests, lt))
+code_below (c ∷ cs) zero lt = (c, refl)
+code_below (c ∷ cs) (suc a) lt = code_below cs a (grind (arith, nat_tests, lt))
+
+pub typed_staged : TypedAreStaged
+typed_staged code function_rooms thread_rooms well i c e = standing_staged c (subst (λ o. StandingCode (code_or_none o)) e (typed.typed_actors_stand code function_rooms thread_rooms i well))
+
+module _ (p : PlainProgram) (threads : List ThreadCode) (functions : List PlainBody) (codes : ℕ → ThreadCode) (ys : List Play)
+    (f : FollowsAll threads p) (agents : FollowsAgents functions p.functions) (stage : CodesStaged threads) (by : CodesSendSound p.functions threads) (run : RunsProgram p threads functions codes) where
+  threads_send : ThreadsSendSound (length p.threads) codes p.functions
+  threads_send a lt =
+      let c = code_below threads a (subst (λ n. nat_lt a n ≡ true) (sym f.as_many) lt) in
+      subst (CodeSendsSound p.functions) (sym (run.threads_run a c.0 c.1)) (by a c.0 c.1)
+
+  module _ (i : ℕ) (t : PlainThread) (e : nth p.threads i ≡ Some t) where
+    code : (c : ThreadCode) × (nth threads i ≡ Some c)
+    code = has_code threads p.threads i t f.as_many e
+
+    thread_staged : StagedCode (codes i)
+    thread_staged = subst StagedCode (sym (run.threads_run i code.0 code.1)) (stage i code.0 code.1)
+
+    thread_follows : Follows (codes i) (source_of p t)
+    thread_follows = subst (λ c. Follows c (source_of p t)) (sym (run.threads_run i code.0 code.1)) (f.each i code.0 t code.1 e)
+
+  program_explains : Explains p.cells (length p.threads) codes (plays p.cells (length p.threads) codes ys) → ProgramExplains p (plays p.cells (length p.threads) codes ys)
+  program_explains h = record {
+    books = h.books;
+    threads = λ i t e. (h.actors i (thread_staged i t e)).means (source_of p t) refl (thread_follows i t e);
+    traced = λ i t e. (h.actors i (thread_staged i t e)).traced;
+    undisturbed = λ i t e. (h.actors i (thread_staged i t e)).undisturbed;
+  }
+
+pub run_reported : Lower → ServeKeeps → ActionStays → RefusedIsUndisturbed → FreshStands → RunReported
+run_reported lower keeps stays refused fresh p threads functions codes ys f agents staged sends run = record {
+  threads = program_explains p threads functions codes ys f agents staged sends run (run_explained lower keeps fresh p.cells (length p.threads) codes ys);
+  agents = run_acts_mean keeps stays fresh p.cells (length p.threads) codes functions p.functions ys agents run.agents_run (threads_send p threads functions codes ys f agents staged sends run);
+  traced = run_traced keeps fresh p.cells (length p.threads) codes ys;
+  refused = λ i t e. run_refusals refused keeps fresh p.cells (length p.threads) codes ys i (thread_staged p threads functions codes ys f agents staged sends run i t e);
+}

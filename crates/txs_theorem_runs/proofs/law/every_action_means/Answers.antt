@@ -1,0 +1,6 @@
+use Rattle.txs_theorem_runs.proofs.Agents.{run_acts_mean}
+use Rattle.txs_theorem_runs.proofs.Told.{fresh_stands}
+use Rattle.txs_theorem_runs.proofs.law.every_action_means.Goals as goal
+
+pub returns : goal.returns
+returns c = run_acts_mean c.serve_keeps.ensures c.action_stays.ensures fresh_stands

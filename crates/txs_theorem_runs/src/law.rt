@@ -1,0 +1,164 @@
+//! What the sources of threads say of runs over what they share. Each law stands on a function of its own, which does nothing when it
+//! runs.
+
+ghost use Rattle.txs_theorem_runs.specs.Agents.{ConsumesActions, RunActsMean};
+ghost use Rattle.txs_theorem_runs.specs.Explains.{RunExplained, ProgramExplained};
+ghost use Rattle.txs_theorem_runs.specs.Invariant.{OpeningHolds, PlayHolds, InvariantExplains};
+ghost use Rattle.txs_theorem_runs.specs.Lawful.{RunAsksLawful, TypedStands, TypedActorsStand};
+ghost use Rattle.txs_theorem_runs.specs.Laws.{ToldFits, ServedIsTold, OthersLeaveTold, AloneHistory};
+ghost use Rattle.txs_theorem_runs.specs.Printed.{RunPrints};
+ghost use Rattle.txs_theorem_runs.specs.Refused.{RunRefusals};
+ghost use Rattle.txs_theorem_runs.specs.Report.{RunTraced, RunReported, TypedAreStaged};
+ghost use Rattle.txs_theorem_runs.specs.Standing.{StandingIsStaged};
+
+use txs_theorem_threads::replies_fit;
+use txs_world::law::{action_stays, done_is_undisturbed, refused_is_undisturbed, serve_keeps};
+use txs_world_book::law::{history_of_whole, unwritten_stays};
+
+/// Every run is explained: its books are legal, each commit was undisturbed, and each source that an actor's code follows means just
+/// what the actor did, with what it printed and how it ended.
+pub fn every_run_is_explained()
+    ensures { RunExplained }
+{
+    unwritten_stays();
+    serve_keeps();
+    done_is_undisturbed();
+    replies_fit();
+}
+
+/// Each program that the code follows explains every run of the code.
+pub fn every_program_explains_its_runs()
+    ensures { ProgramExplained }
+{
+    unwritten_stays();
+    serve_keeps();
+    done_is_undisturbed();
+    replies_fit();
+}
+
+/// Each actor, also one that was stopped, has printed at least what each source that its code follows
+/// means on all that the actor did but the last.
+pub fn every_actor_has_printed()
+    ensures { RunPrints }
+{
+    unwritten_stays();
+    serve_keeps();
+    done_is_undisturbed();
+    replies_fit();
+}
+
+/// Where the constants of all code and the opening values name defined cells alone, every ask of a thread
+/// whose instructions stand where they may is lawful: so it is not stopped for what it asks.
+pub fn every_ask_is_lawful()
+    ensures { RunAsksLawful }
+{
+    serve_keeps();
+}
+
+/// Code whose instructions stand where they may asks at most once a turn, and each ask comes in its stage.
+pub fn standing_is_staged()
+    ensures { StandingIsStaged }
+{}
+
+/// The instructions of each thread of well-typed code stand where they may.
+pub fn typed_stands()
+    ensures { TypedStands }
+{}
+
+/// So do those of each actor's code, also of one that no thread has.
+pub fn typed_actors_stand()
+    ensures { TypedActorsStand }
+{}
+
+/// So the code of each thread of well-typed code asks at most once a turn, and each ask comes in its stage.
+pub fn typed_threads_are_staged()
+    ensures { TypedAreStaged }
+{}
+
+/// What holds between the plays of a run holds before the first.
+pub fn opening_holds()
+    ensures { OpeningHolds }
+{}
+
+/// Each play keeps what holds between plays.
+pub fn play_holds()
+    ensures { PlayHolds }
+{
+    serve_keeps();
+}
+
+/// Where this holds, the run so far is explained.
+pub fn invariant_explains()
+    ensures { InvariantExplains }
+{
+    unwritten_stays();
+    done_is_undisturbed();
+    replies_fit();
+}
+
+/// What an actor was told fits what it did.
+pub fn told_fits()
+    ensures { ToldFits }
+{
+    unwritten_stays();
+}
+
+/// An ask in its stage, answered by what is shared: with this entry behind them, the actor's entries are told by the books after it.
+pub fn served_is_told()
+    ensures { ServedIsTold }
+{}
+
+/// What another actor adds to the books leaves what an actor was told.
+pub fn others_leave_told()
+    ensures { OthersLeaveTold }
+{}
+
+/// Of an actor that has the store for itself, what it did is what the store's book says of it.
+pub fn alone_history()
+    ensures { AloneHistory }
+{
+    history_of_whole();
+}
+
+/// A turn that asks for an action, or hands one in, goes on with any reply, and has consumed it.
+pub fn actions_are_consumed()
+    ensures { ConsumesActions }
+{}
+
+/// Each action that an agent hands in is what its callee means on the state that the agent found, of the action that was the first in
+/// its mail; where the action has a meaning, the agent's code comes to hand it in. What the threads send a program may send. An agent
+/// never ends, and prints nothing.
+pub fn every_action_means()
+    ensures { RunActsMean }
+{
+    action_stays();
+    serve_keeps();
+}
+
+/// What a transaction set or ensured wasn't written before its commit was refused, nor what it commuted since its view; the agent is that
+/// of its first held send whose agent has failed.
+pub fn every_refusal_is_undisturbed()
+    ensures { RunRefusals }
+{
+    refused_is_undisturbed();
+    serve_keeps();
+}
+
+/// What each actor was told, the books say, and its trace names its own events and no others, whatever its code asks.
+pub fn every_trace_holds()
+    ensures { RunTraced }
+{
+    serve_keeps();
+}
+
+/// A program explains all that its threads and its agents did in one run.
+pub fn every_report_is_explained()
+    ensures { RunReported }
+{
+    unwritten_stays();
+    serve_keeps();
+    done_is_undisturbed();
+    refused_is_undisturbed();
+    action_stays();
+    replies_fit();
+}

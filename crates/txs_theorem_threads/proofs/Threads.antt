@@ -1,0 +1,355 @@
+-- A sound thread's tree on replies that fit is the thread on their events.
+use Rattle.std.proofs.Common.{ℕ, zero, suc, Bool, true, false, List, [], Some, None, Result, Ok, Err, refl, sym, ap, subst, length, inl, ◌≡◌, ◌∷◌, ◌++◌, ◌∙◌, ◌==◌, if◌then◌else◌}
+use Rattle.std.proofs.lemmas.Bool.{false≢true}
+use Rattle.txs_world_protocol.proofs.AskLemmas.{same_value-itself, same_ask-itself}
+use Rattle.txs_world_protocol.specs.Ask.{Exchange, same_cell, same_value, same_action}
+use Rattle.txs_world_protocol.specs.SeenEvent.{SeenEvent, home}
+use Rattle.txs_world_protocol.specs.declared.ask.Ask.TheVariants as ask
+use Rattle.txs_world_protocol.specs.declared.ask.Ask.{Ask}
+use Rattle.txs_world_protocol.specs.declared.ask.Reply.TheVariants as reply
+use Rattle.txs_world_protocol.specs.declared.ask.Reply.{Reply}
+use Rattle.txs_world_protocol.specs.declared.event.EventKind.TheVariants as event
+use Rattle.txs_world_protocol.specs.declared.event.EventKind.{EventKind}
+use Rattle.txs_value_data.proofs.SameLemmas.{number-itself, same_cell-itself}
+use Rattle.txs_value_cell.specs.Cells.{World}
+use Rattle.txs_value_cell.specs.Forms.{rule, cell_of, may_stand}
+use Rattle.txs_value_data.specs.Limits.{reruns}
+use Rattle.txs_value_base.specs.Places.{fault_at}
+use Rattle.txs_value_data.specs.Printed.{printed_line}
+use Rattle.txs_value_cell.specs.declared.action.Action.{Action}
+use Rattle.txs_value_cell.specs.declared.cell.CellDefinition.{CellDefinition}
+use Rattle.txs_value_base.specs.declared.fault.Fault.{Fault}
+use Rattle.txs_value_base.specs.declared.fault.FaultKind.{FaultKind}
+use Rattle.txs_value_base.specs.declared.fault.FaultKind.TheVariants.{AgentFailed}
+use Rattle.txs_value_base.specs.declared.fault.Span.{Span}
+use Rattle.txs_value_cell.specs.declared.form.CellForm.TheVariants as form_of
+use Rattle.txs_value_cell.specs.declared.form.LookForm.{LookForm}
+use Rattle.txs_value_cell.specs.declared.form.LookForm.TheVariants.{Deref, Ensure}
+use Rattle.txs_value_cell.specs.declared.form.PutForm.{PutForm}
+use Rattle.txs_value_cell.specs.declared.form.PutForm.TheVariants.{RefSet, Reset}
+use Rattle.txs_value_cell.specs.declared.form.UpdateForm.{UpdateForm}
+use Rattle.txs_value_cell.specs.declared.form.UpdateForm.TheVariants as update_of
+use Rattle.txs_value_base.specs.declared.op.Callee.{Callee}
+use Rattle.txs_value_data.specs.declared.value.CellId.{CellId}
+use Rattle.txs_value_data.specs.declared.value.Value.{Value}
+use Rattle.txs_value_data.specs.declared.value.Value.TheVariants.{Nil, Cell}
+use Rattle.txs_tree_meaning.specs.Known.{Known, known}
+use Rattle.txs_tree_meaning.specs.Meaning.{Completion, Completes, Recurs, Faults, Retries, Waits, OutOfTurns, Invalid, bind, closed, result_of, Effects, apply, eval, call_at}
+use Rattle.txs_tree_meaning.specs.Sound.{SoundSource}
+use Rattle.txs_tree_meaning.specs.Thread.{ThreadState, eats, meant, reads, resets, faulted, faultless, swaps, sends, Transacting, eats_tx, thread_look, thread_put, around, on_events, thread_meaning}
+use Rattle.txs_tree_meaning.specs.Transaction.{tx_meaning}
+use Rattle.txs_tree_meaning.specs.Tree.{Mark, Tree, ThreadSource}
+use Rattle.txs_code_meaning.specs.ActorState.{ActorState, Reception, Replied, Unreplied, asks, Continue, heard, on_step, step_of, newest_value, peek, just_done, reset_atom, opened, SwapInHand, open_atom, swap_verdict, close_swap, break_swap, send_verdict, sent, send_now, send_action, Verdict, read_cell, assign_cell, print}
+use Rattle.txs_code_meaning.specs.Opening.{fresh}
+use Rattle.txs_theorem_threads.proofs.Account.{Account, account_link}
+use Rattle.txs_theorem_threads.proofs.Callees.{Keeps, IsPure}
+use Rattle.txs_theorem_threads.proofs.Placed.{MayCallAt, placed, thread_placed, function_placed}
+use Rattle.txs_theorem_threads.proofs.Quiet.{carried, IsQuiet, quietly, callee_carried}
+use Rattle.txs_theorem_threads.proofs.Related.{Link, Related, Applied, closed_related, Alike, eval_related, calls_related}
+use Rattle.txs_theorem_threads.proofs.Tries.{tries_related}
+use Rattle.txs_theorem_threads.proofs.Worlds.{IsShort, answered, on_cell_related, tx_related}
+use Rattle.txs_theorem_threads.specs.EndsSo.{in_hand}
+use Rattle.txs_theorem_threads.specs.Behaves.{source}
+use Rattle.txs_theorem_threads.specs.OnReplies.{res, telling, tries, swap_concludes, swaps_on, on_replies, Anew}
+use Rattle.txs_theorem_threads.specs.RepliesFit.{Out, WithSwap, OnEvent, SaysRead, SaysSwap, SaysBroke, SaysSent, SaysSendRefused, ReplyFits, halted}
+
+-- ---- what forms are at their events
+
+read_as : (c : CellId) (v : Value) (kind : EventKind) (C : World) (t : ThreadState) → SaysRead c kind → C c.number ≡ v → reads c kind C t ≡ Completes v t
+read_as c v (event.Read d) C t says e = ap (λ b. meant b (C c.number) t) (ap (λ x. same_cell c x) (sym says) ∙ same_cell-itself c) ∙ ap (λ w. Completes w t) e
+read_as c v _ C t says e = absurd says
+
+reset_as : (v : Value) (kind : EventKind) (t : ThreadState) → SaysSwap v kind → resets v kind t ≡ Completes v t
+reset_as v (event.Swap w) t says = ap (λ b. meant b v t) (ap (λ x. same_value v x) (sym says) ∙ same_value-itself v)
+reset_as v _ t says = absurd says
+
+sent_as : (a : Action) (span : Span) (kind : EventKind) (t : ThreadState) → SaysSent a kind → sends a span kind t ≡ Completes (Cell a.agent) t
+sent_as a span (event.Send b) t says = ap (λ z. meant z (Cell a.agent) t) (ap (λ x. same_action a x) (sym says) ∙ same_ask-itself (ask.Send a))
+sent_as a span _ t says = absurd says
+
+denied_as : (a : Action) (g : CellId) (span : Span) (kind : EventKind) (t : ThreadState) → a.agent ≡ g → SaysSendRefused g kind → sends a span kind t ≡ Faults (fault_at AgentFailed span) t
+denied_as a g span (event.SendRefused h) t e says =
+    ap (λ z. if z then Faults (fault_at AgentFailed span) t else Invalid) (ap (λ x. same_cell a.agent x) (sym (e ∙ says)) ∙ same_cell-itself a.agent)
+denied_as a g span _ t e says = absurd says
+
+module _ (c : CellId) (f : Value → ThreadState → Completion ThreadState Value) (R C : World) (t : ThreadState) where
+  swap_as : (kind : EventKind) (v w : Value) → f v t ≡ Completes w t → C c.number ≡ v → SaysSwap w kind → swaps c f kind R C t ≡ Completes w t
+  swap_as (event.Swap x) v w made e says =
+      ap (λ z. faultless (f z t) (λ y t1. meant (same_value y x) y t1)) e ∙ ap (λ r. faultless r (λ y t1. meant (same_value y x) y t1)) made
+      ∙ ap (λ b. meant b w t) (ap (λ y. same_value w y) (sym says) ∙ same_value-itself w)
+  swap_as _ v w made e says = absurd says
+
+  broke_as : (kind : EventKind) (v : Value) (y : Fault) → f v t ≡ Faults y t → R c.number ≡ v → SaysBroke kind → swaps c f kind R C t ≡ Faults y t
+  broke_as (event.Broke at) v y made e says = ap (λ z. faulted (f z t) (λ g t1. Faults g t1)) e ∙ ap (λ r. faulted r (λ g t1. Faults g t1)) made
+  broke_as _ v y made e says = absurd says
+
+module _ (cells : List CellDefinition) (a : Account cells) where
+  abbrev k : Link ActorState ThreadState
+  k = account_link cells a
+
+  -- an event of this book is eaten
+  eats_event : (book : ℕ) (go : SeenEvent → ThreadState → Completion ThreadState Value) (P : SeenEvent → Type 0) (next : List SeenEvent → Type 0) (x : Completion ActorState Value) (es : List SeenEvent) (t : ThreadState) → OnEvent book P next es
+      → ((e : SeenEvent) (es1 : List SeenEvent) → P e → next es1 → Related k x (go e (record t { todo = es1 ++ a.tail }))) → Related k x (eats book go (es ++ a.tail) t)
+  eats_event book go P next x [] t m h = absurd m
+  eats_event book go P next x (e ∷ es) t m h =
+      subst (λ b. Related k x (if b then go e (record t { todo = es ++ a.tail }) else Invalid)) (sym (ap (λ n. n == book) m.0 ∙ number-itself book)) (h e es m.1 m.2)
+
+  -- the thread on these events, at a form that eats the next one
+  abbrev at_events : ℕ → (SeenEvent → ThreadState → Completion ThreadState Value) → ThreadState → List SeenEvent → Completion ThreadState Value
+  at_events book go t l = eats book go l (record t { todo = l })
+
+  -- a form that asks once, and eats the event that its ask is
+  asks_once : (book : ℕ) (go : SeenEvent → ThreadState → Completion ThreadState Value) (q : Ask) (x : Reception → Completion ActorState Value) (s : ActorState) (t : ThreadState) → ((u : ActorState) → x (Unreplied u) ≡ Waits u)
+      → k.rel s t → ((es : List SeenEvent) (r : Reply) (xs : List Exchange) → ReplyFits cells Out q r (λ ph1 es1. a.fits ph1 xs es1) es → Related k (x (Replied r (record s { todo = xs }))) (at_events book go t (es ++ a.tail))) → Related k (x (asks q s)) (eats book go t.todo t)
+  asks_once book go q x s t un r h =
+      subst (λ l. Related k (x (asks q s)) (at_events book go t l)) (sym r.2)
+      (answered cells a.fits a.splits Out r.1 q s (λ y. Related k (x y) (at_events book go t (r.1 ++ a.tail))) r.3
+      (subst (λ y. Related k y (at_events book go t (r.1 ++ a.tail))) (sym (un (record s { wants = Some q }))) (a.waiting Out (record s { wants = Some q }) r.1 (at_events book go t) r.3 (refl, r.0)))
+      (λ rep xs m. h r.1 rep xs m))
+
+  -- a value at the event that is eaten
+  event_gives : (book : ℕ) (go : SeenEvent → ThreadState → Completion ThreadState Value) (P : SeenEvent → Type 0) (v : Value) (s : ActorState) (t : ThreadState) (es : List SeenEvent) → t.printed ≡ s.printed → OnEvent book P (a.fits Out s.todo) es
+      → ((e : SeenEvent) (t1 : ThreadState) → P e → go e t1 ≡ Completes v t1) → Related k (Completes v s) (at_events book go t (es ++ a.tail))
+  event_gives book go P v s t es pr m h =
+      eats_event book go P (a.fits Out s.todo) (Completes v s) es (record t { todo = es ++ a.tail }) m
+      (λ e es1 p fits. subst (Related k (Completes v s)) (sym (h e (record t { todo = es1 ++ a.tail }) p)) (refl, (pr, es1, refl, fits)))
+
+  -- a fault there
+  event_breaks : (book : ℕ) (go : SeenEvent → ThreadState → Completion ThreadState Value) (P : SeenEvent → Type 0) (y : Fault) (s : ActorState) (t : ThreadState) (es : List SeenEvent) → t.printed ≡ s.printed → OnEvent book P (a.fits Out s.todo) es
+      → ((e : SeenEvent) (t1 : ThreadState) → P e → go e t1 ≡ Faults y t1) → Related k (Faults y s) (at_events book go t (es ++ a.tail))
+  event_breaks book go P y s t es pr m h =
+      eats_event book go P (a.fits Out s.todo) (Faults y s) es (record t { todo = es ++ a.tail }) m
+      (λ e es1 p fits. subst (Related k (Faults y s)) (sym (h e (record t { todo = es1 ++ a.tail }) p)) (refl, (pr, Out, es1, refl, fits)))
+
+  -- ---- reads, sets of atoms, sends
+
+  peek_answered : (c : CellId) (s : ActorState) (t : ThreadState) (es : List SeenEvent) (r : Reply) (xs : List Exchange) → t.printed ≡ s.printed → ReplyFits cells Out (ask.Peek c) r (λ ph1 es1. a.fits ph1 xs es1) es
+      → Related k (res (heard newest_value (Replied r (record s { todo = xs })))) (at_events (home cells c) (λ e t1. reads c e.kind e.C t1) t (es ++ a.tail))
+  peek_answered c s t es (reply.Is v) xs pr m =
+      event_gives (home cells c) (λ e t1. reads c e.kind e.C t1) (λ e. SaysRead c e.kind × (e.C c.number ≡ v)) v (record s { todo = xs }) t es pr m (λ e t1 p. read_as c v e.kind e.C t1 p.0 p.1)
+  peek_answered c s t es _ xs pr m = tt
+
+  peek_related : (c : CellId) (s : ActorState) (t : ThreadState) → k.rel s t → Related k (res (peek c s)) (eats (home cells c) (λ e t1. reads c e.kind e.C t1) t.todo t)
+  unfolding peek
+  peek_related c s t r = asks_once (home cells c) (λ e t1. reads c e.kind e.C t1) (ask.Peek c) (λ h. res (heard newest_value h)) s t (λ u. refl) r (λ es rep xs m. peek_answered c s t es rep xs r.0 m)
+
+  reset_answered : (c : CellId) (v : Value) (s : ActorState) (t : ThreadState) (es : List SeenEvent) (r : Reply) (xs : List Exchange) → t.printed ≡ s.printed → ReplyFits cells Out (ask.CloseAt c None v) r (λ ph1 es1. a.fits ph1 xs es1) es
+      → Related k (res (on_step (heard just_done (Replied r (record s { todo = xs }))) (λ u s1. Continue v s1))) (at_events (home cells c) (λ e t1. resets v e.kind t1) t (es ++ a.tail))
+  reset_answered c v s t es reply.Done xs pr m =
+      event_gives (home cells c) (λ e t1. resets v e.kind t1) (λ e. SaysSwap v e.kind) v (record s { todo = xs }) t es pr m (λ e t1 p. reset_as v e.kind t1 p)
+  reset_answered c v s t es _ xs pr m = tt
+
+  reset_related : (c : CellId) (v : Value) (s : ActorState) (t : ThreadState) → k.rel s t → Related k (res (reset_atom c v s)) (eats (home cells c) (λ e t1. resets v e.kind t1) t.todo t)
+  unfolding reset_atom
+  reset_related c v s t r =
+      asks_once (home cells c) (λ e t1. resets v e.kind t1) (ask.CloseAt c None v) (λ h. res (on_step (heard just_done h) (λ u s1. Continue v s1))) s t (λ u. refl) r (λ es rep xs m. reset_answered c v s t es rep xs r.0 m)
+
+  send_answered : (act : Action) (s : ActorState) (t : ThreadState) (es : List SeenEvent) (r : Reply) (xs : List Exchange) → t.printed ≡ s.printed → ReplyFits cells Out (ask.Send act) r (λ ph1 es1. a.fits ph1 xs es1) es
+      → Related k (res (on_step (heard send_verdict (Replied r (record s { todo = xs }))) (sent act))) (at_events 0 (λ e t1. sends act act.span e.kind t1) t (es ++ a.tail))
+  send_answered act s t es reply.Done xs pr m =
+      event_gives 0 (λ e t1. sends act act.span e.kind t1) (λ e. SaysSent act e.kind) (Cell act.agent) (record s { todo = xs }) t es pr m (λ e t1 p. sent_as act act.span e.kind t1 p)
+  send_answered act s t es (reply.AgentIsFailed g) xs pr m =
+      event_breaks 0 (λ e t1. sends act act.span e.kind t1) (λ e. (act.agent ≡ g) × SaysSendRefused g e.kind) (fault_at AgentFailed act.span) (record s { todo = xs }) t es pr m (λ e t1 p. denied_as act g act.span e.kind t1 p.0 p.1)
+  send_answered act s t es _ xs pr m = tt
+
+  send_related : (act : Action) (s : ActorState) (t : ThreadState) → k.rel s t → Related k (res (send_now act s)) (eats 0 (λ e t1. sends act act.span e.kind t1) t.todo t)
+  unfolding send_now
+  send_related act s t r = asks_once 0 (λ e t1. sends act act.span e.kind t1) (ask.Send act) (λ h. res (on_step (heard send_verdict h) (sent act))) s t (λ u. refl) r (λ es rep xs m. send_answered act s t es rep xs r.0 m)
+
+  print_related : (vs : List Value) (s : ActorState) (t : ThreadState) → k.rel s t → Related k (res (print false vs s)) (Completes Nil (record t { printed = t.printed ++ printed_line vs }))
+  unfolding print
+  print_related vs s t r = (refl, (ap (λ l. l ++ printed_line vs) r.0, r.1, r.2, r.3))
+
+  -- ---- swaps
+
+  module _ (span : Span) (cv : Value) (c : CellId) (f : Value → ActorState → Completion ActorState Value) (g : Value → ThreadState → Completion ThreadState Value) (q : Value → Completion (Unit {0}) Value)
+      (left : (v : Value) (s : ActorState) → (f v s ≡ carried s (q v)) × IsQuiet (q v)) (right : (v : Value) (t : ThreadState) → (g v t ≡ carried t (q v)) × IsQuiet (q v)) where
+    -- what the thread does on an event
+    abbrev swapped : SeenEvent → ThreadState → Completion ThreadState Value
+    swapped e t = swaps c g e.kind e.R e.C t
+
+    -- what is left of the swap follows the thread
+    abbrev FollowsSwap : ℕ → Type 0
+    FollowsSwap n = (s : ActorState) (t : ThreadState) → k.rel s t → Related k (swaps_on n span cv f s) (eats (home cells c) swapped t.todo t)
+
+    module _ (n : ℕ) (next : FollowsSwap n) (at : ℕ) (W : World) (v : Value) (there : W c.number ≡ v) where
+      abbrev in_hand_now : SwapInHand
+      in_hand_now = record { cell = c; at = at }
+
+      -- what comes after the callee, and after the close
+      abbrev after_close : Value → Verdict → ActorState → Completion ActorState Value
+      after_close w d s = swap_concludes d w (swaps_on n span cv f) s
+
+      abbrev after_callee : Value → ActorState → Completion ActorState Value
+      after_callee w s = bind (res (close_swap in_hand_now w s)) (after_close w)
+
+      close_answered : (w : Value) (u : Unit {0}) (s : ActorState) (t : ThreadState) (es : List SeenEvent) (r : Reply) (xs : List Exchange) → q v ≡ Completes w u → t.printed ≡ s.printed → ReplyFits cells (WithSwap c W) (ask.CloseAt c (Some at) w) r (λ ph1 es1. a.fits ph1 xs es1) es
+          → Related k (bind (res (heard swap_verdict (Replied r (record s { todo = xs })))) (after_close w)) (at_events (home cells c) swapped t (es ++ a.tail))
+      close_answered w u s t es reply.Done xs z pr m =
+          event_gives (home cells c) swapped (λ e. (c ≡ c) × (W c.number ≡ e.C c.number) × SaysSwap w e.kind) w (record s { todo = xs }) t es pr m
+          (λ e t1 h. swap_as c g e.R e.C t1 e.kind v w ((right v t1).0 ∙ ap (carried t1) z) (sym h.1 ∙ there) h.2)
+      close_answered w u s t es (reply.Changed x) xs z pr m = next (record s { todo = xs }) (record t { todo = es ++ a.tail }) (pr, es, refl, m)
+      close_answered w u s t es _ xs z pr m = tt
+
+      close_related : (w : Value) (u : Unit {0}) (s : ActorState) (t : ThreadState) (es : List SeenEvent) → q v ≡ Completes w u → t.printed ≡ s.printed → a.fits (WithSwap c W) s.todo es → Related k (after_callee w s) (at_events (home cells c) swapped t (es ++ a.tail))
+      unfolding close_swap
+      close_related w u s t es z pr fits =
+          answered cells a.fits a.splits (WithSwap c W) es (ask.CloseAt c (Some at) w) s (λ h. Related k (bind (res (heard swap_verdict h)) (after_close w)) (at_events (home cells c) swapped t (es ++ a.tail))) fits
+          (a.waiting (WithSwap c W) (record s { wants = _ }) es (at_events (home cells c) swapped t) fits (refl, pr)) (λ r xs m. close_answered w u s t es r xs z pr m)
+
+      break_answered : (y : Fault) (u : Unit {0}) (s : ActorState) (t : ThreadState) (es : List SeenEvent) (r : Reply) (xs : List Exchange) → q v ≡ Faults y u → t.printed ≡ s.printed → ReplyFits cells (WithSwap c W) (ask.Broke c at) r (λ ph1 es1. a.fits ph1 xs es1) es
+          → Related k (bind (res (heard just_done (Replied r (record s { todo = xs })))) (λ x s1. Faults y s1)) (at_events (home cells c) swapped t (es ++ a.tail))
+      break_answered y u s t es reply.Done xs z pr m =
+          event_breaks (home cells c) swapped (λ e. (c ≡ c) × (W ≡ e.R) × SaysBroke e.kind) y (record s { todo = xs }) t es pr m
+          (λ e t1 h. broke_as c g e.R e.C t1 e.kind v y ((right v t1).0 ∙ ap (carried t1) z) (ap (λ Z. Z c.number) (sym h.1) ∙ there) h.2)
+      break_answered y u s t es _ xs z pr m = tt
+
+      break_related : (y : Fault) (u : Unit {0}) (s : ActorState) (t : ThreadState) (es : List SeenEvent) → q v ≡ Faults y u → t.printed ≡ s.printed → a.fits (WithSwap c W) s.todo es → Related k (bind (res (break_swap in_hand_now s)) (λ x s1. Faults y s1)) (at_events (home cells c) swapped t (es ++ a.tail))
+      unfolding break_swap
+      break_related y u s t es z pr fits =
+          answered cells a.fits a.splits (WithSwap c W) es (ask.Broke c at) s (λ h. Related k (bind (res (heard just_done h)) (λ x s1. Faults y s1)) (at_events (home cells c) swapped t (es ++ a.tail))) fits
+          (a.waiting (WithSwap c W) (record s { wants = _ }) es (at_events (home cells c) swapped t) fits (refl, pr)) (λ r xs m. break_answered y u s t es r xs z pr m)
+
+      -- a swap whose callee needs turns needs them at its end
+      swap_short : (u : Unit {0}) (t : ThreadState) (Q : World) → q v ≡ OutOfTurns u → IsShort (halted (at_events (home cells c) swapped t (in_hand cells Q (WithSwap c W))))
+      swap_short u t Q z =
+          let t1 : ThreadState = record t { todo = [] } in
+          let breaks : Completion ThreadState Value → Completion ThreadState Value = λ r. faulted r (λ y t2. Faults y t2) in
+          subst (λ r. IsShort (halted r))
+          (sym (ap (λ b. if b then breaks (g (W c.number) t1) else Invalid) (number-itself (home cells c)) ∙ ap (λ x. breaks (g x t1)) there ∙ ap breaks ((right v t1).0 ∙ ap (carried t1) z))) tt
+
+      callee_comes : (z : Completion (Unit {0}) Value) (s : ActorState) (t : ThreadState) (es : List SeenEvent) → q v ≡ z → IsQuiet z → t.printed ≡ s.printed → a.fits (WithSwap c W) s.todo es
+          → Related k (telling (break_swap in_hand_now) (carried s z) after_callee) (at_events (home cells c) swapped t (es ++ a.tail))
+      callee_comes (Completes w u) s t es z quiet pr fits = close_related w u s t es z pr fits
+      callee_comes (Recurs vs u) s t es z quiet pr fits = tt
+      callee_comes (Faults y u) s t es z quiet pr fits = break_related y u s t es z pr fits
+      callee_comes (Retries u) s t es z quiet pr fits = absurd quiet
+      callee_comes (Waits u) s t es z quiet pr fits = absurd quiet
+      callee_comes (OutOfTurns u) s t es z quiet pr fits = a.shortage (WithSwap c W) s es (at_events (home cells c) swapped t) fits (refl, pr) (λ Q. swap_short u t Q z)
+      callee_comes Invalid s t es z quiet pr fits = tt
+
+      opened_comes : (s : ActorState) (t : ThreadState) (es : List SeenEvent) → t.printed ≡ s.printed → a.fits (WithSwap c W) s.todo es → Related k (telling (break_swap in_hand_now) (f v s) after_callee) (at_events (home cells c) swapped t (es ++ a.tail))
+      opened_comes s t es pr fits =
+          let l = left v s in
+          subst (λ y. Related k (telling (break_swap in_hand_now) y after_callee) (at_events (home cells c) swapped t (es ++ a.tail))) (sym l.0) (callee_comes (q v) s t es refl l.1 pr fits)
+
+    -- what comes after the open
+    abbrev after_open : ℕ → SwapInHand × Value → ActorState → Completion ActorState Value
+    after_open n o s = telling (break_swap o.0) (f o.1 s) (λ w s1. bind (res (close_swap o.0 w s1)) (λ d s2. swap_concludes d w (swaps_on n span cv f) s2))
+
+    open_answered : (n : ℕ) (next : FollowsSwap n) (s : ActorState) (t : ThreadState) (es : List SeenEvent) (r : Reply) (xs : List Exchange) → t.printed ≡ s.printed → ReplyFits cells Out (ask.OpenAt c) r (λ ph1 es1. a.fits ph1 xs es1) es
+        → Related k (bind (res (on_step (heard opened (Replied r (record s { todo = xs }))) (λ x s1. Continue (record { cell = c; at = x.0 }, x.1) s1))) (after_open n)) (at_events (home cells c) swapped t (es ++ a.tail))
+    open_answered n next s t es (reply.Opened p v) xs pr m = opened_comes n next p m.0 v m.1 (record s { todo = xs }) t es pr m.2
+    open_answered n next s t es _ xs pr m = tt
+
+    open_related : (n : ℕ) (next : FollowsSwap n) (s : ActorState) (t : ThreadState) → k.rel s t → Related k (bind (res (open_atom c s)) (after_open n)) (eats (home cells c) swapped t.todo t)
+    unfolding open_atom
+    open_related n next s t r =
+        asks_once (home cells c) swapped (ask.OpenAt c) (λ h. bind (res (on_step (heard opened h) (λ x s1. Continue (record { cell = c; at = x.0 }, x.1) s1))) (after_open n)) s t (λ u. refl) r
+        (λ es rep xs m. open_answered n next s t es rep xs r.0 m)
+
+    swap_related : cell_of (rule (form_of.Update update_of.Swap)) false cv ≡ Ok c → (n : ℕ) → FollowsSwap n
+    swap_related e zero s t r = tt
+    swap_related e (suc n) s t r =
+        subst (λ rc. Related k (bind (res (on_step (step_of rc span s) open_atom)) (after_open n)) (eats (home cells c) swapped t.todo t)) (sym e) (open_related n (swap_related e n) s t r)
+
+  -- a swap on a value that may be no atom
+  swap_of : (span : Span) (cv : Value) (f : Value → ActorState → Completion ActorState Value) (g : Value → ThreadState → Completion ThreadState Value) (q : Value → Completion (Unit {0}) Value)
+      (left : (v : Value) (s : ActorState) → (f v s ≡ carried s (q v)) × IsQuiet (q v)) (right : (v : Value) (t : ThreadState) → (g v t ≡ carried t (q v)) × IsQuiet (q v)) (n : ℕ) (rc : Result CellId FaultKind) → cell_of (rule (form_of.Update update_of.Swap)) false cv ≡ rc
+      → (s : ActorState) (t : ThreadState) → k.rel s t → Related k (swaps_on (suc n) span cv f s) (bind (result_of rc span t) (λ c t1. eats (home cells c) (λ e t2. swaps c g e.kind e.R e.C t2) t1.todo t1))
+  swap_of span cv f g q left right n (Ok c) e s t r = swap_related span cv c f g q left right e (suc n) s t r
+  swap_of span cv f g q left right n (Err y) e s t r =
+      subst (λ rc. Related k (bind (res (on_step (step_of rc span s) open_atom)) (λ o s1. telling (break_swap o.0) (f o.1 s1) (λ w s2. bind (res (close_swap o.0 w s2)) (λ d s3. swap_concludes d w (swaps_on n span cv f) s3)))) (Faults (fault_at y span) t)) (sym e)
+      (refl, k.faults_of s t r)
+
+-- ---- threads
+
+module _ (p : ThreadSource) (sound : SoundSource p) (a : Account p.cells) (n : ℕ) where
+  abbrev link : Link ActorState ThreadState
+  link = account_link p.cells a
+
+  abbrev ks : List Known
+  ks = known p.functions
+
+  abbrev left_calls : ℕ → Bool → ℕ → List Value → ActorState → Completion ActorState Value
+  left_calls d = call_at (λ e. on_replies) n p.functions d
+
+  abbrev right_calls : ℕ → Bool → ℕ → List Value → ThreadState → Completion ThreadState Value
+  right_calls d = call_at (on_events (around p n)) n p.functions d
+
+  abbrev thread_forms : ℕ → Effects ThreadState
+  thread_forms d = on_events (around p n) d
+
+  abbrev left_callee : (d : ℕ) (inside : Bool) (span : Span) (c : Callee) (vs : List Value) (s : ActorState) → IsPure ks c → (apply (left_calls d inside) span c vs s ≡ carried s (quietly n p.functions d span c vs tt)) × IsQuiet (quietly n p.functions d span c vs tt)
+  left_callee d inside span c vs s pure = callee_carried (λ e. on_replies) n inside p.functions sound.functions d span c vs s pure
+
+  abbrev right_callee : (d : ℕ) (inside : Bool) (span : Span) (c : Callee) (vs : List Value) (t : ThreadState) → IsPure ks c → (apply (right_calls d inside) span c vs t ≡ carried t (quietly n p.functions d span c vs tt)) × IsQuiet (quietly n p.functions d span c vs tt)
+  right_callee d inside span c vs t pure = callee_carried (on_events (around p n)) n inside p.functions sound.functions d span c vs t pure
+
+  true_false : true ≡ false → ⊥
+  true_false e = false≢true (sym e)
+
+  thread_alike : (d : ℕ) → Alike ActorState ThreadState link on_replies (thread_forms d) (left_calls d) (right_calls d) n n (λ i. i ≡ false) (placed ks)
+  thread_alike d = record {
+    print = th_print;
+    look = th_look;
+    put = th_put;
+    update = th_update;
+    send = th_send;
+    dosync = th_dosync;
+  }
+    where
+      th_print : (inside : Bool) (vs : List Value) (s : ActorState) (t : ThreadState) → inside ≡ false → link.rel s t → Related link (on_replies.print inside vs s) ((thread_forms d).print inside vs t)
+      th_print true vs s t i r = absurd (true_false i)
+      th_print false vs s t i r = print_related p.cells a vs s t r
+
+      th_look : (form : LookForm) (inside : Bool) (m : Mark) (c : Value) (s : ActorState) (t : ThreadState) → may_stand (rule (form_of.Look form)).stands inside ≡ true → inside ≡ false → link.rel s t → Related link (on_replies.look form inside m c s) ((thread_forms d).look form inside m c t)
+      th_look form true m c s t q i r = absurd (true_false i)
+      th_look Ensure false m c s t q i r = absurd (false≢true q)
+      th_look Deref false m c s t q i r =
+          on_cell_related ThreadState link (cell_of (rule (form_of.Look Deref)) false c) m.span (read_cell Deref false) (thread_look (around p n) Deref) s t r (λ x e. peek_related p.cells a x s t r)
+
+      th_put : (form : PutForm) (inside : Bool) (m : Mark) (c w : Value) (s : ActorState) (t : ThreadState) → may_stand (rule (form_of.Put form)).stands inside ≡ true → inside ≡ false → link.rel s t → Related link (on_replies.put form inside m c w s) ((thread_forms d).put form inside m c w t)
+      th_put form true m c w s t q i r = absurd (true_false i)
+      th_put RefSet false m c w s t q i r = absurd (false≢true q)
+      th_put Reset false m c w s t q i r =
+          on_cell_related ThreadState link (cell_of (rule (form_of.Put Reset)) false c) m.span (assign_cell Reset false m.span w) (λ x t1. thread_put (around p n) Reset x w t1) s t r (λ x e. reset_related p.cells a x w s t r)
+
+      th_update : (form : UpdateForm) (inside : Bool) (m : Mark) (c : Value) (callee : Callee) (vs : List Value) (s : ActorState) (t : ThreadState) → may_stand (rule (form_of.Update form)).stands inside ≡ true → inside ≡ false → IsPure ks callee
+          → (((x : ℕ) → MayCallAt ks inside x) → Applied ActorState ThreadState link (apply (left_calls d inside) m.span) (apply (right_calls d inside) m.span)) → link.rel s t
+          → Related link (on_replies.update form inside m c callee vs (apply (left_calls d inside) m.span) s) ((thread_forms d).update form inside m c callee vs (apply (right_calls d inside) m.span) t)
+      th_update form true m c callee vs s t q i pure h r = absurd (true_false i)
+      th_update update_of.Alter false m c callee vs s t q i pure h r = tt
+      th_update update_of.Commute false m c callee vs s t q i pure h r = tt
+      th_update update_of.Swap false m c callee vs s t q i pure h r =
+          swap_of p.cells a m.span c (λ v s1. apply (left_calls d false) m.span callee (v ∷ vs) s1) (λ v t1. apply (right_calls d false) m.span callee (v ∷ vs) t1) (λ v. quietly n p.functions d m.span callee (v ∷ vs) tt)
+          (λ v s1. left_callee d false m.span callee (v ∷ vs) s1 pure) (λ v t1. right_callee d false m.span callee (v ∷ vs) t1 pure) (length s.todo) (cell_of (rule (form_of.Update update_of.Swap)) false c) refl s t r
+
+      th_send : (inside : Bool) (m : Mark) (c : Value) (callee : Callee) (vs : List Value) (s : ActorState) (t : ThreadState) → inside ≡ false → IsPure ks callee → link.rel s t → Related link (on_replies.send inside m c callee vs s) ((thread_forms d).send inside m c callee vs t)
+      th_send true m c callee vs s t i pure r = absurd (true_false i)
+      th_send false m c callee vs s t i pure r =
+          let act : CellId → Action = λ x. record { agent = x; callee = callee; args = vs; span = m.span } in
+          on_cell_related ThreadState link (cell_of (rule form_of.Send) false c) m.span (λ x s1. send_action false (act x) s1) (λ x t1. eats 0 (λ e t2. sends (act x) m.span e.kind t2) t1.todo t1) s t r (λ x e. send_related p.cells a (act x) s t r)
+
+      th_dosync : (inside : Bool) (m : Mark) (e : Tree) (env : List Value) (s : ActorState) (t : ThreadState) → inside ≡ false → Keeps (placed ks) true e
+          → (true ≡ false → (s1 : ActorState) (t1 : ThreadState) → link.rel s1 t1 → Related link (closed (eval on_replies (left_calls d) n true e env s1)) (closed (eval (thread_forms d) (right_calls d) n true e env t1)))
+          → (((x : ℕ) → MayCallAt ks true x) → true ≡ false → Applied ActorState ThreadState link (apply (left_calls d true) m.span) (apply (right_calls d true) m.span)) → link.rel s t
+          → Related link (on_replies.dosync inside m e env (λ s1. closed (eval on_replies (left_calls d) n true e env s1)) (apply (left_calls d true) m.span) s)
+          ((thread_forms d).dosync inside m e env (λ t1. closed (eval (thread_forms d) (right_calls d) n true e env t1)) (apply (right_calls d true) m.span) t)
+      th_dosync true m e env s t i keeps h h1 r = absurd (true_false i)
+      th_dosync false m e env s t i keeps h h1 r =
+          let tx : Transacting = record { mark = m; body = e; locals = env; on = tx_meaning n p.functions d e env } in
+          subst (λ l. Related link (tries (suc reruns) m.span (λ s1. closed (eval on_replies (left_calls d) n true e env s1)) (apply (left_calls d true) m.span) Anew s) (eats_tx (suc reruns) tx (apply (right_calls d true) m.span) l t)) (sym r.2)
+          (tries_related p.cells a (IsPure ks) tx (λ s1. closed (eval on_replies (left_calls d) n true e env s1)) (apply (left_calls d true) m.span) (apply (right_calls d true) m.span) (quietly n p.functions d m.span)
+          (left_callee d true m.span) (right_callee d true m.span)
+          (λ R s1 es own fits. tx_related p.cells a.fits a.splits R s1.printed es n p.functions sound.functions d e env s1 keeps own fits refl) (suc reruns) Anew s r.1 t r.0 r.3)
+
+  -- a sound thread's tree on exchanges that fit is the thread on their events, and those behind them
+  pub thread_related : (todo : List Exchange) (es : List SeenEvent) → a.fits Out todo es → Related link (source p n todo) (thread_meaning p n (es ++ a.tail))
+  thread_related todo es fits =
+      let d = length p.functions in
+      let t0 : ThreadState = record { todo = es ++ a.tail; printed = []; txs = [] } in
+      closed_related ActorState ThreadState link (eval on_replies (left_calls d) n false p.main [] (fresh todo)) (eval (thread_forms d) (right_calls d) n false p.main [] t0)
+      (eval_related ActorState ThreadState link on_replies (thread_forms d) (left_calls d) (right_calls d) n n (λ i. i ≡ false) (placed ks) (inl refl) (thread_alike d)
+      (calls_related ActorState ThreadState link (λ x. on_replies) thread_forms n n p.functions (λ i. i ≡ false) (placed ks) (inl refl) thread_alike (function_placed p.functions sound.functions) d)
+      p.main false [] (fresh todo) t0 (thread_placed ks p.main 0 None sound.main) refl (refl, es, refl, fits))

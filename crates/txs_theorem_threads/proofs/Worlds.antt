@@ -1,0 +1,355 @@
+-- A tree on replies that fit is the tree on their worlds.
+use Rattle.std.proofs.Common.{ℕ, Bool, true, false, List, [], Option, Some, None, Result, Ok, Err, refl, sym, ap, subst, inl, length, arith, ◌≡◌, ◌<◌, ◌∷◌, ◌||◌, if◌then◌else◌}
+use Rattle.std.proofs.lemmas.Bool.{false≢true}
+use Rattle.txs_world_protocol.proofs.AskLemmas.{same_ask-sound}
+use Rattle.txs_world_protocol.specs.Ask.{buffered, with_write, Exchange, same_ask}
+use Rattle.txs_world_protocol.specs.SeenEvent.{SeenEvent}
+use Rattle.txs_world_protocol.specs.declared.ask.Ask.TheVariants as ask
+use Rattle.txs_world_protocol.specs.declared.ask.Ask.{Ask}
+use Rattle.txs_world_protocol.specs.declared.ask.Reply.TheVariants as reply
+use Rattle.txs_world_protocol.specs.declared.ask.Reply.{Reply}
+use Rattle.txs_world_protocol.specs.declared.event.EventKind.{EventKind}
+use Rattle.txs_world_protocol.specs.declared.event.EventKind.TheVariants as event
+use Rattle.txs_frame.specs.Frame.{Work, no_work, with_cell, is_commuted, set_ref, ensure_ref, commute_ref, hold_send}
+use Rattle.txs_frame.specs.declared.frame.Commute.{Commute}
+use Rattle.txs_value_cell.specs.Cells.{World}
+use Rattle.txs_value_cell.specs.Forms.{rule, may_stand, same_kind, cell_if, cell_of_kind, cell_of}
+use Rattle.txs_value_cell.specs.declared.action.Action.{Action}
+use Rattle.txs_value_cell.specs.declared.cell.CellDefinition.{CellDefinition}
+use Rattle.txs_value_base.specs.declared.fault.FaultKind.{FaultKind}
+use Rattle.txs_value_base.specs.declared.fault.FaultKind.TheVariants.{SetAfterCommute, OutsideOnly}
+use Rattle.txs_value_base.specs.declared.fault.Span.{Span}
+use Rattle.txs_value_cell.specs.declared.form.CellForm.TheVariants as form_of
+use Rattle.txs_value_cell.specs.declared.form.FormRule.{FormRule}
+use Rattle.txs_value_cell.specs.declared.form.LookForm.{LookForm}
+use Rattle.txs_value_cell.specs.declared.form.LookForm.TheVariants.{Deref, Ensure}
+use Rattle.txs_value_cell.specs.declared.form.PutForm.{PutForm}
+use Rattle.txs_value_cell.specs.declared.form.PutForm.TheVariants.{RefSet, Reset}
+use Rattle.txs_value_cell.specs.declared.form.UpdateForm.{UpdateForm}
+use Rattle.txs_value_cell.specs.declared.form.UpdateForm.TheVariants as update_of
+use Rattle.txs_value_base.specs.declared.op.Callee.{Callee}
+use Rattle.txs_value_data.specs.declared.value.CellId.{CellId}
+use Rattle.txs_value_data.specs.declared.value.CellKind.{CellKind}
+use Rattle.txs_value_data.specs.declared.value.CellKind.TheVariants.{Ref}
+use Rattle.txs_value_data.specs.declared.value.Value.{Value}
+use Rattle.txs_value_data.specs.declared.value.Value.TheVariants.{Nil, Truth, Int, Key, Text, Vector, Cell}
+use Rattle.txs_tree_meaning.specs.Known.{known}
+use Rattle.txs_tree_meaning.specs.Meaning.{Completion, Completes, Recurs, Faults, Retries, Waits, OutOfTurns, Invalid, bind, closed, result_of, apply, Applies, eval, call_at}
+use Rattle.txs_tree_meaning.specs.Sound.{SoundFunctions}
+use Rattle.txs_tree_meaning.specs.Thread.{is_retry}
+use Rattle.txs_tree_meaning.specs.Transaction.{TxState, value_or, own, current, noted, taken, done_as, tx_look, tx_put, tx_update, in_transaction, tx_start, tx_meaning}
+use Rattle.txs_tree_meaning.specs.Tree.{Mark, Tree, PlainFunction}
+use Rattle.txs_code_meaning.specs.ActorState.{ActorState, Reception, Replied, Unreplied, receives, asks, StepResult, Continue, Break, Redo, Await, Malformed, on_step, step_of, heard, value_there, buffered_or, look, set_own, close_own, read_cell, assign_cell, send_action, send_to, print}
+use Rattle.txs_theorem_threads.proofs.Callees.{Keeps, IsPure}
+use Rattle.txs_theorem_threads.proofs.Placed.{MayCallAt, placed, function_placed}
+use Rattle.txs_theorem_threads.proofs.Quiet.{carried, IsQuiet, quietly, callee_carried, AllCommutes, commutes_both}
+use Rattle.txs_theorem_threads.proofs.Related.{Link, Related, Applied, bind_related, closed_related, Alike, eval_related, calls_related}
+use Rattle.txs_theorem_threads.specs.OnReplies.{res, on_replies}
+use Rattle.txs_theorem_threads.specs.RepliesFit.{Halt, Going, Stopped, Short, Rerun, Phase, Out, In, OnEvent, SaysRetry, ReplyFits, RepliesFit}
+
+-- which exchanges fit which events, by the phase that they begin in
+abbrev pub Fitting : Type 1
+Fitting = Phase → List Exchange → List SeenEvent → Type 0
+
+-- the first exchange fits, and those after it
+abbrev pub Splits : List CellDefinition → Fitting → Type 0
+Splits cells F = (ph : Phase) (x : Exchange) (xs : List Exchange) (es : List SeenEvent) → F ph (x ∷ xs) es → ReplyFits cells ph x.ask x.reply (λ ph1 es1. F ph1 xs es1) es
+
+pub fit_splits : (cells : List CellDefinition) → Splits cells (RepliesFit cells)
+fit_splits cells ph x xs es h = h
+
+abbrev pub IsShort : {S : Type 0} → Halt S → Type 0
+IsShort Going = ⊥
+IsShort (Stopped s) = ⊥
+IsShort (Short s) = Unit {0}
+IsShort (Rerun s) = ⊥
+
+-- an ask has no reply yet, or one that fits, and then fewer exchanges are left
+pub answered_less : (cells : List CellDefinition) (F : Fitting) → Splits cells F → (ph : Phase) (es : List SeenEvent) (a : Ask) (s : ActorState) (P : Reception → Type 0) → F ph s.todo es → P (Unreplied (record s { wants = Some a })) →
+    ((r : Reply) (xs : List Exchange) → length xs < length s.todo → ReplyFits cells ph a r (λ ph1 es1. F ph1 xs es1) es → P (Replied r (record s { todo = xs }))) → P (asks a s)
+unfolding asks
+answered_less cells F splits ph es a s P fits un he = go s.todo refl fits
+  where
+    go : (l : List Exchange) → s.todo ≡ l → F ph l es → P (receives a s l)
+    go [] q f = un
+    go (x ∷ xs) q f = test (same_ask a x.ask) refl
+      where
+        test : (b : Bool) → same_ask a x.ask ≡ b → P (if b then Replied x.reply (record s { todo = xs }) else Unreplied (record s { wants = Some a }))
+        test true e =
+            let fewer : length xs < length s.todo = omega (arith, ap length q) in
+            he x.reply xs fewer (subst (λ q1. ReplyFits cells ph q1 x.reply (λ ph1 es1. F ph1 xs es1) es) (sym (same_ask-sound a x.ask e)) (splits ph x xs es f))
+        test false e = un
+
+pub answered : (cells : List CellDefinition) (F : Fitting) → Splits cells F → (ph : Phase) (es : List SeenEvent) (a : Ask) (s : ActorState) (P : Reception → Type 0) → F ph s.todo es → P (Unreplied (record s { wants = Some a })) → ((r : Reply) (xs : List Exchange) → ReplyFits cells ph a r (λ ph1 es1. F ph1 xs es1) es → P (Replied r (record s { todo = xs }))) → P (asks a s)
+answered cells F splits ph es a s P fits un he = answered_less cells F splits ph es a s P fits un (λ r xs l m. he r xs m)
+
+pub says_retry : (b : Bool) (k : EventKind) → SaysRetry b k → is_retry k ≡ true
+says_retry b (event.Retry since c commute) h = refl
+says_retry b _ h = absurd h
+
+-- a step that goes on, as parts of a tree
+pub res_step : {A B : Type 0} (x : StepResult A) (go : A → ActorState → StepResult B) → res (on_step x go) ≡ bind (res x) (λ a s. res (go a s))
+res_step (Continue a s) go = refl
+res_step (Break f s) go = refl
+res_step (Redo s) go = refl
+res_step (Await s) go = refl
+res_step Malformed go = refl
+
+-- a step that changes the state alone goes on
+pub step_then : {A B : Type 0} (x : StepResult A) (g : A → ActorState → ActorState) (go : A → ActorState → Completion ActorState B) → bind (res (on_step x (λ a s. Continue a (g a s)))) go ≡ bind (res x) (λ a s. go a (g a s))
+step_then (Continue a s) g go = refl
+step_then (Break f s) g go = refl
+step_then (Redo s) g go = refl
+step_then (Await s) g go = refl
+step_then Malformed g go = refl
+
+-- a pure part, in two worlds whose states go together
+pub carried_related : (S T : Type 0) (k : Link S T) {A B : Type 0} (y : Completion (Unit {0}) A) (go1 : A → S → Completion S B) (go2 : A → T → Completion T B) (s : S) (t : T) → IsQuiet y → k.rel s t → ((a : A) → Related k (go1 a s) (go2 a t)) → Related k (bind (carried s y) go1) (bind (carried t y) go2)
+carried_related S T k (Completes a u) go1 go2 s t q r h = h a
+carried_related S T k (Recurs vs u) go1 go2 s t q r h = k.invalid_both
+carried_related S T k (Faults f u) go1 go2 s t q r h = (refl, k.faults_of s t r)
+carried_related S T k (Retries u) go1 go2 s t q r h = absurd q
+carried_related S T k (Waits u) go1 go2 s t q r h = absurd q
+carried_related S T k (OutOfTurns u) go1 go2 s t q r h = k.out_of_turns_of s t r
+carried_related S T k Invalid go1 go2 s t q r h = k.invalid_both
+
+-- a form on a cell that it takes
+pub on_cell_related : (T : Type 0) (k : Link ActorState T) (rc : Result CellId FaultKind) (span : Span) (go1 : CellId → ActorState → StepResult Value) (go2 : CellId → T → Completion T Value) (s : ActorState) (t : T) → k.rel s t → ((c : CellId) → rc ≡ Ok c → Related k (res (go1 c s)) (go2 c t)) → Related k (res (on_step (step_of rc span s) go1)) (bind (result_of rc span t) go2)
+on_cell_related T k (Ok c) span go1 go2 s t r h = h c refl
+on_cell_related T k (Err e) span go1 go2 s t r h = (refl, k.faults_of s t r)
+
+abbrev IsOk : Result CellId FaultKind → Type 0
+IsOk (Ok c) = Unit {0}
+IsOk (Err k) = ⊥
+
+cell_if_is : (b : Bool) (k : FaultKind) (d c : CellId) → cell_if b k d ≡ Ok c → Cell d ≡ Cell c
+cell_if_is true k d c e = cc
+cell_if_is false k d c e = absurd (subst IsOk (sym e) tt)
+
+cell_kind_is : (o : Option CellKind) (k : FaultKind) (inside : Bool) (d c : CellId) → cell_of_kind o k inside d ≡ Ok c → Cell d ≡ Cell c
+cell_kind_is None k false d c e = cc
+cell_kind_is None k true d c e = cell_if_is (same_kind d.kind Ref) OutsideOnly d c e
+cell_kind_is (Some w) k inside d c e = cell_if_is (same_kind d.kind w) k d c e
+
+-- the cell that a form takes is the value
+pub cell_is : (r : FormRule) (inside : Bool) (v : Value) (c : CellId) → cell_of r inside v ≡ Ok c → v ≡ Cell c
+cell_is r inside (Cell d) c e = cell_kind_is r.takes r.fault inside d c e
+cell_is r inside Nil c e = absurd (subst IsOk (sym e) tt)
+cell_is r inside (Truth b) c e = absurd (subst IsOk (sym e) tt)
+cell_is r inside (Int z) c e = absurd (subst IsOk (sym e) tt)
+cell_is r inside (Key bs) c e = absurd (subst IsOk (sym e) tt)
+cell_is r inside (Text bs) c e = absurd (subst IsOk (sym e) tt)
+cell_is r inside (Vector vs) c e = absurd (subst IsOk (sym e) tt)
+
+-- within a try: what was done is the same, each commute is of such a callee, and what is to come fits
+abbrev pub tx_link : (Callee → Type 0) → Fitting → World → List SeenEvent → List ℕ → Link ActorState TxState
+tx_link P F R es out = record {
+  rel = λ s t. (s.done ≡ t.done) × AllCommutes P s.done.commutes × F (In R) s.todo es × (s.printed ≡ out);
+  faults = λ s t. F (In R) s.todo es × (s.printed ≡ out);
+  waits = λ s o. F (In R) s.todo es × (s.printed ≡ out);
+  out_of_turns = λ s o. IsShort o × F (In R) s.todo es × (s.printed ≡ out);
+  retries = λ s o. (e : SeenEvent) × (es1 : List SeenEvent) × (es ≡ e ∷ es1) × (e.book ≡ 0) × (is_retry e.kind ≡ true) × F Out s.todo es1 × (s.printed ≡ out);
+  waits_loose = λ s h o. h;
+  out_of_turns_loose = λ s h o. absurd h.0;
+  retries_loose = λ s h o. h;
+  faults_of = λ s t r. (r.2, r.3);
+  out_of_turns_of = λ s t r. (tt, r.2, r.3);
+  invalid = λ b. Unit {0};
+  invalid_both = tt;
+  invalid_loose = λ h b. tt;
+}
+
+module _ (cells : List CellDefinition) (F : Fitting) (splits : Splits cells F) (P : Callee → Type 0) (R : World) (out : List ℕ) (es : List SeenEvent) where
+  abbrev k : Link ActorState TxState
+  k = tx_link P F R es out
+
+  retry_read : (l : List SeenEvent) → es ≡ l → (s : ActorState) (v : Value) (t : TxState) → s.printed ≡ out → OnEvent 0 (λ e. SaysRetry false e.kind) (λ es1. F Out s.todo es1) l → Related k (Retries s) (Completes v t)
+  retry_read [] q s v t pr m = absurd m
+  retry_read (e ∷ l) q s v t pr m = (e, l, q, m.0, says_retry false e.kind m.1, m.2, pr)
+
+  looked_related : (c : CellId) (s : ActorState) (t : TxState) (r : Reply) (xs : List Exchange) → k.rel s t → ReplyFits cells (In R) (ask.Look c s.at) r (λ ph1 es1. F ph1 xs es1) es → Related k (res (heard value_there (Replied r (record s { todo = xs })))) (Completes (R c.number) t)
+  looked_related c s t (reply.Is v) xs r m = (sym m.0, (r.0, r.1, m.1, r.3))
+  looked_related c s t (reply.Retry d) xs r m = retry_read es refl (record s { todo = xs }) (R c.number) t r.3 m
+  looked_related c s t _ xs r m = tt
+
+  -- a ref's value, its own or the world's
+  look_at : (c : CellId) (s : ActorState) (t : TxState) → k.rel s t → Related k (res (look c s)) (Completes (current R s.done c) t)
+  unfolding look
+  look_at c s t r = go (buffered s.done.values c.number)
+    where
+      go : (o : Option Value) → Related k (res (buffered_or o s (heard value_there (asks (ask.Look c s.at) s)))) (Completes (value_or o (R c.number)) t)
+      go (Some v) = (refl, r)
+      go None = answered cells F splits (In R) es (ask.Look c s.at) s (λ h. Related k (res (heard value_there h)) (Completes (R c.number) t)) r.2 (r.2, r.3) (λ rep xs m. looked_related c s t rep xs r m)
+
+  look_now : (c : CellId) (s : ActorState) (t t1 : TxState) → s.done ≡ t.done → k.rel s t1 → Related k (res (look c s)) (Completes (current R t.done c) t1)
+  look_now c s t t1 e r =
+      let value_in : Work → Value = λ w. current R w c in
+      subst (λ v. Related k (res (look c s)) (Completes v t1)) (ap value_in e) (look_at c s t1 r)
+
+  noted_rel : (c : CellId) (s : ActorState) (t : TxState) (o : Option Value) → k.rel s t → k.rel s (noted c o t)
+  noted_rel c s t None r = r
+  noted_rel c s t (Some v) r = r
+
+  taken_related : (c : CellId) (s : ActorState) (t : TxState) → k.rel s t → Related k (res (look c s)) (taken R c t)
+  taken_related c s t r = look_now c s t (noted c (own t.done c.number) t) r.0 (noted_rel c s t (own t.done c.number) r)
+
+  -- ---- what a ref gets
+
+  abbrev OkSome : Result Work FaultKind → Type 0
+  OkSome (Ok w) = AllCommutes P w.commutes
+  OkSome (Err e) = Unit {0}
+
+  set_some : (c : CellId) (v : Value) (w : Work) → AllCommutes P w.commutes → OkSome (set_ref c v w)
+  set_some c v w h = test (is_commuted w c.number)
+    where
+      test : (b : Bool) → OkSome (if b then Err SetAfterCommute else Ok (record w { values = with_write w.values c v; sets = with_cell w.sets c }))
+      test true = tt
+      test false = h
+
+  done_related : (rw : Result Work FaultKind) (span : Span) (v : Value) (s : ActorState) (t : TxState) → OkSome rw → k.rel s t → Related k (res (on_step (step_of rw span s) (λ w s1. Continue v (record s1 { done = w })))) (done_as rw span v t)
+  done_related (Ok w) span v s t h r = (refl, (refl, h, r.2, r.3))
+  done_related (Err e) span v s t h r = (refl, (r.2, r.3))
+
+  set_related : (c : CellId) (span : Span) (v : Value) (s : ActorState) (t : TxState) → k.rel s t → Related k (res (set_own span v c s)) (done_as (set_ref c v t.done) span v t)
+  set_related c span v s t r =
+      let set : Work → Result Work FaultKind = λ w. set_ref c v w in
+      subst (λ rw. Related k (res (set_own span v c s)) (done_as rw span v t)) (ap set r.0) (done_related (set_ref c v s.done) span v s t (set_some c v s.done r.1) r)
+
+  commute_related : (c : CellId) (callee : Callee) (vs : List Value) (span : Span) (w : Value) (s : ActorState) (t : TxState) (used : Bool) → P callee → k.rel s t
+      → Related k (res (close_own (Some (record { cell = c; callee = callee; args = vs })) span w c s)) (Completes w (record t { done = commute_ref c callee vs w t.done; used = used }))
+  commute_related c callee vs span w s t used p r =
+      let now : Work → Work = λ x. commute_ref c callee vs w x in
+      (refl, (ap now r.0, commutes_both P s.done.commutes (record { cell = c; callee = callee; args = vs } ∷ []) r.1 (p, tt), r.2, r.3))
+
+  -- ---- the forms, whose callees are pure
+
+  module _ (f : Applies ActorState) (g : Applies TxState) (q : Applies (Unit {0}))
+      (left : (c : Callee) (vs : List Value) (s : ActorState) → P c → (f c vs s ≡ carried s (q c vs tt)) × IsQuiet (q c vs tt))
+      (right : (c : Callee) (vs : List Value) (t : TxState) → P c → (g c vs t ≡ carried t (q c vs tt)) × IsQuiet (q c vs tt)) where
+    callee_related : (c : Callee) (vs : List Value) (s : ActorState) (t : TxState) (go1 : Value → ActorState → Completion ActorState Value) (go2 : Value → TxState → Completion TxState Value) → P c → k.rel s t → ((w : Value) → Related k (go1 w s) (go2 w t)) → Related k (bind (f c vs s) go1) (bind (g c vs t) go2)
+    callee_related c vs s t go1 go2 p r h =
+        let l = left c vs s p in
+        subst (λ y. Related k (bind (f c vs s) go1) (bind y go2)) (sym (right c vs t p).0)
+        (subst (λ x. Related k (bind x go1) (bind (carried t (q c vs tt)) go2)) (sym l.0)
+        (carried_related ActorState TxState k (q c vs tt) go1 go2 s t l.1 r h))
+
+    alter_related : (rc : Result CellId FaultKind) (span : Span) (callee : Callee) (vs : List Value) (s : ActorState) (t : TxState) → P callee → k.rel s t →
+        Related k (bind (res (on_step (step_of rc span s) (λ c s1. on_step (look c s1) (λ x s2. Continue x (record s2 { commuting = None }))))) (λ v s1. bind (f callee (v ∷ vs) s1) (λ w s2. res (on_step (step_of rc span s2) (close_own s2.commuting span w)))))
+        (bind (result_of rc span t) (λ c t1. bind (taken R c t1) (λ v t2. bind (g callee (v ∷ vs) t2) (λ w t3. done_as (set_ref c w t3.done) span w t3))))
+    alter_related (Err e) span callee vs s t p r = (refl, (r.2, r.3))
+    alter_related (Ok c) span callee vs s t p r =
+        let go : Value → ActorState → Completion ActorState Value = λ v s1. bind (f callee (v ∷ vs) s1) (λ w s2. res (close_own s2.commuting span w c s2)) in
+        let on : Value → TxState → Completion TxState Value = λ v t2. bind (g callee (v ∷ vs) t2) (λ w t3. done_as (set_ref c w t3.done) span w t3) in
+        subst (λ x. Related k x (bind (taken R c t) on)) (sym (step_then (look c s) (λ x s2. record s2 { commuting = None }) go))
+        (bind_related ActorState TxState k (res (look c s)) (taken R c t) (λ v s1. go v (record s1 { commuting = None })) on (taken_related c s t r)
+        (λ v s1 t1 r1. callee_related callee (v ∷ vs) (record s1 { commuting = None }) t1 (λ w s2. res (close_own s2.commuting span w c s2)) (λ w t3. done_as (set_ref c w t3.done) span w t3) p r1
+        (λ w. set_related c span w (record s1 { commuting = None }) t1 r1)))
+
+    commutes_related : (rc : Result CellId FaultKind) (m : Mark) (callee : Callee) (vs : List Value) (s : ActorState) (t : TxState) → P callee → k.rel s t →
+        Related k (bind (res (on_step (step_of rc m.span s) (λ c s1. on_step (look c s1) (λ x s2. Continue x (record s2 { commuting = Some (record { cell = c; callee = callee; args = vs }) }))))) (λ v s1. bind (f callee (v ∷ vs) s1) (λ w s2. res (on_step (step_of rc m.span s2) (close_own s2.commuting m.span w)))))
+        (bind (result_of rc m.span t) (λ c t1. tx_update R update_of.Commute m c callee vs g t1))
+    commutes_related (Err e) m callee vs s t p r = (refl, (r.2, r.3))
+    commutes_related (Ok c) m callee vs s t p r =
+        let o : Commute = record { cell = c; callee = callee; args = vs } in
+        let go : Value → ActorState → Completion ActorState Value = λ v s1. bind (f callee (v ∷ vs) s1) (λ w s2. res (close_own s2.commuting m.span w c s2)) in
+        let on : Value → TxState → Completion TxState Value = λ v t2. bind (g callee (v ∷ vs) t2) (λ w t3. Completes w (record t3 { done = commute_ref c callee vs w t3.done; used = t3.used || m.wanted })) in
+        subst (λ x. Related k x (tx_update R update_of.Commute m c callee vs g t)) (sym (step_then (look c s) (λ x s2. record s2 { commuting = Some o }) go))
+        (bind_related ActorState TxState k (res (look c s)) (Completes (current R t.done c) t) (λ v s1. go v (record s1 { commuting = Some o })) on (look_now c s t t r.0 r)
+        (λ v s1 t1 r1. callee_related callee (v ∷ vs) (record s1 { commuting = Some o }) t1 (λ w s2. res (close_own s2.commuting m.span w c s2)) (λ w t3. Completes w (record t3 { done = commute_ref c callee vs w t3.done; used = t3.used || m.wanted })) p r1
+        (λ w. commute_related c callee vs m.span w (record s1 { commuting = Some o }) t1 (t1.used || m.wanted) p r1)))
+
+  -- a put in a transaction
+  put_related : (form : PutForm) (m : Mark) (rc : Result CellId FaultKind) (v : Value) (s : ActorState) (t : TxState) → k.rel s t → Related k (res (on_step (step_of rc m.span s) (assign_cell form true m.span v))) (bind (result_of rc m.span t) (λ c t1. tx_put form m.span c v t1))
+  put_related RefSet m rc v s t r = on_cell_related TxState k rc m.span (assign_cell RefSet true m.span v) (λ c t1. tx_put RefSet m.span c v t1) s t r (λ c e. set_related c m.span v s t r)
+  put_related Reset m rc v s t r = on_cell_related TxState k rc m.span (assign_cell Reset true m.span v) (λ c t1. tx_put Reset m.span c v t1) s t r (λ c e. tt)
+
+  -- a look in a transaction
+  ensure_related : (c : CellId) (s : ActorState) (t : TxState) → k.rel s t → Related k (res (read_cell Ensure true c s)) (tx_look R Ensure c t)
+  ensure_related c s t r =
+      let go : Value → ActorState → StepResult Value = λ v s1. Continue v (record s1 { done = ensure_ref c s1.done }) in
+      let kept : Work → Work = λ w. ensure_ref c w in
+      subst (λ x. Related k x (tx_look R Ensure c t)) (sym (res_step (look c s) go))
+      (bind_related ActorState TxState k (res (look c s)) (taken R c t) (λ v s1. res (go v s1)) (λ v t1. Completes v (record t1 { done = ensure_ref c t1.done })) (taken_related c s t r)
+      (λ v s1 t1 r1. (refl, (ap kept r1.0, r1.1, r1.2, r1.3))))
+
+  cell_read : (form : LookForm) (c : CellId) (s : ActorState) (t : TxState) → k.rel s t → Related k (res (read_cell form true c s)) (tx_look R form c t)
+  cell_read Deref c s t r = taken_related c s t r
+  cell_read Ensure c s t r = ensure_related c s t r
+
+  -- a send in a transaction is held
+  held_related : (m : Mark) (v : Value) (callee : Callee) (vs : List Value) (s : ActorState) (t : TxState) → k.rel s t → Related k (res (send_to true m.span v callee vs s)) ((in_transaction R).send true m v callee vs t)
+  held_related m v callee vs s t r =
+      let act : CellId → Action = λ c. record { agent = c; callee = callee; args = vs; span = m.span } in
+      on_cell_related TxState k (cell_of (rule form_of.Send) true v) m.span (λ c s1. send_action true (act c) s1) (λ c t1. Completes v (record t1 { done = hold_send (act c) t1.done })) s t r
+      (λ c e. let held : Work → Work = λ w. hold_send (act c) w in (sym (cell_is (rule form_of.Send) true v c e), (ap held r.0, r.1, r.2, r.3)))
+
+-- the forms of a try, on replies and on its world, where functions are sound
+module _ (cells : List CellDefinition) (F : Fitting) (splits : Splits cells F) (R : World) (out : List ℕ) (es : List SeenEvent) (n : ℕ) (functions : List PlainFunction) (sound : SoundFunctions [] functions) where
+  abbrev tries_link : Link ActorState TxState
+  tries_link = tx_link (IsPure (known functions)) F R es out
+
+  tx_alike : (d : ℕ) → Alike ActorState TxState tries_link on_replies (in_transaction R) (call_at (λ e. on_replies) n functions d) (call_at (λ e. in_transaction R) n functions d) n n (λ i. i ≡ true) (placed (known functions))
+  unfolding print
+  tx_alike d = record {
+    print = tx_print;
+    look = tx_looks;
+    put = tx_puts;
+    update = tx_updates;
+    send = tx_sends;
+    dosync = tx_dosync;
+  }
+    where
+      f : Span → Applies ActorState
+      f span = apply (call_at (λ e. on_replies) n functions d true) span
+
+      g : Span → Applies TxState
+      g span = apply (call_at (λ e. in_transaction R) n functions d true) span
+
+      left : (span : Span) (c : Callee) (vs : List Value) (s : ActorState) → IsPure (known functions) c → (f span c vs s ≡ carried s (quietly n functions d span c vs tt)) × IsQuiet (quietly n functions d span c vs tt)
+      left span c vs s p = callee_carried (λ e. on_replies) n true functions sound d span c vs s p
+
+      right : (span : Span) (c : Callee) (vs : List Value) (t : TxState) → IsPure (known functions) c → (g span c vs t ≡ carried t (quietly n functions d span c vs tt)) × IsQuiet (quietly n functions d span c vs tt)
+      right span c vs t p = callee_carried (λ e. in_transaction R) n true functions sound d span c vs t p
+
+      tx_print : (inside : Bool) (vs : List Value) (s : ActorState) (t : TxState) → inside ≡ true → tries_link.rel s t → Related tries_link (on_replies.print inside vs s) ((in_transaction R).print inside vs t)
+      tx_print true vs s t m r = tt
+      tx_print false vs s t m r = absurd (false≢true m)
+
+      tx_looks : (form : LookForm) (inside : Bool) (m : Mark) (c : Value) (s : ActorState) (t : TxState) → may_stand (rule (form_of.Look form)).stands inside ≡ true → inside ≡ true → tries_link.rel s t → Related tries_link (on_replies.look form inside m c s) ((in_transaction R).look form inside m c t)
+      tx_looks form true m c s t q i r =
+          on_cell_related TxState tries_link (cell_of (rule (form_of.Look form)) true c) m.span (read_cell form true) (tx_look R form) s t r (λ x e. cell_read cells F splits (IsPure (known functions)) R out es form x s t r)
+      tx_looks form false m c s t q i r = absurd (false≢true i)
+
+      tx_puts : (form : PutForm) (inside : Bool) (m : Mark) (c w : Value) (s : ActorState) (t : TxState) → may_stand (rule (form_of.Put form)).stands inside ≡ true → inside ≡ true → tries_link.rel s t → Related tries_link (on_replies.put form inside m c w s) ((in_transaction R).put form inside m c w t)
+      tx_puts form true m c w s t q i r = put_related cells F splits (IsPure (known functions)) R out es form m (cell_of (rule (form_of.Put form)) true c) w s t r
+      tx_puts form false m c w s t q i r = absurd (false≢true i)
+
+      tx_updates : (form : UpdateForm) (inside : Bool) (m : Mark) (c : Value) (callee : Callee) (vs : List Value) (s : ActorState) (t : TxState) → may_stand (rule (form_of.Update form)).stands inside ≡ true → inside ≡ true → IsPure (known functions) callee → (((x : ℕ) → MayCallAt (known functions) inside x) → Applied ActorState TxState tries_link (apply (call_at (λ e. on_replies) n functions d inside) m.span) (apply (call_at (λ e. in_transaction R) n functions d inside) m.span)) → tries_link.rel s t
+          → Related tries_link (on_replies.update form inside m c callee vs (apply (call_at (λ e. on_replies) n functions d inside) m.span) s) ((in_transaction R).update form inside m c callee vs (apply (call_at (λ e. in_transaction R) n functions d inside) m.span) t)
+      tx_updates update_of.Alter true m c callee vs s t e i p h r =
+          alter_related cells F splits (IsPure (known functions)) R out es (f m.span) (g m.span) (quietly n functions d m.span) (left m.span) (right m.span) (cell_of (rule (form_of.Update update_of.Alter)) true c) m.span callee vs s t p r
+      tx_updates update_of.Commute true m c callee vs s t e i p h r =
+          commutes_related cells F splits (IsPure (known functions)) R out es (f m.span) (g m.span) (quietly n functions d m.span) (left m.span) (right m.span) (cell_of (rule (form_of.Update update_of.Commute)) true c) m callee vs s t p r
+      tx_updates update_of.Swap true m c callee vs s t e i p h r = tt
+      tx_updates form false m c callee vs s t e i p h r = absurd (false≢true i)
+
+      tx_sends : (inside : Bool) (m : Mark) (c : Value) (callee : Callee) (vs : List Value) (s : ActorState) (t : TxState) → inside ≡ true → IsPure (known functions) callee → tries_link.rel s t → Related tries_link (on_replies.send inside m c callee vs s) ((in_transaction R).send inside m c callee vs t)
+      tx_sends true m c callee vs s t i p r = held_related cells F splits (IsPure (known functions)) R out es m c callee vs s t r
+      tx_sends false m c callee vs s t i p r = absurd (false≢true i)
+
+      tx_dosync : (inside : Bool) (m : Mark) (e : Tree) (env : List Value) (s : ActorState) (t : TxState) → inside ≡ true → Keeps (placed (known functions)) true e →
+          (true ≡ true → (s1 : ActorState) (t1 : TxState) → tries_link.rel s1 t1 → Related tries_link (closed (eval on_replies (call_at (λ x. on_replies) n functions d) n true e env s1)) (closed (eval (in_transaction R) (call_at (λ x. in_transaction R) n functions d) n true e env t1))) → (((x : ℕ) → MayCallAt (known functions) true x) → true ≡ true → Applied ActorState TxState tries_link (apply (call_at (λ x. on_replies) n functions d true) m.span) (apply (call_at (λ x. in_transaction R) n functions d true) m.span)) → tries_link.rel s t →
+          Related tries_link (on_replies.dosync inside m e env (λ s1. closed (eval on_replies (call_at (λ x. on_replies) n functions d) n true e env s1)) (apply (call_at (λ x. on_replies) n functions d true) m.span) s)
+          ((in_transaction R).dosync inside m e env (λ t1. closed (eval (in_transaction R) (call_at (λ x. in_transaction R) n functions d) n true e env t1)) (apply (call_at (λ x. in_transaction R) n functions d true) m.span) t)
+      tx_dosync true m e env s t i p h a r = h refl s t r
+      tx_dosync false m e env s t i p h a r = absurd (false≢true i)
+
+  -- a try on replies of one world is the transaction on that world
+  pub tx_related : (d : ℕ) (e : Tree) (env : List Value) (s : ActorState) → Keeps (placed (known functions)) true e → s.done ≡ no_work → F (In R) s.todo es → s.printed ≡ out → Related tries_link (closed (eval on_replies (call_at (λ x. on_replies) n functions d) n true e env s)) (tx_meaning n functions d e env R)
+  tx_related d e env s p own fits pr =
+      let cf = call_at (λ x. on_replies) n functions d in
+      let cg = call_at (λ x. in_transaction R) n functions d in
+      let nothing : AllCommutes (IsPure (known functions)) s.done.commutes = subst (λ w. AllCommutes (IsPure (known functions)) w.commutes) (sym own) tt in
+      closed_related ActorState TxState tries_link (eval on_replies cf n true e env s) (eval (in_transaction R) cg n true e env tx_start)
+      (eval_related ActorState TxState tries_link on_replies (in_transaction R) cf cg n n (λ i. i ≡ true) (placed (known functions)) (inl refl) (tx_alike d)
+      (calls_related ActorState TxState tries_link (λ x. on_replies) (λ x. in_transaction R) n n functions (λ i. i ≡ true) (placed (known functions)) (inl refl) tx_alike (function_placed functions sound) d) e true env s tx_start p refl (own, nothing, fits, pr))

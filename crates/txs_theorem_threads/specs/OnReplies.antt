@@ -1,0 +1,129 @@
+-- The trees' meaning on replies: what a tree does on the replies that come, one after the other.
+use Rattle.std.specs.Prelude.{ℕ, zero, suc, Bool, true, false, List, [], ◌∷◌, length, not}
+use Rattle.txs_world_protocol.specs.Ask.{Writes}
+use Rattle.txs_frame.specs.Frame.{commuted, phase_work}
+use Rattle.txs_value_data.specs.Limits.{reruns}
+use Rattle.txs_value_base.specs.Places.{fault_at}
+use Rattle.txs_value_base.specs.declared.fault.FaultKind.TheVariants.{RetryLimit, AgentFailed}
+use Rattle.txs_value_base.specs.declared.fault.Span.{Span}
+use Rattle.txs_value_cell.specs.declared.form.UpdateForm.{UpdateForm}
+use Rattle.txs_value_cell.specs.declared.form.UpdateForm.TheVariants.{Alter, Commute, Swap}
+use Rattle.txs_value_base.specs.declared.op.Callee.{Callee}
+use Rattle.txs_value_data.specs.declared.value.CellId.{CellId}
+use Rattle.txs_value_data.specs.declared.value.Value.{Value}
+use Rattle.txs_tree_meaning.specs.Meaning.{Completion, Completes, Recurs, Faults, Retries, Waits, OutOfTurns, Invalid, bind, allowed, Applies, Effects}
+use Rattle.txs_tree_meaning.specs.Transaction.{redone}
+use Rattle.txs_code_meaning.specs.ActorState.{ActorState, StepResult, Continue, Break, Redo, Await, Malformed, begin, fail, view, Verdict, Landed, Outdated, Undone, Denied, commit, open_swap, close_swap, break_swap, read, assign, RefUpdate, Alters, Commutes, open_update, close_update, send_to, print}
+
+-- a step of a form as the end of a part of a tree
+abbrev pub res : {A : Type 0} → StepResult A → Completion ActorState A
+res (Continue a s) = Completes a s
+res (Break f s) = Faults f s
+res (Redo s) = Retries s
+res (Await s) = Waits s
+res Malformed = Invalid
+
+-- where a part faults, this is asked before the fault goes on; a value goes on
+abbrev pub telling : {A : Type 0} → (ActorState → StepResult (Unit {0})) → Completion ActorState A → (A → ActorState → Completion ActorState Value) → Completion ActorState Value
+telling ask (Completes a s) go = go a s
+telling ask (Recurs vs s) go = Invalid
+telling ask (Faults f s) go = bind (res (ask s)) (λ u s1. Faults f s1)
+telling ask (Retries s) go = Retries s
+telling ask (Waits s) go = Waits s
+telling ask (OutOfTurns s) go = OutOfTurns s
+telling ask Invalid go = Invalid
+
+-- ---- transactions
+
+-- how a try starts: with its body, or behind it with the body's result, where the commutes alone are redone
+pub data Start : Type 0 where
+  Anew : Start
+  Behind : (v : Value) → Start
+
+-- after a commit's answer: the end, the commutes redone, the whole again, or the fault that an agent has failed
+abbrev pub concludes : Verdict → Span → Value → (Start → ActorState → Completion ActorState Value) → ActorState → Completion ActorState Value
+concludes Landed span v go s = Completes v s
+concludes Outdated span v go s = go (Behind v) s
+concludes Undone span v go s = Retries s
+concludes Denied span v go s = Faults (fault_at AgentFailed span) s
+
+-- the commit, with these values of the refs that were commuted and not set
+abbrev pub lands_on : Span → Value → (Start → ActorState → Completion ActorState Value) → Writes → ActorState → Completion ActorState Value
+lands_on span v go ws s = bind (res (commit ws s)) (λ d s1. concludes d span v go s1)
+
+-- a body's end: the commit where no ref was commuted and not set, else the view, the commutes one after the other, and then the commit
+abbrev pub closing : List CellId → Span → Applies ActorState → Value → (Start → ActorState → Completion ActorState Value) → ActorState → Completion ActorState Value
+closing [] span f v go s = lands_on span v go [] s
+closing (c ∷ cs) span f v go s =
+    bind (res (view s)) (λ ws s1. telling fail (redone f (phase_work s1.done) ws s1) (λ xs s2. lands_on span v go xs s2))
+
+-- one try
+abbrev pub attempt : Start → Span → (ActorState → Completion ActorState Value) → Applies ActorState → (Start → ActorState → Completion ActorState Value) → ActorState → Completion ActorState Value
+attempt Anew span body f go s =
+    bind (res (begin s)) (λ u s1. telling fail (body s1) (λ v s2. closing (commuted s2.done) span f v go s2))
+attempt (Behind v) span body f go s = closing (commuted s.done) span f v go s
+
+-- a try that has to run again is followed by another; all else stays
+abbrev pub retrying : Completion ActorState Value → (ActorState → Completion ActorState Value) → Completion ActorState Value
+retrying (Completes v s) go = Completes v s
+retrying (Recurs vs s) go = Invalid
+retrying (Faults f s) go = Faults f s
+retrying (Retries s) go = go s
+retrying (Waits s) go = Waits s
+retrying (OutOfTurns s) go = OutOfTurns s
+retrying Invalid go = Invalid
+
+-- at most k tries, those that redo the commutes alone among them
+abbrev pub tries : ℕ → Span → (ActorState → Completion ActorState Value) → Applies ActorState → Start → ActorState → Completion ActorState Value
+tries zero span body f from s = Faults (fault_at RetryLimit span) s
+tries (suc k) span body f from s = retrying (attempt from span body f (tries k span body f) s) (tries k span body f Anew)
+
+-- a dosync inside a running transaction joins it, and another one is tried, so many times, until it ends
+abbrev pub joined : Bool → ℕ → Span → (ActorState → Completion ActorState Value) → Applies ActorState → ActorState → Completion ActorState Value
+joined true k span body f s = body s
+joined false k span body f s = tries k span body f Anew s
+
+-- ---- updates
+
+-- after a swap's answer: the end, or again from its open
+abbrev pub swap_concludes : Verdict → Value → (ActorState → Completion ActorState Value) → ActorState → Completion ActorState Value
+swap_concludes Landed w go s = Completes w s
+swap_concludes Outdated w go s = go s
+swap_concludes Undone w go s = Invalid
+swap_concludes Denied w go s = Invalid
+
+-- A swap, again from its open where the atom changed, less than k times: each time takes exchanges, so that their number bounds
+-- the times.
+abbrev pub swaps_on : ℕ → Span → Value → (Value → ActorState → Completion ActorState Value) → ActorState → Completion ActorState Value
+swaps_on zero span c f s = Invalid
+swaps_on (suc k) span c f s =
+    bind (res (open_swap false span c s)) (λ o s1.
+    telling (break_swap o.0) (f o.1 s1) (λ w s2.
+    bind (res (close_swap o.0 w s2)) (λ d s3. swap_concludes d w (swaps_on k span c f) s3)))
+
+-- `alter` and `commute`: the ref's value is read, the callee applied, and then the ref set or the commute kept
+abbrev pub updates_ref : RefUpdate → Bool → Span → Value → Callee → List Value → Applies ActorState → ActorState → Completion ActorState Value
+updates_ref u inside span c callee vs f s =
+    bind (res (open_update u inside span c vs s)) (λ v s1.
+    bind (f callee (v ∷ vs) s1) (λ w s2. res (close_update span c w s2)))
+
+-- the forms that update
+abbrev pub updates : UpdateForm → Bool → Span → Value → Callee → List Value → Applies ActorState → ActorState → Completion ActorState Value
+updates Alter inside span c callee vs f s = updates_ref Alters inside span c callee vs f s
+updates Commute inside span c callee vs f s = updates_ref (Commutes callee) inside span c callee vs f s
+updates Swap inside span c callee vs f s = allowed (not inside) (swaps_on (suc (length s.todo)) span c (λ v s1. f callee (v ∷ vs) s1) s)
+
+-- the forms on cells, as asks, where a transaction has so many tries
+abbrev pub on_replies_with : ℕ → Effects ActorState
+on_replies_with k = record {
+  print = λ inside vs s. res (print inside vs s);
+  look = λ form inside m v s. res (read form inside m.span v s);
+  put = λ form inside m v w s. res (assign form inside m.span v w s);
+  update = λ form inside m v callee vs f s. updates form inside m.span v callee vs f s;
+  send = λ inside m v callee vs s. res (send_to inside m.span v callee vs s);
+  dosync = λ inside m node env body f s. joined inside k m.span body f s;
+}
+
+-- the forms on cells, as asks
+abbrev pub on_replies : Effects ActorState
+on_replies = on_replies_with (suc reruns)

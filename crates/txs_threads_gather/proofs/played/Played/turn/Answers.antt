@@ -1,0 +1,18 @@
+use Rattle.txs_threads_gather.proofs.Playing.{one_turn}
+use Rattle.txs_threads_gather.proofs.played.Played.turn.Goals as goal
+
+pub returns : goal.returns
+returns c =
+    let run = c.run.ensures in
+    record {
+      kept = run.kept;
+      stopped = run.stopped;
+      code = run.code;
+      number = run.number;
+      turned = λ l. one_turn c.args.self.now.code c.args.self.now.actor c.run.new.self.actor c.run.result (run.turned l);
+      went = run.went;
+      asks = run.asks;
+      ended = run.ended;
+      lost = run.lost;
+      stays = run.stays;
+    }

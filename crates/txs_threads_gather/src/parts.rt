@@ -1,0 +1,372 @@
+//! The comparison of what actors kept with what they shared.
+
+ghost use Rattle.std.specs.Prelude.{◌≡◌, ◌≤◌, ◌<◌, ◌↔◌, ◌⊎◌, [], length, take, drop, false, IsTrue, IfOk, IfErr, OnOk, vec_capacity};
+ghost use Rattle.txs_machine.specs.Agents.{agents_of, AreExplainedBy};
+ghost use Rattle.txs_machine_actor.specs.PlainActor.{agents_from, with_agent};
+ghost use Rattle.txs_machine.specs.RunOver.{places_of};
+ghost use Rattle.txs_machine.specs.Schedule.{IsExplainedBy};
+ghost use Rattle.txs_threads_gather.specs.Adds.{adds_event, kept_trace, IsNotedBehind};
+ghost use Rattle.txs_threads_gather.specs.Gather.{StoppedSo, IsPlayer, AreWhole, ArePlayed, ArePlayers, IsMadeFor, kept_by, Agrees, IsReportOf, AreReportsOf, AllHaveDone, AllHaveAttended};
+ghost use Rattle.txs_machine.specs.declared.run_error.RunError.TheVariants.{JournalMismatch, Memory};
+ghost use Rattle.txs_threads_replay.specs.Replay.{AreReplayed};
+ghost use Rattle.txs_world_shared.specs.SharedState.{shared_of};
+
+use crate::played::Played;
+use std::alloc::{AllocError, Global};
+use txs_code_encode::same_code;
+use txs_code_meaning::Verified;
+use txs_machine::{Place, Report, RunError, ThreadReport, actors_explained};
+use txs_theorem_runs::law::{every_report_is_explained, told_fits, typed_threads_are_staged};
+use txs_theorem_threads::replies_fit;
+use txs_threads_replay::law::replay_runs;
+use txs_threads_replay::replay::replays;
+use txs_threads_replay::{Kept, KeptEntries};
+use txs_value_cell::CellDefinition;
+use txs_value_data::CellKind;
+use txs_world::law::{done_is_undisturbed, refused_is_undisturbed};
+use txs_world_book::law::unwritten_stays;
+use txs_world_protocol::{Ask, Outcome, Reply};
+use txs_world_shared::SharedState;
+
+/// What actors shared, and what each of them did.
+#[derive(Drop)]
+pub struct Gathered {
+    pub shared: SharedState,
+    pub report: Report,
+}
+
+/// Whether an actor that was stopped by a full book was stopped where that is full.
+fn is_stopped_so(shared: &SharedState, played: &Played<'_>) -> bool
+    requires { played.now.lost ≡ false }
+    ensures { IsTrue result ↔ StoppedSo shared.now played.now }
+{
+    if played.outcome() != Some(Outcome::JournalFull) {
+        return true;
+    }
+    played.has_full_book(shared)
+}
+
+/// Whether it is the actor with this number, made with this code and for so many steps, waits for no reply, and was stopped by a full book only where that
+/// is full.
+fn is_player(
+    code: &Verified,
+    max_steps: u64,
+    shared: &SharedState,
+    number: usize,
+    played: &Played<'_>,
+) -> bool
+    requires { played.now.lost ≡ false }
+    ensures player { IsTrue result ↔ IsPlayer code.now max_steps shared.now number played.now }
+    ensures few { IsTrue result → number < 65536 }
+{
+    if usize::from(played.number()) != number {
+        return false;
+    }
+    if !same_code(played.code().code(), code.code()) {
+        return false;
+    }
+    if played.limit() != max_steps {
+        return false;
+    }
+    if played.is_asking() {
+        return false;
+    }
+    is_stopped_so(shared, played)
+}
+
+/// Whether none of them lost something.
+fn are_whole(played: &[Played<'_>]) -> bool
+    ensures whole { IsTrue result ↔ AreWhole played.now }
+    ensures played { IsTrue result → ArePlayed played.now }
+{
+    for one in played {
+        if one.is_lost() {
+            return false;
+        }
+    }
+    true
+}
+
+/// Whether they are the actors of all numbers from 0 on, as `is_player` says.
+fn are_players(code: &Verified, max_steps: u64, shared: &SharedState, played: &[Played<'_>]) -> bool
+    requires { AreWhole played.now }
+    ensures players { IsTrue result ↔ ArePlayers code.now max_steps shared.now 0 played.now }
+    ensures few { IsTrue result → length played.now ≤ 65536 }
+{
+    for number in 0..played.len() {
+        if !is_player(code, max_steps, shared, number, &played[number]) {
+            return false;
+        }
+    }
+    true
+}
+
+/// One for an agent, and none for another cell.
+fn agents_in(cell: &CellDefinition) -> usize
+    ensures { result ≡ length (with_agent cell.now.kind 0 []) }
+{
+    match cell.kind {
+        CellKind::Agent => 1,
+        CellKind::Ref | CellKind::Atom => 0,
+    }
+}
+
+/// How many of these cells are agents.
+fn count_agents(cells: &[CellDefinition]) -> usize
+    ensures { result ≡ length (agents_from 0 cells.now) }
+{
+    let mut agents = 0;
+    for cell in cells {
+        agents += agents_in(cell);
+    }
+    agents
+}
+
+/// Whether what is shared is of the code's cells, for its threads, and there are as many actors as threads and agents.
+fn is_made_for(code: &Verified, shared: &SharedState, actors: usize) -> bool
+    ensures { IsTrue result ↔ IsMadeFor code.now shared.now actors }
+{
+    let threads = code.code().threads().len();
+    shared.made_for(code.code().cells())
+        && usize::from(shared.threads()) == threads
+        && actors >= threads
+        && actors - threads == count_agents(code.code().cells())
+}
+
+/// Whether an ask that was answered so added an event to its book.
+fn adds_event(ask: &Ask, reply: &Reply) -> bool
+    ensures { result ≡ adds_event ask.now reply.now }
+{
+    match ask {
+        Ask::Begin | Ask::View { .. } | Ask::Take { .. } | Ask::OpenAt { .. } => false,
+        Ask::Look { .. } => matches!(reply, Reply::Retry(_)),
+        Ask::CloseAt { .. } => matches!(reply, Reply::Done),
+        _ => !matches!(reply, Reply::Full),
+    }
+}
+
+/// Notes the place of the event that an entry added, if it did.
+#[tactic(auto, using(crate::proofs::Adding::noted_added, crate::proofs::Adding::noted_none))]
+fn note(trace: &mut Vec<Place>, shared: &SharedState, kept: &Kept) -> Result<(), AllocError>
+    ensures { OnOk result (IsNotedBehind shared.now.cells kept.now trace.old.items trace.new.items) }
+{
+    if !adds_event(&kept.ask, &kept.reply) {
+        return Ok(());
+    }
+    let place = Place {
+        book: shared.book_for(&kept.ask) as u32,
+        at: kept.at,
+    };
+    match trace.push(place) {
+        Ok(()) => Ok(()),
+        Err(_) => Err(AllocError),
+    }
+}
+
+/// The places of the events that these entries added.
+fn trace_of(
+    alloc: Global,
+    shared: &SharedState,
+    kept: &KeptEntries,
+) -> Result<Vec<Place>, AllocError>
+    ensures { IfOk result (λ trace. places_of trace.items ≡ kept_trace shared.now.cells kept.now) }
+{
+    let mut trace = Vec::new(alloc);
+    for i in 0..kept.len() {
+        note(&mut trace, shared, kept.get(i))?;
+    }
+    Ok(trace)
+}
+
+/// What an actor did, as a report tells it.
+fn report_of(
+    alloc: Global,
+    shared: &SharedState,
+    played: &Played<'_>,
+) -> Result<ThreadReport, AllocError>
+    ensures { IfOk result (λ ran. IsReportOf shared.now played.now ran) }
+{
+    let actor = played.actor();
+    let printed = Vec::from_slice(alloc, actor.printed())?;
+    let trace = trace_of(alloc, shared, played.kept())?;
+    Ok(ThreadReport {
+        outcome: actor.outcome(),
+        printed,
+        trace,
+        steps: actor.steps(),
+    })
+}
+
+/// Tells what these actors did, in a list that was empty.
+fn report_all(
+    alloc: Global,
+    shared: &SharedState,
+    played: &[Played<'_>],
+    reports: &mut Vec<ThreadReport>,
+) -> Result<(), AllocError>
+    requires { reports.old.items ≡ [] }
+    ensures { OnOk result (AreReportsOf shared.now played.now reports.new.items) }
+{
+    reports.reserve(played.len())?;
+    for one in played {
+        let told = report_of(alloc, shared, one)?;
+        reports.push_reserved(told);
+    }
+    Ok(())
+}
+
+/// What all actors did, of whom the first so many are those of the threads.
+fn report_parts(
+    alloc: Global,
+    shared: &SharedState,
+    played: &[Played<'_>],
+    threads: usize,
+) -> Result<Report, AllocError>
+    requires { threads ≤ length played.now }
+    ensures threads { IfOk result (λ r. AreReportsOf shared.now (take threads played.now) r.threads.items) }
+    ensures agents { IfOk result (λ r. AreReportsOf shared.now (drop threads played.now) r.agents.items) }
+{
+    let mut report = Report {
+        threads: Vec::new(alloc),
+        agents: Vec::new(alloc),
+    };
+    report_all(alloc, shared, &played[..threads], &mut report.threads)?;
+    report_all(alloc, shared, &played[threads..], &mut report.agents)?;
+    Ok(report)
+}
+
+/// Moves what each of them kept into a list with just that room.
+fn move_kept(played: Vec<Played<'_>>, kept: &mut Vec<KeptEntries>)
+    requires room { vec_capacity kept.old ≡ length played.items }
+    requires empty { kept.old.items ≡ [] }
+    ensures { kept.new.items ≡ kept_by played.entry.items }
+{
+    for one in played {
+        kept.push_reserved(one.into_kept());
+    }
+}
+
+/// Whether they are the actors of a run over what is shared: one for each thread and behind these one for each agent, each made with this code and for
+/// `max_steps` steps, and each with all that it should have kept.
+///
+/// # Errors
+/// `Memory` where one of them lost something; `JournalMismatch` where they aren't.
+fn check_actors(
+    code: &Verified,
+    max_steps: u64,
+    shared: &SharedState,
+    played: &[Played<'_>],
+) -> Result<(), RunError>
+    ensures made { OnOk result (IsMadeFor code.now shared.now (length played.now)) }
+    ensures each { OnOk result (ArePlayers code.now max_steps shared.now 0 played.now) }
+    ensures played { OnOk result (ArePlayed played.now) }
+    ensures few { OnOk result (length played.now ≤ 65536) }
+    ensures differs { IfErr result (λ e. e ≡ JournalMismatch → IsMadeFor code.now shared.now (length played.now) → ArePlayers code.now max_steps shared.now 0 played.now → ⊥) }
+    ensures refusals { IfErr result (λ e. (e ≡ JournalMismatch) ⊎ (e ≡ Memory)) }
+{
+    if !are_whole(played) {
+        return Err(RunError::Memory);
+    }
+    if !is_made_for(code, shared, played.len()) {
+        return Err(RunError::JournalMismatch);
+    }
+    if !are_players(code, max_steps, shared, played) {
+        return Err(RunError::JournalMismatch);
+    }
+    Ok(())
+}
+
+/// Whether what they kept, `served` asks in all, is answered from the beginning as it was and leads to what is shared.
+///
+/// # Errors
+/// `JournalMismatch` where it isn't so; `Memory` where there was no memory to tell.
+fn check_kept(
+    alloc: Global,
+    shared: &SharedState,
+    served: u64,
+    played: Vec<Played<'_>>,
+) -> Result<(), RunError>
+    requires { length played.items ≤ 65536 }
+    ensures replayed { OnOk result (AreReplayed shared.now served (kept_by played.entry.items)) }
+    ensures differs { IfErr result (λ e. e ≡ JournalMismatch → AreReplayed shared.now served (kept_by played.entry.items) → ⊥) }
+    ensures refusals { IfErr result (λ e. (e ≡ JournalMismatch) ⊎ (e ≡ Memory)) }
+{
+    let mut kept = Vec::with_capacity(alloc, played.len())?;
+    move_kept(played, &mut kept);
+    let agrees = replays(alloc, shared, served, kept)?;
+    if !agrees {
+        return Err(RunError::JournalMismatch);
+    }
+    Ok(())
+}
+
+/// The report of the actors of a run, where they agree with what is shared.
+///
+/// # Errors
+/// `JournalMismatch` where they don't agree; `Memory` where there was no memory, also of an actor that lost what it should have kept.
+#[tactic(auto, using(crate::proofs::Gathering::made_of))]
+fn compare(
+    alloc: Global,
+    code: &Verified,
+    max_steps: u64,
+    shared: &SharedState,
+    served: u64,
+    played: Vec<Played<'_>>,
+) -> Result<Report, RunError>
+    ensures agrees { IfOk result (λ r. Agrees code.now max_steps shared.now served played.entry.items) }
+    ensures played { IfOk result (λ r. ArePlayed played.entry.items) }
+    ensures threads { IfOk result (λ r. AreReportsOf shared.now (take shared.now.threads played.entry.items) r.threads.items) }
+    ensures agents { IfOk result (λ r. AreReportsOf shared.now (drop shared.now.threads played.entry.items) r.agents.items) }
+    ensures differs { IfErr result (λ e. e ≡ JournalMismatch → Agrees code.now max_steps shared.now served played.entry.items → ⊥) }
+    ensures refusals { IfErr result (λ e. (e ≡ JournalMismatch) ⊎ (e ≡ Memory)) }
+{
+    let actors = played.as_slice();
+    check_actors(code, max_steps, shared, actors)?;
+    let threads = usize::from(shared.threads());
+    let report = report_parts(alloc, shared, actors, threads)?;
+    check_kept(alloc, shared, served, played)?;
+    Ok(report)
+}
+
+/// The comparison of the actors of a run with what they share: they agree where there is one for each thread and behind these one for each agent, each
+/// was made with this code and for `max_steps` steps, and what they kept, `served` asks in all, is answered from the beginning as it was and leads to
+/// these books. Then the report is that of these actors: the books told each just what it kept, it is where its code comes to on that within its steps,
+/// and each program that the code follows explains the report.
+///
+/// # Errors
+/// `JournalMismatch` where they don't agree; `Memory` where there was no memory, also of an actor that lost what it should have kept.
+pub fn gather(
+    alloc: Global,
+    code: &Verified,
+    max_steps: u64,
+    shared: SharedState,
+    served: u64,
+    played: Vec<Played<'_>>,
+) -> Result<Gathered, RunError>
+    ensures shared { IfOk result (λ g. g.shared ≡ shared) }
+    ensures agrees { IfOk result (λ g. Agrees code.now max_steps shared served played.entry.items) }
+    ensures threads { IfOk result (λ g. AreReportsOf shared (take (length code.now.threads) played.entry.items) g.report.threads.items) }
+    ensures agents { IfOk result (λ g. AreReportsOf shared (drop (length code.now.threads) played.entry.items) g.report.agents.items) }
+    ensures one_each { IfOk result (λ g. length g.report.threads.items ≡ length code.now.threads) }
+    ensures agents_each { IfOk result (λ g. length g.report.agents.items ≡ length (agents_of code.now)) }
+    ensures done { IfOk result (λ g. AllHaveDone code.now max_steps shared g.report.threads.items) }
+    ensures attended { IfOk result (λ g. AllHaveAttended code.now max_steps shared g.report.agents.items) }
+    ensures explained { IfOk result (λ g. IsExplainedBy code.now (shared_of g.shared) g.report.threads.items) }
+    ensures all_explained { IfOk result (λ g. AreExplainedBy code.now (shared_of g.shared) g.report.threads.items g.report.agents.items) }
+    ensures differs { IfErr result (λ e. e ≡ JournalMismatch → Agrees code.now max_steps shared served played.entry.items → ⊥) }
+    ensures refusals { IfErr result (λ e. (e ≡ JournalMismatch) ⊎ (e ≡ Memory)) }
+{
+    replay_runs();
+    every_report_is_explained();
+    typed_threads_are_staged();
+    actors_explained();
+    replies_fit();
+    told_fits();
+    done_is_undisturbed();
+    refused_is_undisturbed();
+    unwritten_stays();
+    let (_functions, _threads) = code.rooms();
+    let _stands = shared.events();
+    let report = compare(alloc, code, max_steps, &shared, served, played)?;
+    Ok(Gathered { shared, report })
+}

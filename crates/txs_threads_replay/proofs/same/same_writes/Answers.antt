@@ -1,0 +1,20 @@
+use Rattle.std.proofs.Common.{length, refl, ap, sym, ◌∙◌, arith}
+use Rattle.std.proofs.lemmas.Bool.{false≢true}
+use Rattle.txs_threads_replay.proofs.Comparing.{next_same, same_at, all_same}
+use Rattle.txs_threads_replay.proofs.same.same_writes.Goals as goal
+
+pub loop-i-preserved : goal.loop-i-preserved
+loop-i-preserved c =
+    next_same c.args.a.now c.args.b.now c.loop-i.i c.index-a-i.result c.index-b-i.result c.if-a-b.false c.loop-i-test.true c.loop-i.invariant c.index-a-i.is c.index-b-i.is (c.same_write.ensures.0 c.if-not-same_write.false)
+
+pub returns-then-a-b : goal.returns-then-a-b
+returns-then-a-b c = (λ t. absurd (false≢true t), λ e. absurd (c.if-a-b.true (ap length e)))
+
+pub returns-then-not-same_write : goal.returns-then-not-same_write
+returns-then-not-same_write c = (
+  λ t. absurd (false≢true t),
+  λ e. absurd (false≢true (sym c.if-not-same_write.true ∙ c.same_write.ensures.1 (same_at c.args.a.now c.args.b.now c.loop-i.i c.index-a-i.result c.index-b-i.result c.loop-i-test.true c.index-a-i.is c.index-b-i.is e))),
+)
+
+pub returns : goal.returns
+returns c = (λ t. all_same c.args.a.now c.args.b.now c.loop-i.i c.if-a-b.false (omega (arith, c.loop-i-test.false)) c.loop-i.invariant, λ e. refl)

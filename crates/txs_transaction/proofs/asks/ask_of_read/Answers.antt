@@ -1,5 +1,0 @@
-use Rattle.std.proofs.Common.{rules}
-use Rattle.txs_transaction.proofs.asks.ask_of_read.Goals as goal
-
-pub returns-then-runs : goal.returns-then-runs
-returns-then-runs c = search rules

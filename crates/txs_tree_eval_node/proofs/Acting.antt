@@ -1,0 +1,136 @@
+-- What the evaluator's parts give is what the meaning says: forms on cells, and the ends of transactions.
+use Rattle.std.proofs.Common.{◌≡◌, ℕ, zero, suc, ◌+◌, ◌<◌, ◌==◌, Bool, true, false, if◌then◌else◌, List, [], ◌∷◌, ◌++◌, length, get_or, drop, Some, None, Result, Ok, Err, MatchResult, refl, sym, ap, ◌∙◌, subst, arith, Option}
+use Rattle.std.proofs.lemmas.List.{drop_more}
+use Rattle.txs_world_protocol.specs.Ask.{Writes, buffered, with_write}
+use Rattle.txs_frame.specs.Frame.{Work, commuted, set_writes, commutes_of, by_ref, phase_work}
+use Rattle.txs_frame.specs.declared.frame.Commute.{Commute}
+use Rattle.txs_tree_eval_node.specs.Evaluated.{part, is_on, Yields, SoundCommutes, acts, applied, act_means, inside_means, outside_means, quiet, redone_means, final_means, thread_state}
+use Rattle.txs_tree_eval_transaction.specs.Worked.{Stops, Gives, Told, ToldOf, tx_state}
+use Rattle.txs_tree_meaning.specs.Known.{Known}
+use Rattle.txs_tree_meaning.specs.Meaning.{Completion, Completes, bind, Applies, Effects, apply, call_at}
+use Rattle.txs_tree_eval_node.specs.Setting.{Setting, callable}
+use Rattle.txs_tree_meaning.specs.Sound.{SoundCallee, SoundFunctions}
+use Rattle.txs_tree_meaning.specs.Transaction.{value_or, valued, merged, redone, commute_writes, final_writes}
+use Rattle.txs_tree_meaning.specs.Tree.{Mark}
+use Rattle.txs_tree_meaning.specs.View.{functions_of}
+use Rattle.txs_tree_eval_transaction.specs.Views.{PlainView, or_nil, world_of}
+use Rattle.txs_tree_eval_node.specs.declared.shape.Act.{Act}
+use Rattle.txs_tree_eval_node.specs.declared.state.State.{State}
+use Rattle.txs_tree_eval_transaction.specs.declared.stop.ThreadStop.{ThreadStop}
+use Rattle.txs_tree_eval_transaction.specs.declared.stop.ThreadStop.TheVariants.{Memory}
+use Rattle.txs_value_base.specs.declared.fault.Fault as fault
+use Rattle.txs_value_base.specs.declared.fault.Span.{Span}
+use Rattle.txs_value_data.specs.declared.value.CellId.{CellId}
+use Rattle.txs_value_data.specs.declared.value.Value.{Value}
+use Rattle.txs_value_data.specs.declared.value.Value.TheVariants.{Nil}
+use Rattle.txs_tree_eval_node.proofs.Applying.{callee_agrees}
+use Rattle.txs_tree_eval_node.proofs.Evaluation.{bind-bind, stops_bind}
+use Rattle.txs_tree_meaning.proofs.PureLaw.{Agrees, bind_agrees}
+
+-- ---- in a transaction or outside
+
+module _ (x : Setting) (act : Act) (m : Mark) (v : Value) (vs : List Value) (r : Result Value ThreadStop) (st st1 : State) where
+  pub acted_inside : (w : PlainView) → x.world ≡ Some w → Gives true r (tx_state st1.tx) (inside_means x w act m v vs (tx_state st.tx)) → Yields x r st1 (act_means x act m v vs st)
+  acted_inside w is h = subst (λ o. Gives (is_on o) r (part o st1) (acts o x act m v vs (part o st))) (sym is) h
+
+  pub acted_outside : x.world ≡ None → Gives false r (thread_state st1.thread) (outside_means x act m v vs (thread_state st.thread)) → Yields x r st1 (act_means x act m v vs st)
+  acted_outside is h = subst (λ o. Gives (is_on o) r (part o st1) (acts o x act m v vs (part o st))) (sym is) h
+
+-- ---- commutes again
+
+pub redone-append : {S : Type 0} (f : Applies S) (cs ds : List Commute) (ws : Writes) (s : S) → redone f (cs ++ ds) ws s ≡ bind (redone f cs ws s) (λ us t. redone f ds us t)
+redone-append f [] ds ws s = refl
+redone-append f (c ∷ cs) ds ws s =
+    let step : Value → _ → Completion _ Writes = λ v t. redone f cs (with_write ws c.cell v) t in
+    (λ i. bind (f c.callee (value_or (buffered ws c.cell.number) Nil ∷ c.args) s) (λ v t. redone-append f cs ds (with_write ws c.cell v) t i))
+    ∙ sym (bind-bind (f c.callee (value_or (buffered ws c.cell.number) Nil ∷ c.args) s) step (λ us t. redone f ds us t))
+
+module _ (ks : List Known) where
+  sound_append : (cs ds : List Commute) → SoundCommutes ks cs → SoundCommutes ks ds → SoundCommutes ks (cs ++ ds)
+  sound_append [] ds h g = g
+  sound_append (c ∷ cs) ds h g = (h.0, sound_append cs ds h.1 g)
+
+  sound_if : (b : Bool) (c : Commute) (cs : List Commute) → SoundCallee ks c.callee (suc (length c.args)) → SoundCommutes ks cs → SoundCommutes ks (if b then c ∷ cs else cs)
+  sound_if true c cs h g = (h, g)
+  sound_if false c cs h g = g
+
+  sound_of : (k : ℕ) (cs : List Commute) → SoundCommutes ks cs → SoundCommutes ks (commutes_of k cs)
+  sound_of k [] h = h
+  sound_of k (c ∷ cs) h = sound_if (c.cell.number == k) c (commutes_of k cs) h.0 (sound_of k cs h.1)
+
+  sound_by : (ds : List CellId) (cs : List Commute) → SoundCommutes ks cs → SoundCommutes ks (by_ref ds cs)
+  sound_by [] cs h = tt
+  sound_by (d ∷ ds) cs h = sound_append (commutes_of d.number cs) (by_ref ds cs) (sound_of d.number cs h) (sound_by ds cs h)
+
+  pub sound_at : (cs : List Commute) (i : ℕ) (c : Commute) → SoundCommutes ks cs → i < length cs → c ≡ get_or cs i c → SoundCallee ks c.callee (suc (length c.args))
+  sound_at [] i c h lt is = absurd (omega (arith, lt))
+  sound_at (d ∷ ds) zero c h lt is = subst (λ e. SoundCallee ks e.callee (suc (length e.args))) (sym is) h.0
+  sound_at (d ∷ ds) (suc i) c h lt is = sound_at ds i c h.1 (omega (arith, lt)) is
+
+-- the final writes are the same wherever they are made
+module _ {S : Type 0} (s : S) (x : Setting) (sound : SoundFunctions [] (functions_of x.functions)) (fx : ℕ → Effects S) (inside : Bool) (span : Span) where
+  abbrev real : Applies S
+  real = apply (call_at fx x.turns (functions_of x.functions) x.depth inside) span
+
+  redone_agrees : (cs : List Commute) (ws : Writes) → SoundCommutes (callable x) cs → Agrees s (redone (quiet x span) cs ws tt) (redone real cs ws s)
+  redone_agrees [] ws h = refl
+  redone_agrees (c ∷ cs) ws h =
+      let vs = value_or (buffered ws c.cell.number) Nil ∷ c.args in
+      bind_agrees s (quiet x span c.callee vs tt) (real c.callee vs s) (λ v t. redone (quiet x span) cs (with_write ws c.cell v) t) (λ v t. redone real cs (with_write ws c.cell v) t)
+      (callee_agrees true s x sound fx inside span c.callee vs h.0) (λ v. redone_agrees cs (with_write ws c.cell v) h.1)
+
+  pub finals_agree : (w : Work) (r : PlainView) → SoundCommutes (callable x) w.commutes → Agrees s (final_means x w r span) (final_writes real w (world_of r) s)
+  finals_agree w r h =
+      bind_agrees s (commute_writes (quiet x span) w (world_of r) tt) (commute_writes real w (world_of r) s) (λ ws t. Completes (merged (set_writes w) ws) t) (λ ws t. Completes (merged (set_writes w) ws) t)
+      (redone_agrees (phase_work w) (valued (commuted w) (world_of r)) (sound_by (callable x) (commuted w) w.commutes h)) (λ ws. refl)
+
+-- one commute more
+module _ (x : Setting) (span : Span) (cs : List Commute) (i : ℕ) (c : Commute) (lt : i < length cs) (is : c ≡ get_or cs i c) (ws : Writes) where
+  redone_next : redone_means x span (drop i cs) ws ≡ bind (redone_means x span (c ∷ []) ws) (λ us t. redone (quiet x span) (drop (i + 1) cs) us t)
+  redone_next =
+      ap (λ l. redone_means x span l ws) (drop_more cs i c lt ∙ ap (λ d. d ∷ drop (i + 1) cs) (sym is))
+      ∙ redone-append (quiet x span) (c ∷ []) (drop (i + 1) cs) ws tt
+
+  pub redone_stop : (y : ThreadStop) → Told {A = Writes} (Err y) (redone_means x span (c ∷ []) ws) → Told {A = Writes} (Err y) (redone_means x span (drop i cs) ws)
+  redone_stop y h =
+      subst (λ d. Told {A = Writes} (Err y) d) (sym redone_next) (stops_bind true y tt (redone_means x span (c ∷ []) ws) (λ us t. redone (quiet x span) (drop (i + 1) cs) us t) h)
+
+  pub redone_more : (us : Writes) → redone_means x span (c ∷ []) ws ≡ Completes us tt → redone_means x span (drop i cs) ws ≡ redone_means x span (drop (i + 1) cs) us
+  redone_more us h = redone_next ∙ ap (λ d. bind d (λ vs t. redone (quiet x span) (drop (i + 1) cs) vs t)) h
+
+nil_same : (o : Option Value) → or_nil o ≡ value_or o Nil
+nil_same None = refl
+nil_same (Some v) = refl
+
+-- one commute, whose callee stops or gives this
+module _ (x : Setting) (span : Span) (c : Commute) (ws : Writes) where
+  abbrev begun_with : Value
+  begun_with = value_or (buffered ws c.cell.number) Nil
+
+  pub redone_unmade : (v : Value) (y : ThreadStop) → v ≡ or_nil (buffered ws c.cell.number) → Told {A = Value} (Err y) (applied x c.callee (v ∷ c.args) span) → Told {A = Writes} (Err y) (redone_means x span (c ∷ []) ws)
+  redone_unmade v y is h =
+      stops_bind true y tt (applied x c.callee (begun_with ∷ c.args) span) (λ w t. Completes (with_write ws c.cell w) t) (subst (λ u. Told {A = Value} (Err y) (applied x c.callee (u ∷ c.args) span)) (is ∙ nil_same (buffered ws c.cell.number)) h)
+
+  pub redone_made : (v w : Value) (now : Writes) → v ≡ or_nil (buffered ws c.cell.number) → applied x c.callee (v ∷ c.args) span ≡ Completes w tt → now ≡ with_write ws c.cell w → redone_means x span (c ∷ []) ws ≡ Completes now tt
+  redone_made v w now is made put =
+      ap (λ d. bind d (λ u t. Completes (with_write ws c.cell u) t)) (ap (λ u. applied x c.callee (u ∷ c.args) span) (sym (is ∙ nil_same (buffered ws c.cell.number))) ∙ made) ∙ ap (λ us. Completes us tt) (sym put)
+
+-- the commutes of the phase are among all
+pub phase_sound : (ks : List Known) (w : Work) (cs : List Commute) → cs ≡ phase_work w → SoundCommutes ks w.commutes → SoundCommutes ks cs
+phase_sound ks w cs are h = subst (λ l. SoundCommutes ks l) (sym are) (sound_by ks (commuted w) w.commutes h)
+
+-- the whole phase, and then the writes
+module _ (x : Setting) (span : Span) (w : Work) (r : PlainView) (first : Writes) (begin : first ≡ valued (commuted w) (world_of r)) where
+  abbrev phase : Completion (Unit {0}) Writes
+  phase = redone_means x span (phase_work w) first
+
+  finals_are : final_means x w r span ≡ bind phase (λ ws t. Completes (merged (set_writes w) ws) t)
+  finals_are = ap (λ us. bind (redone_means x span (phase_work w) us) (λ ws t. Completes (merged (set_writes w) ws) t)) (sym begin)
+
+  pub finals_stop : (y : ThreadStop) → Told {A = Writes} (Err y) phase → Told {A = Writes} (Err y) (final_means x w r span)
+  finals_stop y h = subst (λ c. Told {A = Writes} (Err y) c) (sym finals_are) (stops_bind true y tt phase (λ ws t. Completes (merged (set_writes w) ws) t) h)
+
+  -- the writes, where there was memory for them
+  pub finals_done : {V : Type 0} (f : V → Writes) (ws : Writes) (res : Result V ThreadStop) → phase ≡ Completes ws tt → MatchResult res (λ last. f last ≡ merged (set_writes w) ws) (λ y. y ≡ Memory) → ToldOf f res (final_means x w r span)
+  finals_done f ws (Ok last) h made = finals_are ∙ ap (λ c. bind c (λ us t. Completes (merged (set_writes w) us) t)) h ∙ ap (λ l. Completes l tt) (sym made)
+  finals_done f ws (Err y) h made = subst (λ z. Stops true z tt (final_means x w r span)) (sym made) tt

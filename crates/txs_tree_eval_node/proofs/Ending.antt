@@ -1,0 +1,325 @@
+-- How a transaction of a thread ends: what the parts give is what its dosync means.
+use Rattle.std.proofs.Common.{◌≡◌, ℕ, zero, suc, ◌==◌, ◌&&◌, Bool, true, false, if◌then◌else◌, List, [], ◌∷◌, ◌++◌, map, Option, Some, None, Result, Ok, Err, MatchResult, is_some, refl, sym, ap, ◌∙◌, subst}
+use Rattle.std.proofs.lemmas.Bool.{false≢true}
+use Rattle.std.proofs.lemmas.List.{map-append}
+use Rattle.txs_world_protocol.specs.Ask.{Writes, same_writes, same_actions}
+use Rattle.txs_world_protocol.specs.SeenEvent.{SeenEvent}
+use Rattle.txs_world_protocol.specs.declared.event.EventKind.{EventKind}
+use Rattle.txs_world_protocol.specs.declared.event.EventKind.TheVariants.{Read, Commit, Retry, Fail, Refused, Send as Sent, SendRefused, Act as Acted, Swap as Swapped, Broke}
+use Rattle.txs_tree_eval_node.specs.Evaluated.{Yields, Ate, EatsNone, BodyStops, Runs, SoundCommutes, forms_on, calls_on, around_it, means, final_means, transacting, at_end, eat_means, carried_on, ended, end_view, Closes, closes, closing, commit_closes, refuse_closes, end_stop, ends_as, body_means, dosync_means, part, is_on, thread_state, tx_run}
+use Rattle.txs_tree_eval_transaction.specs.Worked.{Stops, Gives, Told, ToldOf, tx_state}
+use Rattle.txs_tree_eval_node.specs.Events.{seen_event}
+use Rattle.txs_tree_meaning.specs.Meaning.{Completion, Completes, Recurs, Faults, Retries, Waits, OutOfTurns, Invalid, bind, closed, Applies, apply, eval}
+use Rattle.txs_tree_eval_node.specs.Setting.{Setting, callable, on_view, zone_on}
+use Rattle.txs_tree_meaning.specs.Sound.{SoundFunctions, SoundTree, in_dosync}
+use Rattle.txs_tree_meaning.specs.Thread.{TxRun, ThreadState, Transacting, over, faultless, faulted, meant, with_tx, run_of, ends_tx, is_retry, eats_tx}
+use Rattle.txs_tree_meaning.specs.Transaction.{TxState, tx_start, final_writes}
+use Rattle.txs_tree_meaning.specs.Tree.{Mark, Tree}
+use Rattle.txs_tree_meaning.specs.View.{functions_of}
+use Rattle.txs_tree_eval_transaction.specs.Views.{PlainView, plain_view, plain_world, world_of}
+use Rattle.txs_tree_eval_node.specs.declared.closing.Closing.TheVariants.{Committed, Stopped}
+use Rattle.txs_tree_eval_node.specs.declared.seen.Seen.{Seen}
+use Rattle.txs_tree_eval_node.specs.declared.state.Progress.{Progress}
+use Rattle.txs_tree_eval_node.specs.declared.state.State.{State}
+use Rattle.txs_tree_eval_node.specs.declared.state.Transacted.{Transacted}
+use Rattle.txs_tree_eval_transaction.specs.declared.stop.ThreadStop.{ThreadStop}
+use Rattle.txs_tree_eval_transaction.specs.declared.stop.ThreadStop.TheVariants.{Fault, Event, Wrong, Turns, Memory}
+use Rattle.txs_tree_eval_transaction.specs.declared.view.RefView.{RefView}
+use Rattle.txs_value_data.specs.Limits.{reruns}
+use Rattle.txs_value_base.specs.Places.{fault_at}
+use Rattle.txs_value_base.specs.declared.fault.Fault as fault
+use Rattle.txs_value_base.specs.declared.fault.FaultKind.TheVariants.{AgentFailed}
+use Rattle.txs_value_base.specs.declared.fault.Span.{Span}
+use Rattle.txs_value_data.specs.declared.value.Value.{Value}
+use Rattle.txs_tree_eval_node.proofs.Acting.{finals_agree}
+use Rattle.txs_tree_eval_node.proofs.Applying.{carried}
+use Rattle.txs_tree_eval_node.proofs.Evaluation.{stops_again, stops_bind}
+use Rattle.txs_tree_eval_node.proofs.Forms.{faultless_stop, faulted_stop}
+use Rattle.txs_tree_eval_node.proofs.Recurs.{keeps_sound}
+
+-- ---- the body
+
+-- what an evaluation of the body gives, as what it means that runs alone
+pub body_stops : (y : ThreadStop) (s : TxState) (c : Completion TxState Value) → Stops true y s c → BodyStops y (closed c)
+body_stops (Fault f) s c h = (s, ap closed h)
+body_stops Event s c h = absurd (false≢true (sym h.0))
+body_stops Wrong s c h = absurd (false≢true (sym h.0))
+body_stops Turns s c h = (s, ap closed h)
+body_stops Memory s c h = tt
+
+-- no place that a recur leaves, where a value comes
+pub closed_gives : {S : Type 0} (r : Result Value ThreadStop) (s : S) (c : Completion S Value) → Gives true r s c → Gives true r s (closed c)
+closed_gives (Ok v) s c h = ap closed h
+closed_gives (Err y) s c h = stops_again true y s c (λ vs t. Invalid) h
+
+-- a body evaluated in a transaction of its own
+module _ (x inner : Setting) (w : PlainView) (same : inner ≡ on_view x w) (body : Tree) (env : List Value) (start : State) (fresh : tx_state start.tx ≡ tx_start) where
+  -- what the body does there from a state on
+  abbrev from_state : TxState → Completion TxState Value
+  from_state t = eval (forms_on (Some w) (around_it (on_view x w)) x.depth) (calls_on (Some w) (on_view x w)) x.turns true body env t
+
+  pub body_told : (r : Result Value ThreadStop) (out : State) → Yields inner r out (means inner body env start) → Gives true r (tx_state out.tx) (from_state tx_start)
+  body_told r out h = subst (λ t. Gives true r (tx_state out.tx) (from_state t)) fresh (subst (λ y. Yields y r out (means y body env start)) same h)
+
+  pub body_stop : (y : ThreadStop) (out : State) → Yields inner {A = Value} (Err y) out (means inner body env start) → BodyStops y (body_means x body env w)
+  body_stop y out h = body_stops y (tx_state out.tx) (from_state tx_start) (body_told (Err y) out h)
+
+  pub body_done : (v : Value) (out : State) → Yields inner (Ok v) out (means inner body env start) → body_means x body env w ≡ Completes v (tx_state out.tx)
+  body_done v out h = ap closed (body_told (Ok v) out h)
+
+  -- its commutes have pure callees
+  pub body_keeps : (sound : SoundFunctions [] (functions_of x.functions)) (d : ℕ) (v : Value) (out : State) → SoundTree (callable x) in_dosync d None body → Yields inner (Ok v) out (means inner body env start)
+      → SoundCommutes (callable x) (tx_state out.tx).done.commutes
+  body_keeps sound d v out h is = keeps_sound x w sound body d env tx_start (tx_state out.tx) v h tt (body_told (Ok v) out is)
+
+-- ---- its end
+
+pub carried_stop : {A : Type 0} (t : ThreadState) (c : Completion TxState Value) (go : Value → TxState → Completion ThreadState A) (y : ThreadStop) → BodyStops y c → Stops false y t (carried_on t c go)
+carried_stop t c go (Fault f) h = ap (λ r. carried_on t r go) h.1
+carried_stop t c go Event h = absurd h
+carried_stop t c go Wrong h = absurd h
+carried_stop t c go Turns h = ap (λ r. carried_on t r go) h.1
+carried_stop t c go Memory h = tt
+
+abbrev IsNothing : Option PlainView → Type 0
+IsNothing None = Unit {0}
+IsNothing (Some w) = ⊥
+
+abbrev view_or : PlainView → Option PlainView → PlainView
+view_or v None = v
+view_or v (Some w) = w
+
+-- the body on a world, and then the commutes on another one
+module _ (x : Setting) (m : Mark) (body : Tree) (env : List Value) (r w : PlainView) (t : ThreadState) where
+  abbrev outcome : Completion TxState Value
+  outcome = body_means x body env r
+
+  abbrev finals_of : TxState → Completion ThreadState Writes
+  finals_of y = final_writes (at_end x m.span) y.done (world_of w) t
+
+  abbrev with_finals : Value → TxState → Completion ThreadState (TxRun × Writes)
+  with_finals v y = bind (finals_of y) (λ ws t1. Completes (run_of (transacting x m body env) v y, ws) t1)
+
+  -- where the body gives no value
+  pub ended_unrun : (y : ThreadStop) → BodyStops y outcome → Stops false y t (ended x m body env r w t)
+  ended_unrun y h = carried_stop t outcome with_finals y h
+
+  -- where it gives one
+  module _ (sound : SoundFunctions [] (functions_of x.functions)) (q : Transacted) (run : Runs (Ok q) m body env outcome) (calm : SoundCommutes (callable x) q.work.done.commutes) where
+    finals : (res : Result Writes ThreadStop) → Told res (final_means x q.work.done w m.span) → Gives false res t (finals_of (tx_state q.work))
+    finals res h = carried false t res (final_means x q.work.done w m.span) (finals_of (tx_state q.work)) (finals_agree t x sound (forms_on None (around_it x)) true m.span q.work.done w calm) h
+
+    ended_run : ended x m body env r w t ≡ with_finals q.result (tx_state q.work)
+    ended_run = ap (λ c. carried_on t c with_finals) run.0
+
+    pub ended_stop : (y : ThreadStop) → Told {A = Writes} (Err y) (final_means x q.work.done w m.span) → Stops false y t (ended x m body env r w t)
+    ended_stop y h =
+        subst (λ c. Stops false y t c) (sym ended_run) (stops_bind false y t (finals_of (tx_state q.work)) (λ ws t1. Completes (run_of (transacting x m body env) q.result (tx_state q.work), ws) t1) (finals (Err y) h))
+
+    pub ended_done : (last : Writes) → Told (Ok last) (final_means x q.work.done w m.span) → ended x m body env r w t ≡ Completes (tx_run q, last) t
+    ended_done last h =
+        ended_run ∙ ap (λ c. bind c (λ ws t1. Completes (run_of (transacting x m body env) q.result (tx_state q.work), ws) t1)) (finals (Ok last) h) ∙ ap (λ k. Completes (k, last) t) (sym run.1)
+
+-- ---- what the event makes of it
+
+faultless_pair : (c : Completion ThreadState Writes) (k : TxRun) (go : (TxRun × Writes) → ThreadState → Completion ThreadState Value) → faultless c (λ ws s. go (k, ws) s) ≡ faultless (bind c (λ ws s. Completes (k, ws) s)) go
+faultless_pair (Completes ws s) k go = refl
+faultless_pair (Recurs vs s) k go = refl
+faultless_pair (Faults f s) k go = refl
+faultless_pair (Retries s) k go = refl
+faultless_pair (Waits s) k go = refl
+faultless_pair (OutOfTurns s) k go = refl
+faultless_pair Invalid k go = refl
+
+faulted_pair : (c : Completion ThreadState Writes) (k : TxRun) → faulted c (λ g s. Faults g s) ≡ faulted {A = TxRun × Writes} (bind c (λ ws s. Completes (k, ws) s)) (λ g s. Faults g s)
+faulted_pair (Completes ws s) k = refl
+faulted_pair (Recurs vs s) k = refl
+faulted_pair (Faults f s) k = refl
+faulted_pair (Retries s) k = refl
+faulted_pair (Waits s) k = refl
+faulted_pair (OutOfTurns s) k = refl
+faulted_pair Invalid k = refl
+
+module _ (t : ThreadState) (run : Value → TxState → TxRun) (last : TxState → Completion ThreadState Writes) where
+  abbrev both : Value → TxState → Completion ThreadState (TxRun × Writes)
+  both v y = bind (last y) (λ ws s. Completes (run v y, ws) s)
+
+  over_faultless : (c : Completion TxState Value) (go : (TxRun × Writes) → ThreadState → Completion ThreadState Value) → over t c (λ v y. faultless (last y) (λ ws s. go (run v y, ws) s)) (λ g. Invalid) ≡ faultless (carried_on t c both) go
+  over_faultless (Completes v y) go = faultless_pair (last y) (run v y) go
+  over_faultless (Recurs vs y) go = refl
+  over_faultless (Faults f y) go = refl
+  over_faultless (Retries y) go = refl
+  over_faultless (Waits y) go = refl
+  over_faultless (OutOfTurns y) go = refl
+  over_faultless Invalid go = refl
+
+  over_faulted : (c : Completion TxState Value) → over t c (λ v y. faulted (last y) (λ g s. Faults g s)) (λ g. Faults g t) ≡ faulted (carried_on t c both) (λ g s. Faults g s)
+  over_faulted (Completes v y) = faulted_pair (last y) (run v y)
+  over_faulted (Recurs vs y) = refl
+  over_faulted (Faults f y) = refl
+  over_faulted (Retries y) = refl
+  over_faulted (Waits y) = refl
+  over_faulted (OutOfTurns y) = refl
+  over_faulted Invalid = refl
+
+no_view : {w : PlainView} → None ≡ Some w → ⊥
+no_view h = subst IsNothing h tt
+
+module _ (x : Setting) (m : Mark) (body : Tree) (env : List Value) (t : ThreadState) (r q c w : PlainView) where
+  abbrev run : Value → TxState → TxRun
+  run v y = run_of (transacting x m body env) v y
+
+  -- an event of the end
+  pub ends_viewed : (k : EventKind) → end_view k q c ≡ Some w → ends_tx (transacting x m body env) (at_end x m.span) k (world_of r) (world_of q) (world_of c) t ≡ closes k m.span (ended x m body env r w t)
+  ends_viewed (Commit at view writes sent) h =
+      over_faultless t run (λ y. final_writes (at_end x m.span) y.done (world_of c) t) (body_means x body env r) (λ p s. meant (same_writes p.1 writes && same_actions p.0.state.done.sends sent) p.0.result (with_tx p.0 s))
+      ∙ ap (λ o. commit_closes writes sent (ended x m body env r (view_or c o) t)) h
+  ends_viewed (Fail at view) h =
+      over_faulted t run (λ y. final_writes (at_end x m.span) y.done (world_of q) t) (body_means x body env r)
+      ∙ ap (λ o. faulted (ended x m body env r (view_or q o) t) (λ g s. Faults g s)) h
+  ends_viewed (Refused at view agent) h =
+      over_faultless t run (λ y. final_writes (at_end x m.span) y.done (world_of q) t) (body_means x body env r) (λ p s. Faults (fault_at AgentFailed m.span) (with_tx p.0 s))
+      ∙ ap (λ o. refuse_closes m.span (ended x m body env r (view_or q o) t)) h
+  ends_viewed (Read d) h = absurd (no_view h)
+  ends_viewed (Retry since d b) h = absurd (no_view h)
+  ends_viewed (Sent a) h = absurd (no_view h)
+  ends_viewed (SendRefused d) h = absurd (no_view h)
+  ends_viewed (Acted d n v) h = absurd (no_view h)
+  ends_viewed (Swapped v) h = absurd (no_view h)
+  ends_viewed (Broke at) h = absurd (no_view h)
+
+  -- any other event
+  pub ends_unviewed : (k : EventKind) → end_view k q c ≡ None → ends_tx (transacting x m body env) (at_end x m.span) k (world_of r) (world_of q) (world_of c) t ≡ Invalid
+  ends_unviewed (Commit at view writes sent) h = absurd (no_view (sym h))
+  ends_unviewed (Fail at view) h = absurd (no_view (sym h))
+  ends_unviewed (Refused at view agent) h = absurd (no_view (sym h))
+  ends_unviewed (Read d) h = refl
+  ends_unviewed (Retry since d b) h = refl
+  ends_unviewed (Sent a) h = refl
+  ends_unviewed (SendRefused d) h = refl
+  ends_unviewed (Acted d n v) h = refl
+  ends_unviewed (Swapped v) h = refl
+  ends_unviewed (Broke at) h = refl
+
+-- a run that is noted, if it is the one that is meant
+pub noted : (b : Bool) → b ≡ true → (v : Value) (t u : ThreadState) (res : Result Value ThreadStop) → MatchResult res (λ w. (w ≡ v) × (u ≡ t)) (λ y. y ≡ Memory) → Gives false res u (meant b v t)
+noted b is v t u (Ok w) h = ap (λ k. meant k v t) is ∙ ap (λ z. Completes z t) (sym h.0) ∙ ap (λ s. Completes w s) (sym h.1)
+noted b is v t u (Err y) h = subst (λ z. Stops false z u (meant b v t)) (sym h) tt
+
+-- one run more
+pub noted_more : (p : Progress) (r : Transacted) (txs : List Transacted) → txs ≡ p.txs.items ++ r ∷ [] → record { todo = (thread_state p).todo; printed = (thread_state p).printed; txs = map tx_run txs } ≡ with_tx (tx_run r) (thread_state p)
+noted_more p r txs e =
+    let made : List TxRun → ThreadState = λ (l : List TxRun). record { todo = (thread_state p).todo; printed = (thread_state p).printed; txs = l } in
+    ap made (ap (map tx_run) e ∙ map-append tx_run p.txs.items (r ∷ []))
+
+-- a stop of the body or a commute
+pub end_stops : (k : EventKind) (span : Span) (y : ThreadStop) (t : ThreadState) (c : Completion ThreadState (TxRun × Writes)) → Stops false y t c → Stops false (end_stop k y) t (closes k span c)
+end_stops (Commit at view writes sent) span y t c h = faultless_stop y t c (λ r s. meant (same_writes r.1 writes && same_actions r.0.state.done.sends sent) r.0.result (with_tx r.0 s)) h
+end_stops (Fail at view) span y t c h = faulted_stop y t c h
+end_stops (Refused at view agent) span y t c h = faultless_stop y t c (λ r s. Faults (fault_at AgentFailed span) (with_tx r.0 s)) h
+end_stops (Read d) span y t c h = (refl, refl)
+end_stops (Retry since d b) span y t c h = (refl, refl)
+end_stops (Sent a) span y t c h = (refl, refl)
+end_stops (SendRefused d) span y t c h = (refl, refl)
+end_stops (Acted d n v) span y t c h = (refl, refl)
+end_stops (Swapped v) span y t c h = (refl, refl)
+end_stops (Broke at) span y t c h = (refl, refl)
+
+-- what a run is to the event is what the event makes of it
+module _ (span : Span) (r : TxRun) (ws : Writes) (t : ThreadState) (res : Result Value ThreadStop) (u : ThreadState) where
+  no_end : Closes (Stopped Wrong) span r res t u → Gives {A = Value} false res u Invalid
+  no_end h = subst (λ q. Gives {A = Value} false q u Invalid) (sym h.0) (refl, refl)
+
+  as_meant : (b : Bool) → Closes (if b then Committed else Stopped Wrong) span r res t u → Gives false res u (meant b r.result (with_tx r t))
+  as_meant true h = h
+  as_meant false h = no_end h
+
+  ended_as : (k : EventKind) → Closes (ends_as k ws r.state.done.sends) span r res t u → Gives false res u (closes k span (Completes (r, ws) t))
+  ended_as (Refused at view agent) h = h
+  ended_as (Commit at view writes sent) h = as_meant (same_writes ws writes && same_actions r.state.done.sends sent) h
+  ended_as (Fail at view) h = no_end h
+  ended_as (Read d) h = no_end h
+  ended_as (Retry since d b) h = no_end h
+  ended_as (Sent a) h = no_end h
+  ended_as (SendRefused d) h = no_end h
+  ended_as (Acted d n v) h = no_end h
+  ended_as (Swapped v) h = no_end h
+  ended_as (Broke at) h = no_end h
+
+-- what is given of a run that came to these final writes
+module _ (x : Setting) (m : Mark) (body : Tree) (env : List Value) (r w : PlainView) (t : ThreadState) (sound : SoundFunctions [] (functions_of x.functions)) (q : Transacted) (run : Runs (Ok q) m body env (body_means x body env r))
+    (calm : SoundCommutes (callable x) q.work.done.commutes) where
+  pub ended_closed : {V : Type 0} (f : V → Writes) (last : Result V ThreadStop) (k : EventKind) (res : Result Value ThreadStop) (u : ThreadState) → ToldOf f last (final_means x q.work.done w m.span)
+      → Closes (closing f k last q.work.done.sends) m.span (tx_run q) res t u → Gives false res u (closes k m.span (ended x m body env r w t))
+  ended_closed f (Ok v) k res u told h =
+      subst (λ c. Gives false res u (closes k m.span c)) (sym (ended_done x m body env r w t sound q run calm (f v) told)) (ended_as m.span (tx_run q) (f v) t res u k h)
+  ended_closed f (Err y) k res u told h =
+      let stops = end_stops k m.span y t (ended x m body env r w t) (ended_stop x m body env r w t sound q run calm y told) in
+      subst (λ p. Gives false p u (closes k m.span (ended x m body env r w t))) (sym h.0) (subst (λ s. Stops false (end_stop k y) s (closes k m.span (ended x m body env r w t))) (sym h.1) stops)
+
+-- ---- the events that it eats
+
+-- what is given where there was no such event
+pub unmatched : {E : Type 0} (P : E → Type 0) (Q : ThreadStop → Type 0) (r : Result E ThreadStop) (y : ThreadStop) → r ≡ Err y → Q y → MatchResult r P Q
+unmatched P Q r y is h = subst (λ z. MatchResult z P Q) (sym is) h
+
+module _ (d : Transacting) (f : Applies ThreadState) where
+  -- what stands in the state of events to come counts for nothing here
+  eats_same : (k : ℕ) (es us : List SeenEvent) (t : ThreadState) → eats_tx k d f es (record t { todo = us }) ≡ eats_tx k d f es t
+  eats_same zero es us t = refl
+  eats_same (suc k) [] us t = refl
+  eats_same (suc k) (e ∷ es) us t =
+      let end = ends_tx d f e.kind e.R e.Q e.C (record t { todo = es }) in
+      ap (λ r. if e.book == 0 then (if is_retry e.kind then r else end) else Invalid) (eats_same k es us t)
+
+  eaten : (k : ℕ) (e : Seen) (t u : ThreadState) (b : Bool) → Ate 0 e t u → is_retry e.kind.now ≡ b
+      → eats_tx (suc k) d f t.todo t ≡ (if b then eats_tx k d f u.todo t else ends_tx d f e.kind.now (world_of (plain_view e.start)) (world_of (plain_view e.view)) (world_of (plain_view e.here)) (record t { todo = u.todo }))
+  eaten k e t u b h is =
+      let a = seen_event e in
+      let end = ends_tx d f a.kind a.R a.Q a.C (record t { todo = u.todo }) in
+      ap (λ es. eats_tx (suc k) d f es t) h.0 ∙ ap (λ (c : Bool). if c then (if is_retry a.kind then eats_tx k d f u.todo t else end) else Invalid) h.1 ∙ ap (λ (c : Bool). if c then eats_tx k d f u.todo t else end) is
+
+  pub eats_more : (k : ℕ) (e : Seen) (t u : ThreadState) → Ate 0 e t u → is_retry e.kind.now ≡ true → eats_tx (suc k) d f t.todo t ≡ eats_tx k d f u.todo u
+  eats_more k e t u h is = eaten k e t u true h is ∙ sym (eats_same k u.todo u.todo t) ∙ ap (λ s. eats_tx k d f u.todo s) (sym h.2)
+
+  pub eats_end : (k : ℕ) (e : Seen) (t u : ThreadState) → Ate 0 e t u → is_retry e.kind.now ≡ false
+      → eats_tx (suc k) d f t.todo t ≡ ends_tx d f e.kind.now (world_of (plain_view e.start)) (world_of (plain_view e.view)) (world_of (plain_view e.here)) u
+  eats_end k e t u h is = eaten k e t u false h is ∙ ap (λ s. ends_tx d f e.kind.now (world_of (plain_view e.start)) (world_of (plain_view e.view)) (world_of (plain_view e.here)) s) (sym h.2)
+
+  pub eats_none : (k : ℕ) (y : ThreadStop) (t u : ThreadState) → EatsNone 0 y t u → Stops false y u (eats_tx (suc k) d f t.todo t)
+  eats_none k Event t u h = (refl, ap (λ es. eats_tx (suc k) d f es t) h.0 ∙ ap (λ l. Waits (record t { todo = l })) (sym h.0) ∙ ap Waits (sym h.1))
+  eats_none k Wrong t u h =
+      let e = h.0 in
+      let end = ends_tx d f e.kind e.R e.Q e.C (record t { todo = h.1 }) in
+      (refl, ap (λ es. eats_tx (suc k) d f es t) h.2 ∙ ap (λ (b : Bool). if b then (if is_retry e.kind then eats_tx k d f h.1 t else end) else Invalid) h.3)
+  eats_none k (Fault g) t u h = absurd h
+  eats_none k Turns t u h = absurd h
+  eats_none k Memory t u h = absurd h
+
+-- ---- a dosync in a transaction, or outside
+
+-- where a transaction runs
+pub zone_running : (o : Option PlainView) → is_on o ≡ true → zone_on o ≡ in_dosync
+zone_running None on = absurd (false≢true on)
+zone_running (Some r) on = refl
+
+pub running : (o : Option RefView) (q : Option PlainView) → plain_world o ≡ q → is_on q ≡ is_some o
+running None q is = ap is_on (sym is)
+running (Some r) q is = ap is_on (sym is)
+
+module _ (x : Setting) (m : Mark) (body : Tree) (env : List Value) (st st1 : State) where
+  join_on : (o : Option PlainView) → is_on o ≡ true → (r : Result Value ThreadStop) → Gives (is_on o) r (part o st1) (eval (forms_on o (around_it x) x.depth) (calls_on o x) x.turns (is_on o) body env (part o st))
+      → Gives (is_on o) r (part o st1) ((forms_on o (around_it x) x.depth).dosync (is_on o) m body env (λ t. closed (eval (forms_on o (around_it x) x.depth) (calls_on o x) x.turns true body env t)) (apply (calls_on o x true) m.span) (part o st))
+  join_on None is r h = absurd (false≢true is)
+  join_on (Some q) is r h = closed_gives r (tx_state st1.tx) (eval (forms_on (Some q) (around_it x) x.depth) (calls_on (Some q) x) x.turns true body env (tx_state st.tx)) h
+
+  pub joined : is_on x.world ≡ true → (r : Result Value ThreadStop) → Yields x r st1 (means x body env st) → Yields x r st1 (dosync_means x m body env st)
+  joined is r h = join_on x.world is r h
+
+  begin_on : (o : Option PlainView) → is_on o ≡ false → (r : Result Value ThreadStop) → Gives false r (thread_state st1.thread) (eat_means x (suc reruns) m body env (thread_state st.thread))
+      → Gives (is_on o) r (part o st1) ((forms_on o (around_it x) x.depth).dosync (is_on o) m body env (λ t. closed (eval (forms_on o (around_it x) x.depth) (calls_on o x) x.turns true body env t)) (apply (calls_on o x true) m.span) (part o st))
+  begin_on None is r h = h
+  begin_on (Some q) is r h = absurd (false≢true (sym is))
+
+  pub begun : is_on x.world ≡ false → (r : Result Value ThreadStop) → Gives false r (thread_state st1.thread) (eat_means x (suc reruns) m body env (thread_state st.thread)) → Yields x r st1 (dosync_means x m body env st)
+  begun is r h = begin_on x.world is r h

@@ -1,0 +1,38 @@
+-- What an evaluation runs in.
+use Rattle.std.specs.Prelude.{ℕ, ◌-◌, Option, Some, None, List, take}
+use Rattle.txs_tree_meaning.specs.Known.{Known, known}
+use Rattle.txs_tree_meaning.specs.Sound.{Zone, in_thread, in_dosync}
+use Rattle.txs_value_cell.specs.declared.cell.CellDefinition.{CellDefinition}
+use Rattle.txs_tree_meaning.specs.View.{functions_of}
+use Rattle.txs_tree_eval_transaction.specs.Views.{PlainView}
+use Rattle.txs_tree_meaning.specs.declared.node.Function.{Function}
+
+-- the cells and functions that are defined, how deep calls may go, how many turns each loop may make, and the world of the
+-- transaction that runs, if one does
+pub record Setting : Type 0 where
+  pub cells : List CellDefinition
+  pub functions : List Function
+  pub depth : ℕ
+  pub turns : ℕ
+  pub world : Option PlainView
+
+-- the same in a call
+abbrev pub deeper : Setting → Setting
+deeper s = record { cells = s.cells; functions = s.functions; depth = s.depth - 1; turns = s.turns; world = s.world }
+
+-- the same in a transaction on this world
+abbrev pub on_view : Setting → PlainView → Setting
+on_view s r = record { cells = s.cells; functions = s.functions; depth = s.depth; turns = s.turns; world = Some r }
+
+-- what is known of the functions that may be called: as many as calls may go deep
+abbrev pub callable : Setting → List Known
+callable s = take s.depth (known (functions_of s.functions))
+
+-- where a node stands while this transaction runs, or none
+abbrev pub zone_on : Option PlainView → Zone
+zone_on None = in_thread
+zone_on (Some r) = in_dosync
+
+-- where a node stands here
+abbrev pub zone_in : Setting → Zone
+zone_in s = zone_on s.world

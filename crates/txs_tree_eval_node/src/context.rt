@@ -1,0 +1,154 @@
+//! What an evaluation runs in.
+
+ghost use Rattle.std.specs.Prelude.{◌≡◌, ◌<◌, ◌≤◌, ◌-◌, [], Some, length};
+ghost use Rattle.txs_world_protocol.specs.SeenEvent.{atoms_below, home};
+ghost use Rattle.txs_value_base.specs.Places.{nth};
+ghost use Rattle.txs_tree_eval_node.specs.Setting.{Setting, deeper, on_view};
+ghost use Rattle.txs_tree_meaning.specs.Sound.{SoundFunctions};
+ghost use Rattle.txs_tree_meaning.specs.View.{function_of, functions_of};
+ghost use Rattle.txs_tree_eval_transaction.specs.Views.{plain_view, plain_world};
+
+use std::marker::Model;
+use txs_tree_eval_transaction::RefView;
+use txs_tree_meaning::Function;
+use txs_value_cell::CellDefinition;
+use txs_value_data::{CellId, CellKind};
+
+/// The cells and functions that are defined, how deep calls may go, how many turns each loop may make, and the world of a
+/// running transaction. A function calls those before it alone: so no more depth is used than there are functions.
+#[derive(Drop)]
+pub struct Context<'a> {
+    cells: &'a [CellDefinition],
+    functions: &'a [Function],
+    depth: usize,
+    turns: u32,
+    world: Option<RefView<'a>>,
+}
+
+impl<'a> Model for Context<'a> {
+    ghost use Rattle.std.specs.Coded.{codes};
+    ghost use Rattle.std.specs.Prelude.{[]};
+    ghost use Rattle.txs_tree_eval_node.specs.Setting.{Setting};
+    ghost use Rattle.txs_tree_meaning.specs.Sound.{SoundFunctions};
+    ghost use Rattle.txs_tree_meaning.specs.View.{functions_of};
+    ghost use Rattle.txs_tree_eval_transaction.specs.Views.{plain_world};
+    ghost use Rattle.txs_tree_meaning.specs.contracts.node.Node as node;
+    ghost use Rattle.txs_value_data.specs.contracts.value.Value as value;
+
+    ghost Value = { Setting };
+
+    ghost coded = { Prim.hlevel (codes, node.the_row.coded, value.the_row.coded) };
+
+    ghost view = { λ c. record { cells = c.cells.now; functions = c.functions.now; depth = c.depth; turns = c.turns; world = plain_world c.world } };
+
+    ghost invariant = { λ c. SoundFunctions [] (functions_of c.functions.now) };
+}
+
+impl<'a> Context<'a> {
+    /// Calls may go as deep as there are functions, and each loop may make so many turns.
+    pub fn new(
+        cells: &'a [CellDefinition],
+        functions: &'a [Function],
+        turns: u32,
+        world: Option<RefView<'a>>,
+    ) -> Context<'a>
+        requires { SoundFunctions [] (functions_of functions.now) }
+        ensures { result ≡ record { cells = cells.now; functions = functions.now; depth = length functions.now; turns = turns; world = plain_world world.entry } }
+    {
+        Context {
+            cells,
+            functions,
+            depth: functions.len(),
+            turns,
+            world,
+        }
+    }
+
+    /// The functions are sound.
+    pub(crate) fn is_sound(&self)
+        ensures { SoundFunctions [] (functions_of self.now.functions) }
+    {
+        let _ = &self.functions;
+    }
+
+    /// How many turns each loop may make.
+    pub(crate) fn turns(&self) -> u32
+        ensures { result ≡ self.now.turns }
+    {
+        self.turns
+    }
+
+    /// The world of the transaction that runs.
+    pub(crate) fn world(&self) -> Option<RefView<'a>>
+        ensures { plain_world result ≡ self.now.world }
+    {
+        self.world
+    }
+
+    /// The book of a cell: 0 is the store's, n the n-th atom's.
+    pub(crate) fn home(&self, cell: CellId) -> usize
+        ensures { result ≡ home self.now.cells cell }
+    {
+        match cell.kind {
+            CellKind::Atom => atoms_below(self.cells, cell.number) + 1,
+            CellKind::Ref | CellKind::Agent => 0,
+        }
+    }
+
+    /// The function of this number.
+    pub(crate) fn function(&self, number: usize) -> &'a Function
+        requires { number < length self.now.functions }
+        ensures value { nth (functions_of self.now.functions) number ≡ Some (function_of result.now) }
+        ensures sound { SoundFunctions [] (functions_of self.now.functions) }
+    {
+        let functions = self.functions;
+        &functions[number]
+    }
+
+    /// What the body of a function runs in that is called here.
+    pub(crate) fn deeper(&self) -> Context<'a>
+        requires { 0 < self.now.depth }
+        ensures { result ≡ deeper self.now }
+    {
+        Context {
+            cells: self.cells,
+            functions: self.functions,
+            depth: self.depth - 1,
+            turns: self.turns,
+            world: self.world,
+        }
+    }
+
+    /// What the body of a transaction runs in, on this world.
+    pub(crate) fn on(&self, world: RefView<'a>) -> Context<'a>
+        ensures { result ≡ on_view self.now (plain_view world.entry) }
+    {
+        Context {
+            cells: self.cells,
+            functions: self.functions,
+            depth: self.depth,
+            turns: self.turns,
+            world: Some(world),
+        }
+    }
+}
+
+/// How many atoms there are among the first cells.
+fn atoms_below(cells: &[CellDefinition], count: u16) -> usize
+    ensures value { result ≡ atoms_below cells.now count }
+    ensures few { result ≤ count }
+{
+    let mut atoms = 0;
+    let mut left = count;
+    for cell in cells {
+        if left == 0 {
+            return atoms;
+        }
+        left -= 1;
+        match cell.kind {
+            CellKind::Atom => atoms += 1,
+            CellKind::Ref | CellKind::Agent => {}
+        }
+    }
+    atoms
+}

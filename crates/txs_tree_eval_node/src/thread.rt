@@ -1,0 +1,182 @@
+//! What the forms on cells do outside every transaction, at the events that they eat, but for applying callees.
+
+ghost use Rattle.std.specs.Prelude.{false, ◌≡◌, ℕ, length, option_copied, MatchResult};
+ghost use Rattle.txs_tree_eval_node.specs.Evaluated.{Ate, EndAte, EndsNone, SwapAte, SwapsNone, thread_state, is_swap_to, sending, swap_gives};
+ghost use Rattle.txs_tree_eval_transaction.specs.Worked.{Gives, of_one};
+ghost use Rattle.txs_tree_eval_transaction.specs.Views.{plain_view, world_of};
+ghost use Rattle.txs_tree_meaning.specs.Thread.{ThreadState, reads, resets, sends, is_retry};
+
+use crate::seen::Seen;
+use crate::state::Progress;
+use txs_tree_eval_transaction::{RefView, ThreadStop, same_action, same_cell, same_value};
+use txs_value_base::{Callee, Fault, FaultKind, Span};
+use txs_value_cell::Action;
+use txs_value_data::{CellId, Listed, Value};
+use txs_world_protocol::EventKind;
+
+/// How often a transaction is tried.
+const TRIES: u16 = 10_000;
+
+/// Whether an event says that a transaction had to run again.
+fn is_retry(kind: &EventKind) -> bool
+    ensures { result ≡ is_retry kind.now }
+{
+    match kind {
+        EventKind::Retry { .. } => true,
+        _ => false,
+    }
+}
+
+/// Whether an event is a swap to the value.
+fn is_swap_to(kind: &EventKind, value: &Value) -> bool
+    ensures { result ≡ is_swap_to value.now kind.now }
+{
+    match kind {
+        EventKind::Swap { new } => same_value(value, new),
+        _ => false,
+    }
+}
+
+/// What a send is to an event.
+#[derive(Clone, Copy)]
+pub(crate) enum Sending {
+    /// The event says that it was sent.
+    Sent,
+    /// The event says that its agent refused it.
+    Refused,
+    /// The event says something else.
+    Other,
+}
+
+/// What a send of the action is to an event.
+fn sent_as(kind: &EventKind, action: &Action) -> Sending
+    ensures { result ≡ sending action.now kind.now }
+{
+    match kind {
+        EventKind::Send { action: sent } if same_action(action, sent) => Sending::Sent,
+        EventKind::SendRefused { agent } if same_cell(action.agent, *agent) => Sending::Refused,
+        _ => Sending::Other,
+    }
+}
+
+/// What a swap gives at its event, where the callee gave this: the value that the event names, none at a broken swap, which
+/// alone may fault.
+pub(crate) fn end_swap(
+    given: Result<Value, ThreadStop>,
+    new: Option<&Value>,
+) -> Result<Value, ThreadStop>
+    ensures { result ≡ swap_gives given (option_copied new.entry) }
+{
+    match new {
+        Some(new) => match given {
+            Ok(value) => {
+                if !same_value(&value, new) {
+                    return Err(ThreadStop::Wrong);
+                }
+                Ok(value)
+            }
+            Err(stop) => Err(stop.without_fault()),
+        },
+        None => match given {
+            Ok(value) => {
+                drop(value);
+                Err(ThreadStop::Wrong)
+            }
+            Err(stop) => Err(stop),
+        },
+    }
+}
+
+impl<'a> Progress<'a> {
+    /// A transaction eats retries, and then the event of its end, which is given; it faults where it is tried too often.
+    pub(crate) fn end_of_tx(&mut self, span: Span) -> Result<&'a Seen<'a>, ThreadStop>
+        ensures { MatchResult result (λ e. EndAte e.now (thread_state self.old) (thread_state self.new)) (λ y. EndsNone span y (thread_state self.old) (thread_state self.new)) }
+    {
+        for _try in 0..TRIES {
+            let event = self.eat(0)?;
+            if !is_retry(event.kind) {
+                return Ok(event);
+            }
+        }
+        Err(ThreadStop::Fault(Fault {
+            kind: FaultKind::RetryLimit,
+            span,
+        }))
+    }
+}
+
+/// `swap!` at its event, a swap or a broken one: the world that has its atom's value, and the value that a swap names.
+pub(crate) fn swap_at<'a>(event: &Seen<'a>) -> Result<(RefView<'a>, Option<&'a Value>), ThreadStop>
+    ensures { MatchResult result
+        (λ s. (book : ℕ) (t u : ThreadState) → Ate book event.now t u → SwapAte book (plain_view s.0) (option_copied s.1) t u)
+        (λ y. (book : ℕ) (t u : ThreadState) → Ate book event.now t u → SwapsNone book y t u) }
+{
+    match event.kind {
+        EventKind::Swap { new } => Ok((event.here, Some(new))),
+        EventKind::Broke { .. } => Ok((event.start, None)),
+        _ => Err(ThreadStop::Wrong),
+    }
+}
+
+/// A read at its event, which is one of the cell: the value at that event's place.
+pub(crate) fn read_at(event: &Seen<'_>, cell: CellId) -> Result<Value, ThreadStop>
+    ensures { (t : ThreadState) → Gives false result t (reads cell event.now.kind.now (world_of (plain_view event.now.here)) t) }
+{
+    match event.kind {
+        EventKind::Read { cell: other } => {
+            if !same_cell(cell, *other) {
+                return Err(ThreadStop::Wrong);
+            }
+            Ok(event.here.read(cell.number)?)
+        }
+        _ => Err(ThreadStop::Wrong),
+    }
+}
+
+/// `reset!` at its event, which is a swap to the one value among the arguments: that value.
+pub(crate) fn reset_at(event: &Seen<'_>, mut args: Vec<Value>) -> Result<Value, ThreadStop>
+    requires { length args.items ≡ 1 }
+    ensures { (t : ThreadState) → Gives false result t (of_one (λ v. resets v event.now.kind.now t) args.items) }
+{
+    match args.pop() {
+        Some(value) => {
+            if !is_swap_to(event.kind, &value) {
+                return Err(ThreadStop::Wrong);
+            }
+            Ok(value)
+        }
+        None => unreachable!(),
+    }
+}
+
+/// `send` of this callee with these arguments at its event: a send of that action gives the agent, a refusal by the agent
+/// faults.
+pub(crate) fn send_at(
+    event: &Seen<'_>,
+    agent: CellId,
+    callee: Callee,
+    args: Vec<Value>,
+    span: Span,
+) -> Result<Value, ThreadStop>
+    ensures { (t : ThreadState) → Gives false result t
+        (sends (record { agent = agent; callee = callee; args = args.items; span = span }) span event.now.kind.now t) }
+{
+    let args = Listed::from_vec(args);
+    let sending = sent_as(
+        event.kind,
+        &Action {
+            agent,
+            callee,
+            args,
+            span,
+        },
+    );
+    match sending {
+        Sending::Sent => Ok(Value::Cell(agent)),
+        Sending::Refused => Err(ThreadStop::Fault(Fault {
+            kind: FaultKind::AgentFailed,
+            span,
+        })),
+        Sending::Other => Err(ThreadStop::Wrong),
+    }
+}

@@ -1,0 +1,5 @@
+use Rattle.std.proofs.Common.{rules}
+use Rattle.txs_tree_eval_transaction.proofs.work.TxWork.keep_commute.Goals as goal
+
+pub returns : goal.returns
+returns c = search rules

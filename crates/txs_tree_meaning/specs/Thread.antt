@@ -1,0 +1,200 @@
+-- What a thread means on a list of events, each with its worlds.
+use Rattle.std.specs.Prelude.{ℕ, zero, suc, Bool, true, false, List, [], ◌∷◌, ◌++◌, ◌==◌, ◌&&◌, length, if◌then◌else◌}
+use Rattle.txs_world_protocol.specs.Ask.{same_writes, same_cell, same_value, same_action, same_actions}
+use Rattle.txs_world_protocol.specs.SeenEvent.{SeenEvent, home}
+use Rattle.txs_world_protocol.specs.declared.event.EventKind.{EventKind}
+use Rattle.txs_world_protocol.specs.declared.event.EventKind.TheVariants.{Read, Commit, Retry, Fail, Refused, Send as Sent, SendRefused, Act, Swap as Swapped, Broke}
+use Rattle.txs_tree_meaning.specs.Meaning.{Completion, Completes, Recurs, Faults, Retries, Waits, OutOfTurns, Invalid, closed, allowed, Applies, Effects, eval, call_at}
+use Rattle.txs_tree_meaning.specs.Transaction.{TxState, on_cell, tx_meaning, final_writes}
+use Rattle.txs_tree_meaning.specs.Tree.{Mark, Tree, PlainFunction, ThreadSource}
+use Rattle.txs_value_cell.specs.Cells.{World}
+use Rattle.txs_value_cell.specs.Forms.{rule, may_stand}
+use Rattle.txs_value_data.specs.Limits.{reruns}
+use Rattle.txs_value_base.specs.Places.{fault_at}
+use Rattle.txs_value_data.specs.Printed.{printed_line}
+use Rattle.txs_value_cell.specs.declared.action.Action.{Action}
+use Rattle.txs_value_cell.specs.declared.cell.CellDefinition.{CellDefinition}
+use Rattle.txs_value_base.specs.declared.fault.Fault.{Fault}
+use Rattle.txs_value_base.specs.declared.fault.FaultKind.TheVariants.{RetryLimit, AgentFailed}
+use Rattle.txs_value_base.specs.declared.fault.Span.{Span}
+use Rattle.txs_value_cell.specs.declared.form.CellForm.{CellForm}
+use Rattle.txs_value_cell.specs.declared.form.CellForm.TheVariants as form_of
+use Rattle.txs_value_cell.specs.declared.form.LookForm.{LookForm}
+use Rattle.txs_value_cell.specs.declared.form.LookForm.TheVariants.{Deref, Ensure}
+use Rattle.txs_value_cell.specs.declared.form.PutForm.{PutForm}
+use Rattle.txs_value_cell.specs.declared.form.PutForm.TheVariants.{RefSet, Reset}
+use Rattle.txs_value_cell.specs.declared.form.UpdateForm.{UpdateForm}
+use Rattle.txs_value_cell.specs.declared.form.UpdateForm.TheVariants.{Alter, Commute, Swap}
+use Rattle.txs_value_base.specs.declared.op.Callee.{Callee}
+use Rattle.txs_value_data.specs.declared.value.CellId.{CellId}
+use Rattle.txs_value_data.specs.declared.value.Value.{Value}
+use Rattle.txs_value_data.specs.declared.value.Value.TheVariants.{Nil, Cell}
+
+-- a transaction that came to its end: its body with its locals, whether its result is wanted, and its meaning at its read point
+pub record TxRun : Type 0 where
+  pub body : Tree
+  pub locals : List Value
+  pub wanted : Bool
+  pub result : Value
+  pub state : TxState
+
+-- the events to come, the bytes that were printed, and the transactions that were committed or refused, in order
+pub record ThreadState : Type 0 where
+  pub todo : List SeenEvent
+  pub printed : List ℕ
+  pub txs : List TxRun
+
+-- a transaction that came to its end is noted
+abbrev pub with_tx : TxRun → ThreadState → ThreadState
+with_tx x t = record t { txs = t.txs ++ x ∷ [] }
+
+-- the next event is eaten, if it is of this book
+abbrev pub eats : {A : Type 0} → ℕ → (SeenEvent → ThreadState → Completion ThreadState A) → List SeenEvent → ThreadState → Completion ThreadState A
+eats book go [] t = Waits t
+eats book go (e ∷ es) t = if e.book == book then go e (record t { todo = es }) else Invalid
+
+-- a value that an event names is the one that is meant
+abbrev pub meant : Bool → Value → ThreadState → Completion ThreadState Value
+meant true v t = Completes v t
+meant false v t = Invalid
+
+-- a read outside a transaction eats a read of the cell, and gives the value at that event's place (Clojure's docstring of `deref`)
+abbrev pub reads : CellId → EventKind → World → ThreadState → Completion ThreadState Value
+reads c (Read d) C t = meant (same_cell c d) (C c.number) t
+reads c _ C t = Invalid
+
+-- `reset!` eats a swap of its value
+abbrev pub resets : Value → EventKind → ThreadState → Completion ThreadState Value
+resets v (Swapped new) t = meant (same_value v new) v t
+resets v _ t = Invalid
+
+-- what follows a fault, where nothing else may come
+abbrev pub faulted : {S A : Type 0} → Completion S A → (Fault → S → Completion S Value) → Completion S Value
+faulted (Completes a s) go = Invalid
+faulted (Recurs vs s) go = Invalid
+faulted (Faults f s) go = go f s
+faulted (Retries s) go = Invalid
+faulted (Waits s) go = Waits s
+faulted (OutOfTurns s) go = OutOfTurns s
+faulted Invalid go = Invalid
+
+-- what follows a value, where no fault may come
+abbrev pub faultless : {S A : Type 0} → Completion S A → (A → S → Completion S Value) → Completion S Value
+faultless (Completes a s) go = go a s
+faultless (Recurs vs s) go = Invalid
+faultless (Faults f s) go = Invalid
+faultless (Retries s) go = Invalid
+faultless (Waits s) go = Waits s
+faultless (OutOfTurns s) go = OutOfTurns s
+faultless Invalid go = Invalid
+
+-- `swap!` eats a swap to what the callee makes of the atom's value (Clojure's docstring of `swap!`), or faults as the callee does on the value that was opened
+abbrev pub swaps : CellId → (Value → ThreadState → Completion ThreadState Value) → EventKind → World → World → ThreadState → Completion ThreadState Value
+swaps c f (Swapped new) R C t = faultless (f (C c.number) t) (λ v t1. meant (same_value v new) v t1)
+swaps c f (Broke at) R C t = faulted (f (R c.number) t) (λ g t1. Faults g t1)
+swaps c f _ R C t = Invalid
+
+-- `send` eats a send of its action and gives the agent (Clojure's docstring of `send`), or a refusal by the agent and faults
+abbrev pub sends : Action → Span → EventKind → ThreadState → Completion ThreadState Value
+sends a span (Sent b) t = meant (same_action a b) (Cell a.agent) t
+sends a span (SendRefused g) t = if same_cell a.agent g then Faults (fault_at AgentFailed span) t else Invalid
+sends a span _ t = Invalid
+
+-- a transaction's meaning carried over to a thread's state
+abbrev pub over : {S T A : Type 0} → T → Completion S A → (A → S → Completion T Value) → (Fault → Completion T Value) → Completion T Value
+over t (Completes a x) go broke = go a x
+over t (Recurs vs x) go broke = Invalid
+over t (Faults f x) go broke = broke f
+over t (Retries x) go broke = Invalid
+over t (Waits x) go broke = Invalid
+over t (OutOfTurns x) go broke = OutOfTurns t
+over t Invalid go broke = Invalid
+
+-- a dosync as its thread met it: its mark, its body and locals, and the body's meaning on a world
+pub record Transacting : Type 0 where
+  pub mark : Mark
+  pub body : Tree
+  pub locals : List Value
+  pub on : World → Completion TxState Value
+
+-- the transaction of a dosync that came to its end with this result
+abbrev pub run_of : Transacting → Value → TxState → TxRun
+run_of d v x = record { body = d.body; locals = d.locals; wanted = d.mark.wanted; result = v; state = x }
+
+-- A transaction at the event of its end: the body on the world at its read point, and its commutes.
+abbrev pub ends_tx : Transacting → Applies ThreadState → EventKind → World → World → World → ThreadState → Completion ThreadState Value
+-- a commit: neither the body nor a commute faults, and the writes and sends are those of the event
+ends_tx d f (Commit at view writes sent) R Q C t =
+    over t (d.on R) (λ v x. faultless (final_writes f x.done C t) (λ ws t1. meant (same_writes ws writes && same_actions x.done.sends sent) v (with_tx (run_of d v x) t1))) (λ g. Invalid)
+-- a failure: the body's fault, else the first one of the commutes on the world that was viewed
+ends_tx d f (Fail at view) R Q C t =
+    over t (d.on R) (λ v x. faulted (final_writes f x.done Q t) (λ g t1. Faults g t1)) (λ g. Faults g t)
+-- a refusal: neither the body nor a commute faults; that the agent had failed is told by the journal, and not asked here
+ends_tx d f (Refused at view agent) R Q C t =
+    over t (d.on R) (λ v x. faultless (final_writes f x.done Q t) (λ ws t1. Faults (fault_at AgentFailed d.mark.span) (with_tx (run_of d v x) t1))) (λ g. Invalid)
+ends_tx d f _ R Q C t = Invalid
+
+-- whether an event says that a transaction had to run again
+abbrev pub is_retry : EventKind → Bool
+is_retry (Retry since c commute) = true
+is_retry _ = false
+
+-- a dosync runs again until it commits or faults (Clojure's docstring of `dosync`): it eats retries, and then the event of its end, at most k events
+abbrev pub eats_tx : ℕ → Transacting → Applies ThreadState → List SeenEvent → ThreadState → Completion ThreadState Value
+eats_tx zero d f es t = Faults (fault_at RetryLimit d.mark.span) (record t { todo = es })
+eats_tx (suc k) d f [] t = Waits (record t { todo = [] })
+eats_tx (suc k) d f (e ∷ es) t =
+    if e.book == 0
+    then (if is_retry e.kind then eats_tx k d f es t else ends_tx d f e.kind e.R e.Q e.C (record t { todo = es }))
+    else Invalid
+
+-- what a thread's meaning is told of: the cells' definitions, how many tries a transaction has, how many turns a loop, and the functions
+pub record Surroundings : Type 0 where
+  pub cells : List CellDefinition
+  pub tries : ℕ
+  pub turns : ℕ
+  pub functions : List PlainFunction
+
+-- the forms that read, outside transactions
+abbrev pub thread_look : Surroundings → LookForm → CellId → ThreadState → Completion ThreadState Value
+thread_look x Deref c t = eats (home x.cells c) (λ e t1. reads c e.kind e.C t1) t.todo t
+thread_look x Ensure c t = Invalid
+
+-- the forms that put, outside transactions
+abbrev pub thread_put : Surroundings → PutForm → CellId → Value → ThreadState → Completion ThreadState Value
+thread_put x RefSet c v t = Invalid
+thread_put x Reset c v t = eats (home x.cells c) (λ e t1. resets v e.kind t1) t.todo t
+
+-- the forms that update, outside transactions
+abbrev pub thread_update : Surroundings → UpdateForm → CellId → Callee → List Value → Applies ThreadState → ThreadState → Completion ThreadState Value
+thread_update x Alter c callee vs f t = Invalid
+thread_update x Commute c callee vs f t = Invalid
+thread_update x Swap c callee vs f t = eats (home x.cells c) (λ e t1. swaps c (λ v t2. f callee (v ∷ vs) t2) e.kind e.R e.C t1) t.todo t
+
+-- a form that may stand outside every transaction
+abbrev pub outside_form : CellForm → Completion ThreadState Value → Completion ThreadState Value
+outside_form form r = allowed (may_stand (rule form).stands false) r
+
+-- the forms of a thread, on its events
+abbrev pub on_events : Surroundings → ℕ → Effects ThreadState
+on_events x d = record {
+  print = λ inside vs t. Completes Nil (record t { printed = t.printed ++ printed_line vs });
+  look = λ form inside m v t. outside_form (form_of.Look form) (on_cell (form_of.Look form) false m.span v (thread_look x form) t);
+  put = λ form inside m v w t. outside_form (form_of.Put form) (on_cell (form_of.Put form) false m.span v (λ c t1. thread_put x form c w t1) t);
+  update = λ form inside m v callee vs f t. outside_form (form_of.Update form) (on_cell (form_of.Update form) false m.span v (λ c t1. thread_update x form c callee vs f t1) t);
+  send = λ inside m v callee vs t. on_cell form_of.Send false m.span v (λ c t1. eats 0 (λ e t2. sends (record { agent = c; callee = callee; args = vs; span = m.span }) m.span e.kind t2) t1.todo t1) t;
+  dosync = λ inside m node env body f t. eats_tx x.tries (record { mark = m; body = node; locals = env; on = tx_meaning x.turns x.functions d node env }) f t.todo t;
+}
+
+-- the thread in its surroundings, on these events
+abbrev pub thread_in : Surroundings → Tree → List SeenEvent → Completion ThreadState Value
+thread_in x main es =
+    closed (eval (on_events x (length x.functions)) (call_at (on_events x) x.turns x.functions (length x.functions)) x.turns false main [] (record { todo = es; printed = []; txs = [] }))
+
+-- what surrounds a source's thread, where each loop makes at most n turns
+abbrev pub around : ThreadSource → ℕ → Surroundings
+around p n = record { cells = p.cells; tries = suc reruns; turns = n; functions = p.functions }
+
+-- the thread meaning: the thread on these events, where each loop makes at most n turns
+abbrev pub thread_meaning : ThreadSource → ℕ → List SeenEvent → Completion ThreadState Value
+thread_meaning p n es = thread_in (around p n) p.main es

@@ -1,0 +1,86 @@
+//! Programs of which names are resolved.
+
+ghost use Rattle.std.specs.Prelude.{◌≡◌};
+ghost use Rattle.txs_tree_meaning.specs.Scoped.{Scoped};
+ghost use Rattle.txs_tree_meaning.specs.View.{Parts, program_of};
+
+use crate::node::{Function, Thread};
+use std::marker::Model;
+use txs_value_cell::CellDefinition;
+
+/// A program of which names are resolved, and that the checks haven't seen: the cells that it defines, in the
+/// order of their numbers, its functions and its threads, each in script order. Contracts see it as
+/// `program_of` its parts, which is scoped.
+pub struct Raw {
+    cells: Vec<CellDefinition>,
+    functions: Vec<Function>,
+    threads: Vec<Thread>,
+}
+
+// Dropped by a call that is proved here, so that no crate above proves it again.
+impl Drop for Raw {
+    fn drop(self) {
+        let Raw {
+            cells,
+            functions,
+            threads: last,
+        } = self;
+        drop(cells);
+        drop(functions);
+        drop(last);
+    }
+}
+
+impl Model for Raw {
+    ghost use Rattle.std.specs.Coded.{codes};
+    ghost use Rattle.txs_tree_meaning.specs.View.{Parts};
+    ghost use Rattle.txs_tree_meaning.specs.contracts.node.Node as node;
+    ghost use Rattle.txs_value_data.specs.contracts.value.Value as value;
+
+    ghost Value = { Parts };
+
+    ghost coded = { Prim.hlevel (codes, node.the_row.coded, value.the_row.coded) };
+
+    ghost view = { λ p. record { cells = p.cells.items; functions = p.functions.items; threads = p.threads.items } };
+
+    ghost use Rattle.txs_tree_meaning.specs.Scoped.{Scoped};
+    ghost use Rattle.txs_tree_meaning.specs.View.{program_of};
+
+    ghost invariant = { λ p. Scoped (program_of (record { cells = p.cells.items; functions = p.functions.items; threads = p.threads.items })) };
+}
+
+impl Raw {
+    /// The program of these cells, functions and threads, whose names are resolved.
+    pub fn new(cells: Vec<CellDefinition>, functions: Vec<Function>, threads: Vec<Thread>) -> Raw
+        requires { Scoped (program_of (record { cells = cells.items; functions = functions.items; threads = threads.items })) }
+        ensures { result ≡ record { cells = cells.items; functions = functions.items; threads = threads.items } }
+    {
+        Raw {
+            cells,
+            functions,
+            threads,
+        }
+    }
+
+    /// The cells, in the order of their numbers.
+    pub fn cells(&self) -> &[CellDefinition]
+        ensures { result.now ≡ self.now.cells }
+    {
+        self.cells.as_slice()
+    }
+
+    /// The functions, in the order of their numbers.
+    pub fn functions(&self) -> &[Function]
+        ensures value { result.now ≡ self.now.functions }
+        ensures scoped { Scoped (program_of self.now) }
+    {
+        self.functions.as_slice()
+    }
+
+    /// The threads, in script order.
+    pub fn threads(&self) -> &[Thread]
+        ensures { result.now ≡ self.now.threads }
+    {
+        self.threads.as_slice()
+    }
+}

@@ -1,0 +1,5 @@
+use Rattle.txs_value_data.proofs.SameLemmas.{equal_is}
+use Rattle.txs_value_apply.proofs.comparisons.equal.Goals as goal
+
+pub returns : goal.returns
+returns c = equal_is c.args.a.now c.args.b.now c.same.result c.same.ensures

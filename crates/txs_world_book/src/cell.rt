@@ -1,0 +1,126 @@
+//! The cells of a store.
+
+ghost use Rattle.std.specs.Prelude.{◌≡◌, ◌≤◌, [], IfOk, if◌then◌else◌, length, vec_capacity};
+ghost use Rattle.txs_value_cell.specs.Forms.{same_kind};
+ghost use Rattle.txs_value_data.specs.declared.value.CellKind.TheVariants as kind;
+ghost use Rattle.txs_world_book.specs.Book.{agents_below};
+ghost use Rattle.txs_world_book.specs.Stands.{AreCounted};
+ghost use Rattle.txs_world_book.specs.Served.{continues, cells_of};
+
+use std::alloc::{AllocError, Global};
+use std::marker::Model;
+use txs_value_cell::{CellDefinition, ErrorMode};
+use txs_value_data::{CellKind, Value, copy_value};
+
+/// A cell of a store: its kind, the value that it opened with, and of an agent whether it goes on after a fault.
+#[derive(Drop)]
+pub struct StoreCell {
+    pub kind: CellKind,
+    pub opening: Value,
+    pub goes_on: bool,
+}
+
+/// The cells of a store, and of each how many agents there are before it: which actor is whose is counted once, as they open.
+#[derive(Drop)]
+pub struct Cells {
+    all: Vec<StoreCell>,
+    before: Vec<usize>,
+    /// How many agents there are.
+    agents: usize,
+}
+
+impl Model for Cells {
+    ghost use Rattle.std.specs.Prelude.{List};
+    ghost use Rattle.std.specs.Coded.{codes};
+    ghost use Rattle.txs_value_data.specs.contracts.value.Value as value;
+    ghost use Rattle.txs_world_book.specs.declared.cell.StoreCell.{StoreCell};
+
+    ghost Value = { List StoreCell };
+
+    ghost coded = { Prim.hlevel (codes, value.the_row.coded) };
+
+    ghost view = { λ c. c.all.items };
+
+    ghost use Rattle.txs_world_book.specs.Stands.{AreCounted};
+
+    ghost invariant = { λ c. AreCounted c.all.items c.before.items c.agents };
+}
+
+impl Cells {
+    /// The cells of these definitions, without their names.
+    pub fn open(alloc: Global, definitions: &[CellDefinition]) -> Result<Cells, AllocError>
+        ensures { IfOk result (λ c. c ≡ cells_of definitions.now) }
+    {
+        let all = open_cells(alloc, definitions)?;
+        let mut before = Vec::with_capacity(alloc, all.len())?;
+        let agents = count_agents(&mut before, all.as_slice());
+        Ok(Cells {
+            all,
+            before,
+            agents,
+        })
+    }
+
+    /// The cells, lent.
+    pub fn as_slice(&self) -> &[StoreCell]
+        ensures { result.now ≡ self.now }
+    {
+        self.all.as_slice()
+    }
+
+    /// How many agents there are among the cells with a lesser number.
+    pub fn agents_below(&self, number: u16) -> usize
+        ensures { result ≡ agents_below self.now number }
+    {
+        let number = usize::from(number);
+        if number < self.before.len() {
+            self.before[number]
+        } else {
+            self.agents
+        }
+    }
+}
+
+/// The cells of these definitions, without their names. They share the opening values with their definitions.
+fn open_cells(alloc: Global, definitions: &[CellDefinition]) -> Result<Vec<StoreCell>, AllocError>
+    ensures { IfOk result (λ v. v.items ≡ cells_of definitions.now) }
+{
+    let mut cells = Vec::with_capacity(alloc, definitions.len())?;
+    for definition in definitions {
+        let opening = copy_value(&definition.opening)?;
+        cells.push_reserved(StoreCell {
+            kind: definition.kind,
+            opening,
+            goes_on: continues(definition.error_mode),
+        });
+    }
+    Ok(cells)
+}
+
+/// Whether an agent of this error mode goes on after a fault.
+pub fn continues(mode: ErrorMode) -> bool
+    ensures { result ≡ continues mode }
+{
+    mode == ErrorMode::Continue
+}
+
+/// How many agents there are, and in a list with room for it how many before each cell. The cells are gone through once.
+fn count_agents(before: &mut Vec<usize>, cells: &[StoreCell]) -> usize
+    requires empty { before.old.items ≡ [] }
+    requires room { length cells.now ≤ vec_capacity before.old }
+    ensures { AreCounted cells.now before.new.items result }
+{
+    let mut agents = 0usize;
+    for cell in cells {
+        before.push_reserved(agents);
+        agents += agents_in(cell);
+    }
+    agents
+}
+
+/// 1 for an agent, 0 for another cell.
+fn agents_in(cell: &StoreCell) -> usize
+    ensures { result ≡ (if same_kind cell.now.kind kind.Agent then 1 else 0) }
+{
+    if cell.kind == CellKind::Agent { 1 } else { 0 }
+}
