@@ -18,7 +18,7 @@ use Rattle.txs_machine.specs.Agents.{actors_of, AgentsAreDone, AreDrained, AreEx
 use Rattle.txs_machine.specs.RunOver.{IsStateOf, books_of}
 use Rattle.txs_machine.specs.Schedule.{AreDone, HaveEnded, IsExplainedBy, all_named}
 use Rattle.txs_machine.specs.declared.schedule.Play.{Play}
-use Rattle.txs_machine.specs.declared.schedule.ThreadReport.{ThreadReport}
+use Rattle.txs_machine.specs.declared.schedule.Ran.{Ran}
 use Rattle.txs_cli_report.specs.AgentLines.{AreAgentsTold, failure_of, named_from, status_of_agents}
 use Rattle.txs_cli_report.specs.CellLines.{cell_lines}
 use Rattle.txs_cli_report.specs.Lines.{Script, IsLesson, AreLessons, all_printed, list_place, refused_line, refused_place, status_from}
@@ -47,7 +47,7 @@ pub data Wanted : Type 0 where
 -- ---- what is told of a run
 
 -- The standard error of a run: for each thread the line that tells how it ended, and behind these what is told of each agent.
-pub record EndsTold (cells : List CellDefinition) (script : Script) (s : PlainShared) (threads agents : List ThreadReport) (errors : List ℕ) : Type 0 where
+pub record EndsTold (cells : List CellDefinition) (script : Script) (s : PlainShared) (threads agents : List Ran) (errors : List ℕ) : Type 0 where
   pub of_threads : List ℕ
   pub of_agents : List ℕ
   pub first : AreLessons script 0 threads of_threads
@@ -55,15 +55,15 @@ pub record EndsTold (cells : List CellDefinition) (script : Script) (s : PlainSh
   pub is : errors ≡ of_threads ++ of_agents
 
 -- the highest status of all threads and agents
-abbrev pub run_status : List CellDefinition → PlainShared → List ThreadReport → List ThreadReport → ℕ
+abbrev pub run_status : List CellDefinition → PlainShared → List Ran → List Ran → ℕ
 run_status cells s threads agents = status_of_agents (status_from 0 threads) (failure_of s) (named_from 0 cells) agents
 
 -- What a run of all threads and agents of the code over what they share tells, which it leaves so: what the threads printed, how each ended, which
 -- agents have failed and whose actors were stopped, and the highest status. The entries of the report say what each actor did, and each program that
 -- the code follows explains them: those of the threads, and, where the code follows its functions as well and sends what it may send, all.
 pub record RunTells (code : PlainCode) (script : Script) (steps : ℕ) (s : PlainShared) (t : Told) : Type 0 where
-  pub rans : List ThreadReport
-  pub agents : List ThreadReport
+  pub rans : List Ran
+  pub agents : List Ran
   pub done : AreDone code steps (books_of s) rans
   pub ended : HaveEnded rans
   pub explained : IsExplainedBy code (shared_of s) rans

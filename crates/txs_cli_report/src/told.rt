@@ -14,7 +14,7 @@ use crate::explain::{Script, write_both, write_explained, write_number};
 use std::alloc::{AllocError, Global};
 use txs_cli_plays::WrongPlay;
 use txs_compile::CompileError;
-use txs_machine::{Play, Report, ThreadReport};
+use txs_machine::{Play, Ran, Report};
 use txs_value_base::{Fault, Span};
 use txs_world_protocol::Outcome;
 
@@ -325,12 +325,7 @@ pub(crate) fn how_ended(outcome: Option<Outcome>) -> Outcome
 }
 
 /// Adds what is told of a thread that has run: what it printed, the line that tells how it ended, and the status, where it is higher.
-fn add_thread(
-    told: &mut Told,
-    script: Script<'_>,
-    k: u16,
-    thread: &ThreadReport,
-) -> Result<(), AllocError>
+fn add_thread(told: &mut Told, script: Script<'_>, k: u16, thread: &Ran) -> Result<(), AllocError>
     ensures output { OnOk result (told.new.output.items ≡ told.old.output.items ++ thread.now.printed.items) }
     ensures errors { OnOk result ((line : List ℕ) × IsLesson (script_of script.entry) (end_line (thread_front k) (how_ended thread.now.outcome)) (end_place (how_ended thread.now.outcome)) line × (told.new.errors.items ≡ told.old.errors.items ++ line)) }
     ensures status { OnOk result (told.new.status ≡ max told.old.status (status_of (how_ended thread.now.outcome))) }

@@ -49,7 +49,7 @@ use Rattle.txs_world_shared.specs.SharedState.{PlainShared, shared_of, is_lawful
 use Rattle.txs_machine.specs.RunOver.{IsStateOf, IsLimited, books_of}
 use Rattle.txs_machine.specs.Running.{AsksAsAgent, HasWork, IsAgentAt, IsAgents, IsAnswered, IsSynced, LeavesTaken, is_acting}
 use Rattle.txs_machine.specs.Serving.{IsServed}
-use Rattle.txs_machine.specs.declared.player.Place.{Place}
+use Rattle.txs_world_protocol.specs.declared.event.Place.{Place}
 use Rattle.txs_machine.proofs.Answered.{Leaves, answer_leaves}
 use Rattle.txs_machine.proofs.Explaining.{length_map}
 use Rattle.txs_machine.proofs.Doing.{Keeps, IsUntold, turn_keeps, takes_first}

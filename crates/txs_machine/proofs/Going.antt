@@ -32,7 +32,7 @@ use Rattle.txs_world_shared.specs.SharedState.{PlainShared, shared_of, is_lawful
 use Rattle.txs_machine.specs.RunOver.{IsStateOf, books_of, places_of}
 use Rattle.txs_machine.specs.Running.{after_turns, IsPlacedAs, IsPlayerOf, AreOf, ComesTo, GoesAs, IsAnswered}
 use Rattle.txs_machine.specs.Serving.{IsNext, with_place, IsServed}
-use Rattle.txs_machine.specs.declared.player.Place.{Place}
+use Rattle.txs_world_protocol.specs.declared.event.Place.{Place}
 use Rattle.txs_machine.proofs.Answered.{Leaves, answer_leaves, full_stops, memory_stops, full_state, memory_state, idle_number, idle_outcome}
 use Rattle.txs_machine.proofs.Limits.{NoAsk}
 use Rattle.txs_machine.proofs.RunOver as over

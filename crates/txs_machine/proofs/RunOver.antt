@@ -74,9 +74,9 @@ use Rattle.txs_machine.specs.Lawfully.{HasStood, RunLawfully}
 use Rattle.txs_machine.proofs.Lawfully.{ask_lawful, heard_lawfully, heard_stood, is_below, others_lawfully, others_stood}
 use Rattle.txs_machine.proofs.Answered.{Leaves, answer_leaves, full_stops, memory_stops, stop_ends}
 use Rattle.txs_machine.proofs.OwnCells.{openings_known, code_known}
-use Rattle.txs_machine.specs.RunOver.{IsStateOf, books_of, IsIn, IsOwn, AreOwn, places_of, AskedOn, AtFullBook, ExplainsEnd}
+use Rattle.txs_machine.specs.RunOver.{IsStateOf, books_of, IsIn, places_of, AskedOn, AtFullBook}
 use Rattle.txs_machine.specs.Serving.{may_add, IsNext, with_place, IsServed}
-use Rattle.txs_machine.specs.declared.player.Place.{Place}
+use Rattle.txs_world_protocol.specs.declared.event.Place.{Place}
 
 pub append_nil : {A : Type 0} (xs : List A) → xs ++ [] ≡ xs
 append_nil [] = refl
@@ -394,15 +394,6 @@ pub over_same : (code : PlainCode) (k : ℕ) (books later : ℕ → List Event) 
 over_same code k books later tr a same w =
     over_others code (suc k) k books later tr a (λ e. absurd (omega (arith, e))) (record { more = λ n. []; grown = λ n. same n ∙ sym (append_nil (books n)); own = λ n. tt })
     (λ opened n. subst (BookKnown code.cells opened) (sym (same n)) (w.lawful.values opened n)) w
-
--- books that are an actor's alone stay so where the actor alone adds to them
-own_append : (k : ℕ) (book more : List Event) → IsOwn k book → growing.AreOwn k more → IsOwn k (book ++ more)
-own_append k [] [] h o = tt
-own_append k [] (e ∷ more) h o = (o.0, own_append k [] more tt o.1)
-own_append k (e ∷ book) more h o = (h.0, own_append k book more h.1 o)
-
-pub own_grown : (k : ℕ) (books later : ℕ → List Event) → AreOwn k books → Grown k books later → AreOwn k later
-own_grown k books later h g n = subst (IsOwn k) (sym (g.grown n)) (own_append k (books n) (g.more n) (h n) (g.own n))
 
 pub not_grown : (k : ℕ) (books : ℕ → List Event) → Grown k books books
 not_grown k books = nothing_grown k books
@@ -1028,25 +1019,6 @@ few_for s a (ask.Broke c p) h w =
     (w.atoms c (and_both (has_atom s.cells c) may (and_both (nat_lt a s.threads) (has_atom s.cells c && may) h).1).0).few
 
 -- ---- the end
-
-explained_as : (a : PlainActor) (o : Outcome) (r : Completion ThreadState Value) → Explained (told a (Some o) (unanswered a)) r → ExplainsEnd o a.printed r
-explained_as a outcome.Done r h = h
-explained_as a (outcome.Failed f) r h = h
-explained_as a outcome.StepsSpent r h = h
-explained_as a outcome.JournalFull r h = h
-explained_as a outcome.Memory r h = h
-
--- an ended actor is explained
-pub ended_explained : ActorsExplained → FittingToFits → ToldFits → (code : PlainCode) (k : ℕ) (books : ℕ → List Event) (tr : List Place) (a : PlainActor) (o : Outcome) → a.outcome ≡ Some o → RunLawfully code k books tr a
-    → (p : ThreadSource) → p.cells ≡ code.cells → Follows (code_of code k) p → (m : ℕ) × ExplainsEnd o a.printed (thread_meaning p m (seen_of code.cells books (places_of tr)))
-ended_explained law fit fits code k books tr a o e w p same follows =
-    let h = w.over in
-    let xs = map exchange_of h.entries in
-    let seen = seen_of code.cells books (places_of tr) in
-    let past : told_by.history_of code.cells books k h.entries ≡ seen = ap (seen_of code.cells books) (sym w.traced) in
-    let fitted : RepliesFit code.cells Out xs seen = subst (RepliesFit code.cells Out xs) past (fit code.cells Out xs _ _ (fits code.cells (length code.threads) books k h.entries h.stage h.told)) in
-    let m = law code xs seen a p h.ran (subst (λ n. Follows (code_of code n) p) (sym h.number) follows) (subst (λ cs. RepliesFit cs Out xs seen) (sym same) fitted) in
-    (m.0, explained_as a o (thread_meaning p m.0 seen) (subst (λ (x : Option Outcome). Explained (told a x (unanswered a)) (thread_meaning p m.0 seen)) e m.2))
 
 -- the trace names the actor's events of each book, and no others
 pub trace_holds : (code : PlainCode) (k : ℕ) (books : ℕ → List Event) (tr : List Place) (a : PlainActor) → RunLawfully code k books tr a → TraceHolds books k (places_of tr)

@@ -15,7 +15,7 @@ use Rattle.txs_world_shared.specs.SharedState.{PlainShared, answer_to, IsAfter}
 use Rattle.txs_machine.specs.Lawfully.{RunLawfully}
 use Rattle.txs_machine.specs.RunOver.{books_of}
 use Rattle.txs_machine.specs.Serving.{IsServed}
-use Rattle.txs_machine.specs.declared.player.Place.{Place}
+use Rattle.txs_world_protocol.specs.declared.event.Place.{Place}
 use Rattle.txs_machine.proofs.RunOver.{as_known}
 
 -- without memory nothing is taken

@@ -18,7 +18,7 @@ use Rattle.txs_theorem_runs.specs.Shared.{Shared}
 use Rattle.txs_theorem_runs.specs.Told.{Entry, exchange_of, AllHold, TraceHolds, trace_of}
 use Rattle.txs_machine.specs.RunOver.{IsLimited, AtFullBook, places_of}
 use Rattle.txs_machine.specs.Schedule.{Explains}
-use Rattle.txs_machine.specs.declared.schedule.ThreadReport.{ThreadReport}
+use Rattle.txs_machine.specs.declared.schedule.Ran.{Ran}
 
 -- ---- actors
 
@@ -35,7 +35,7 @@ actors_of code = length code.threads + length (agents_of code)
 -- An entry of a report says what the k-th actor, an agent's, did over the books: after so many steps, of which it makes no more than its limit, and all
 -- where they were spent, it is where the machine's meaning comes to on what the books told it; it has printed these bytes, and ended so if it has;
 -- the trace has the places of its events, and names no others; and where it was stopped for a full book, the book for its ask is full.
-pub record AgentHasDone (code : PlainCode) (k limit : ℕ) (books : ℕ → List Event) (ran : ThreadReport) : Type 0 where
+pub record AgentHasDone (code : PlainCode) (k limit : ℕ) (books : ℕ → List Event) (ran : Ran) : Type 0 where
   pub actor : PlainActor
   pub number : actor.number ≡ k
   pub entries : List Entry
@@ -51,9 +51,9 @@ pub record AgentHasDone (code : PlainCode) (k limit : ℕ) (books : ℕ → List
   pub full : actor.outcome ≡ Some outcome.JournalFull → AtFullBook code.cells (code_of code k) books (map exchange_of entries) actor
 
 -- There is one entry for each agent, in the order of the cells, which says what the agent's actor did.
-pub record AgentsAreDone (code : PlainCode) (limit : ℕ) (books : ℕ → List Event) (rans : List ThreadReport) : Type 0 where
+pub record AgentsAreDone (code : PlainCode) (limit : ℕ) (books : ℕ → List Event) (rans : List Ran) : Type 0 where
   pub one_each : length rans ≡ length (agents_of code)
-  pub each : (i : ℕ) (ran : ThreadReport) → nth rans i ≡ Some ran → AgentHasDone code (length code.threads + i) limit books ran
+  pub each : (i : ℕ) (ran : Ran) → nth rans i ≡ Some ran → AgentHasDone code (length code.threads + i) limit books ran
 
 -- ---- what the source says of agents
 
@@ -67,23 +67,23 @@ NeverEnds (Some outcome.JournalFull) = Unit {0}
 NeverEnds (Some outcome.Memory) = Unit {0}
 
 -- The entry of an agent is explained: its trace names the agent's events and no others, it printed nothing, and it never ended.
-pub record ExplainsAgent (k : ℕ) (books : ℕ → List Event) (ran : ThreadReport) : Type 0 where
+pub record ExplainsAgent (k : ℕ) (books : ℕ → List Event) (ran : Ran) : Type 0 where
   pub traced : TraceHolds books k (places_of ran.trace.items)
   pub silent : ran.printed.items ≡ []
   pub unended : NeverEnds ran.outcome
 
 -- A program explains a run with its agents: it explains its threads; there is one entry for each agent; what was sent a program may send; and each
 -- action that was handed in is what its callee means, on the state that the agent found, of the action that was the first in its mail.
-pub record ExplainsAll (p : PlainProgram) (sh : Shared) (threads agents : List ThreadReport) : Type 0 where
+pub record ExplainsAll (p : PlainProgram) (sh : Shared) (threads agents : List Ran) : Type 0 where
   pub by_threads : Explains p sh threads
   pub one_each : length agents ≡ length (agents_from 0 p.cells)
   pub sends : AllSound p.functions (sh.books 0)
   pub acts : ActsMean p.functions p.cells (sh.books 0)
-  pub each : (i : ℕ) (ran : ThreadReport) → nth agents i ≡ Some ran → ExplainsAgent (length p.threads + i) sh.books ran
+  pub each : (i : ℕ) (ran : Ran) → nth agents i ≡ Some ran → ExplainsAgent (length p.threads + i) sh.books ran
 
 -- each program of the code's cells that the code follows, of whose functions its functions are the actions', and whose sends alone it sends, explains
 -- the run
-abbrev pub AreExplainedBy : PlainCode → Shared → List ThreadReport → List ThreadReport → Type 0
+abbrev pub AreExplainedBy : PlainCode → Shared → List Ran → List Ran → Type 0
 AreExplainedBy code sh threads agents =
     (p : PlainProgram)
     → p.cells ≡ code.cells → FollowsAll (map (thread_code code) code.threads) p
@@ -93,6 +93,6 @@ AreExplainedBy code sh threads agents =
 -- ---- when rounds are over
 
 -- each agent whose actor hasn't ended has failed, or nothing waits for it
-abbrev pub AreDrained : PlainCode → Shared → List ThreadReport → Type 0
+abbrev pub AreDrained : PlainCode → Shared → List Ran → Type 0
 AreDrained code sh agents =
-    (i : ℕ) (g : CellId) (ran : ThreadReport) → nth (agents_of code) i ≡ Some g → nth agents i ≡ Some ran → ran.outcome ≡ None → next_action (cells_of code.cells) (sh.books 0) g ≡ None
+    (i : ℕ) (g : CellId) (ran : Ran) → nth (agents_of code) i ≡ Some g → nth agents i ≡ Some ran → ran.outcome ≡ None → next_action (cells_of code.cells) (sh.books 0) g ≡ None

@@ -19,7 +19,7 @@ use Rattle.txs_theorem_runs.proofs.OneActor.{MayView}
 use Rattle.txs_theorem_runs.proofs.ServedKnown.{BookKnown}
 use Rattle.txs_theorem_runs.proofs.Values.{TodoKnown}
 use Rattle.txs_machine.specs.RunOver.{RunOver, places_of}
-use Rattle.txs_machine.specs.declared.player.Place.{Place}
+use Rattle.txs_world_protocol.specs.declared.event.Place.{Place}
 
 -- On these exchanges the machine came to a place in this stage, whose instruction asks what the actor asks, and leads where the actor is after
 -- the answer.

@@ -16,10 +16,9 @@ use Rattle.txs_machine.specs.RunOver.{IsAfter, IsLimited, IsStateOf, books_of}
 use Rattle.txs_machine.specs.Running.{AreAttending, AreIdle, ArePlaying, GoesAs, HasWork, IsAttending, IsLive, LeavesTaken, attendants, left_all}
 use Rattle.txs_machine.specs.Schedule.{AreDone, ArePlayed, HaveEnded, IsExplainedBy}
 use Rattle.txs_machine.specs.declared.player.AgentPlayer.{AgentPlayer}
-use Rattle.txs_machine.specs.declared.player.Place.{Place}
+use Rattle.txs_world_protocol.specs.declared.event.Place.{Place}
 use Rattle.txs_machine.specs.declared.player.Player.{Player}
 use Rattle.txs_machine.specs.declared.player.Players.{Players}
-use Rattle.txs_machine.specs.declared.run.Ran.{Ran}
 use Rattle.txs_machine.specs.declared.schedule.Play.{Play}
 use Rattle.txs_machine.specs.declared.schedule.Report.{Report}
 
@@ -68,13 +67,6 @@ pub record IsPlayAt (code : PlainCode) (limit k : ℕ) (s : PlainShared) (all : 
   pub later : AreLater all.threads.items next.threads.items
   pub left : left_all next ≤ left_all all
   pub live : IsLive code s all k → left_all next < left_all all
-
--- what is told of a thread's actor that has ended so
-pub record IsRanBy (x : Player) (o : Outcome) (ran : Ran) : Type 0 where
-  pub ended : ran.outcome ≡ o
-  pub printed : ran.printed.items ≡ x.actor.printed
-  pub traced : ran.trace.items ≡ x.trace.items
-  pub counted : ran.steps ≡ x.actor.steps
 
 -- ---- before the first play
 

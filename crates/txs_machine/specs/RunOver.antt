@@ -27,8 +27,7 @@ use Rattle.txs_theorem_runs.specs.Shared.{book_for}
 use Rattle.txs_theorem_runs.specs.Told as told_by
 use Rattle.txs_theorem_runs.specs.Told.{Entry, exchange_of, ToldBy, trace_of, TraceHolds, seen_of}
 use Rattle.txs_world_shared.specs.SharedState.{PlainShared, shared_of}
-use Rattle.txs_machine.specs.declared.player.Place.{Place}
-use Rattle.txs_machine.specs.declared.run.Ran.{Ran}
+use Rattle.txs_world_protocol.specs.declared.event.Place.{Place}
 
 -- the state of the code's cells, for its threads
 pub record IsStateOf (code : PlainCode) (s : PlainShared) : Type 0 where
@@ -41,18 +40,9 @@ IsIn a st (Some o) q = Unit {0}
 IsIn a st None None = stage_of (configuration_of a) ≡ st
 IsIn a st None (Some q) = AsksIn st q × ((r : Reply) → MayAnswer q r → (Stops r → ⊥) → IsStaged (stage_after st q r) (stands_at (answered a r)))
 
--- every event of the book is this actor's
-abbrev pub IsOwn : ℕ → List Event → Type 0
-IsOwn k [] = Unit {0}
-IsOwn k (e ∷ es) = (e.actor ≡ k) × IsOwn k es
-
 -- the books of the state, by number
 abbrev pub books_of : PlainShared → ℕ → List Event
 books_of s = (shared_of s).books
-
--- every event of every book is this actor's
-abbrev pub AreOwn : ℕ → (ℕ → List Event) → Type 0
-AreOwn k books = (n : ℕ) → IsOwn k (books n)
 
 -- places as the laws of runs speak of them
 abbrev pub places_of : List Place → List told_by.Place
@@ -90,32 +80,8 @@ abbrev pub IsAfter : PlainActor → Option Outcome → Type 0
 IsAfter a None = unanswered a ≡ None
 IsAfter a (Some o) = a.outcome ≡ Some o
 
--- a source's meaning explains an actor that has printed these bytes and ended so: one that was stopped has printed a part of it
-abbrev pub ExplainsEnd : Outcome → List ℕ → Completion ThreadState Value → Type 0
-ExplainsEnd o out r = Explained (standing (Some o) (stating out 0 0 no_work None) (stating out 0 0 no_work None)) r
-
--- The trace of a thread that has ended so names of each book the thread's events, each once and in order, and no others; and each source of the
--- code's cells that the thread's code follows means just these, each with its worlds in its book, for some bound on its loops, with what the
--- thread printed and how it ended.
-pub record IsExplained (code : PlainCode) (k : ℕ) (books : ℕ → List Event) (ran : Ran) : Type 0 where
-  pub traced : TraceHolds books k (places_of ran.trace.items)
-  pub means : (p : ThreadSource) → p.cells ≡ code.cells → Follows (code_of code k) p → (m : ℕ) × ExplainsEnd ran.outcome ran.printed.items (thread_meaning p m (seen_of code.cells books (places_of ran.trace.items)))
-
 -- an actor that may make so many steps, has made no more, and has made them all where it was stopped for that
 pub record IsLimited (limit : ℕ) (a : PlainActor) : Type 0 where
   pub limited : a.limit ≡ limit
   pub within : a.steps ≤ limit
   pub spent : a.outcome ≡ Some StepsSpent → limit ≤ a.steps
-
--- An actor of the k-th thread, whose events are all of the books, has made so many steps over them, and printed these bytes and ended so: with the last of
--- its steps where it is done or failed, with as many as it may make where they were spent, with an ask that adds an event
--- to a full book, or in the middle of a step for want of memory. The trace has the places of its events in their order.
-pub record HasEnded (code : PlainCode) (k limit : ℕ) (books : ℕ → List Event) (ran : Ran) : Type 0 where
-  pub actor : PlainActor
-  pub over : RunOver code k books actor
-  pub own : AreOwn k books
-  pub limited : IsLimited limit actor
-  pub ended : actor.outcome ≡ Some ran.outcome
-  pub printed : actor.printed ≡ ran.printed.items
-  pub counted : actor.steps ≡ ran.steps
-  pub traced : places_of ran.trace.items ≡ trace_of code.cells books k over.entries

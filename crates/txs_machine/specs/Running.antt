@@ -25,7 +25,7 @@ use Rattle.txs_machine.specs.Agents.{agents_of}
 use Rattle.txs_machine.specs.Playing.{AreBetween}
 use Rattle.txs_machine.specs.RunOver.{IsLimited, AtFullBook, books_of, places_of}
 use Rattle.txs_machine.specs.Serving.{IsServed}
-use Rattle.txs_machine.specs.declared.player.Place.{Place}
+use Rattle.txs_world_protocol.specs.declared.event.Place.{Place}
 use Rattle.txs_machine.specs.declared.player.AgentPlayer.{AgentPlayer}
 use Rattle.txs_machine.specs.declared.player.Player.{Player}
 use Rattle.txs_machine.specs.declared.player.Players.{Players}

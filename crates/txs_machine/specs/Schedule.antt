@@ -22,7 +22,7 @@ use Rattle.txs_theorem_runs.specs.Told.{TraceHolds, trace_of, seen_of}
 use Rattle.txs_machine.specs.RunOver.{RunOver, IsLimited, places_of}
 use Rattle.txs_machine.specs.declared.schedule.Play.{Play}
 use Rattle.txs_machine.specs.declared.schedule.Play.TheVariants as play
-use Rattle.txs_machine.specs.declared.schedule.ThreadReport.{ThreadReport}
+use Rattle.txs_machine.specs.declared.schedule.Ran.{Ran}
 use Rattle.txs_machine.specs.declared.schedule.ScheduleError.{ScheduleError}
 use Rattle.txs_machine.specs.declared.schedule.ScheduleError.TheVariants.{NoActor, Memory}
 
@@ -50,7 +50,7 @@ all_named n (y ∷ ys) = nat_lt (player y) n && all_named n ys
 -- has; the trace has the places of its events in the order in which it added them, whatever book each stands in. What its transactions set or
 -- ensured wasn't written between read point and commit; nor was it where a commit was refused, and the agent that it was refused for is that of its
 -- first held send whose agent had failed.
-pub record HasDone (code : PlainCode) (k limit : ℕ) (books : ℕ → List Event) (ran : ThreadReport) : Type 0 where
+pub record HasDone (code : PlainCode) (k limit : ℕ) (books : ℕ → List Event) (ran : Ran) : Type 0 where
   pub actor : PlainActor
   pub over : RunOver code k books actor
   pub waits : unanswered actor ≡ None
@@ -63,17 +63,17 @@ pub record HasDone (code : PlainCode) (k limit : ℕ) (books : ℕ → List Even
   pub refused : RefusalsUndisturbed code.cells books over.entries
 
 -- A report has one entry for each thread, which says what its actor did.
-pub record AreDone (code : PlainCode) (limit : ℕ) (books : ℕ → List Event) (rans : List ThreadReport) : Type 0 where
+pub record AreDone (code : PlainCode) (limit : ℕ) (books : ℕ → List Event) (rans : List Ran) : Type 0 where
   pub one_each : length rans ≡ length code.threads
-  pub each : (k : ℕ) (ran : ThreadReport) → nth rans k ≡ Some ran → HasDone code k limit books ran
+  pub each : (k : ℕ) (ran : Ran) → nth rans k ≡ Some ran → HasDone code k limit books ran
 
 -- a thread that hasn't ended has made at least as many steps as there are plays of it
-abbrev pub ArePlayed : List Play → List ThreadReport → Type 0
-ArePlayed ys rans = (k : ℕ) (ran : ThreadReport) → nth rans k ≡ Some ran → ran.outcome ≡ None → plays_of k ys ≤ ran.steps
+abbrev pub ArePlayed : List Play → List Ran → Type 0
+ArePlayed ys rans = (k : ℕ) (ran : Ran) → nth rans k ≡ Some ran → ran.outcome ≡ None → plays_of k ys ≤ ran.steps
 
 -- every thread has ended
-abbrev pub HaveEnded : List ThreadReport → Type 0
-HaveEnded rans = (k : ℕ) (ran : ThreadReport) → nth rans k ≡ Some ran → ran.outcome ≡ None → ⊥
+abbrev pub HaveEnded : List Ran → Type 0
+HaveEnded rans = (k : ℕ) (ran : Ran) → nth rans k ≡ Some ran → ran.outcome ≡ None → ⊥
 
 -- ---- what the source says
 
@@ -91,20 +91,20 @@ HasPrintedLeast p t did out =
 -- A program's thread explains an entry of a report: the trace names of each book the thread's events, each once and in order, and no others; and the source's
 -- meaning on just these events, in the order of the trace, each with its worlds in its book, and for some bound on its loops, is what the thread
 -- printed and how it ended.
-pub record ExplainsThread (p : PlainProgram) (k : ℕ) (t : PlainThread) (books : ℕ → List Event) (ran : ThreadReport) : Type 0 where
+pub record ExplainsThread (p : PlainProgram) (k : ℕ) (t : PlainThread) (books : ℕ → List Event) (ran : Ran) : Type 0 where
   pub traced : TraceHolds books k (places_of ran.trace.items)
   pub means : (n : ℕ) × ExplainsSo ran.outcome ran.printed.items (thread_meaning (source_of p t) n (seen_of p.cells books (places_of ran.trace.items)))
   pub least : HasPrintedLeast p t (seen_of p.cells books (places_of ran.trace.items)) ran.printed.items
 
 -- A program explains a run: there is one entry for each of its threads, the books are legal, the store's and each atom's, no ref that a commit wrote was
 -- written between its view and its place, and each thread explains its entry.
-pub record Explains (p : PlainProgram) (sh : Shared) (rans : List ThreadReport) : Type 0 where
+pub record Explains (p : PlainProgram) (sh : Shared) (rans : List Ran) : Type 0 where
   pub one_each : length rans ≡ length p.threads
   pub books : BooksStand p.cells (length p.threads) sh
-  pub each : (k : ℕ) (t : PlainThread) (ran : ThreadReport) → nth p.threads k ≡ Some t → nth rans k ≡ Some ran → ExplainsThread p k t sh.books ran
+  pub each : (k : ℕ) (t : PlainThread) (ran : Ran) → nth p.threads k ≡ Some t → nth rans k ≡ Some ran → ExplainsThread p k t sh.books ran
 
 -- each program of the code's cells that the code follows explains the run
-abbrev pub IsExplainedBy : PlainCode → Shared → List ThreadReport → Type 0
+abbrev pub IsExplainedBy : PlainCode → Shared → List Ran → Type 0
 IsExplainedBy code sh rans = (p : PlainProgram) → p.cells ≡ code.cells → FollowsAll (map (thread_code code) code.threads) p → Explains p sh rans
 
 -- Why there is no report: a play names no actor, and nothing was run; or there was no memory.

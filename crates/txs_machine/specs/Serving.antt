@@ -7,7 +7,7 @@ use Rattle.txs_world_protocol.specs.declared.ask.Reply.{Reply}
 use Rattle.txs_world_protocol.specs.declared.ask.Reply.TheVariants.{Memory}
 use Rattle.txs_theorem_runs.specs.Shared.{book_for}
 use Rattle.txs_world_shared.specs.SharedState.{PlainShared, shared_of, answer_to, Answers}
-use Rattle.txs_machine.specs.declared.player.Place.{Place}
+use Rattle.txs_world_protocol.specs.declared.event.Place.{Place}
 
 -- whether an ask may add an event to its book; the others only read one, or take from a mailbox
 abbrev pub may_add : Ask → Bool

@@ -11,7 +11,7 @@ use Rattle.txs_machine_actor.specs.declared.outcome.Turn.TheVariants as turned
 use Rattle.txs_world_shared.specs.SharedState.{PlainShared, is_lawful}
 use Rattle.txs_machine.specs.Running.{IsAnswered}
 use Rattle.txs_machine.specs.Serving.{IsServed}
-use Rattle.txs_machine.specs.declared.player.Place.{Place}
+use Rattle.txs_world_protocol.specs.declared.event.Place.{Place}
 
 -- this ask of an actor may be served: it is lawful, and what it is answered hands out what the code may run
 pub record MayAsk (code : PlainCode) (s : PlainShared) (a : PlainActor) (q : Ask) : Type 0 where

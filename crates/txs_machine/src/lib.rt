@@ -1,6 +1,5 @@
-//! Runs of actors over what they share, and what the source of a thread says of its run. `run_thread` runs a thread, whose source means just
-//! what its actor did in the books, with what it printed and how it ended; `run_schedule` runs all threads and agents. What sources say of many actors
-//! over what they share is told by the laws of txs_theorem_runs.
+//! Runs of actors over what they share. `run_schedule` runs all threads and agents by turns: the source explains what each of them
+//! did in the books, printed, and how it ended. The laws of many actors over what they share are those of txs_theorem_runs.
 #![tactic(auto)]
 
 mod agents;
@@ -11,8 +10,7 @@ pub mod run_error;
 pub mod schedule;
 
 pub use law::{actors_explained, actors_follow};
-pub use player::Place;
-pub use run::{Ran, run_thread};
 pub use run_error::RunError;
-pub use schedule::{Play, Report, ScheduleError, ThreadReport, run_schedule};
+pub use schedule::{Play, Ran, Report, ScheduleError, run_schedule};
 pub use txs_machine_actor::{Actor, Turn, actors_run, may_answer};
+pub use txs_world_protocol::{Outcome, Place};

@@ -2,13 +2,7 @@
 
 use txs_machine_actor::Actor;
 use txs_value_data::CellId;
-
-/// A place in a book: book 0 is the store's, n that of the n-th atom in the order of the cells.
-#[derive(Clone, Copy)]
-pub struct Place {
-    pub book: u32,
-    pub at: u32,
-}
+use txs_world_protocol::Place;
 
 /// An actor, and the places of the events that it has added to the books, in order.
 #[derive(Drop)]

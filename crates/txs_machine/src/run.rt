@@ -1,37 +1,23 @@
-//! A thread's run over what actors share.
+//! Turns of an actor over what actors share, with its asks served.
 
-ghost use Rattle.std.specs.Prelude.{◌≡◌, ◌≤◌, ◌<◌, length, nat_lt, true, vec_capacity, vec_len, IfOk, IfSome, Some, None};
+ghost use Rattle.std.specs.Prelude.{◌≡◌, ◌≤◌, ◌<◌, length, nat_lt, true, vec_capacity, vec_len, IfSome, Some, None};
 ghost use Rattle.txs_machine_actor.specs.PlainActor.{Lives, unanswered};
-ghost use Rattle.txs_theorem_runs.specs.Shared.{untouched, book_for};
-ghost use Rattle.txs_world_shared.specs.SharedState.{shared_of, numbered_book, is_lawful};
+ghost use Rattle.txs_theorem_runs.specs.Shared.{book_for};
+ghost use Rattle.txs_world_shared.specs.SharedState.{numbered_book, is_lawful};
 ghost use Rattle.txs_value_data.specs.Limits.{most_events};
-ghost use Rattle.txs_machine.specs.Lawfully.{RunLawfully};
-ghost use Rattle.txs_machine.specs.Plays.{IsRanBy};
-ghost use Rattle.txs_machine.specs.RunOver.{IsStateOf, AreOwn, books_of, IsExplained, IsLimited, HasEnded};
 ghost use Rattle.txs_machine.specs.Serving.{may_add, with_place, IsNext, IsServed};
 ghost use Rattle.txs_machine_actor.specs.declared.outcome.Turn.TheVariants.{Asks};
 ghost use Rattle.txs_machine.specs.Briefs.{ask_of};
 ghost use Rattle.txs_machine.specs.Turning.{MayAsk, MayGoOn, HasGoneOn};
 ghost use Rattle.txs_machine.specs.Running.{IsAnswered};
 
-use crate::player::{Place, Player};
-use crate::schedule::{ThreadReport, report_of};
-use std::alloc::{AllocError, Global};
+use crate::player::Player;
 use std::mem;
 use txs_code_meaning::Verified;
-use txs_machine_actor::{Actor, Turn};
+use txs_machine_actor::Turn;
 use txs_value_data::CellId;
-use txs_world_protocol::{Ask, Outcome, Reply};
+use txs_world_protocol::{Ask, Outcome, Place, Reply};
 use txs_world_shared::SharedState;
-
-/// What a thread has printed, how it ended, the places of its events in the order in which it added them, and how many steps it made.
-#[derive(Drop)]
-pub struct Ran {
-    pub printed: Vec<u8>,
-    pub outcome: Outcome,
-    pub trace: Vec<Place>,
-    pub steps: u64,
-}
 
 /// What a transaction asks before its end, in few words: an ask is large to move.
 #[derive(Clone, Copy)]
@@ -211,83 +197,4 @@ pub(crate) fn go_on(
             None
         }
     }
-}
-
-/// Turns a thread's actor to its end, with each of its asks served, in rounds of so many turns. Each round makes a step at
-/// least, and the actor may make no more than its limit.
-fn run_to_end(
-    player: &mut Player,
-    code: &Verified,
-    shared: &mut SharedState,
-    k: u16,
-    budget: u64,
-) -> Outcome
-    requires some { 0 < budget }
-    requires lives { Lives code.now player.old.actor }
-    requires answered { unanswered player.old.actor ≡ None }
-    requires limited { IsLimited player.old.actor.limit player.old.actor }
-    requires of { IsStateOf code.now shared.old }
-    requires over { RunLawfully code.now k (books_of shared.old) player.old.trace.items player.old.actor }
-    requires own { AreOwn k (books_of shared.old) }
-    ensures ended { player.new.actor.outcome ≡ Some result }
-    ensures limited { IsLimited player.old.actor.limit player.new.actor }
-    ensures of { IsStateOf code.now shared.new }
-    ensures over { RunLawfully code.now k (books_of shared.new) player.new.trace.items player.new.actor }
-    ensures own { AreOwn k (books_of shared.new) }
-{
-    let _own_cells = code.code();
-    let mut ended = None;
-    while ended.is_none() {
-        ended = go_on(player, code, shared, budget);
-    }
-    match ended {
-        Some(outcome) => outcome,
-        None => unreachable!(),
-    }
-}
-
-/// What an actor did that has ended so.
-fn ran_of(alloc: Global, player: &Player, outcome: Outcome) -> Result<Ran, AllocError>
-    ensures { IfOk result (λ ran. IsRanBy player.now outcome ran) }
-{
-    let ThreadReport {
-        outcome: _,
-        printed,
-        trace,
-        steps,
-    } = report_of(alloc, player)?;
-    Ok(Ran {
-        printed,
-        outcome,
-        trace,
-        steps,
-    })
-}
-
-/// Runs a thread of the code to its end, or for so many steps, over a state in which nothing was done yet.
-///
-/// # Errors
-/// `AllocError` where there was no memory for the thread's actor, or for a copy of what it printed and of its trace.
-pub fn run_thread(
-    alloc: Global,
-    code: &Verified,
-    k: u16,
-    max_steps: u64,
-    shared: &mut SharedState,
-) -> Result<Ran, AllocError>
-    requires thread { k < length code.now.threads }
-    requires of { IsStateOf code.now shared.old }
-    requires unused { shared_of shared.old ≡ untouched code.now.cells }
-    ensures of { IsStateOf code.now shared.new }
-    ensures ended { IfOk result (λ ran. HasEnded code.now k max_steps (books_of shared.new) ran) }
-    ensures explained { IfOk result (λ ran. IsExplained code.now k (books_of shared.new) ran) }
-{
-    let (_functions, _threads) = code.rooms();
-    let actor = Actor::thread(alloc, code, k, max_steps)?;
-    let mut player = Player {
-        actor,
-        trace: Vec::new(alloc),
-    };
-    let outcome = run_to_end(&mut player, code, shared, k, u64::MAX);
-    ran_of(alloc, &player, outcome)
 }

@@ -1,7 +1,7 @@
 //! Why there is no report of a run by workers.
 
 ghost use Rattle.std.specs.Prelude.{◌≡◌};
-ghost use Rattle.txs_machine.specs.ErrorName.{error_name};
+ghost use Rattle.txs_machine.specs.ErrorName.{error_name, error_number};
 ghost use Rattle.txs_machine.specs.declared.run_error.RunError.TheVariants.{Memory};
 
 use std::alloc::AllocError;
@@ -46,6 +46,17 @@ impl From<AllocError> for RunError {
 }
 
 impl RunError {
+    /// The number under which the reason is reported: 51 to 53.
+    pub fn number(self) -> u8
+        ensures { result ≡ error_number self }
+    {
+        match self {
+            RunError::JournalMismatch => 51,
+            RunError::NoThread => 52,
+            RunError::Memory => 53,
+        }
+    }
+
     /// Its name, as it is told.
     pub fn name(self) -> &'static str
         ensures { result.now ≡ error_name self }

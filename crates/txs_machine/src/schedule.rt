@@ -3,6 +3,7 @@
 ghost use Rattle.std.specs.Prelude.{◌≡◌, ◌<◌, ◌≤◌, ◌+◌, ℕ, [], length, true, false, IfOk, IfErr, IfSome, IsTrue, OnOk, Some, None};
 ghost use Rattle.txs_machine_actor.specs.PlainActor.{MayRun, with_agent};
 ghost use Rattle.txs_machine.specs.declared.schedule.ScheduleError.TheVariants.{Memory};
+ghost use Rattle.txs_machine.specs.ErrorName.{schedule_error_number};
 ghost use Rattle.txs_machine.specs.RunOver.{IsStateOf, books_of};
 ghost use Rattle.txs_machine.specs.Agents.{actors_of, AgentsAreDone, AreExplainedBy, AreDrained};
 ghost use Rattle.txs_machine.specs.Running.{ArePlaying, AreIdle, IsAttending, IsLive, attendants, left_all};
@@ -16,7 +17,7 @@ ghost use Rattle.txs_world_book.specs.Served.{cells_of};
 ghost use Rattle.txs_world.specs.Store.{next_action};
 
 use crate::agents::{first_working, is_due, open_next};
-use crate::player::{AgentPlayer, Place, Player, Players};
+use crate::player::{AgentPlayer, Player, Players};
 use crate::run::go_on;
 use std::alloc::{AllocError, Global};
 use std::fmt::{self, Debug, Display, Formatter, Write};
@@ -24,7 +25,7 @@ use thiserror::Error;
 use txs_code_meaning::Verified;
 use txs_machine_actor::Actor;
 use txs_value_data::CellKind;
-use txs_world_protocol::Outcome;
+use txs_world_protocol::{Outcome, Place};
 use txs_world_shared::SharedState;
 
 /// One play of a schedule: the actor with this number, counted from 0, goes on. Threads come first, and agents behind them.
@@ -39,7 +40,7 @@ pub enum Play {
 /// What a thread did: how it ended, if it has, what it printed, the places of its events in the order in which it added them, and how
 /// many steps it made.
 #[derive(Drop)]
-pub struct ThreadReport {
+pub struct Ran {
     pub outcome: Option<Outcome>,
     pub printed: Vec<u8>,
     pub trace: Vec<Place>,
@@ -49,8 +50,8 @@ pub struct ThreadReport {
 /// What all threads did, by their numbers, and what the actors of agents did, in the order of their cells. The events and the newest values are those
 /// of the state that they share.
 pub struct Report {
-    pub threads: Vec<ThreadReport>,
-    pub agents: Vec<ThreadReport>,
+    pub threads: Vec<Ran>,
+    pub agents: Vec<Ran>,
 }
 
 // Dropped by a call that is proved here, so that no crate above proves it again.
@@ -76,6 +77,18 @@ pub enum ScheduleError {
 impl Debug for ScheduleError {
     fn fmt<W: Write>(&self, f: &mut Formatter<W>) -> fmt::Result {
         Display::fmt(self, f)
+    }
+}
+
+impl ScheduleError {
+    /// The number under which the reason is reported: 53 out of memory, 54 no such actor.
+    pub fn number(self) -> u8
+        ensures { result ≡ schedule_error_number self }
+    {
+        match self {
+            ScheduleError::NoActor => 54,
+            ScheduleError::Memory => 53,
+        }
     }
 }
 
@@ -402,13 +415,13 @@ fn play_rounds(
 }
 
 /// What an actor did, as a report tells it.
-pub(crate) fn report_of(alloc: Global, player: &Player) -> Result<ThreadReport, AllocError>
+pub(crate) fn report_of(alloc: Global, player: &Player) -> Result<Ran, AllocError>
     ensures { IfOk result (λ ran. IsReported player.now ran) }
 {
     let actor = &player.actor;
     let printed = Vec::from_slice(alloc, actor.printed())?;
     let trace = Vec::from_slice(alloc, player.trace.as_slice())?;
-    Ok(ThreadReport {
+    Ok(Ran {
         outcome: actor.outcome(),
         printed,
         trace,

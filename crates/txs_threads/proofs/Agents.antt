@@ -13,7 +13,7 @@ use Rattle.txs_world.specs.Store.{next_action}
 use Rattle.txs_world_shared.specs.SharedState.{PlainShared, shared_of}
 use Rattle.txs_machine.specs.Agents.{agents_of, AreDrained}
 use Rattle.txs_machine.specs.RunOver.{IsStateOf}
-use Rattle.txs_machine.specs.declared.schedule.ThreadReport.{ThreadReport}
+use Rattle.txs_machine.specs.declared.schedule.Ran.{Ran}
 use Rattle.txs_machine.proofs.Together.{agent_at}
 use Rattle.txs_threads_gather.specs.Gather.{Agrees}
 use Rattle.txs_threads_gather.specs.Played.{PlainPlayed}
@@ -64,13 +64,13 @@ are_agents code s gs of all i g e =
 
 -- ---- what is left of them
 
-drained_at : (s : PlainShared) (gs : List CellId) (rs : List ThreadReport) (i : ℕ) (g : CellId) (r : ThreadReport) → AllDrained s gs rs → nth gs i ≡ Some g → nth rs i ≡ Some r → IsDrained s g r
+drained_at : (s : PlainShared) (gs : List CellId) (rs : List Ran) (i : ℕ) (g : CellId) (r : Ran) → AllDrained s gs rs → nth gs i ≡ Some g → nth rs i ≡ Some r → IsDrained s g r
 drained_at s [] rs i g r h e f = absurd (subst is_some (sym e) tt)
 drained_at s (x ∷ gs) [] i g r h e f = absurd (subst is_some (sym f) tt)
 drained_at s (x ∷ gs) (y ∷ rs) zero g r h e f = subst (λ z. IsDrained s z r) (ap (or_else g) e) (subst (IsDrained s x) (ap (or_else r) f) h.0)
 drained_at s (x ∷ gs) (y ∷ rs) (suc i) g r h e f = drained_at s gs rs i g r h.1 e f
 
 -- what is tested of the agents of a code
-pub are_drained : (code : PlainCode) (s : PlainShared) (gs : List CellId) (rs : List ThreadReport) → IsStateOf code s → gs ≡ agents_of code → AllDrained s gs rs → AreDrained code (shared_of s) rs
+pub are_drained : (code : PlainCode) (s : PlainShared) (gs : List CellId) (rs : List Ran) → IsStateOf code s → gs ≡ agents_of code → AllDrained s gs rs → AreDrained code (shared_of s) rs
 are_drained code s gs rs of all h i g r e f n =
     ap (λ cs. next_action (cells_of cs) ((shared_of s).books 0) g) (sym of.cells) ∙ drained_at s gs rs i g r h (subst (λ l. nth l i ≡ Some g) (sym all) e) f n

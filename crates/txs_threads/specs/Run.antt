@@ -4,7 +4,7 @@ use Rattle.txs_code_meaning.specs.PlainCode.{PlainCode}
 use Rattle.txs_machine.specs.Agents.{agents_of, AreDrained, AreExplainedBy}
 use Rattle.txs_machine.specs.RunOver.{IsStateOf}
 use Rattle.txs_machine.specs.Schedule.{HaveEnded, IsExplainedBy}
-use Rattle.txs_machine.specs.declared.schedule.ThreadReport.{ThreadReport}
+use Rattle.txs_machine.specs.declared.schedule.Ran.{Ran}
 use Rattle.txs_threads_gather.specs.Gather.{AllHaveDone, AllHaveAttended}
 use Rattle.txs_world_shared.specs.SharedState.{PlainShared, numbered_book, shared_of}
 use Rattle.txs_value_base.specs.Places.{nth}
@@ -14,7 +14,7 @@ use Rattle.txs_world_book.specs.Served.{cells_of}
 use Rattle.txs_world.specs.Store.{next_action}
 
 -- every thread has ended
-abbrev pub AllEnded : List ThreadReport → Type 0
+abbrev pub AllEnded : List Ran → Type 0
 AllEnded [] = Unit {0}
 AllEnded (r ∷ rs) = (r.outcome ≡ None → ⊥) × AllEnded rs
 
@@ -23,17 +23,17 @@ abbrev pub AreAgents : PlainShared → List CellId → Type 0
 AreAgents s gs = (i : ℕ) (g : CellId) → nth gs i ≡ Some g → has_agent (cells_of s.cells) g ≡ true
 
 -- an agent whose actor hasn't ended has failed, or nothing waits for it
-abbrev pub IsDrained : PlainShared → CellId → ThreadReport → Type 0
+abbrev pub IsDrained : PlainShared → CellId → Ran → Type 0
 IsDrained s g r = r.outcome ≡ None → next_action (cells_of s.cells) (numbered_book s 0) g ≡ None
 
 -- so it is of each of these agents, with its entry
-abbrev pub AllDrained : PlainShared → List CellId → List ThreadReport → Type 0
+abbrev pub AllDrained : PlainShared → List CellId → List Ran → Type 0
 AllDrained s [] rs = Unit {0}
 AllDrained s (g ∷ gs) [] = Unit {0}
 AllDrained s (g ∷ gs) (r ∷ rs) = IsDrained s g r × AllDrained s gs rs
 
 -- what is left of a run, its state and the entries of its threads and agents: all that `run_threads` says of them
-pub record IsLeft (code : PlainCode) (limit : ℕ) (s : PlainShared) (threads agents : List ThreadReport) : Type 0 where
+pub record IsLeft (code : PlainCode) (limit : ℕ) (s : PlainShared) (threads agents : List Ran) : Type 0 where
   pub of : IsStateOf code s
   pub one_each : length threads ≡ length code.threads
   pub agents_each : length agents ≡ length (agents_of code)

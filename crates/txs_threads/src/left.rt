@@ -11,7 +11,7 @@ use crate::desk::{Actors, Desk, Server};
 use crate::player::{Next, Player};
 use std::alloc::Global;
 use txs_code_meaning::Verified;
-use txs_machine::{RunError, ThreadReport};
+use txs_machine::{Ran, RunError};
 use txs_machine_actor::Turn;
 use txs_threads_gather::{Gathered, Played, gather};
 use txs_value_data::CellId;
@@ -55,7 +55,7 @@ fn play_out<P: Player>(server: &mut Server, mut actors: Actors<P>) -> Vec<P> {
 }
 
 /// Whether each of these entries is of an actor that has ended.
-fn have_ended(threads: &[ThreadReport]) -> bool
+fn have_ended(threads: &[Ran]) -> bool
     ensures { IsTrue result → AllEnded threads.now }
 {
     for thread in threads {
@@ -67,7 +67,7 @@ fn have_ended(threads: &[ThreadReport]) -> bool
 }
 
 /// Whether an agent's actor has ended, or the agent has failed, or nothing waits for it.
-fn is_drained(shared: &SharedState, agent: CellId, ran: &ThreadReport) -> bool
+fn is_drained(shared: &SharedState, agent: CellId, ran: &Ran) -> bool
     requires { has_agent (cells_of shared.now.cells) agent ≡ true }
     ensures { IsTrue result → IsDrained shared.now agent ran.now }
 {
@@ -81,7 +81,7 @@ fn is_drained(shared: &SharedState, agent: CellId, ran: &ThreadReport) -> bool
 }
 
 /// Whether this is so of each of these agents.
-fn are_drained(shared: &SharedState, agents: &[CellId], rans: &[ThreadReport]) -> bool
+fn are_drained(shared: &SharedState, agents: &[CellId], rans: &[Ran]) -> bool
     requires agents { AreAgents shared.now agents.now }
     requires one_each { length rans.now ≡ length agents.now }
     ensures { IsTrue result → AllDrained shared.now agents.now rans.now }

@@ -27,7 +27,7 @@ use Rattle.txs_theorem_runs.specs.Told.{Entry, EntryHolds, AllHold, before_entry
 use Rattle.txs_threads_replay.specs.Replay.{entry_of}
 use Rattle.txs_threads_replay.specs.declared.kept.Kept.{Kept}
 use Rattle.txs_machine.specs.RunOver.{places_of}
-use Rattle.txs_machine.specs.declared.player.Place.{Place}
+use Rattle.txs_world_protocol.specs.declared.event.Place.{Place}
 use Rattle.txs_threads_gather.specs.Adds.{is_retry, is_done, is_full, adds_event, kept_before, kept_trace, IsNotedBehind}
 
 -- what was served grows its book just where the reply says so

@@ -39,9 +39,9 @@ use Rattle.txs_threads_replay.specs.declared.kept.Kept.{Kept}
 use Rattle.txs_machine.specs.Agents.{agents_of, AgentHasDone, NeverEnds, ExplainsAgent, AreExplainedBy}
 use Rattle.txs_machine.specs.RunOver.{RunOver, IsLimited, AskedOn, AtFullBook, books_of, places_of}
 use Rattle.txs_machine.specs.Schedule.{HasDone, ExplainsSo, HasPrintedLeast, ExplainsThread, IsExplainedBy}
-use Rattle.txs_machine.specs.declared.player.Place.{Place}
+use Rattle.txs_world_protocol.specs.declared.event.Place.{Place}
 use Rattle.txs_machine.specs.declared.run_error.RunError.TheVariants as run_error
-use Rattle.txs_machine.specs.declared.schedule.ThreadReport.{ThreadReport}
+use Rattle.txs_machine.specs.declared.schedule.Ran.{Ran}
 use Rattle.txs_machine.proofs.Explaining.{Known, part_explained, part_printed, code_at, length_map, books_stand}
 use Rattle.txs_machine.proofs.Together.{agent_at, agent_acts}
 use Rattle.txs_threads_gather.specs.Adds.{kept_trace}
@@ -58,7 +58,7 @@ abbrev or_first : PlainPlayed → Option PlainPlayed → PlainPlayed
 or_first d None = d
 or_first d (Some p) = p
 
-abbrev report_or : ThreadReport → Option ThreadReport → ThreadReport
+abbrev report_or : Ran → Option Ran → Ran
 report_or d None = d
 report_or d (Some r) = r
 
@@ -163,13 +163,13 @@ module _ (code : PlainCode) (limit : ℕ) (s : PlainShared) where
         full = full_of k p same d;
       }
 
-  trace_so : (k : ℕ) (p : PlainPlayed) (r : ThreadReport) → s.cells ≡ code.cells → HasDoneOver code limit s k p → IsReportOf s p r → places_of r.trace.items ≡ trace_of code.cells (books_of s) k (map entry_of p.kept)
+  trace_so : (k : ℕ) (p : PlainPlayed) (r : Ran) → s.cells ≡ code.cells → HasDoneOver code limit s k p → IsReportOf s p r → places_of r.trace.items ≡ trace_of code.cells (books_of s) k (map entry_of p.kept)
   trace_so k p r same d rep = rep.traced ∙ ap (λ cs. kept_trace cs p.kept) same ∙ trace_is_kept code.cells (length code.threads) (books_of s) k p.kept d.hold
 
   limited_so : (k : ℕ) (p : PlainPlayed) → HasDoneOver code limit s k p → IsLimited limit p.actor
   limited_so k p d = subst (λ n. IsLimited n p.actor) d.player.limited d.played.limited
 
-  done_so : DoneIsUndisturbed → RefusedIsUndisturbed → (k : ℕ) (p : PlainPlayed) (r : ThreadReport) → s.cells ≡ code.cells → k < length code.threads → HasDoneOver code limit s k p → IsReportOf s p r → HasDone code k limit (books_of s) r
+  done_so : DoneIsUndisturbed → RefusedIsUndisturbed → (k : ℕ) (p : PlainPlayed) (r : Ran) → s.cells ≡ code.cells → k < length code.threads → HasDoneOver code limit s k p → IsReportOf s p r → HasDone code k limit (books_of s) r
   unfolding over_of
   done_so law refused k p r same below d rep = record {
     actor = p.actor;
@@ -184,7 +184,7 @@ module _ (code : PlainCode) (limit : ℕ) (s : PlainShared) where
     refused = all_refused refused code.cells (length code.threads) (books_of s) k (map entry_of p.kept) d.hold;
   }
 
-  attended_so : (k : ℕ) (p : PlainPlayed) (r : ThreadReport) → s.cells ≡ code.cells → HasDoneOver code limit s k p → IsReportOf s p r → AgentHasDone code k limit (books_of s) r
+  attended_so : (k : ℕ) (p : PlainPlayed) (r : Ran) → s.cells ≡ code.cells → HasDoneOver code limit s k p → IsReportOf s p r → AgentHasDone code k limit (books_of s) r
   attended_so k p r same d rep = record {
     actor = p.actor;
     number = d.player.number;
@@ -201,14 +201,14 @@ module _ (code : PlainCode) (limit : ℕ) (s : PlainShared) where
     full = full_of k p same d;
   }
 
-  report_at : (ps : List PlainPlayed) (rs : List ThreadReport) (k : ℕ) (p : PlainPlayed) (r : ThreadReport) → AreReportsOf s ps rs → nth ps k ≡ Some p → nth rs k ≡ Some r → IsReportOf s p r
+  report_at : (ps : List PlainPlayed) (rs : List Ran) (k : ℕ) (p : PlainPlayed) (r : Ran) → AreReportsOf s ps rs → nth ps k ≡ Some p → nth rs k ≡ Some r → IsReportOf s p r
   report_at [] rs k p r h e f = absurd (subst is_some (sym e) tt)
   report_at (x ∷ ps) [] k p r h e f = absurd h
   report_at (x ∷ ps) (y ∷ rs) zero p r h e f = subst (λ z. IsReportOf s z r) (ap (or_first x) e) (subst (IsReportOf s x) (ap (report_or y) f) h.0)
   report_at (x ∷ ps) (y ∷ rs) (suc k) p r h e f = report_at ps rs k p r h.1 e f
 
   -- the actor of an entry
-  there : (ps : List PlainPlayed) (rs : List ThreadReport) (k : ℕ) (r : ThreadReport) → AreReportsOf s ps rs → nth rs k ≡ Some r → (p : PlainPlayed) × (nth ps k ≡ Some p)
+  there : (ps : List PlainPlayed) (rs : List Ran) (k : ℕ) (r : Ran) → AreReportsOf s ps rs → nth rs k ≡ Some r → (p : PlainPlayed) × (nth ps k ≡ Some p)
   there [] [] k r h e = absurd (subst is_some (sym e) tt)
   there [] (y ∷ rs) k r h e = absurd h
   there (x ∷ ps) [] k r h e = absurd h
@@ -216,14 +216,14 @@ module _ (code : PlainCode) (limit : ℕ) (s : PlainShared) where
   there (x ∷ ps) (y ∷ rs) (suc k) r h e = there ps rs k r h.1 e
 
   -- where parts agree, each thread's actor did over the books what its entry says
-  pub all_done : ReplayRuns → DoneIsUndisturbed → RefusedIsUndisturbed → (served : ℕ) (ps : List PlainPlayed) (rs : List ThreadReport) → Agrees code limit s served ps → ArePlayed ps → AreReportsOf s (take s.threads ps) rs → AllHaveDone code limit s rs
+  pub all_done : ReplayRuns → DoneIsUndisturbed → RefusedIsUndisturbed → (served : ℕ) (ps : List PlainPlayed) (rs : List Ran) → Agrees code limit s served ps → ArePlayed ps → AreReportsOf s (take s.threads ps) rs → AllHaveDone code limit s rs
   all_done runs law refused served ps rs g h rep k r f =
       let p = there (take s.threads ps) rs k r rep f in
       let t = taken_at ps s.threads k p.0 p.1 in
       done_so law refused k p.0 r g.cells (subst (λ n. k < n) g.threads t.0) (each_done runs served ps g h k p.0 t.1) (report_at (take s.threads ps) rs k p.0 r rep p.1 f)
 
   -- so did each agent's
-  pub all_attended : ReplayRuns → (served : ℕ) (ps : List PlainPlayed) (rs : List ThreadReport) → Agrees code limit s served ps → ArePlayed ps → AreReportsOf s (drop s.threads ps) rs → AllHaveAttended code limit s rs
+  pub all_attended : ReplayRuns → (served : ℕ) (ps : List PlainPlayed) (rs : List Ran) → Agrees code limit s served ps → ArePlayed ps → AreReportsOf s (drop s.threads ps) rs → AllHaveAttended code limit s rs
   all_attended runs served ps rs g h rep i r f =
       let p = there (drop s.threads ps) rs i r rep f in
       let at : nth ps (length code.threads + i) ≡ Some p.0 = ap (λ n. nth ps (n + i)) (sym g.threads) ∙ sym (dropped_at ps s.threads i) ∙ p.1 in
@@ -231,7 +231,7 @@ module _ (code : PlainCode) (limit : ℕ) (s : PlainShared) where
 
 -- ---- what sources say
 
-pub as_many : (s : PlainShared) (ps : List PlainPlayed) (rs : List ThreadReport) → AreReportsOf s ps rs → length rs ≡ length ps
+pub as_many : (s : PlainShared) (ps : List PlainPlayed) (rs : List Ran) → AreReportsOf s ps rs → length rs ≡ length ps
 as_many s [] [] h = refl
 as_many s [] (r ∷ rs) h = absurd h
 as_many s (p ∷ ps) [] h = absurd h
@@ -244,7 +244,7 @@ abbrev LeastSo : PlainProgram → PlainThread → (ℕ → List Event) → List 
 LeastSo p t books out trace cells = HasPrintedLeast p t (seen_of cells books (places_of trace)) out
 
 -- an entry that says what its actor did is explained by each source that the code follows
-thread_explained : Known → (code : PlainCode) (k limit : ℕ) (books : ℕ → List Event) (r : ThreadReport) → HasDone code k limit books r
+thread_explained : Known → (code : PlainCode) (k limit : ℕ) (books : ℕ → List Event) (r : Ran) → HasDone code k limit books r
     → (p : PlainProgram) (t : PlainThread) → p.cells ≡ code.cells → FollowsAll (map (thread_code code) code.threads) p → nth p.threads k ≡ Some t → ExplainsThread p k t books r
 thread_explained by code k limit books r d p t same follows e =
     let a = d.actor in
@@ -260,7 +260,7 @@ thread_explained by code k limit books r d p t same follows e =
     }
 
 -- where parts agree, each program that the code follows explains what its threads did
-pub all_explained : Known → (code : PlainCode) (limit : ℕ) (s : PlainShared) (served : ℕ) (ps : List PlainPlayed) (rs : List ThreadReport) → Agrees code limit s served ps → SharedStands s.cells s.threads (shared_of s)
+pub all_explained : Known → (code : PlainCode) (limit : ℕ) (s : PlainShared) (served : ℕ) (ps : List PlainPlayed) (rs : List Ran) → Agrees code limit s served ps → SharedStands s.cells s.threads (shared_of s)
     → length rs ≡ length code.threads → AllHaveDone code limit s rs → IsExplainedBy code (shared_of s) rs
 all_explained by code limit s served ps rs g stands many done p same follows = record {
   one_each = many ∙ threads;
@@ -304,7 +304,7 @@ below_length (y ∷ xs) zero x e = omega arith
 below_length (y ∷ xs) (suc i) x e = let h = below_length xs i x e in omega (arith, h)
 
 module _ (runs : ReplayRuns) (law : RunReported) (code : PlainCode) (limit : ℕ) (s : PlainShared) (served : ℕ) (ps : List PlainPlayed) (g : Agrees code limit s served ps) (h : ArePlayed ps) (staged : CodesStaged (map (thread_code code) code.threads))
-    (ts rs : List ThreadReport) (by : IsExplainedBy code (shared_of s) ts) (rep : AreReportsOf s (drop s.threads ps) rs) (many : length rs ≡ length (agents_of code)) where
+    (ts rs : List Ran) (by : IsExplainedBy code (shared_of s) ts) (rep : AreReportsOf s (drop s.threads ps) rs) (many : length rs ≡ length (agents_of code)) where
   abbrev turns_to : ℕ → List Play
   turns_to k = (run_to code limit s runs served ps g h k).turns
 
@@ -349,7 +349,7 @@ module _ (runs : ReplayRuns) (law : RunReported) (code : PlainCode) (limit : ℕ
           subst (ReportExplained p (function_codes code)) (ap (λ cs. plays cs (length p.threads) (code_of code) (turns_to k)) same ∙ ap (λ n. plays code.cells n (code_of code) (turns_to k)) (sym threads))
           (law p (map (thread_code code) code.threads) (function_codes code) (code_of code) (turns_to k) follows agents staged sends program)
 
-      agent_explained : (i : ℕ) (r : ThreadReport) → nth rs i ≡ Some r → ExplainsAgent (length p.threads + i) (books_of s) r
+      agent_explained : (i : ℕ) (r : Ran) → nth rs i ≡ Some r → ExplainsAgent (length p.threads + i) (books_of s) r
       agent_explained i r e =
           let k = length code.threads + i in
           let d = done i r e in
@@ -385,10 +385,10 @@ length_drop (x ∷ xs) (suc n) m h = length_drop xs n m (omega (arith, h))
 pub enough_for : (code : PlainCode) (s : PlainShared) (ps : List PlainPlayed) → IsMadeFor code s (length ps) → s.threads ≤ length ps
 enough_for code s ps made = omega (arith, made.1, made.2)
 
-pub as_many_threads : (code : PlainCode) (s : PlainShared) (ps : List PlainPlayed) (rs : List ThreadReport) → IsMadeFor code s (length ps) → AreReportsOf s (take s.threads ps) rs → length rs ≡ length code.threads
+pub as_many_threads : (code : PlainCode) (s : PlainShared) (ps : List PlainPlayed) (rs : List Ran) → IsMadeFor code s (length ps) → AreReportsOf s (take s.threads ps) rs → length rs ≡ length code.threads
 as_many_threads code s ps rs made rep = as_many s (take s.threads ps) rs rep ∙ length_take ps s.threads (enough_for code s ps made) ∙ made.1
 
-pub as_many_agents : (code : PlainCode) (s : PlainShared) (ps : List PlainPlayed) (rs : List ThreadReport) → IsMadeFor code s (length ps) → AreReportsOf s (drop s.threads ps) rs → length rs ≡ length (agents_of code)
+pub as_many_agents : (code : PlainCode) (s : PlainShared) (ps : List PlainPlayed) (rs : List Ran) → IsMadeFor code s (length ps) → AreReportsOf s (drop s.threads ps) rs → length rs ≡ length (agents_of code)
 as_many_agents code s ps rs made rep = as_many s (drop s.threads ps) rs rep ∙ length_drop ps s.threads (length (agents_of code)) (made.2 ∙ ap (λ n. n + length (agents_of code)) (sym made.1))
 
 -- ---- tests
@@ -422,7 +422,7 @@ agreed code limit s served ps made each replayed = record { cells = made.0; thre
 
 -- ---- how a report is written
 
-pub reports_more : (s : PlainShared) (ps : List PlainPlayed) (rs : List ThreadReport) (p : PlainPlayed) (r : ThreadReport) → AreReportsOf s ps rs → IsReportOf s p r → AreReportsOf s (ps ++ p ∷ []) (rs ++ r ∷ [])
+pub reports_more : (s : PlainShared) (ps : List PlainPlayed) (rs : List Ran) (p : PlainPlayed) (r : Ran) → AreReportsOf s ps rs → IsReportOf s p r → AreReportsOf s (ps ++ p ∷ []) (rs ++ r ∷ [])
 reports_more s [] [] p r h e = (e, tt)
 reports_more s [] (y ∷ rs) p r h e = absurd h
 reports_more s (x ∷ ps) [] p r h e = absurd h

@@ -9,7 +9,7 @@ use Rattle.txs_theorem_runs.specs.Shared.{book_for}
 use Rattle.txs_theorem_runs.specs.Told as told_by
 use Rattle.txs_threads_replay.specs.declared.kept.Kept.{Kept}
 use Rattle.txs_machine.specs.RunOver.{places_of}
-use Rattle.txs_machine.specs.declared.player.Place.{Place}
+use Rattle.txs_world_protocol.specs.declared.event.Place.{Place}
 
 -- whether a reply is that the transaction runs again
 abbrev pub is_retry : Reply → Bool

@@ -13,7 +13,7 @@ use Rattle.txs_threads_replay.specs.declared.kept.Kept.{Kept}
 use Rattle.txs_machine.specs.Agents.{actors_of, AgentHasDone}
 use Rattle.txs_machine.specs.RunOver.{books_of, places_of}
 use Rattle.txs_machine.specs.Schedule.{HasDone}
-use Rattle.txs_machine.specs.declared.schedule.ThreadReport.{ThreadReport}
+use Rattle.txs_machine.specs.declared.schedule.Ran.{Ran}
 use Rattle.txs_threads_gather.specs.Adds.{kept_trace}
 use Rattle.txs_threads_gather.specs.Played.{PlainPlayed, HasPlayed}
 
@@ -69,14 +69,14 @@ pub record Agrees (code : PlainCode) (limit : ℕ) (s : PlainShared) (served : �
   pub replayed : AreReplayed s served (kept_by ps)
 
 -- an entry of a report says what its actor came to, and has the places of the events that the actor's entries added
-pub record IsReportOf (s : PlainShared) (p : PlainPlayed) (ran : ThreadReport) : Type 0 where
+pub record IsReportOf (s : PlainShared) (p : PlainPlayed) (ran : Ran) : Type 0 where
   pub ended : p.actor.outcome ≡ ran.outcome
   pub printed : p.actor.printed ≡ ran.printed.items
   pub counted : p.actor.steps ≡ ran.steps
   pub traced : places_of ran.trace.items ≡ kept_trace s.cells p.kept
 
 -- one for each actor
-abbrev pub AreReportsOf : PlainShared → List PlainPlayed → List ThreadReport → Type 0
+abbrev pub AreReportsOf : PlainShared → List PlainPlayed → List Ran → Type 0
 AreReportsOf s [] [] = Unit {0}
 AreReportsOf s [] (r ∷ rs) = ⊥
 AreReportsOf s (p ∷ ps) [] = ⊥
@@ -84,9 +84,9 @@ AreReportsOf s (p ∷ ps) (r ∷ rs) = IsReportOf s p r × AreReportsOf s ps rs
 
 -- Each entry says what the actor of a thread of the code, which may make so many steps, did over the books: its steps are no more than these, and where
 -- they were spent, just as many.
-abbrev pub AllHaveDone : PlainCode → ℕ → PlainShared → List ThreadReport → Type 0
-AllHaveDone code limit s rans = (k : ℕ) (ran : ThreadReport) → nth rans k ≡ Some ran → HasDone code k limit (books_of s) ran
+abbrev pub AllHaveDone : PlainCode → ℕ → PlainShared → List Ran → Type 0
+AllHaveDone code limit s rans = (k : ℕ) (ran : Ran) → nth rans k ≡ Some ran → HasDone code k limit (books_of s) ran
 
 -- so does each of the actor of an agent, in the order of the agents
-abbrev pub AllHaveAttended : PlainCode → ℕ → PlainShared → List ThreadReport → Type 0
-AllHaveAttended code limit s rans = (i : ℕ) (ran : ThreadReport) → nth rans i ≡ Some ran → AgentHasDone code (length code.threads + i) limit (books_of s) ran
+abbrev pub AllHaveAttended : PlainCode → ℕ → PlainShared → List Ran → Type 0
+AllHaveAttended code limit s rans = (i : ℕ) (ran : Ran) → nth rans i ≡ Some ran → AgentHasDone code (length code.threads + i) limit (books_of s) ran

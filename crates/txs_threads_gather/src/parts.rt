@@ -15,7 +15,7 @@ use crate::played::Played;
 use std::alloc::{AllocError, Global};
 use txs_code_encode::same_code;
 use txs_code_meaning::Verified;
-use txs_machine::{Place, Report, RunError, ThreadReport, actors_explained};
+use txs_machine::{Place, Ran, Report, RunError, actors_explained};
 use txs_theorem_runs::law::{every_report_is_explained, told_fits, typed_threads_are_staged};
 use txs_theorem_threads::replies_fit;
 use txs_threads_replay::law::replay_runs;
@@ -179,17 +179,13 @@ fn trace_of(
 }
 
 /// What an actor did, as a report tells it.
-fn report_of(
-    alloc: Global,
-    shared: &SharedState,
-    played: &Played<'_>,
-) -> Result<ThreadReport, AllocError>
+fn report_of(alloc: Global, shared: &SharedState, played: &Played<'_>) -> Result<Ran, AllocError>
     ensures { IfOk result (λ ran. IsReportOf shared.now played.now ran) }
 {
     let actor = played.actor();
     let printed = Vec::from_slice(alloc, actor.printed())?;
     let trace = trace_of(alloc, shared, played.kept())?;
-    Ok(ThreadReport {
+    Ok(Ran {
         outcome: actor.outcome(),
         printed,
         trace,
@@ -202,7 +198,7 @@ fn report_all(
     alloc: Global,
     shared: &SharedState,
     played: &[Played<'_>],
-    reports: &mut Vec<ThreadReport>,
+    reports: &mut Vec<Ran>,
 ) -> Result<(), AllocError>
     requires { reports.old.items ≡ [] }
     ensures { OnOk result (AreReportsOf shared.now played.now reports.new.items) }

@@ -75,6 +75,14 @@ impl Drop for Event {
     }
 }
 
+/// Where an event is: the number of its book, 0 for the store's and n for that of the n-th atom in the order of the
+/// cells, and its index there.
+#[derive(Clone, Copy)]
+pub struct Place {
+    pub book: u32,
+    pub at: u32,
+}
+
 /// How an actor ends.
 #[derive(Clone, Copy, PartialEq, Eq)]
 pub enum Outcome {

@@ -9,4 +9,4 @@ pub mod event;
 
 pub use ask::{Ask, Reply};
 pub use copy::{copy_ask, copy_event, copy_reply, copy_writes};
-pub use event::{Event, EventKind, Outcome};
+pub use event::{Event, EventKind, Outcome, Place};

@@ -1,7 +1,7 @@
 use Rattle.std.proofs.Common.{◌≡◌, ◌≤◌, ◌∙◌, List, length, refl, sym, ap, subst}
 use Rattle.txs_value_cell.specs.declared.cell.CellDefinition.{CellDefinition}
 use Rattle.txs_code_meaning.specs.PlainCode.{PlainCode}
-use Rattle.txs_machine.specs.declared.schedule.ThreadReport.{ThreadReport}
+use Rattle.txs_machine.specs.declared.schedule.Ran.{Ran}
 use Rattle.txs_cli_report.specs.AgentLines.{named_from}
 use Rattle.txs_cli_report.specs.Lent.{script_of}
 use Rattle.txs_cli_report.specs.Told.{EndsTold, run_status}
@@ -28,8 +28,8 @@ returns-in_ok-told-in-Ok-clause-told c =
     let is : c.cells-cells.result.now ≡ c.args.code.now.cells = c.cells-cells.ensures ∙ ap (λ (d : PlainCode). d.cells) c.code.ensures.value in
     let script = script_of c.args.script in
     let s = c.run_schedule.new.shared in
-    let rans : List ThreadReport = c.in-Ok.report.threads.items in
-    let agents : List ThreadReport = c.in-Ok.report.agents.items in
+    let rans : List Ran = c.in-Ok.report.threads.items in
+    let agents : List Ran = c.in-Ok.report.agents.items in
     let r = c.in-Ok.ensures in
     let t = c.in_ok-told-in-Ok.ensures in (
       r.named,

@@ -1,6 +1,6 @@
 use Rattle.std.proofs.Common.{◌≡◌, ◌≤◌, ◌<◌, ◌+◌, ◌++◌, ℕ, List, [], length, drop, get_or, rules, refl, sym, ap, ◌∙◌, subst}
 use Rattle.std.proofs.lemmas.List.{append-nil, drop_all}
-use Rattle.txs_machine.specs.declared.schedule.ThreadReport.{ThreadReport}
+use Rattle.txs_machine.specs.declared.schedule.Ran.{Ran}
 use Rattle.txs_cli_report.specs.Lent.{script_of}
 use Rattle.txs_cli_report.specs.Lines.{AreLessons, all_printed, status_from}
 use Rattle.txs_cli_report.proofs.Threads.{lessons_more, printed_more, status_more}
@@ -39,11 +39,11 @@ returns-clause-output c =
     let k = c.loop-k.k in
     let out = c.loop-k.told.output.items in
     let past : length rs ≤ k = search rules in
-    sym (append-nil out) ∙ ap (λ (l : List ThreadReport). out ++ all_printed l) (sym (drop_all k rs past)) ∙ c.loop-k.invariant.output
+    sym (append-nil out) ∙ ap (λ (l : List Ran). out ++ all_printed l) (sym (drop_all k rs past)) ∙ c.loop-k.invariant.output
 
 pub returns-clause-status : goal.returns-clause-status
 returns-clause-status c =
     let rs = c.args.report.now.threads.items in
     let k = c.loop-k.k in
     let past : length rs ≤ k = search rules in
-    ap (λ (l : List ThreadReport). status_from c.loop-k.told.status l) (sym (drop_all k rs past)) ∙ c.loop-k.invariant.status
+    ap (λ (l : List Ran). status_from c.loop-k.told.status l) (sym (drop_all k rs past)) ∙ c.loop-k.invariant.status

@@ -1,5 +1,5 @@
 use Rattle.std.proofs.Common.{◌≡◌, ◌≤◌, ◌+◌, ◌∙◌, ℕ, List, Result, Ok, Err, OnOk, ap, arith, false, inl, inr, is_err, length, nat_lt, refl, rules, true, vec_capacity, vec_len}
-use Rattle.txs_machine.specs.declared.player.Place.{Place}
+use Rattle.txs_world_protocol.specs.declared.event.Place.{Place}
 use Rattle.txs_theorem_runs.specs.Shared.{book_for}
 use Rattle.txs_world_shared.specs.SharedState.{numbered_book}
 use Rattle.txs_machine.specs.Serving.{may_add, with_place}

@@ -2,7 +2,7 @@ use Rattle.std.proofs.Common.{List, rules, inl, refl, subst, sym, ap, length, â—
 use Rattle.txs_value_data.specs.declared.value.CellId.{CellId}
 use Rattle.txs_threads_gather.specs.Gather.{AllHaveDone, AllHaveAttended}
 use Rattle.txs_world_shared.specs.SharedState.{PlainShared}
-use Rattle.txs_machine.specs.declared.schedule.ThreadReport.{ThreadReport}
+use Rattle.txs_machine.specs.declared.schedule.Ran.{Ran}
 use Rattle.txs_threads.specs.Run.{AllEnded, AllDrained, IsLeft}
 use Rattle.txs_threads.proofs.Agents.{are_agents, are_drained, state_of}
 use Rattle.txs_threads.proofs.Ended.{all_ended}
@@ -23,8 +23,8 @@ returns-then-is_whole-clause-left c =
     let code = c.args.code.now in
     let g = c.in_ok-gathered in
     let s = g.gathered.shared in
-    let threads : List ThreadReport = g.gathered.report.threads.items in
-    let agents : List ThreadReport = g.gathered.report.agents.items in
+    let threads : List Ran = g.gathered.report.threads.items in
+    let agents : List Ran = g.gathered.report.agents.items in
     let of = state_of code s _ _ _ _ g.ensures.shared g.ensures.agrees in
     let ended : AllEnded threads = search rules in
     let drained : AllDrained s c.args.agents.now agents = search rules in

@@ -1,5 +1,0 @@
-use Rattle.std.proofs.Common.{rules}
-use Rattle.txs_machine.proofs.run.ran_of.Goals as goal
-
-pub returns : goal.returns
-returns c = record { ended = search rules; printed = search rules; traced = search rules; counted = search rules }
