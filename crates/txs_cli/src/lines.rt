@@ -9,7 +9,7 @@ use itoa::Buffer;
 use std::alloc::{AllocError, Global};
 use txs_cli_report::told::{REFUSED, Told};
 use txs_code_load::error::LoadError;
-use txs_verify::error::BodyName;
+use txs_verify::BodyName;
 
 /// Appends a number between two words.
 fn write_number(

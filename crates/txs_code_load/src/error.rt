@@ -1,7 +1,7 @@
 //! Why bytes aren't taken as code.
 
 use txs_code_decode::CodeError;
-use txs_verify::error::VerifyError;
+use txs_verify::VerifyError;
 
 /// Why bytes aren't taken as code.
 #[derive(Clone, Copy)]

@@ -12,8 +12,7 @@ use crate::law::form_is_taken;
 use std::alloc::Global;
 use txs_code_decode::{CodeError, CodeErrorKind, decode};
 use txs_code_meaning::{Code, Verified};
-use txs_verify::error::{VerifyError, VerifyErrorKind};
-use txs_verify::verify::{Rooms, verify};
+use txs_verify::{Rooms, VerifyError, VerifyErrorKind, verify};
 
 /// What a refusal of the bytes is.
 fn of_bytes(error: CodeError) -> LoadError

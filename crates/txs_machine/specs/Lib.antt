@@ -10,3 +10,7 @@ pub mod Schedule
 pub mod Serving
 pub mod Turning
 pub mod Plays
+pub use Rattle.txs_machine_actor.specs.PlainActor
+pub use Rattle.txs_machine_actor.specs.Turns
+pub use Rattle.txs_theorem_runs.specs.Shared
+pub use Rattle.txs_world_shared.specs.SharedState

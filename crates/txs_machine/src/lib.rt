@@ -14,3 +14,4 @@ pub use run_error::RunError;
 pub use schedule::{Play, Ran, Report, ScheduleError, run_schedule};
 pub use txs_machine_actor::{Actor, Turn, actors_run, may_answer};
 pub use txs_world_protocol::{Outcome, Place};
+pub use txs_world_shared::SharedState;

@@ -7,3 +7,4 @@ pub mod law;
 pub mod mailbox;
 
 pub use mailbox::Mailbox;
+pub use txs_value_cell::Action;

@@ -12,4 +12,4 @@ mod run;
 pub use gate::{AskKind, Gate, Moment, OpenGate};
 pub use run::run_threads;
 pub use txs_machine::RunError;
-pub use txs_threads_gather::{Gathered, Played, gather};
+pub use txs_threads_gather::{Gathered, Kept, KeptEntries, Played, gather, sent_functions};

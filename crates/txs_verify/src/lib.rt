@@ -2,8 +2,11 @@
 #![tactic(auto)]
 
 pub mod alone;
+pub mod bodies;
 pub mod effect;
 pub mod error;
 pub mod standing;
-pub mod verify;
 pub mod walk;
+
+pub use bodies::{Rooms, verify, verify_code};
+pub use error::{BodyName, VerifyError, VerifyErrorKind};

@@ -3,3 +3,10 @@ pub mod Kept
 pub mod Laws
 pub mod Places
 pub mod Store
+pub use Rattle.txs_world_book.specs.Atom
+pub use Rattle.txs_world_book.specs.Book
+pub use Rattle.txs_world_book.specs.History
+pub use Rattle.txs_world_book.specs.Served
+pub use Rattle.txs_world_book.specs.Stands
+pub use Rattle.txs_world_protocol.specs.Ask
+pub use Rattle.txs_world_protocol.specs.SeenEvent

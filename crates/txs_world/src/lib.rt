@@ -12,3 +12,5 @@ mod slot;
 pub mod store;
 
 pub use store::Store;
+pub use txs_world_book::AtomBook;
+pub use txs_world_protocol::{Ask, Event, EventKind, Reply};

@@ -1,0 +1,10 @@
+//! Programs as trees, and the evaluators that answer what they mean. This crate only offers what txs_tree_meaning (trees and
+//! programs) and txs_tree_eval (`eval_pure`, `eval_tx`, `eval_thread`) promise.
+#![tactic(auto)]
+
+pub use txs_tree_eval::{
+    EvalStop, Needs, RefView, Seen, ThreadMeaning, TxMeaning, eval_pure, eval_thread, eval_tx,
+};
+pub use txs_tree_meaning::{Function, Node, NodeKind, Program, Raw, Thread};
+pub use txs_value_base::Callee;
+pub use txs_value_cell::{CellDefinition, LookForm, PutForm, UpdateForm};

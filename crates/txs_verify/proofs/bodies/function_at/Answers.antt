@@ -1,0 +1,12 @@
+use Rattle.txs_code_meaning.specs.PlainCode.{parameters_of}
+use Rattle.txs_verify.proofs.Ends.{paths_wrong}
+use Rattle.txs_verify.proofs.bodies.function_at.Goals as goal
+
+pub add_function-requires-clause-right : goal.add_function-requires-clause-right
+add_function-requires-clause-right c = λ b stands. c.requires.right c.args.n b c.requires.place stands
+
+pub returns-in-Err-clause-wrong : goal.returns-in-Err-clause-wrong
+returns-in-Err-clause-wrong c = paths_wrong c.args.kinds.now.items _ (parameters_of c.args.functions.now) c.args.functions.now c.args.n c.requires.place c.in-Err.stop c.stopped.result c.stopped.ensures c.in-Err.ensures.wrong
+
+pub add_function-requires-clause-few : goal.add_function-requires-clause-few
+add_function-requires-clause-few c = λ b stands. c.requires.few c.args.n b stands
