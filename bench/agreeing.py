@@ -6,7 +6,7 @@ also makes long vectors of one another, in loops, while locals and a ref hold th
 which they don't agree, and then the counts. One departure can't be left out, since the least number may come of any
 arithmetic: Clojure's `-` overflows where it is taken away, also where the difference fits. A script that differs is run
 once more with a `-` that doesn't, and counted apart where it then agrees. Needs Debian's package `clojure`, and the built
-program (./txs builds it)."""
+program (./txs --build makes it)."""
 import argparse, collections, json, os, random, subprocess, tempfile
 import beside
 NAMES = ["a", "b", "c", "x", "y", "n", "count", "inc", "+", "first"]

@@ -1,5 +1,5 @@
 """What the programs that time scripts share: a script in txs and in real Clojure, turn and turn about in one run, with
-what both printed. They need Debian's package `clojure`, and the built program (./txs builds it)."""
+what both printed. They need Debian's package `clojure`, and the built program (./txs --build makes it)."""
 import os, re, subprocess, sys, tempfile, time
 HERE = os.path.dirname(os.path.abspath(__file__))
 JARS = ["clojure.jar", "spec.alpha.jar", "core.specs.alpha.jar"]
@@ -64,4 +64,4 @@ def counted(path):
 
 def need_the_program():
     if not os.path.exists(TXS):
-        sys.exit("build it first: ./txs --help")
+        sys.exit("build it first: ./txs --build")

@@ -2,7 +2,7 @@
 """code.py [--program TXS] [--bytes N] [--instructions N]
 Counts by callgrind the machine instructions that it takes to compile a script, to write its code, and to read and verify
 that, in one run over the same script; and times code of so many instructions, read, verified and listed. Counts are
-steady where times are not. Needs valgrind and the built program (./txs builds it), or another by --program."""
+steady where times are not. Needs valgrind and the built program (./txs --build makes it), or another by --program."""
 import argparse, os, re, struct, subprocess, tempfile, time
 import compiling
 # the parts, by the functions in which their instructions are counted

@@ -2,7 +2,7 @@
 """compiling.py [--runs R]
 Times `txs check` on scripts of functions, beside Clojure loading the same file, in one run: best wall time of whole
 commands. Clojure's start is told apart: it is that of an empty file. Needs Debian's package `clojure`, and the built
-program (./txs builds it)."""
+program (./txs --build makes it)."""
 import argparse, os, subprocess, sys, tempfile, time
 HERE = os.path.dirname(os.path.abspath(__file__))
 JARS = ["clojure.jar", "spec.alpha.jar", "core.specs.alpha.jar"]
@@ -44,7 +44,7 @@ def main():
     parser.add_argument("--runs", type=int, default=3)
     a = parser.parse_args()
     if not os.path.exists(TXS):
-        sys.exit("build it first: ./txs --help")
+        sys.exit("build it first: ./txs --build")
     print("%9s %9s %10s %11s %12s %8s" % ("bytes", "txs s", "clj load s", "clj empty s", "load by txs", "answer"))
     with tempfile.TemporaryDirectory() as folder:
         empty = os.path.join(folder, "empty.clj")

@@ -1,4 +1,4 @@
 pub mod Answered
 pub mod Ran
 mod Refused
-pub mod Words
+pub mod Commands

@@ -17,4 +17,5 @@ pub mod workers;
 mod workers_play;
 
 pub use program::{play, play_words};
+pub use txs_cli_args::{Words, parse_words};
 pub use workers::play_with;

@@ -1,6 +1,6 @@
 // The byte form of `(future (println 7))`, as it is documented, and what is refused of it where.
 use std::alloc::Global;
-use txs_code_encode::{CodeErrorKind, Opcode, decode, encode, same_code};
+use txs_code_encode::{CodeErrorKind, Opcode, decode};
 use txs_code_meaning::Instr;
 
 pub const FORM: &[u8] = b"TXS1\
@@ -24,20 +24,6 @@ pub fn write_changed(form: &mut Vec<u8>, at: usize, bytes: &[u8]) -> bool {
     form.extend_from_slice(&FORM[..at.min(FORM.len())]).is_ok()
         && form.extend_from_slice(bytes).is_ok()
         && form.extend_from_slice(&FORM[behind..]).is_ok()
-}
-
-#[test]
-fn reads_what_it_writes(rt: HostRuntime) {
-    let Ok(code) = decode(rt.alloc(), FORM) else {
-        panic!(rt)
-    };
-    let Ok(again) = decode(rt.alloc(), FORM) else {
-        panic!(rt)
-    };
-    let Ok(bytes) = encode(rt.alloc(), &code) else {
-        panic!(rt)
-    };
-    assert!(rt; same_code(&code, &again) && bytes.as_slice() == FORM && FORM.len() == 62);
 }
 
 // Other bytes from a place of the form on, and the reason for which they are refused there; the last ones are a byte behind it.

@@ -121,7 +121,7 @@ fn are_of_list(parts: &[Form]) -> bool {
     )
 }
 
-// Whether these are the parts of `c`.
+// Whether these are the parts of `@@c`.
 fn are_of_deref(parts: &[Form]) -> bool {
     matches!(
         parts,
@@ -145,7 +145,7 @@ fn are_lists(forms: &[Form]) -> bool {
         && matches!(text, Form::Text(_, Span { from: 34, to: 44 }))
 }
 
-const LISTS: &[u8] = b"(a? -7 ; x\n[+1]) :b nil, true c \"\\u0041\\t\"";
+const LISTS: &[u8] = b"(a? -7 ; x\n[+1]) :b nil, true @@c \"\\u0041\\t\"";
 
 // Whether these are the forms of `WORDS`.
 fn are_words(forms: &[Form]) -> bool {

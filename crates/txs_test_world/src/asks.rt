@@ -48,15 +48,15 @@ fn cell_of(word: &str) -> CellId {
     CellId { kind, number }
 }
 
-/// An action of one number that stands at this place, as `(send g + N)`.
-pub fn action_of(alloc: Global, agent: CellId, op: Op, word: &str, span: Span) -> Action {
+// The action of `(send g + N)`.
+fn action_of(alloc: Global, word: &str) -> Action {
     let mut args = Vec::new(alloc);
     let _pushed = args.push(Value::Int(i64::from(number_of(word))));
     Action {
-        agent,
-        callee: Callee::Core(op),
+        agent: AGENT,
+        callee: Callee::Core(Op::Add),
         args: Listed::from_vec(args),
-        span,
+        span: SPAN,
     }
 }
 
@@ -96,7 +96,7 @@ fn commit_of(alloc: Global, words: &mut SplitWhitespace<'_>) -> Ask {
     let mut sends = Vec::new(alloc);
     let sent = next_word(words);
     if sent != "-" {
-        let _pushed = sends.push(action_of(alloc, AGENT, Op::Add, sent, SPAN));
+        let _pushed = sends.push(action_of(alloc, sent));
     }
     Ask::Commit {
         at,
@@ -142,7 +142,7 @@ pub fn ask_of(alloc: Global, words: &mut SplitWhitespace<'_>) -> Ask {
             cells: cells_of(alloc, next_word(words)),
         },
         "send" => Ask::Send {
-            action: action_of(alloc, AGENT, Op::Add, next_word(words), SPAN),
+            action: action_of(alloc, next_word(words)),
         },
         "finish" => Ask::Finish {
             agent: AGENT,

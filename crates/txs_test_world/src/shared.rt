@@ -5,16 +5,12 @@ use std::alloc::Global;
 use std::str::SplitWhitespace;
 use txs_code_encode::decode;
 use txs_value_data::{CellId, CellKind};
-use txs_world::Store;
 use txs_world_protocol::{Ask, Reply};
 use txs_world_shared::SharedState;
 
 // The code of `(def a (ref 1)) (def b (ref 2)) (def g (agent 10))`.
 const STORE: &[u8] =
     b"TXS1\0\x03\0\0\x01a\x03\0\0\0\0\0\0\0\x01\0\0\x01b\x03\0\0\0\0\0\0\0\x02\x02\0\x01g\x03\0\0\0\0\0\0\0\x0a\0\0\0\0\0\0\0\0";
-// The same with `(ref 3)`.
-const OTHER: &[u8] =
-    b"TXS1\0\x03\0\0\x01a\x03\0\0\0\0\0\0\0\x01\0\0\x01b\x03\0\0\0\0\0\0\0\x03\x02\0\x01g\x03\0\0\0\0\0\0\0\x0a\0\0\0\0\0\0\0\0";
 // The code of `(def r (ref 1)) (def a (atom 5)) (def g (agent 3)) (def b (atom 7))`.
 const ATOMS: &[u8] =
     b"TXS1\0\x04\0\0\x01r\x03\0\0\0\0\0\0\0\x01\x01\0\x01a\x03\0\0\0\0\0\0\0\x05\x02\0\x01g\x03\0\0\0\0\0\0\0\x03\x01\0\x01b\x03\0\0\0\0\0\0\0\x07\0\0\0\0\0\0\0\0";
@@ -211,26 +207,4 @@ fn answers_asks(rt: HostRuntime) {
         assert!(rt; hold(rt.alloc(), STORE, 4, rows), "{rows}");
     }
     assert!(rt; hold(rt.alloc(), ATOMS, 2, OF_ATOMS));
-}
-
-// Whether a store is made for the cells of this code, and not for none.
-fn is_made_for(alloc: Global, store: &Store, bytes: &[u8]) -> bool {
-    match decode(alloc, bytes) {
-        Ok(code) => store.made_for(code.cells()) && !store.made_for(&[]),
-        Err(_) => false,
-    }
-}
-
-#[test]
-fn knows_its_definitions(rt: HostRuntime) {
-    let alloc = rt.alloc();
-    let store = match decode(alloc, STORE) {
-        Ok(code) => Store::open(alloc, code.cells(), 4).ok(),
-        Err(_) => None,
-    };
-    let is = match store {
-        Some(store) => is_made_for(alloc, &store, STORE) && !is_made_for(alloc, &store, OTHER),
-        None => false,
-    };
-    assert!(rt; is);
 }

@@ -1,7 +1,7 @@
 use Rattle.std.proofs.Common.{rules}
 use Rattle.txs_cli_report.specs.Lent.{text_in}
 use Rattle.txs_cli_report.specs.Told.{Told, Written}
-use Rattle.txs_cli.proofs.Words.{run_told, run_code_told, work_told, work_code_told}
+use Rattle.txs_cli.proofs.Commands.{run_told, run_code_told, work_told, work_code_told}
 use Rattle.txs_cli.proofs.program.play_words.Goals as goal
 
 pub returns-in-Check : goal.returns-in-Check

@@ -1,6 +1,6 @@
 use Rattle.txs_cli_report.specs.Lent.{text_in}
 use Rattle.txs_cli_report.specs.Told.{Told, Written}
-use Rattle.txs_cli.proofs.Words.{worked_told, worked_code_told}
+use Rattle.txs_cli.proofs.Commands.{worked_told, worked_code_told}
 use Rattle.txs_cli.proofs.workers.play_with.Goals as goal
 
 pub returns-in-Work : goal.returns-in-Work

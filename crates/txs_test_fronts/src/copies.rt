@@ -1,11 +1,8 @@
-// What no clause says: that copies of asks, replies, events and actions are made with ample memory.
-use crate::asks::{action_of, ask_of};
+// Copies of actions, asks, replies and events.
 use std::alloc::Global;
-use txs_value_base::{Callee, Fault, FaultKind, Op, Span};
-use txs_value_cell::{Action, copy_action};
-use txs_value_data::{CellId, CellKind, Listed, Value};
-use txs_world_protocol::{
-    Ask, Event, EventKind, Reply, copy_ask, copy_event, copy_reply, copy_writes,
+use txs_value::{
+    Action, Ask, Callee, CellId, CellKind, Event, EventKind, Fault, FaultKind, Listed, Op, Reply,
+    Span, Value, copy_action, copy_ask, copy_event, copy_reply, copy_writes,
 };
 
 const REF: CellId = CellId {
@@ -23,9 +20,16 @@ const FAULT: Fault = Fault {
     span: Span { from: 27, to: 42 },
 };
 
-// `(send g quot 0)`
-fn quotient(alloc: Global) -> Action {
-    action_of(alloc, AGENT, Op::Quot, "0", FAULT.span)
+/// The action of `(send g quot 0)`, with this span.
+pub fn quotient(alloc: Global, agent: CellId, span: Span) -> Action {
+    let mut args = Vec::new(alloc);
+    let _pushed = args.push(Value::Int(0));
+    Action {
+        agent,
+        callee: Callee::Core(Op::Quot),
+        args: Listed::from_vec(args),
+        span,
+    }
 }
 
 // Whether an action is that.
@@ -38,7 +42,7 @@ fn is_quotient(action: &Action) -> bool {
 
 // Whether such an action is copied, and an ask that sends it.
 fn are_sends_copied(alloc: Global) -> bool {
-    let action = quotient(alloc);
+    let action = quotient(alloc, AGENT, FAULT.span);
     let is = match copy_action(alloc, &action) {
         Ok(copy) => is_quotient(&copy),
         Err(_) => false,
@@ -68,10 +72,23 @@ fn is_commit(alloc: Global, ask: &Ask) -> bool {
     copied && *at == 5 && *view == 6 && set_seven(sets)
 }
 
+/// A commit that sets a ref alone.
+pub fn commit(alloc: Global, at: u32, view: u32, cell: CellId, new: i64) -> Ask {
+    let mut sets = Vec::new(alloc);
+    let _pushed = sets.push((cell, Value::Int(new)));
+    Ask::Commit {
+        at,
+        sets: Listed::from_vec(sets),
+        ensured: Listed::from_vec(Vec::new(alloc)),
+        view,
+        commuted: Listed::from_vec(Vec::new(alloc)),
+        sends: Listed::from_vec(Vec::new(alloc)),
+    }
+}
+
 // Whether that commit is copied.
 fn is_commit_copied(alloc: Global) -> bool {
-    let mut words = "commit 5 6 3=7 - - -".split_whitespace();
-    let ask = ask_of(alloc, &mut words);
+    let ask = commit(alloc, 5, 6, REF, 7);
     let copy = copy_ask(alloc, &ask);
     drop(ask);
     let is = matches!(&copy, Ok(copy) if is_commit(alloc, copy));
@@ -98,7 +115,7 @@ fn is_reply_copied(alloc: Global, reply: Reply) -> bool {
     is
 }
 
-// Whether an event of the third actor is copied, as what is told of that ref or of that agent's first action, which came to that fault.
+// Whether an event of the third actor is copied, as a retry of that ref, or as that agent's first action, which came to that fault.
 fn is_event_copied(alloc: Global, kind: EventKind) -> bool {
     let event = Event { actor: 2, kind };
     let copy = copy_event(alloc, &event);
@@ -132,7 +149,7 @@ fn copies_asks(rt: HostRuntime) {
 fn copies_replies(rt: HostRuntime) {
     let first = Reply::Action {
         number: 1,
-        action: quotient(rt.alloc()),
+        action: quotient(rt.alloc(), AGENT, FAULT.span),
         state: Value::Int(10),
     };
     let is = is_reply_copied(rt.alloc(), first);

@@ -1,0 +1,100 @@
+// The program over streams of bytes, with workers and without.
+ghost use Rattle.std.specs.Thread.{IsSync};
+ghost use Rattle.txs_cli.specs.Runner.{IsRunnable, RunsLawfully};
+
+use std::alloc::{AllocError, Global};
+use std::sync::Wait;
+use std::thread::Threads;
+use txs_cli::{Words, parse_words, play, play_with};
+use txs_code::Verified;
+use txs_machine::{Report, RunError, SharedState};
+use txs_threads::{Gathered, OpenGate, run_threads};
+
+// The arguments between spaces.
+fn args_of(alloc: Global, line: &str) -> Result<Vec<String>, AllocError> {
+    let mut args = Vec::new(alloc);
+    for word in line.split_whitespace() {
+        args.push(String::from_str(alloc, word)?)?;
+    }
+    Ok(args)
+}
+
+// A read and an agent.
+const SCRIPT: &[u8] = b"(def g (agent 1)) (future (send g + 2) (println :sent))";
+
+// What it prints, with its cells.
+const PRINTED: &[u8] = b":sent\ng 3\n";
+
+// Whether the program ends with status 0 for these arguments, and writes that.
+fn plays(alloc: Global, line: &str) -> bool {
+    let Ok(args) = args_of(alloc, line) else {
+        return false;
+    };
+    let mut reader = SCRIPT;
+    let mut output = Vec::new(alloc);
+    let mut errors = Vec::new(alloc);
+    let status = play(
+        alloc,
+        args.as_slice(),
+        &mut reader,
+        &mut output,
+        &mut errors,
+    );
+    status == 0 && output.as_slice() == PRINTED && errors.is_empty()
+}
+
+#[test]
+fn plays_by_turns(rt: HostRuntime) {
+    assert!(rt; plays(rt.alloc(), "schedule --cells --turns 0,t0"));
+}
+
+// Writes what the program does for these arguments, by workers, and to the standard error: its status.
+fn written<T: Threads + Wait + Sync>(
+    threads: &T,
+    alloc: Global,
+    words: &Words,
+    output: &mut Vec<u8>,
+    errors: &mut Vec<u8>,
+) -> u8 {
+    let mut reader = SCRIPT;
+    play_with(
+        alloc,
+        &|alloc: Global, code: &Verified, workers: usize, steps: u64| -> Result<
+            (SharedState, Report),
+            RunError,
+        >
+            requires sync { IsSync T.row }
+            requires few { IsRunnable code.now }
+            ensures { RunsLawfully code.now steps result }
+        {
+            let Gathered { shared, report } = run_threads(
+                threads, alloc, code, workers, steps, &OpenGate,
+            )?;
+            Ok((shared, report))
+        },
+        words,
+        &mut reader,
+        output,
+        errors,
+    )
+}
+
+// Whether workers leave the same.
+fn plays_by<T: Threads + Wait + Sync>(threads: &T, alloc: Global, line: &str) -> bool {
+    let Ok(args) = args_of(alloc, line) else {
+        return false;
+    };
+    let Ok(words) = parse_words(alloc, args.as_slice()) else {
+        return false;
+    };
+    let mut output = Vec::new(alloc);
+    let mut errors = Vec::new(alloc);
+    let status = written(threads, alloc, &words, &mut output, &mut errors);
+    drop(words);
+    status == 0 && output.as_slice() == PRINTED && errors.is_empty()
+}
+
+#[test]
+fn plays_by_workers(rt: HostRuntime) {
+    assert!(rt; plays_by(&rt, rt.alloc(), "run --cells --workers 2"));
+}

@@ -1,0 +1,133 @@
+// Scripts read, resolved and checked, and what their trees mean.
+use crate::values::is_text;
+use std::alloc::Global;
+use txs_check::{check, is_pure_callee};
+use txs_frame::TxFrame;
+use txs_reader::read_script;
+use txs_resolve::resolve;
+use txs_tree::{
+    Callee, Needs, NodeKind, Program, RefView, ThreadMeaning, TxMeaning, eval_pure, eval_thread,
+    eval_tx,
+};
+use txs_value::{Listed, Outcome, Value};
+
+// The program of a script that has so many forms; none where one of its layers refuses it.
+fn program_of(alloc: Global, script: &str, forms: usize) -> Option<Program> {
+    let Ok(read) = read_script(alloc, script.as_bytes()) else {
+        return None;
+    };
+    if read.len() != forms {
+        return None;
+    }
+    let Ok(raw) = resolve(alloc, read.as_slice()) else {
+        return None;
+    };
+    check(alloc, raw).ok()
+}
+
+// Whether a thread has ended without an event, and printed this.
+fn has_printed(meaning: &ThreadMeaning, text: &[u8]) -> bool {
+    meaning.needs == Needs::Nothing
+        && meaning.outcome == Some(Outcome::Done)
+        && meaning.printed.as_slice() == text
+        && meaning.eaten == 0
+        && meaning.txs.as_slice().is_empty()
+}
+
+// Whether the first thread of a program prints this.
+fn prints(alloc: Global, program: &Program, text: &[u8]) -> bool {
+    if program.threads().is_empty() {
+        return false;
+    }
+    match eval_thread(alloc, program, 0, &[], 10) {
+        Ok(meaning) => has_printed(&meaning, text),
+        Err(_) => false,
+    }
+}
+
+// Whether a callee is pure on these values, and gives this on them.
+fn gives(alloc: Global, program: &Program, callee: Callee, values: &[Value], text: &[u8]) -> bool {
+    if !matches!(
+        is_pure_callee(alloc, program, callee, values.len()),
+        Ok(true)
+    ) {
+        return false;
+    }
+    match eval_pure(alloc, program, callee, values, 10) {
+        Ok(value) => is_text(alloc, &value, text),
+        Err(_) => false,
+    }
+}
+
+// A function that a thread calls.
+const CALLS: &str = "(defn swapped [a b] [b a]) (future (println (swapped 1 2)))";
+
+#[test]
+fn a_thread_and_a_callee_mean_this(rt: HostRuntime) {
+    let alloc = rt.alloc();
+    let is = match program_of(alloc, CALLS, 2) {
+        Some(program) => {
+            prints(alloc, &program, b"[2 1]\n")
+                && gives(
+                    alloc,
+                    &program,
+                    Callee::Function(0),
+                    &[Value::Int(3), Value::Int(4)],
+                    b"[4 3]",
+                )
+        }
+        None => false,
+    };
+    assert!(rt; is);
+}
+
+// Whether a transaction sets the first ref alone, to 6, and did nothing else.
+fn writes_six(done: &TxFrame) -> bool {
+    let Ok(writes) = done.writes() else {
+        return false;
+    };
+    matches!(writes.as_slice(), [(cell, Value::Int(new))] if cell.number == 0 && *new == 6)
+        && done.ensured().is_empty()
+        && done.commutes().is_empty()
+        && done.sends().is_empty()
+}
+
+// Whether a transaction gives 6, after it read one ref.
+fn gives_six(meaning: &TxMeaning) -> bool {
+    matches!(meaning.result, Ok(Value::Int(6)))
+        && writes_six(&meaning.done)
+        && meaning.reads.as_slice().len() == 1
+        && !meaning.used
+}
+
+// Whether the transaction that is a program's first thread gives 6 where its ref holds 5.
+fn transacts(alloc: Global, program: &Program) -> bool {
+    let Some((thread, _)) = program.threads().split_first() else {
+        return false;
+    };
+    let NodeKind::Dosync(body) = &thread.body.kind else {
+        return false;
+    };
+    let mut values = Vec::new(alloc);
+    let _pushed = values.push((0u32, Value::Int(5)));
+    let cells = [Listed::from_vec(values)];
+    let world = RefView {
+        cells: &cells,
+        place: 0,
+    };
+    match eval_tx(alloc, program, body, &[], world, 10) {
+        Ok(meaning) => gives_six(&meaning),
+        Err(_) => false,
+    }
+}
+
+#[test]
+fn a_transaction_means_this(rt: HostRuntime) {
+    let alloc = rt.alloc();
+    let script = "(def r (ref 0)) (future (dosync (alter r inc)))";
+    let is = match program_of(alloc, script, 2) {
+        Some(program) => transacts(alloc, &program),
+        None => false,
+    };
+    assert!(rt; is);
+}
