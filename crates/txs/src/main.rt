@@ -17,7 +17,7 @@ use txs_cli_args::{Words, parse_words};
 use txs_cli_report::told::{DONE, UNUSABLE};
 use txs_cli_report::write_told;
 use txs_code_meaning::Verified;
-use txs_machine::{Report, RunError};
+use txs_machine::{Entries, RunError};
 use txs_threads::{Gathered, OpenGate, run_threads};
 use txs_world_shared::SharedState;
 
@@ -60,7 +60,7 @@ fn file_of(words: &Words) -> Option<&str> {
 
 /// Plays the words on their file or on standard input, over this writer.
 fn play_on<
-    X: Fn(Global, &Verified, usize, u64) -> Result<(SharedState, Report), RunError>,
+    X: Fn(Global, &Verified, usize, u64) -> Result<(SharedState, Entries), RunError>,
     W: Write,
 >(rt: &HostRuntime, runner: &X, words: &Words, writer: &mut W) -> u8
     requires call { (a : _) (code : _) (n : _) (steps : _) → IsRunnable code.now → X.pre runner.now a code n steps }
@@ -78,7 +78,7 @@ fn play_on<
 }
 
 /// Plays words whose code goes to a file. That is written where all went well, and else left as it is.
-fn build_to<X: Fn(Global, &Verified, usize, u64) -> Result<(SharedState, Report), RunError>>(
+fn build_to<X: Fn(Global, &Verified, usize, u64) -> Result<(SharedState, Entries), RunError>>(
     rt: &HostRuntime,
     runner: &X,
     words: &Words,
@@ -105,7 +105,7 @@ fn build_to<X: Fn(Global, &Verified, usize, u64) -> Result<(SharedState, Report)
 }
 
 /// Plays the words.
-fn play_all<X: Fn(Global, &Verified, usize, u64) -> Result<(SharedState, Report), RunError>>(
+fn play_all<X: Fn(Global, &Verified, usize, u64) -> Result<(SharedState, Entries), RunError>>(
     rt: &HostRuntime,
     runner: &X,
     words: &Words,
@@ -124,7 +124,7 @@ fn play_by_workers<T: Threads + Wait + Sync>(rt: &HostRuntime, threads: &T, word
     play_all(
         rt,
         &|alloc: Global, code: &Verified, workers: usize, steps: u64| -> Result<
-            (SharedState, Report),
+            (SharedState, Entries),
             RunError,
         >
             requires sync { IsSync T.row }

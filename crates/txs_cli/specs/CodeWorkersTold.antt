@@ -7,7 +7,7 @@ use Rattle.txs_code_load.specs.declared.error.LoadError.TheVariants.{Memory as N
 use Rattle.txs_machine.specs.ErrorName.{error_name}
 use Rattle.txs_machine.specs.declared.run_error.RunError.{RunError}
 use Rattle.txs_machine.specs.declared.run_error.RunError.TheVariants.{Memory}
-use Rattle.txs_machine.specs.declared.schedule.Report.{Report}
+use Rattle.txs_machine.specs.declared.schedule.Entries.{Entries}
 use Rattle.txs_world_shared.specs.SharedState.{PlainShared, numbered_book}
 use Rattle.txs_cli_report.specs.Lines.{all_printed}
 use Rattle.txs_cli_report.specs.Told.{Told, EndsTold, run_status, cells_told, events_told}
@@ -19,7 +19,7 @@ use Rattle.txs_cli.specs.Runner.{IsWorked}
 -- are wanted. No line is explained.
 pub record CodeWorkersTell (code : PlainCode) (steps : ℕ) (cells events : Bool) (t : Told) : Type 0 where
   pub shared : PlainShared
-  pub report : Report
+  pub report : Entries
   pub worked : IsWorked code steps shared report
   pub output : t.output ≡ (all_printed report.threads.items ++ cells_told cells code.cells shared) ++ events_told events (numbered_book shared 0)
   pub errors : EndsTold code.cells no_script shared report.threads.items report.agents.items t.errors

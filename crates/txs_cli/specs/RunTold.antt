@@ -4,7 +4,7 @@ use Rattle.txs_code_meaning.specs.PlainCode.{PlainCode}
 use Rattle.txs_machine.specs.ErrorName.{error_name}
 use Rattle.txs_machine.specs.declared.run_error.RunError.{RunError}
 use Rattle.txs_machine.specs.declared.run_error.RunError.TheVariants.{Memory}
-use Rattle.txs_machine.specs.declared.schedule.Report.{Report}
+use Rattle.txs_machine.specs.declared.schedule.Entries.{Entries}
 use Rattle.txs_world_shared.specs.SharedState.{PlainShared, numbered_book}
 use Rattle.txs_cli_report.specs.Lines.{Script, all_printed}
 use Rattle.txs_cli_report.specs.Told.{Told, EndsTold, run_status, cells_told, events_told}
@@ -12,7 +12,7 @@ use Rattle.txs_cli.specs.Runner.{IsWorked}
 
 -- What a run that leaves what its actors share so, and that has this report, tells: what the threads printed, how each ended, which agents have failed and whose
 -- actors were stopped, with the highest status; and behind it the cells and the events, where they are wanted.
-pub record ReportTells (code : PlainCode) (script : Script) (shared : PlainShared) (report : Report) (cells events : Bool) (t : Told) : Type 0 where
+pub record ReportTells (code : PlainCode) (script : Script) (shared : PlainShared) (report : Entries) (cells events : Bool) (t : Told) : Type 0 where
   pub output : t.output ≡ (all_printed report.threads.items ++ cells_told cells code.cells shared) ++ events_told events (numbered_book shared 0)
   pub errors : EndsTold code.cells script shared report.threads.items report.agents.items t.errors
   pub status : t.status ≡ run_status code.cells shared report.threads.items report.agents.items
@@ -27,5 +27,5 @@ pub record FailureTells (failure : RunError) (t : Told) : Type 0 where
 -- What is told of a run in which each actor makes no more than so many steps: what its report tells, or why it has none.
 pub data RunTold (code : PlainCode) (script : Script) (steps : ℕ) (cells events : Bool) (t : Told) : Type 0 where
   of_report :
-      (shared : PlainShared) (report : Report) (worked : IsWorked code steps shared report) (told : ReportTells code script shared report cells events t) → RunTold code script steps cells events t
+      (shared : PlainShared) (report : Entries) (worked : IsWorked code steps shared report) (told : ReportTells code script shared report cells events t) → RunTold code script steps cells events t
   of_failure : (failure : RunError) (told : FailureTells failure t) → RunTold code script steps cells events t

@@ -4,10 +4,11 @@ use Rattle.std.proofs.Common.{Result}
 use Rattle.txs_code_meaning.specs.PlainCode.{PlainCode}
 use Rattle.txs_machine.specs.Agents.{agents_of, AgentHasDone, AreDrained, AreExplainedBy}
 use Rattle.txs_machine.specs.RunOver.{IsStateOf, books_of}
-use Rattle.txs_machine.specs.Schedule.{HasDone, HaveEnded}
+use Rattle.txs_machine.specs.RunTheorem.{HasDone}
+use Rattle.txs_machine.specs.Schedule.{HaveEnded}
 use Rattle.txs_machine.specs.declared.run_error.RunError.{RunError}
-use Rattle.txs_machine.specs.declared.schedule.Report.{Report}
-use Rattle.txs_machine.specs.declared.schedule.Ran.{Ran}
+use Rattle.txs_machine.specs.declared.schedule.Entries.{Entries}
+use Rattle.txs_world_protocol.specs.declared.report.Ran.{Ran}
 use Rattle.txs_world_shared.specs.SharedState.{PlainShared, shared_of}
 use Rattle.txs_value_base.specs.Places.{nth}
 
@@ -26,7 +27,7 @@ AgentsHaveDone code limit s rans = (i : ℕ) (ran : Ran) → nth rans i ≡ Some
 -- A run of the code, where each actor makes no more than so many steps, leaves a state of its cells, and there is one entry for each thread and for each
 -- agent, which says what its actor did; each thread has ended, and no agent that goes on has something to do; and each program that the code follows
 -- explains the entries.
-pub record IsWorked (code : PlainCode) (steps : ℕ) (s : PlainShared) (report : Report) : Type 0 where
+pub record IsWorked (code : PlainCode) (steps : ℕ) (s : PlainShared) (report : Entries) : Type 0 where
   pub of : IsStateOf code s
   pub one_each : length report.threads.items ≡ length code.threads
   pub agents_each : length report.agents.items ≡ length (agents_of code)
@@ -37,5 +38,5 @@ pub record IsWorked (code : PlainCode) (steps : ℕ) (s : PlainShared) (report :
   pub explained : AreExplainedBy code (shared_of s) report.threads.items report.agents.items
 
 -- a run that has a report is such a one
-abbrev pub RunsLawfully : PlainCode → ℕ → Result (PlainShared × Report) RunError → Type 0
+abbrev pub RunsLawfully : PlainCode → ℕ → Result (PlainShared × Entries) RunError → Type 0
 RunsLawfully code steps r = IfOk r (λ ran. IsWorked code steps ran.0 ran.1)

@@ -2,11 +2,11 @@
 use Rattle.std.specs.Prelude.{◌≡◌, ◌≢◌, ℕ, Bool, [], ◌++◌, codes}
 use Rattle.txs_code_meaning.specs.PlainCode.{PlainCode}
 use Rattle.txs_compile.specs.Compiled.{IsProgramOf}
-use Rattle.txs_machine.specs.Agents.{ExplainsAll}
+use Rattle.txs_machine.specs.RunTheorem.{ExplainsAll}
 use Rattle.txs_machine.specs.ErrorName.{error_name}
 use Rattle.txs_machine.specs.declared.run_error.RunError.{RunError}
 use Rattle.txs_machine.specs.declared.run_error.RunError.TheVariants.{Memory}
-use Rattle.txs_machine.specs.declared.schedule.Report.{Report}
+use Rattle.txs_machine.specs.declared.schedule.Entries.{Entries}
 use Rattle.txs_world_shared.specs.SharedState.{PlainShared, shared_of, numbered_book}
 use Rattle.txs_cli_report.specs.Lines.{Script, all_printed}
 use Rattle.txs_cli_report.specs.Told.{Told, Wanted, ScriptTells, IsCompiled, EndsTold, run_status, cells_told, events_told}
@@ -18,7 +18,7 @@ use Rattle.txs_tree_meaning.specs.Tree.{PlainProgram}
 -- the cells and the events, where they are wanted. The entries of the report say what each actor did, as they do where code is run.
 pub record WorkersTell (p : PlainProgram) (code : PlainCode) (script : Script) (steps : ℕ) (cells events : Bool) (t : Told) : Type 0 where
   pub shared : PlainShared
-  pub report : Report
+  pub report : Entries
   pub worked : IsWorked code steps shared report
   pub explained : ExplainsAll p (shared_of shared) report.threads.items report.agents.items
   pub output : t.output ≡ (all_printed report.threads.items ++ cells_told cells p.cells shared) ++ events_told events (numbered_book shared 0)

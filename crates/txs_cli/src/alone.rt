@@ -8,7 +8,7 @@ use crate::script::Working;
 use std::alloc::Global;
 use txs_cli_report::script::open_state;
 use txs_code_meaning::Verified;
-use txs_machine::{Report, RunError, run_schedule};
+use txs_machine::{Entries, RunError, run_schedule};
 use txs_value_data::CellKind;
 use txs_world_shared::SharedState;
 
@@ -33,7 +33,7 @@ fn run_in_turn(
     alloc: Global,
     code: &Verified,
     steps: u64,
-) -> Result<(SharedState, Report), RunError>
+) -> Result<(SharedState, Entries), RunError>
     requires runnable { IsRunnable code.now }
     requires few { length code.now.threads ≤ 64 }
     ensures lawful { RunsLawfully code.now steps result }
@@ -48,13 +48,13 @@ fn run_in_turn(
 
 /// Runs all threads and agents of the code by the runner; but one thread alone goes on in turn, which is the same run without a worker.
 pub(crate) fn run_all<
-    X: Fn(Global, &Verified, usize, u64) -> Result<(SharedState, Report), RunError>,
+    X: Fn(Global, &Verified, usize, u64) -> Result<(SharedState, Entries), RunError>,
 >(
     alloc: Global,
     runner: &X,
     code: &Verified,
     working: Working,
-) -> Result<(SharedState, Report), RunError>
+) -> Result<(SharedState, Entries), RunError>
     requires call { (a : _) (code : _) (n : _) (steps : _) → IsRunnable code.now → X.pre runner.now a code n steps }
     requires ran { (a : _) (code : _) (n : _) (steps : _) (r : _) → X.post runner.now a code n steps r → RunsLawfully code.now steps r }
     requires runnable { IsRunnable code.now }

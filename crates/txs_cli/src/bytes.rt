@@ -12,14 +12,14 @@ use crate::workers_play::{unread, write_answer};
 use std::alloc::Global;
 use std::io::{Read, Write};
 use txs_code_meaning::Verified;
-use txs_machine::{Report, RunError};
+use txs_machine::{Entries, RunError};
 use txs_world_shared::SharedState;
 
 /// Has the code whose byte form the reader has run by workers, and writes what is told of it. Answers the status: 0 where all ended, 1 for bytes
 /// that are refused, 2 for a stream that couldn't be read or written, 3 for a thread or an agent that failed, 4 for want of steps or memory, or a
 /// run without a report; the highest that applies.
 pub(crate) fn play_code_workers<
-    X: Fn(Global, &Verified, usize, u64) -> Result<(SharedState, Report), RunError>,
+    X: Fn(Global, &Verified, usize, u64) -> Result<(SharedState, Entries), RunError>,
     R: Read,
     W: Write,
     F: Write,

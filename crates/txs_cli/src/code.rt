@@ -13,12 +13,12 @@ use std::alloc::{AllocError, Global};
 use txs_cli_report::told::Told;
 use txs_code_load::load::load_verified;
 use txs_code_meaning::Verified;
-use txs_machine::{Report, RunError};
+use txs_machine::{Entries, RunError};
 use txs_world_shared::SharedState;
 
 /// Runs the threads and agents of the code that the bytes are the form of by workers, and tells of its cells and events where they are wanted.
 pub(crate) fn work_code<
-    X: Fn(Global, &Verified, usize, u64) -> Result<(SharedState, Report), RunError>,
+    X: Fn(Global, &Verified, usize, u64) -> Result<(SharedState, Entries), RunError>,
 >(alloc: Global, runner: &X, bytes: &[u8], working: Working) -> Result<Told, AllocError>
     requires call { (a : _) (code : _) (n : _) (steps : _) → IsRunnable code.now → X.pre runner.now a code n steps }
     requires ran { (a : _) (code : _) (n : _) (steps : _) (r : _) → X.post runner.now a code n steps r → RunsLawfully code.now steps r }

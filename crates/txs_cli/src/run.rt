@@ -12,7 +12,7 @@ use txs_cli_report::explain::Script;
 use txs_cli_report::script::{of_report, tell_book};
 use txs_cli_report::told::{SPENT, Told, complaint};
 use txs_code_meaning::{Code, Verified};
-use txs_machine::{Report, RunError};
+use txs_machine::{Entries, RunError};
 use txs_world_shared::SharedState;
 
 /// What is told of a run that has no report, but for want of memory, of which the program tells otherwise.
@@ -32,7 +32,7 @@ fn of_run(
     script: Script<'_>,
     code: &Code,
     shared: &SharedState,
-    report: &Report,
+    report: &Entries,
     working: Working,
 ) -> Result<Told, AllocError>
     requires few_threads { length code.now.threads ≤ 64 }
@@ -48,7 +48,7 @@ fn of_run(
 
 /// Runs all threads and agents of the code by workers, and tells of the run; of its cells and events where they are wanted.
 pub(crate) fn run_told<
-    X: Fn(Global, &Verified, usize, u64) -> Result<(SharedState, Report), RunError>,
+    X: Fn(Global, &Verified, usize, u64) -> Result<(SharedState, Entries), RunError>,
 >(
     alloc: Global,
     runner: &X,

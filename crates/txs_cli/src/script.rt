@@ -11,7 +11,7 @@ use txs_cli_report::explain::Script;
 use txs_cli_report::told::{Told, refused};
 use txs_code_meaning::Verified;
 use txs_compile::compile;
-use txs_machine::{Report, RunError};
+use txs_machine::{Entries, RunError};
 use txs_world_shared::SharedState;
 
 /// How the program tells of a run by workers.
@@ -25,7 +25,7 @@ pub(crate) struct Working {
 
 /// Runs the script's threads and agents by workers, and tells of its cells and events where they are wanted.
 pub(crate) fn work_script<
-    X: Fn(Global, &Verified, usize, u64) -> Result<(SharedState, Report), RunError>,
+    X: Fn(Global, &Verified, usize, u64) -> Result<(SharedState, Entries), RunError>,
 >(alloc: Global, runner: &X, script: Script<'_>, working: Working) -> Result<Told, AllocError>
     requires call { (a : _) (code : _) (n : _) (steps : _) → IsRunnable code.now → X.pre runner.now a code n steps }
     requires ran { (a : _) (code : _) (n : _) (steps : _) (r : _) → X.post runner.now a code n steps r → RunsLawfully code.now steps r }

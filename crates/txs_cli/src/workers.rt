@@ -13,12 +13,12 @@ use std::alloc::Global;
 use std::io::{Read, Write};
 use txs_cli_args::Words;
 use txs_code_meaning::Verified;
-use txs_machine::{Report, RunError};
+use txs_machine::{Entries, RunError};
 use txs_world_shared::SharedState;
 
 /// Does what the words ask for, as `play_words` does; but where they ask for a run by workers, it is made by this runner.
 pub fn play_with<
-    X: Fn(Global, &Verified, usize, u64) -> Result<(SharedState, Report), RunError>,
+    X: Fn(Global, &Verified, usize, u64) -> Result<(SharedState, Entries), RunError>,
     R: Read,
     W: Write,
     F: Write,

@@ -14,7 +14,7 @@ use txs_cli_report::streams::{ReadFault, read_bytes};
 use txs_cli_report::told::{SPENT, Told, UNUSABLE, complaint};
 use txs_cli_report::write_told;
 use txs_code_meaning::Verified;
-use txs_machine::{Report, RunError};
+use txs_machine::{Entries, RunError};
 use txs_world_shared::SharedState;
 
 /// What is told of a stream that couldn't be read. Of want of memory the program tells otherwise.
@@ -51,7 +51,7 @@ pub(crate) fn write_answer<W: Write, F: Write>(
 /// its name. Answers the status: 0 where all ended, 1 for a script that is refused, 2 for a stream that couldn't be read or written, 3 for a
 /// thread or an agent that failed, 4 for want of steps or memory, or a run without a report; the highest that applies.
 pub(crate) fn play_workers<
-    X: Fn(Global, &Verified, usize, u64) -> Result<(SharedState, Report), RunError>,
+    X: Fn(Global, &Verified, usize, u64) -> Result<(SharedState, Entries), RunError>,
     R: Read,
     W: Write,
     F: Write,

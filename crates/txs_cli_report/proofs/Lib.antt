@@ -3,5 +3,4 @@ pub mod Begun
 pub mod Fronts
 pub mod Lessons
 pub mod OfAgents
-mod There
 pub mod Threads

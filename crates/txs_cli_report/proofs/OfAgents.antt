@@ -1,8 +1,8 @@
 -- What is told of agents, one cell after the other: with one more cell told, what is told so far and of those to come is what is told of all.
 use Rattle.std.proofs.Common.{◌≡◌, ◌<◌, ◌≤◌, ◌+◌, ◌-◌, ℕ, suc, max, List, [], ◌∷◌, ◌++◌, length, get_or, drop, Option, refl, sym, ap, ◌∙◌, subst, subst₂, append_assoc, arith, length-drop}
 use Rattle.std.proofs.lemmas.List.{append-nil, drop_more}
-use Rattle.txs_machine.specs.declared.schedule.Ran.{Ran}
-use Rattle.txs_machine_actor.specs.PlainActor.{agents_from, with_agent}
+use Rattle.txs_world_protocol.specs.declared.report.Ran.{Ran}
+use Rattle.txs_value_cell.specs.Agents.{agents_from, with_agent}
 use Rattle.txs_cli_report.specs.Lines.{Script}
 use Rattle.txs_cli_report.specs.AgentLines.{AgentTold, AreAgentsTold, end_status, failed_by, named_from, status_of_agents, with_named}
 use Rattle.txs_value_cell.specs.declared.cell.CellDefinition.{CellDefinition}

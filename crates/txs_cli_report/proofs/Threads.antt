@@ -1,7 +1,7 @@
 -- What is told of threads, one after the other: with one more thread told, what is told so far and of those to come is what is told of all.
 use Rattle.std.proofs.Common.{◌≡◌, ◌+◌, ◌<◌, ℕ, suc, max, List, ◌∷◌, ◌++◌, length, get_or, drop, refl, sym, ap, ◌∙◌, subst, append_assoc, arith}
 use Rattle.std.proofs.lemmas.List.{drop_more}
-use Rattle.txs_machine.specs.declared.schedule.Ran.{Ran}
+use Rattle.txs_world_protocol.specs.declared.report.Ran.{Ran}
 use Rattle.txs_cli_report.specs.Lines.{Script, IsLesson, AreLessons, how_ended, thread_front, end_line, end_place, all_printed, status_from, status_of}
 
 dropped : (rs : List Ran) (k : ℕ) (r : Ran) → k < length rs → r ≡ get_or rs k r → drop k rs ≡ r ∷ drop (k + 1) rs

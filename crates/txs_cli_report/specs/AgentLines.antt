@@ -2,7 +2,7 @@
 use Rattle.std.specs.Prelude.{◌≡◌, ℕ, suc, max, List, [], ◌∷◌, ◌++◌, Option, Some, None}
 use Rattle.txs_world_protocol.specs.declared.event.Outcome.{Outcome}
 use Rattle.txs_world_protocol.specs.declared.event.Outcome.TheVariants.{Failed}
-use Rattle.txs_machine.specs.declared.schedule.Ran.{Ran}
+use Rattle.txs_world_protocol.specs.declared.report.Ran.{Ran}
 use Rattle.txs_world_shared.specs.SharedState.{PlainShared, numbered_book}
 use Rattle.txs_world_book.specs.Book.{mail_after}
 use Rattle.txs_world_book.specs.Served.{cells_of}

@@ -5,7 +5,7 @@ use Rattle.txs_world_protocol.specs.declared.event.Outcome.TheVariants.{Done, Fa
 use Rattle.txs_check.specs.Errors.{check_number, check_name}
 use Rattle.txs_compile.specs.declared.compile_error.CompileError.{CompileError}
 use Rattle.txs_compile.specs.declared.compile_error.CompileError.TheVariants.{Read, Resolve, Check as Unsound, Memory as NoMemory}
-use Rattle.txs_machine.specs.declared.schedule.Ran.{Ran}
+use Rattle.txs_world_protocol.specs.declared.report.Ran.{Ran}
 use Rattle.txs_cli_report.specs.Explained.{explained}
 use Rattle.txs_cli_plays.specs.declared.plays.WrongPlay.{WrongPlay}
 use Rattle.txs_reader.specs.Errors.{report_number as read_number, report_name as read_name}

@@ -14,11 +14,12 @@ use Rattle.txs_theorem_threads.specs.FollowsAgent.{FollowsAgents}
 use Rattle.txs_theorem_threads.specs.FollowsAll.{FollowsAll}
 use Rattle.txs_theorem_threads.specs.Sends.{CodesSendSound}
 use Rattle.txs_gen.specs.Generated.{IsCodeOf}
-use Rattle.txs_machine.specs.Agents.{actors_of, AgentsAreDone, AreDrained, AreExplainedBy, ExplainsAll}
+use Rattle.txs_machine.specs.Agents.{actors_of, AgentsAreDone, AreDrained, AreExplainedBy}
 use Rattle.txs_machine.specs.RunOver.{IsStateOf, books_of}
+use Rattle.txs_machine.specs.RunTheorem.{ExplainsAll}
 use Rattle.txs_machine.specs.Schedule.{AreDone, HaveEnded, IsExplainedBy, all_named}
 use Rattle.txs_machine.specs.declared.schedule.Play.{Play}
-use Rattle.txs_machine.specs.declared.schedule.Ran.{Ran}
+use Rattle.txs_world_protocol.specs.declared.report.Ran.{Ran}
 use Rattle.txs_cli_report.specs.AgentLines.{AreAgentsTold, failure_of, named_from, status_of_agents}
 use Rattle.txs_cli_report.specs.CellLines.{cell_lines}
 use Rattle.txs_cli_report.specs.Lines.{Script, IsLesson, AreLessons, all_printed, list_place, refused_line, refused_place, status_from}

@@ -23,7 +23,7 @@ use txs_code_encode::encode;
 use txs_code_meaning::Verified;
 use txs_compile::compile;
 use txs_disasm::write_listing;
-use txs_machine::{Play, Report, ScheduleError, run_schedule};
+use txs_machine::{Entries, Play, ScheduleError, run_schedule};
 use txs_tree_meaning::Program;
 use txs_value_cell::CellDefinition;
 use txs_world_shared::SharedState;
@@ -33,7 +33,7 @@ pub fn of_report(
     alloc: Global,
     script: Script<'_>,
     cells: &[CellDefinition],
-    report: &Report,
+    report: &Entries,
     shared: &SharedState,
 ) -> Result<Told, AllocError>
     requires few_threads { length report.now.threads.items ≤ 64 }

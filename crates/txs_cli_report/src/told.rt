@@ -14,7 +14,7 @@ use crate::explain::{Script, write_both, write_explained, write_number};
 use std::alloc::{AllocError, Global};
 use txs_cli_plays::WrongPlay;
 use txs_compile::CompileError;
-use txs_machine::{Play, Ran, Report};
+use txs_machine::{Entries, Play, Ran};
 use txs_value_base::{Fault, Span};
 use txs_world_protocol::Outcome;
 
@@ -335,7 +335,7 @@ fn add_thread(told: &mut Told, script: Script<'_>, k: u16, thread: &Ran) -> Resu
 }
 
 /// What is told of all threads that have run, in their order.
-pub fn of_threads(alloc: Global, script: Script<'_>, report: &Report) -> Result<Told, AllocError>
+pub fn of_threads(alloc: Global, script: Script<'_>, report: &Entries) -> Result<Told, AllocError>
     requires few { length report.now.threads.items ≤ 64 }
     ensures output { IfOk result (λ t. t.output.items ≡ all_printed report.now.threads.items) }
     ensures errors { IfOk result (λ t. AreLessons (script_of script.entry) 0 report.now.threads.items t.errors.items) }

@@ -13,6 +13,7 @@ ghost use Rattle.txs_gen.specs.OwnCells.{ProgramNamesOwnCells};
 ghost use Rattle.txs_reader.specs.Script.{Reads};
 ghost use Rattle.txs_reader.specs.Tree.{trees};
 ghost use Rattle.txs_resolve.specs.Names.{Resolves, ResolveStops};
+ghost use Rattle.txs_tree_meaning.specs.Marked.{Exactly, ProgramMarkedBy};
 ghost use Rattle.txs_tree_meaning.specs.Sound.{Sound};
 ghost use Rattle.txs_tree_meaning.specs.View.{program_of};
 ghost use Rattle.txs_compile.specs.Compiled.{IsProgramOf, IsRefusal, codes_of};
@@ -26,6 +27,7 @@ use txs_gen::follows::{
 };
 use txs_gen::generate;
 use txs_reader::{Form, ReadErrorKind, read_script};
+use txs_resolve::law::resolved_is_marked;
 use txs_resolve::{ResolveErrorKind, resolve};
 use txs_theorem_byte_form::law::code_of_script_has_form;
 use txs_tree_meaning::{Program, Raw};
@@ -84,6 +86,7 @@ fn program_of_forms(alloc: Global, bytes: &[u8], forms: &[Form]) -> Result<Progr
 /// there was no memory for one of them.
 pub fn compile(alloc: Global, bytes: &[u8]) -> Result<(Program, Verified), CompileError>
     ensures program { IfOk result (λ c. IsProgramOf bytes.now (program_of c.0)) }
+    ensures marked { IfOk result (λ c. ProgramMarkedBy Exactly (program_of c.0)) }
     ensures generated { IfOk result (λ c. IsCodeOf c.1 (program_of c.0)) }
     ensures code { IfOk result (λ c. FollowsAll (codes_of c.1) (program_of c.0)) }
     ensures agents { IfOk result (λ c. FollowsAgents (function_codes c.1) (program_of c.0).functions) }
@@ -97,6 +100,7 @@ pub fn compile(alloc: Global, bytes: &[u8]) -> Result<(Program, Verified), Compi
     let program = program_of_forms(alloc, bytes, forms.as_slice())?;
     let verified = generate(alloc, &program)?;
     let _rooms = verified.rooms();
+    resolved_is_marked();
     code_of_program_follows();
     code_of_agents_follows();
     code_of_program_sends_sound();

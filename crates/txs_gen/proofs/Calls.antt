@@ -16,7 +16,7 @@ use Rattle.txs_theorem_threads.proofs.Quiet.{quietly, callee_carried}
 use Rattle.txs_gen.specs.Gen.{gen, function_code, functions_code}
 use Rattle.txs_gen.proofs.Kept.{body_kept}
 use Rattle.txs_gen.proofs.Lists.{Stands, holds_opening, stands_front, stands_back}
-use Rattle.txs_gen.proofs.Simulates.{AtLoop, bound_to, Called, expression_simulates, turns_simulates}
+use Rattle.txs_gen.proofs.Simulates.{AtLoop, bound_to, Called, expression_simulates, call_turns_simulate}
 use Rattle.txs_gen.proofs.Steps.{configuration, frame, Lands, of, Simulates, one_to, to_from, onward}
 use Rattle.txs_gen.proofs.Tries.{AtValue, Never, CallSimulates, acts}
 
@@ -72,7 +72,7 @@ module _ (fs : List PlainFunction) (sound : SoundFunctions [] fs) (main : PlainB
     where
       go : (o : Option PlainFunction) → nth fs f ≡ o → Called code_with n (known fs) (call_at (λ d. on_replies) n fs bd) →
           Simulates code_with n (of doing) (λ v s1 c1. c1 ≡ configuration b pc (stack_after awaits v st) L fr (doing_after awaits v doing) s1) Never (configuration (suc f) 0 [] (locals_of (nth (functions_code fs) f) vs) (frame b pc st L awaits ∷ fr) doing s)
-          (bind (give o s) (λ fun s1. turns n fun.parameters (λ ws s2. eval on_replies (call_at (λ d. on_replies) n fs bd) n (is_inside doing) fun.body ws s2) vs s1))
+          (bind (give o s) (λ fun s1. turns (suc n) fun.parameters (λ ws s2. eval on_replies (call_at (λ d. on_replies) n fs bd) n (is_inside doing) fun.body ws s2) vs s1))
       go None e called = tt
       go (Some fun) e called =
           let code = code_with in
@@ -88,7 +88,7 @@ module _ (fs : List PlainFunction) (sound : SoundFunctions [] fs) (main : PlainB
           let has = stands_from code (suc f) (function_code fun) (nth_code fs f ∙ ap (on_some function_code) e) (is ++ Return ∷ []) [] refl in
           let rear = stands_back code (suc f) 0 is (Return ∷ []) _ has in
           let stop = 0 + length is in
-          turns_simulates code n all call called (suc f) fr1 n fun.parameters 0 [] [] doing G Never (λ ws s2. eval on_replies call n (is_inside doing) fun.body ws s2) (omega arith)
+          call_turns_simulate code n all call called (suc f) fr1 fun.parameters 0 [] [] doing G Never (λ ws s2. eval on_replies call n (is_inside doing) fun.body ws s2)
           (λ ws L1 s1 len h1. onward code n (of doing) (AtValue (suc f) stop [] ws fr1 doing) (AtLoop (suc f) 0 [] [] fr1 doing) G (configuration (suc f) 0 [] L1 fr1 doing s1) (eval on_replies call n (is_inside doing) fun.body ws s1)
           (expression_simulates code n all call called (suc f) fr1 here.before sub fun.body doing [] [] ws L1 fun.parameters 0 0 0 stop s1 (function_callees fs sound (is_inside doing) f fun e tt) pure (stands_front code (suc f) 0 is (Return ∷ []) _ has) (record { inner = ws; within = refl; size = refl; depth = sym len }) h1)
           (λ v s2 c2 g.

@@ -24,7 +24,7 @@ use Rattle.txs_theorem_threads.proofs.Quiet.{carried, IsQuiet}
 use Rattle.txs_gen.specs.Gen.{if_code, stores, do_code, callee_code, opening, gen, gen_all, gen_let, gen_do}
 use Rattle.txs_gen.proofs.Kept.{Kept, KeptAfter, close_asked, break_asked}
 use Rattle.txs_gen.proofs.Lists.{append_nil, Holds, holds_front, holds_put, write, holds_write, args_taken, Stands, stands_front, stands_back, stands_length}
-use Rattle.txs_gen.proofs.Steps.{configuration, frame, savepoint, Reaches, Comes, Lands, of, Simulates, res_step, step, stays, one_to, one_past, to_to, to_past, comes_to, before, bind_simulates, onward, lands_as, from_configuration, step_simulates, ask_simulates, choose_simulates, recast, handled_as, telling_simulates, to_from, again_simulates, closed_simulates}
+use Rattle.txs_gen.proofs.Steps.{configuration, frame, savepoint, Reaches, Comes, Lands, of, Simulates, res_step, step, stays, one_to, one_past, to_to, to_past, comes_to, before, bind_simulates, onward, lands_as, from_configuration, step_simulates, ask_simulates, choose_simulates, recast, handled_as, telling_simulates, to_from, again_simulates, first_simulates, closed_simulates}
 use Rattle.txs_gen.proofs.Tries.{AtValue, Never, IfBound, CallSimulates, acts, tries_simulate}
 
 -- the arguments lie on the stack
@@ -314,6 +314,18 @@ module _ (code : ThreadCode) (n : ℕ) (all : List Known) (call : Bool → ℕ �
           again_simulates code n m (of doing) G (AtLoop b start st base fr doing) R (configuration b start st L fr doing s) (body vs s) (turns m d body) le (hb vs L s (eqb-true (length vs) d e) h)
           (λ ws s1 c1 g. from_configuration code m (of doing) G R c1 (configuration b start st g.0 fr doing s1) (turns m d body ws s1) g.2 (next ws g.0 s1 g.1))
       turn false e next = tt
+
+  -- a function's body, and at most n recurs to it
+  pub call_turns_simulate : (d start : ℕ) (st base : List Value) (doing : Activity) (G : Lands Value) (R : Lands (List Value)) (body : List Value → ActorState → Completion ActorState Value) →
+      ((vs L : List Value) (s : ActorState) → length vs ≡ d → Holds (base ++ vs) L → Simulates code n (of doing) G (AtLoop b start st base fr doing) (configuration b start st L fr doing s) (body vs s)) →
+      (vs L : List Value) (s : ActorState) → Holds (base ++ vs) L → Simulates code n (of doing) G R (configuration b start st L fr doing s) (turns (suc n) d body vs s)
+  call_turns_simulate d start st base doing G R body hb vs L s h = turn (nat_eq (length vs) d) refl
+    where
+      turn : (t : Bool) → nat_eq (length vs) d ≡ t → Simulates code n (of doing) G R (configuration b start st L fr doing s) (if t then again (body vs s) (turns n d body) else Invalid)
+      turn true e =
+          first_simulates code n (of doing) G (AtLoop b start st base fr doing) R (configuration b start st L fr doing s) (body vs s) (turns n d body) (hb vs L s (eqb-true (length vs) d e) h)
+          (λ ws s1 c1 g. from_configuration code n (of doing) G R c1 (configuration b start st g.0 fr doing s1) (turns n d body ws s1) g.2 (turns_simulates n d start st base doing G R body (omega arith) hb ws g.0 s1 g.1))
+      turn false e = tt
 
   -- the stores of a recur
   stores_to : (vs : List Value) (i p stop : ℕ) (st L : List Value) (doing : Activity) (s : ActorState) → Stands code b p (stores i (length vs)) stop → Reaches code (configuration b p (push_all vs st) L fr doing s) (configuration b stop st (write i vs L) fr doing s)

@@ -241,6 +241,26 @@ module _ (code : ThreadCode) where
   again_simulates n m h G B R c (OutOfTurns s) go le r k = (r.0, omega (arith, le, r.1), r.2)
   again_simulates n m h G B R c Invalid go le r k = tt
 
+  -- with fewer turns
+  fewer : {A : Type 0} (n : ℕ) (h : Handlers) (G : Lands A) (R : Lands (List Value)) (c : Configuration) (r : Completion ActorState A) → Simulates code (suc n) h G R c r → Simulates code n h G R c r
+  fewer n h G R c (Completes a s) r = r
+  fewer n h G R c (Recurs vs s) r = r
+  fewer n h G R c (Faults f s) r = r
+  fewer n h G R c (Retries s) r = r
+  fewer n h G R c (Waits s) r = r
+  fewer n h G R c (OutOfTurns s) r = (r.0, omega (arith, r.1), r.2)
+  fewer n h G R c Invalid r = tt
+
+  -- one turn, and as many more
+  pub first_simulates : {A : Type 0} (n : ℕ) (h : Handlers) (G : Lands A) (B R : Lands (List Value)) (c : Configuration) (r : Completion ActorState A) (go : List Value → ActorState → Completion ActorState A) → Simulates code n h G B c r → ((vs : List Value) (s : ActorState) (c1 : Configuration) → B vs s c1 → Simulates code n h G R c1 (go vs s)) → Simulates code n h G R c (again r go)
+  first_simulates n h G B R c (Completes a s) go r k = r
+  first_simulates n h G B R c (Recurs vs s) go r k = fewer n h G R c (go vs s) (before_past n h G R c r.0 (go vs s) r.2 (k vs s r.0 r.1))
+  first_simulates n h G B R c (Faults f s) go r k = r
+  first_simulates n h G B R c (Retries s) go r k = r
+  first_simulates n h G B R c (Waits s) go r k = r
+  first_simulates n h G B R c (OutOfTurns s) go r k = r
+  first_simulates n h G B R c Invalid go r k = tt
+
   -- a part that no recur leaves
   pub closed_simulates : {A : Type 0} (n : ℕ) (h : Handlers) (G : Lands A) (R R' : Lands (List Value)) (c : Configuration) (r : Completion ActorState A) → Simulates code n h G R c r → Simulates code n h G R' c (closed r)
   closed_simulates n h G R R' c (Completes a s) r = r

@@ -13,30 +13,35 @@ use Rattle.txs_tree_meaning.specs.Tree.{PlainThread, PlainProgram, ThreadSource}
 use Rattle.txs_code_meaning.specs.PlainCode.{CodeBody, PlainCode, thread_code, function_codes}
 use Rattle.txs_theorem_threads.specs.Follows.{Follows}
 use Rattle.txs_theorem_threads.specs.FollowsAll.{source_of, FollowsAll}
+use Rattle.txs_theorem_threads.specs.Noted.{txs_of}
 use Rattle.txs_theorem_threads.specs.RepliesFit.{Out, RepliesFit, Explained, halted, HasWaited}
 use Rattle.txs_theorem_threads.specs.RepliesFitTo.{FittingToFits}
 use Rattle.txs_machine_actor.specs.PlainActor.{PlainActor, own_body, code_of, state_of, configuration_of, standing, stands_at, unanswered}
 use Rattle.txs_world_book.specs.Laws.{UnwrittenStays}
 use Rattle.txs_world.specs.Laws.{DoneIsUndisturbed, RefusedIsUndisturbed}
-use Rattle.txs_theorem_runs.specs.Explains.{BooksStand}
+use Rattle.txs_theorem_runs.specs.Explains.{BooksStand, CommitsUndisturbed}
 use Rattle.txs_theorem_runs.specs.Invariant.{SharedStands}
 use Rattle.txs_theorem_runs.specs.Laws.{ToldFits}
+use Rattle.txs_theorem_runs.specs.Refused.{RefusalsUndisturbed}
 use Rattle.txs_theorem_runs.specs.Shared.{Shared}
 use Rattle.txs_theorem_runs.specs.Printed.{Prints, HasPrinted, PrintedBeforeLast}
 use Rattle.txs_theorem_runs.specs.Run.{Actor}
 use Rattle.txs_theorem_runs.specs.Told.{Entry, exchange_of, trace_of, TraceHolds, seen_of}
 use Rattle.txs_theorem_runs.specs.Told as told_by
+use Rattle.txs_theorem_runs.specs.Transactions.{SaidOf, undisturbed}
 use Rattle.txs_theorem_runs.proofs.Lasts.{EachWaits, printed_before}
 use Rattle.txs_theorem_runs.proofs.Refused.{all_refused}
+use Rattle.txs_theorem_runs.proofs.Undisturbed.{entries_undisturbed}
 use Rattle.txs_theorem_runs.proofs.Whole.{all_undisturbed}
 use Rattle.txs_machine.specs.Followed.{ActorsExplained, told}
 use Rattle.txs_machine.specs.RunOver.{RunOver, places_of}
 use Rattle.txs_machine.specs.Playing.{IsBetween, AreBetween, HaveSteps, AllEnded, IsReported, AreReported}
-use Rattle.txs_machine.specs.Schedule.{plays_of, HasDone, AreDone, ArePlayed, HaveEnded, ExplainsSo, HasPrintedLeast, ExplainsThread, IsExplainedBy}
+use Rattle.txs_machine.specs.RunTheorem.{HasDone, ExplainsSo, HasPrintedLeast, ExplainsThread}
+use Rattle.txs_machine.specs.Schedule.{plays_of, AreDone, ArePlayed, HaveEnded, IsExplainedBy}
 use Rattle.txs_world_protocol.specs.declared.event.Place.{Place}
 use Rattle.txs_machine.specs.declared.player.Player.{Player}
 use Rattle.txs_machine.specs.declared.schedule.Play.{Play}
-use Rattle.txs_machine.specs.declared.schedule.Ran.{Ran}
+use Rattle.txs_world_protocol.specs.declared.report.Ran.{Ran}
 use Rattle.txs_machine.proofs.Playing.{between_of}
 use Rattle.txs_machine.proofs.RunOver.{trace_holds}
 
@@ -158,13 +163,19 @@ module _ (by : Known) (code : PlainCode) (k : ℕ) (books : ℕ → List Event) 
   past : told_by.history_of code.cells books k h.entries ≡ seen
   past = ap (seen_of code.cells books) (sym traced)
 
-  -- the source means what the actor printed, and how it ended
-  pub part_explained : (n : ℕ) × ExplainsSo a.outcome a.printed (thread_meaning p n seen)
-  part_explained =
+  -- the source means what the actor printed, and how it ended, and its transactions were undisturbed, where the actor's commits were
+  pub part_explained : CommitsUndisturbed books h.entries → RefusalsUndisturbed code.cells books h.entries
+      → (n : ℕ) × ExplainsSo a.outcome a.printed (thread_meaning p n seen) × SaidOf (undisturbed code.cells books) books (places_of trace) (txs_of (thread_meaning p n seen))
+  part_explained commits refusals =
       let xs = map exchange_of h.entries in
       let fitted : RepliesFit code.cells Out xs seen = subst (RepliesFit code.cells Out xs) past (by.fit code.cells Out xs _ _ (by.fits code.cells (length code.threads) books k h.entries h.stage h.told)) in
       let m = by.explained code xs seen a p h.ran (subst (λ n. Follows (code_of code n) p) (sym h.number) follows) (subst (λ cs. RepliesFit cs Out xs seen) (sym same) fitted) in
-      (m.0, so_explained a a.outcome (thread_meaning p m.0 seen) (subst (λ q. Explained (told a a.outcome q) (thread_meaning p m.0 seen)) free m.2))
+      let txs = txs_of (thread_meaning p m.0 seen) in (
+        m.0,
+        so_explained a a.outcome (thread_meaning p m.0 seen) (subst (λ q. Explained (told a a.outcome q) (thread_meaning p m.0 seen)) free m.2),
+        subst (λ ps. SaidOf (undisturbed code.cells books) books ps txs) (sym traced)
+            (entries_undisturbed code.cells books k (length code.threads) h.entries txs h.told.hold commits refusals m.3),
+      )
 
   abbrev x : Actor
   x = in_run h.entries a
@@ -199,40 +210,49 @@ pub length_map : {A B : Type 0} (f : A → B) (xs : List A) → length (map f xs
 length_map f [] = refl
 length_map f (x ∷ xs) = ap suc (length_map f xs)
 
-abbrev MeansSo : PlainProgram → PlainThread → (ℕ → List Event) → Option Outcome → List ℕ → List Place → List CellDefinition → Type 0
-MeansSo p t books o out trace cells = (n : ℕ) × ExplainsSo o out (thread_meaning (source_of p t) n (seen_of cells books (places_of trace)))
+-- where these are the cells, a thread's meaning explains an entry, and its transactions were undisturbed
+abbrev pub MeansSo : PlainProgram → PlainThread → (ℕ → List Event) → Option Outcome → List ℕ → List Place → List CellDefinition → Type 0
+MeansSo p t books o out trace cells =
+    (n : ℕ) × ExplainsSo o out (thread_meaning (source_of p t) n (seen_of cells books (places_of trace)))
+    × SaidOf (undisturbed cells books) books (places_of trace) (txs_of (thread_meaning (source_of p t) n (seen_of cells books (places_of trace))))
 
-abbrev LeastSo : PlainProgram → PlainThread → (ℕ → List Event) → List ℕ → List Place → List CellDefinition → Type 0
+-- and the thread has printed the least
+abbrev pub LeastSo : PlainProgram → PlainThread → (ℕ → List Event) → List ℕ → List Place → List CellDefinition → Type 0
 LeastSo p t books out trace cells = HasPrintedLeast p t (seen_of cells books (places_of trace)) out
 
-thread_explained : Known → (code : PlainCode) (k limit : ℕ) (books : ℕ → List Event) (x : Player) (r : Ran) → IsBetween code k limit books x → IsReported x r
+-- so an entry is explained
+pub entry_explained : (p : PlainProgram) (k : ℕ) (t : PlainThread) (books : ℕ → List Event) (r : Ran) → TraceHolds books k (places_of r.trace.items) → MeansSo p t books r.outcome r.printed.items r.trace.items p.cells → LeastSo p t books r.printed.items r.trace.items p.cells
+    → ExplainsThread p k t books r
+entry_explained p k t books r traced means least = record { traced = traced; turns = means.0; means = means.1; calm = means.2; least = least }
+
+thread_explained : Known → RefusedIsUndisturbed → (code : PlainCode) (k limit : ℕ) (books : ℕ → List Event) (x : Player) (r : Ran) → IsBetween code k limit books x → IsReported x r
     → (p : PlainProgram) (t : PlainThread) → p.cells ≡ code.cells → FollowsAll (map (thread_code code) code.threads) p → nth p.threads k ≡ Some t → ExplainsThread p k t books r
-thread_explained by code k limit books x r h rep p t same follows e =
+thread_explained by refused code k limit books x r h rep p t same follows e =
     let a = x.actor in
     let tr = x.trace.items in
     let f : Follows (code_of code k) (source_of p t) = follows.each k (code_of code k) t (code_at code code.threads p.threads k k t follows.as_many e) e in
-    let means : MeansSo p t books a.outcome a.printed tr code.cells = part_explained by code k books tr a h.free h.over.over h.over.traced (source_of p t) same f in
+    let means : MeansSo p t books a.outcome a.printed tr code.cells =
+    part_explained by code k books tr a h.free h.over.over h.over.traced (source_of p t) same f
+    (all_undisturbed by.done code.cells (length code.threads) books k h.over.over.entries h.over.over.told.hold) (all_refused refused code.cells (length code.threads) books k h.over.over.entries h.over.over.told.hold) in
     let least : LeastSo p t books a.printed tr code.cells = part_printed by code k books tr a h.free h.over.over h.over.traced (source_of p t) same f in
-    record {
-      traced = subst (λ ps. TraceHolds books k (places_of ps)) rep.traced (trace_holds code k books tr a h.over);
-      means = subst (λ o. MeansSo p t books o r.printed.items r.trace.items p.cells) rep.ended
-          (subst (λ out. MeansSo p t books a.outcome out r.trace.items p.cells) rep.printed
-          (subst (λ ps. MeansSo p t books a.outcome a.printed ps p.cells) rep.traced (subst (MeansSo p t books a.outcome a.printed tr) (sym same) means)));
-      least = subst (λ out. LeastSo p t books out r.trace.items p.cells) rep.printed
-          (subst (λ ps. LeastSo p t books a.printed ps p.cells) rep.traced (subst (LeastSo p t books a.printed tr) (sym same) least));
-    }
+    entry_explained p k t books r (subst (λ ps. TraceHolds books k (places_of ps)) rep.traced (trace_holds code k books tr a h.over))
+    (subst (λ o. MeansSo p t books o r.printed.items r.trace.items p.cells) rep.ended
+    (subst (λ out. MeansSo p t books a.outcome out r.trace.items p.cells) rep.printed
+    (subst (λ ps. MeansSo p t books a.outcome a.printed ps p.cells) rep.traced (subst (MeansSo p t books a.outcome a.printed tr) (sym same) means))))
+    (subst (λ out. LeastSo p t books out r.trace.items p.cells) rep.printed
+    (subst (λ ps. LeastSo p t books a.printed ps p.cells) rep.traced (subst (LeastSo p t books a.printed tr) (sym same) least)))
 
 -- what is shared stands: so do its books
 pub books_stand : (cells : List CellDefinition) (threads : ℕ) (sh : Shared) → SharedStands cells threads sh → BooksStand cells threads sh
 books_stand cells threads sh h = record { legal = h.store.legal; undisturbed = h.store.undisturbed; atoms = h.atoms; by_threads = h.by_threads }
 
 -- each program that the code follows explains the run
-pub all_explained : Known → (code : PlainCode) (limit : ℕ) (sh : Shared) (xs : List Player) (rs : List Ran) → length xs ≡ length code.threads → SharedStands code.cells (length code.threads) sh
+pub all_explained : Known → RefusedIsUndisturbed → (code : PlainCode) (limit : ℕ) (sh : Shared) (xs : List Player) (rs : List Ran) → length xs ≡ length code.threads → SharedStands code.cells (length code.threads) sh
     → AreBetween code limit sh.books 0 xs → AreReported xs rs → IsExplainedBy code sh rs
-all_explained by code limit sh xs rs many stands h rep p same follows = record {
+all_explained by refused code limit sh xs rs many stands h rep p same follows = record {
   one_each = as_many xs rs rep ∙ many ∙ threads;
   books = subst (λ cs. BooksStand cs (length p.threads) sh) (sym same) (subst (λ n. BooksStand code.cells n sh) threads (books_stand code.cells (length code.threads) sh stands));
-  each = λ k t r e f. (let x = reported_at xs rs k r rep f in thread_explained by code k limit sh.books x.0 r (between_of code limit sh.books k xs x.0 x.1 h) x.2 p t same follows e);
+  each = λ k t r e f. (let x = reported_at xs rs k r rep f in thread_explained by refused code k limit sh.books x.0 r (between_of code limit sh.books k xs x.0 x.1 h) x.2 p t same follows e);
 }
   where
     threads : length code.threads ≡ length p.threads

@@ -20,3 +20,4 @@ pub mod Turning
 pub mod PlayedAt
 pub mod Laws
 pub mod Reporting
+pub mod Serial

@@ -10,7 +10,8 @@ use Rattle.txs_code_meaning.specs.Machine.{Unfinished}
 use Rattle.txs_code_meaning.specs.Opening.{opening}
 use Rattle.txs_code_meaning.specs.PlainCode.{PlainCode}
 use Rattle.txs_machine_actor.specs.Laws.{ActorsRun}
-use Rattle.txs_machine_actor.specs.PlainActor.{agents_from, code_of, with_agent}
+use Rattle.txs_machine_actor.specs.PlainActor.{code_of}
+use Rattle.txs_value_cell.specs.Agents.{agents_from, with_agent}
 use Rattle.txs_machine_actor.specs.Turns.{IsNew}
 use Rattle.txs_world_book.specs.Served.{cells_of}
 use Rattle.txs_world.specs.Store.{none_taken}

@@ -9,7 +9,8 @@ use Rattle.txs_value_data.specs.declared.value.CellKind.{CellKind}
 use Rattle.txs_value_data.specs.declared.value.CellKind.TheVariants.{Ref, Atom, Agent}
 use Rattle.txs_code_meaning.specs.Machine.{Outside, Configuration}
 use Rattle.txs_code_meaning.specs.PlainCode.{PlainCode}
-use Rattle.txs_machine_actor.specs.PlainActor.{Lives, activity_of, agents_from, with_agent}
+use Rattle.txs_machine_actor.specs.PlainActor.{Lives, activity_of}
+use Rattle.txs_value_cell.specs.Agents.{agents_from, with_agent}
 use Rattle.txs_machine_actor.specs.Turns.{IsNew}
 use Rattle.txs_world_book.specs.Served.{cells_of}
 use Rattle.txs_world.specs.Store.{none_taken}

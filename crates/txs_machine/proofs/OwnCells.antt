@@ -16,7 +16,8 @@ use Rattle.txs_code_meaning.specs.OwnCells.{kind_at, HoldsDefined, RowHoldsDefin
 use Rattle.txs_code_meaning.specs.PlainCode.{CodeBody, PlainCode, parameters_of, plain_instr, plain_instrs, plain_bodies, thread_code}
 use Rattle.txs_code_meaning.specs.declared.instr.Instr.{Instr}
 use Rattle.txs_code_meaning.specs.declared.instr.Instr.TheVariants as instr
-use Rattle.txs_machine_actor.specs.PlainActor.{agents_from, agent_or_none, own_body, code_of}
+use Rattle.txs_machine_actor.specs.PlainActor.{agent_or_none, own_body, code_of}
+use Rattle.txs_value_cell.specs.Agents.{agents_from}
 use Rattle.txs_world_book.specs.Book.{is_of_kind, opening}
 use Rattle.txs_world_book.specs.Served.{cells_of}
 use Rattle.txs_theorem_runs.specs.Lawful.{HasCells, RowHasCells, IsKnown, CodeIsKnown, OpeningIsKnown}

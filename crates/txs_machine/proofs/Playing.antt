@@ -16,7 +16,7 @@ use Rattle.txs_machine.specs.Running.{attendants}
 use Rattle.txs_machine.specs.declared.player.AgentPlayer.{AgentPlayer}
 use Rattle.txs_machine.specs.declared.player.Player.{Player}
 use Rattle.txs_machine.specs.declared.schedule.Play.{Play}
-use Rattle.txs_machine.specs.declared.schedule.Ran.{Ran}
+use Rattle.txs_world_protocol.specs.declared.report.Ran.{Ran}
 use Rattle.txs_machine.proofs.Limits.{rounds_left}
 use Rattle.txs_machine.proofs.RunOver.{ValuesKnown, over_others}
 

@@ -11,19 +11,19 @@ use Rattle.txs_machine.specs.Running.{attendants}
 use Rattle.txs_machine.specs.Schedule.{IsExplainedBy}
 use Rattle.txs_machine.specs.declared.player.Players.{Players}
 use Rattle.txs_machine.specs.declared.schedule.Play.{Play}
-use Rattle.txs_machine.specs.declared.schedule.Report.{Report}
+use Rattle.txs_machine.specs.declared.schedule.Entries.{Entries}
 use Rattle.txs_machine.proofs.Explaining.{all_done, all_played, all_ended, all_explained}
 use Rattle.txs_machine.proofs.Laws.{known, refused, reported, traced}
 use Rattle.txs_machine.proofs.Together.{agents_done, agents_drained, all_explained_by}
 
 module _ (code : PlainCode) (limit : ℕ) (ys : List Play) (rounds : Bool) (s : PlainShared) (all : Players) (out : ArePlayedOut code limit ys rounds s all) (stands : SharedStands code.cells (length code.threads) (shared_of s))
     (staged : CodesStaged (map (thread_code code) code.threads)) where
-  says : (report : Report) → AreReported all.threads.items report.threads.items → AreReported (attendants all.agents.items) report.agents.items → SaysOf code limit ys rounds s report
+  says : (report : Entries) → AreReported all.threads.items report.threads.items → AreReported (attendants all.agents.items) report.agents.items → SaysOf code limit ys rounds s report
   says report threads agents =
       let xs = all.threads.items in
       let ts = report.threads.items in
       let rs = report.agents.items in
-      let explained : IsExplainedBy code (shared_of s) ts = all_explained known code limit (shared_of s) xs ts out.playing.many stands out.playing.threads threads in
+      let explained : IsExplainedBy code (shared_of s) ts = all_explained known refused code limit (shared_of s) xs ts out.playing.many stands out.playing.threads threads in
       record {
         done = all_done known.done refused code limit (books_of s) xs ts out.playing.many out.playing.threads threads;
         played = all_played ys xs ts out.steps threads;
@@ -35,6 +35,6 @@ module _ (code : PlainCode) (limit : ℕ) (ys : List Play) (rounds : Bool) (s : 
       }
 
   -- so it does, where there is one
-  pub says_of : {E : Type 0} (r : Result Report E) → IfOk r (λ report. AreReported all.threads.items report.threads.items) → IfOk r (λ report. AreReported (attendants all.agents.items) report.agents.items) → IfOk r (λ report. SaysOf code limit ys rounds s report)
+  pub says_of : {E : Type 0} (r : Result Entries E) → IfOk r (λ report. AreReported all.threads.items report.threads.items) → IfOk r (λ report. AreReported (attendants all.agents.items) report.agents.items) → IfOk r (λ report. SaysOf code limit ys rounds s report)
   says_of (Ok report) threads agents = says report threads agents
   says_of (Err e) threads agents = tt

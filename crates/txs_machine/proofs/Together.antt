@@ -14,7 +14,8 @@ use Rattle.txs_code_meaning.specs.ActorState.{ActorState}
 use Rattle.txs_code_meaning.specs.Machine.{PlainBody, ThreadCode, Configuration, Turned}
 use Rattle.txs_code_meaning.specs.PlainCode.{CodeBody, PlainCode, thread_code, function_codes}
 use Rattle.txs_theorem_threads.specs.FollowsAgent.{GoesOn}
-use Rattle.txs_machine_actor.specs.PlainActor.{PlainActor, agents_from, agent_or_none, code_of, own_body, with_agent}
+use Rattle.txs_machine_actor.specs.PlainActor.{PlainActor, agent_or_none, code_of, own_body}
+use Rattle.txs_value_cell.specs.Agents.{agents_from, with_agent}
 use Rattle.txs_world.proofs.Merging.{joined}
 use Rattle.txs_world_book.specs.Book.{agents_below, is_of_kind, has_agent}
 use Rattle.txs_world_book.specs.Book as world
@@ -29,16 +30,17 @@ use Rattle.txs_theorem_runs.specs.Shared.{Shared, book_for}
 use Rattle.txs_theorem_runs.specs.Told.{AllHold, TraceHolds, trace_of}
 use Rattle.txs_theorem_runs.proofs.Growing.{Grown, differ, trace_stays}
 use Rattle.txs_world_shared.specs.SharedState.{PlainShared, shared_of}
-use Rattle.txs_machine.specs.Agents.{agents_of, AgentHasDone, AgentsAreDone, NeverEnds, ExplainsAgent, AreExplainedBy, AreDrained}
+use Rattle.txs_machine.specs.Agents.{agents_of, AgentHasDone, AgentsAreDone, AreExplainedBy, AreDrained}
 use Rattle.txs_machine.specs.Playing.{IsReported, AreReported}
 use Rattle.txs_machine.specs.RunOver.{books_of, places_of}
+use Rattle.txs_machine.specs.RunTheorem.{NeverEnds, ExplainsAgent}
 use Rattle.txs_machine.specs.Running.{run_of, after_turns, IsPlacedAs, IsPlayerOf, IsRunOf, ComesTo, GoesAs, IsAgentAt, IsAttending, AreAttending, AreIdle, HasWork, ArePlaying, attendants}
 use Rattle.txs_machine.specs.Schedule.{IsExplainedBy}
 use Rattle.txs_machine.specs.declared.player.AgentPlayer.{AgentPlayer}
 use Rattle.txs_world_protocol.specs.declared.event.Place.{Place}
 use Rattle.txs_machine.specs.declared.player.Player.{Player}
 use Rattle.txs_machine.specs.declared.player.Players.{Players}
-use Rattle.txs_machine.specs.declared.schedule.Ran.{Ran}
+use Rattle.txs_world_protocol.specs.declared.report.Ran.{Ran}
 use Rattle.txs_machine.proofs.Explaining.{reported_at, as_many, length_map}
 use Rattle.txs_machine.proofs.Going.{turns_append, others_left}
 use Rattle.txs_machine.proofs.RunOver.{longer}

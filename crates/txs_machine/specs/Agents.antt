@@ -1,7 +1,6 @@
--- Agents in runs: which actors there are, what a report says of the agents', what a program says of them, and when rounds are over.
-use Rattle.std.specs.Prelude.{◌≡◌, ◌+◌, ℕ, List, [], length, map, Option, Some, None}
+-- Agents in runs: which actors there are, what a report says of the agents', and when rounds are over.
+use Rattle.std.specs.Prelude.{◌≡◌, ◌+◌, ℕ, List, length, map, Some, None}
 use Rattle.txs_world_protocol.specs.declared.event.Event.{Event}
-use Rattle.txs_world_protocol.specs.declared.event.Outcome.{Outcome}
 use Rattle.txs_world_protocol.specs.declared.event.Outcome.TheVariants as outcome
 use Rattle.txs_value_base.specs.Places.{nth}
 use Rattle.txs_value_data.specs.declared.value.CellId.{CellId}
@@ -10,15 +9,15 @@ use Rattle.txs_code_meaning.specs.PlainCode.{PlainCode, thread_code, function_co
 use Rattle.txs_theorem_threads.specs.FollowsAgent.{FollowsAgents}
 use Rattle.txs_theorem_threads.specs.FollowsAll.{FollowsAll}
 use Rattle.txs_theorem_threads.specs.Sends.{CodesSendSound}
-use Rattle.txs_machine_actor.specs.PlainActor.{PlainActor, HasRun, agents_from, code_of, unanswered}
+use Rattle.txs_machine_actor.specs.PlainActor.{PlainActor, HasRun, code_of, unanswered}
+use Rattle.txs_value_cell.specs.Agents.{agents_from}
 use Rattle.txs_world_book.specs.Served.{cells_of}
 use Rattle.txs_world.specs.Store.{next_action}
-use Rattle.txs_theorem_runs.specs.Agents.{ActsMean, AllSound}
 use Rattle.txs_theorem_runs.specs.Shared.{Shared}
 use Rattle.txs_theorem_runs.specs.Told.{Entry, exchange_of, AllHold, TraceHolds, trace_of}
 use Rattle.txs_machine.specs.RunOver.{IsLimited, AtFullBook, places_of}
-use Rattle.txs_machine.specs.Schedule.{Explains}
-use Rattle.txs_machine.specs.declared.schedule.Ran.{Ran}
+use Rattle.txs_machine.specs.RunTheorem.{ExplainsAll}
+use Rattle.txs_world_protocol.specs.declared.report.Ran.{Ran}
 
 -- ---- actors
 
@@ -56,30 +55,6 @@ pub record AgentsAreDone (code : PlainCode) (limit : ℕ) (books : ℕ → List 
   pub each : (i : ℕ) (ran : Ran) → nth rans i ≡ Some ran → AgentHasDone code (length code.threads + i) limit books ran
 
 -- ---- what the source says of agents
-
--- an agent's actor hasn't ended, or was stopped: it never is done, and never fails
-abbrev pub NeverEnds : Option Outcome → Type 0
-NeverEnds None = Unit {0}
-NeverEnds (Some outcome.Done) = ⊥
-NeverEnds (Some (outcome.Failed f)) = ⊥
-NeverEnds (Some outcome.StepsSpent) = Unit {0}
-NeverEnds (Some outcome.JournalFull) = Unit {0}
-NeverEnds (Some outcome.Memory) = Unit {0}
-
--- The entry of an agent is explained: its trace names the agent's events and no others, it printed nothing, and it never ended.
-pub record ExplainsAgent (k : ℕ) (books : ℕ → List Event) (ran : Ran) : Type 0 where
-  pub traced : TraceHolds books k (places_of ran.trace.items)
-  pub silent : ran.printed.items ≡ []
-  pub unended : NeverEnds ran.outcome
-
--- A program explains a run with its agents: it explains its threads; there is one entry for each agent; what was sent a program may send; and each
--- action that was handed in is what its callee means, on the state that the agent found, of the action that was the first in its mail.
-pub record ExplainsAll (p : PlainProgram) (sh : Shared) (threads agents : List Ran) : Type 0 where
-  pub by_threads : Explains p sh threads
-  pub one_each : length agents ≡ length (agents_from 0 p.cells)
-  pub sends : AllSound p.functions (sh.books 0)
-  pub acts : ActsMean p.functions p.cells (sh.books 0)
-  pub each : (i : ℕ) (ran : Ran) → nth agents i ≡ Some ran → ExplainsAgent (length p.threads + i) sh.books ran
 
 -- each program of the code's cells that the code follows, of whose functions its functions are the actions', and whose sends alone it sends, explains
 -- the run

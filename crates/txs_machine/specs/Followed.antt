@@ -11,6 +11,7 @@ use Rattle.txs_code_meaning.specs.Machine as machine
 use Rattle.txs_code_meaning.specs.Opening.{target}
 use Rattle.txs_code_meaning.specs.PlainCode.{PlainCode}
 use Rattle.txs_theorem_threads.specs.Follows.{Follows}
+use Rattle.txs_theorem_threads.specs.Noted.{AreNoted, txs_of}
 use Rattle.txs_theorem_threads.specs.RepliesFit.{Out, RepliesFit, Explained}
 use Rattle.txs_machine_actor.specs.PlainActor.{PlainActor, HasRun, unanswered, code_of, state_of, standing}
 
@@ -28,8 +29,9 @@ outcome_of_actor a = told a a.outcome (unanswered a)
 abbrev pub ActorsFollow : Type 0
 ActorsFollow = (code : PlainCode) (xs : List Exchange) (a : PlainActor) → HasRun code xs a → (m : ℕ) × (m ≤ a.steps) × (target (code_of code a.number) m xs ≡ outcome_of_actor a)
 
--- where the code of its thread follows a source, and the exchanges are those of the events, the source explains what the actor has come to, if its loops make at most as many turns
+-- where the code of its thread follows a source, and the exchanges are those of the events, the source explains what the actor has come to, if its loops make at most as many turns,
+-- and its transactions are those of the actor's commits
 abbrev pub ActorsExplained : Type 0
 ActorsExplained =
     (code : PlainCode) (xs : List Exchange) (es : List SeenEvent) (a : PlainActor) (p : ThreadSource) → HasRun code xs a → Follows (code_of code a.number) p → RepliesFit p.cells Out xs es
-    → (m : ℕ) × (m ≤ a.steps) × Explained (outcome_of_actor a) (thread_meaning p m es)
+    → (m : ℕ) × (m ≤ a.steps) × Explained (outcome_of_actor a) (thread_meaning p m es) × AreNoted xs (txs_of (thread_meaning p m es))

@@ -4,9 +4,11 @@ pub mod Followed
 pub mod Lawfully
 pub mod Playing
 pub mod RunOver
+pub mod RunTheorem
 pub mod ErrorName
 pub mod Running
 pub mod Schedule
+pub mod Serial
 pub mod Serving
 pub mod Turning
 pub mod Plays

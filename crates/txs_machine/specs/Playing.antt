@@ -9,7 +9,7 @@ use Rattle.txs_machine.specs.RunOver.{IsLimited}
 use Rattle.txs_machine.specs.Schedule.{plays_of}
 use Rattle.txs_machine.specs.declared.player.Player.{Player}
 use Rattle.txs_machine.specs.declared.schedule.Play.{Play}
-use Rattle.txs_machine.specs.declared.schedule.Ran.{Ran}
+use Rattle.txs_world_protocol.specs.declared.report.Ran.{Ran}
 
 -- the actor of the k-th thread between two plays: it asks nothing, has done over the books what its code says, and asks next what it may ask
 pub record IsBetween (code : PlainCode) (k limit : ℕ) (books : ℕ → List Event) (x : Player) : Type 0 where

@@ -20,7 +20,7 @@ use Rattle.txs_world_protocol.specs.declared.event.Place.{Place}
 use Rattle.txs_machine.specs.declared.player.Player.{Player}
 use Rattle.txs_machine.specs.declared.player.Players.{Players}
 use Rattle.txs_machine.specs.declared.schedule.Play.{Play}
-use Rattle.txs_machine.specs.declared.schedule.Report.{Report}
+use Rattle.txs_machine.specs.declared.schedule.Entries.{Entries}
 
 -- ---- a play
 
@@ -98,7 +98,7 @@ pub record ArePlayedOut (code : PlainCode) (limit : ℕ) (ys : List Play) (round
   pub idle : rounds ≡ true → AreIdle code t all.agents.items
 
 -- what a report says of the plays of a schedule, and of rounds behind them
-pub record SaysOf (code : PlainCode) (limit : ℕ) (ys : List Play) (rounds : Bool) (t : PlainShared) (report : Report) : Type 0 where
+pub record SaysOf (code : PlainCode) (limit : ℕ) (ys : List Play) (rounds : Bool) (t : PlainShared) (report : Entries) : Type 0 where
   pub done : AreDone code limit (books_of t) report.threads.items
   pub played : ArePlayed ys report.threads.items
   pub ended : rounds ≡ true → HaveEnded report.threads.items

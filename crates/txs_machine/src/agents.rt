@@ -1,7 +1,7 @@
 //! The agents of a run: their actors stand behind those of the threads, and rounds go on as long as one has something to do.
 
 ghost use Rattle.std.specs.Prelude.{◌≡◌, ◌≤◌, ◌<◌, ◌+◌, ℕ, length, take, IfOk, IfSome, IsTrue, Some, None, true, false};
-ghost use Rattle.txs_machine_actor.specs.PlainActor.{agents_from};
+ghost use Rattle.txs_value_cell.specs.Agents.{agents_from};
 ghost use Rattle.txs_world_shared.specs.SharedState.{numbered_book};
 ghost use Rattle.txs_value_cell.specs.declared.action.Action.{Action as AnAction};
 ghost use Rattle.txs_value_cell.specs.Forms.{same_kind};

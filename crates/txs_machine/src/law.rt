@@ -1,6 +1,7 @@
-//! What actors have done is what their code means.
+//! What actors have done is what their code means; the commits of explained reports are serial.
 
 ghost use Rattle.txs_machine.specs.Followed.{ActorsFollow, ActorsExplained};
+ghost use Rattle.txs_machine.specs.Serial.{CoveredAreSerial, ReportsAreSerial};
 
 /// An actor is where the machine's meaning comes to, from the opening of its thread: so many turns are
 /// so many instructions.
@@ -12,4 +13,11 @@ pub fn actors_follow()
 /// as the source does.
 pub fn actors_explained()
     ensures { ActorsExplained }
+{}
+
+/// In a report that a sound program with right marks explains, each covered commit is serial. Where all commits are covered, they
+/// are as if the transactions had run one after the other, in the order of the store's book.
+pub fn explained_reports_are_serial()
+    ensures each { CoveredAreSerial }
+    ensures all { ReportsAreSerial }
 {}

@@ -5,13 +5,14 @@
 mod agents;
 pub mod law;
 mod player;
+mod report;
 pub mod run;
 pub mod run_error;
 pub mod schedule;
 
-pub use law::{actors_explained, actors_follow};
+pub use law::{actors_explained, actors_follow, explained_reports_are_serial};
 pub use run_error::RunError;
-pub use schedule::{Play, Ran, Report, ScheduleError, run_schedule};
+pub use schedule::{Entries, Play, ScheduleError, run_schedule};
 pub use txs_machine_actor::{Actor, Turn, actors_run, may_answer};
-pub use txs_world_protocol::{Outcome, Place};
+pub use txs_world_protocol::{Outcome, Place, Ran, Report};
 pub use txs_world_shared::SharedState;

@@ -1,7 +1,8 @@
 //! Runs of all threads and agents over what they share, by turns that a schedule names.
 
 ghost use Rattle.std.specs.Prelude.{◌≡◌, ◌<◌, ◌≤◌, ◌+◌, ℕ, [], length, true, false, IfOk, IfErr, IfSome, IsTrue, OnOk, Some, None};
-ghost use Rattle.txs_machine_actor.specs.PlainActor.{MayRun, with_agent};
+ghost use Rattle.txs_machine_actor.specs.PlainActor.{MayRun};
+ghost use Rattle.txs_value_cell.specs.Agents.{with_agent};
 ghost use Rattle.txs_machine.specs.declared.schedule.ScheduleError.TheVariants.{Memory};
 ghost use Rattle.txs_machine.specs.ErrorName.{schedule_error_number};
 ghost use Rattle.txs_machine.specs.RunOver.{IsStateOf, books_of};
@@ -25,7 +26,7 @@ use thiserror::Error;
 use txs_code_meaning::Verified;
 use txs_machine_actor::Actor;
 use txs_value_data::CellKind;
-use txs_world_protocol::{Outcome, Place};
+use txs_world_protocol::{Outcome, Ran};
 use txs_world_shared::SharedState;
 
 /// One play of a schedule: the actor with this number, counted from 0, goes on. Threads come first, and agents behind them.
@@ -37,29 +38,30 @@ pub enum Play {
     Ask(u16),
 }
 
-/// What a thread did: how it ended, if it has, what it printed, the places of its events in the order in which it added them, and how
-/// many steps it made.
-#[derive(Drop)]
-pub struct Ran {
-    pub outcome: Option<Outcome>,
-    pub printed: Vec<u8>,
-    pub trace: Vec<Place>,
-    pub steps: u64,
-}
-
-/// What all threads did, by their numbers, and what the actors of agents did, in the order of their cells. The events and the newest values are those
-/// of the state that they share.
-pub struct Report {
+/// The entries of a report: what all threads did, by their numbers, and what the actors of agents did, in the order of their cells. The
+/// events and the newest values are those of the state that they share.
+pub struct Entries {
     pub threads: Vec<Ran>,
     pub agents: Vec<Ran>,
 }
 
 // Dropped by a call that is proved here, so that no crate above proves it again.
-impl Drop for Report {
+impl Drop for Entries {
     fn drop(self) {
-        let Report { threads, agents } = self;
+        let Entries { threads, agents } = self;
         drop(threads);
         drop(agents);
+    }
+}
+
+impl Entries {
+    /// The entries of threads, and those of agents.
+    pub(crate) fn into_parts(self) -> (Vec<Ran>, Vec<Ran>)
+        ensures threads { result.0 ≡ self.threads }
+        ensures agents { result.1 ≡ self.agents }
+    {
+        let Entries { threads, agents } = self;
+        (threads, agents)
     }
 }
 
@@ -434,7 +436,7 @@ fn report_all(
     alloc: Global,
     players: &[Player],
     attending: &[AgentPlayer],
-) -> Result<Report, AllocError>
+) -> Result<Entries, AllocError>
     ensures threads { IfOk result (λ report. AreReported players.now report.threads.items) }
     ensures agents { IfOk result (λ report. AreReported (attendants attending.now) report.agents.items) }
 {
@@ -448,7 +450,7 @@ fn report_all(
         let ran = report_of(alloc, &agent.player)?;
         agents.push_reserved(ran);
     }
-    Ok(Report { threads, agents })
+    Ok(Entries { threads, agents })
 }
 
 /// One for an agent, and none for another cell.
@@ -484,7 +486,7 @@ fn run_all(
     max_steps: u64,
     rounds: bool,
     shared: &mut SharedState,
-) -> Result<Report, AllocError>
+) -> Result<Entries, AllocError>
     requires of { IsStateOf code.now shared.old }
     requires unused { shared_of shared.old ≡ untouched code.now.cells }
     requires few { length code.now.threads + length code.now.cells ≤ 65535 }
@@ -519,7 +521,7 @@ pub fn run_schedule(
     max_steps: u64,
     rounds: bool,
     shared: &mut SharedState,
-) -> Result<Report, ScheduleError>
+) -> Result<Entries, ScheduleError>
     requires of { IsStateOf code.now shared.old }
     requires unused { shared_of shared.old ≡ untouched code.now.cells }
     requires few { length code.now.threads + length code.now.cells ≤ 65535 }

@@ -1,5 +1,6 @@
 pub mod Defining
 pub mod Laws
+pub mod Marking
 pub mod Openings
 pub mod ScopedScripts
 pub mod Scoping

@@ -5,6 +5,7 @@ ghost use Rattle.txs_resolve_scope.specs.Nearest.{IsNearest, NoneNamed};
 ghost use Rattle.txs_resolve_scope.specs.Scope.{Scope, definition_of, is_current, may_bind, operations, with_name};
 ghost use Rattle.txs_resolve_scope.specs.declared.scope.Definition.TheVariants.{Constant, Cell as ACell};
 ghost use Rattle.txs_reader.specs.Tree.{Tree as Form, leaf, symbol};
+ghost use Rattle.txs_tree_meaning.specs.Marked.{Exactly, ProgramMarkedBy};
 ghost use Rattle.txs_tree_meaning.specs.Scoped.{Scoped};
 ghost use Rattle.txs_tree_meaning.specs.Tree.{Const, Local, PlainFunction, PlainProgram, PlainThread};
 ghost use Rattle.txs_tree_meaning.specs.View.{mark_of};
@@ -24,6 +25,12 @@ ghost use Rattle.txs_resolve_expand.specs.declared.error.ResolveErrorKind.TheVar
 /// The program that forms are is scoped: each local and function that it names is there, and the limits are kept.
 pub fn resolved_is_scoped()
     ensures { (forms : List Form) (p : PlainProgram) → Resolves forms p → Scoped p }
+{}
+
+/// The marks of the program that forms are say exactly which results are used: that of a function's body is, that of a
+/// future's body isn't, and of the items of a `do` only the last one's may be.
+pub fn resolved_is_marked()
+    ensures { (forms : List Form) (p : PlainProgram) → Resolves forms p → ProgramMarkedBy Exactly p }
 {}
 
 /// Forms are one program, or they are refused for one reason at one place, which is no want of memory.

@@ -1,12 +1,14 @@
 //! Expressions: forms to nodes.
 
-ghost use Rattle.std.specs.Prelude.{◌≡◌, ◌≤◌, ◌+◌, ◌-◌, length, OnOk};
+ghost use Rattle.std.specs.Prelude.{◌≡◌, ◌≤◌, ◌+◌, ◌-◌, length, IfOk, OnOk};
 ghost use Rattle.txs_reader.specs.Tree.{tree, trees, trees_of};
 ghost use Rattle.txs_resolve_expand.specs.Expansions.{body as the_body};
 ghost use Rattle.txs_resolve_expand.specs.Expressions.{changing, made, named, named_all, named_bindings, narrow, parted, put_together, spot_mark};
 ghost use Rattle.txs_resolve_body.specs.Walk.{Becomes, Fills, IsWithin, PushesAll, PushesBound};
 ghost use Rattle.txs_resolve_body.specs.Given.{Pushes};
 ghost use Rattle.txs_resolve_expand.specs.Parts.{part_form, plain, special_form, PartFits, SpecialFits};
+ghost use Rattle.txs_tree_meaning.specs.Marked.{Exactly, MarkedBy};
+ghost use Rattle.txs_tree_meaning.specs.View.{tree_of};
 
 use crate::below::{are_wanted, bindable, flag_at, hide, inner, last_wanted, part_wanted};
 use crate::nodes::{Nodes, build, build_change, push_whole};
@@ -227,6 +229,7 @@ pub fn body<'a>(
     forms: &'a [Form],
 ) -> Result<Node, Stop>
     ensures node { Becomes result (named spot.room scope.old spot.wanted (the_body (trees_of (trees forms.now)) spot.span)) }
+    ensures marked { IfOk result (λ n. MarkedBy Exactly spot.wanted (tree_of n)) }
     ensures kept { OnOk result (scope.new ≡ scope.old) }
 {
     let mut nodes = Nodes::new(alloc);

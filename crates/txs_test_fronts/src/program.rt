@@ -7,7 +7,7 @@ use std::sync::Wait;
 use std::thread::Threads;
 use txs_cli::{Words, parse_words, play, play_with};
 use txs_code::Verified;
-use txs_machine::{Report, RunError, SharedState};
+use txs_machine::{Entries, RunError, SharedState};
 use txs_threads::{Gathered, OpenGate, run_threads};
 
 // The arguments between spaces.
@@ -60,7 +60,7 @@ fn written<T: Threads + Wait + Sync>(
     play_with(
         alloc,
         &|alloc: Global, code: &Verified, workers: usize, steps: u64| -> Result<
-            (SharedState, Report),
+            (SharedState, Entries),
             RunError,
         >
             requires sync { IsSync T.row }

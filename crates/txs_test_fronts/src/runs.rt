@@ -9,7 +9,7 @@ use std::sync::Wait;
 use std::thread::Threads;
 use txs_code::Verified;
 use txs_compile::compile;
-use txs_machine::{Outcome, Play, Report, SharedState, run_schedule};
+use txs_machine::{Entries, Outcome, Play, SharedState, run_schedule};
 use txs_threads::{OpenGate, run_threads};
 
 // A transaction that adds one and sends, a read, and the agent that is sent to.
@@ -38,7 +38,7 @@ fn open_state(alloc: Global, code: &Verified) -> Result<SharedState, AllocError>
 }
 
 // Whether the thread has printed 1 and ended, with a commit and a read, and the agent has run one action; of so many events.
-fn is_reported(report: &Report, events: usize) -> bool {
+fn is_reported(report: &Entries, events: usize) -> bool {
     match (report.threads.as_slice(), report.agents.as_slice()) {
         ([thread], [agent]) => {
             thread.printed.as_slice() == b"1\n".as_slice()

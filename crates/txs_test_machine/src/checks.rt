@@ -13,7 +13,10 @@ fn an_empty_program_is_sound(rt: HostRuntime) {
     let alloc = rt.alloc();
     let raw = Raw::new(Vec::new(alloc), Vec::new(alloc), Vec::new(alloc));
     let is = match check(alloc, raw) {
-        Ok(program) => program.threads().is_empty(),
+        Ok(program) => {
+            program.is_marked();
+            program.threads().is_empty()
+        }
         Err(_) => false,
     };
     assert!(rt; is);

@@ -190,12 +190,12 @@ fn has_done(meaning: &ThreadMeaning, eaten: &str, printed: &str) -> bool {
         && meaning.printed.as_slice() == printed.as_bytes()
 }
 
-/// Whether a thread means this: how many of the events it eats, or `-` where that isn't asked, its end, and in the lines below what it prints.
+/// Whether a thread means this: how many of the events it eats, its end, and in the lines below what it prints.
 fn is_meant(meaning: &ThreadMeaning, wanted: &str) -> bool {
     let (first, printed) = wanted.split_once('\n').unwrap_or((wanted, ""));
     let mut words = first.split_whitespace();
     let eaten = words.next().unwrap_or("");
-    ends_so(meaning, &mut words) && (eaten == "-" || has_done(meaning, eaten, printed))
+    ends_so(meaning, &mut words) && has_done(meaning, eaten, printed)
 }
 
 /// Whether the program's first thread means this on these events, where a loop makes at most so many turns.
@@ -276,8 +276,9 @@ fn holds(alloc: Global, row: &str) -> bool {
 /// keeps its own; the first fault is that of the ref that is defined first, and on the values that were viewed.
 ///
 /// Then swaps and sends: a transaction that holds a send to an agent that has failed is refused, also where its commutes ran again. Then
-/// events that aren't those of the script's first thread: a commuted ref gets what was computed where the transaction began; a ref that was
-/// set is commuted again; a ref that was commuted isn't written; a transaction is refused whose commute faults on what was viewed.
+/// turns that don't suffice: the event of a transaction or a swap stays to come. Then events that aren't those of the script's first thread: a commuted ref gets what was computed where the transaction began; a ref that was
+/// set is commuted again; a ref that was commuted isn't written; a transaction is refused whose commute faults on what was viewed; a swap
+/// stands where a read has to.
 const ROWS: &str = "\
 (def r (ref 0)) (future (println (dosync (alter r inc))))
 0
@@ -362,22 +363,38 @@ refused 0 0 0 = 0
 redo 0 0 1;refused 0 2 3 = 1
 2 AgentFailed 55..95
 7
+#(def r (ref 0)) (future (println 7) (dosync (ref-set r (loop [i 0] (recur i)))))
+0
+retry 0 0 0;commit 0 0 0 = 5
+1 turns
+7
+#(def a (atom 0)) (defn spin [x] (recur x)) (future (println 7) (swap! a spin))
+0
+swap 0 0 0 = 5
+0 turns
+7
 #(def c (ref 0)) (future (println (dosync (commute c inc))))
 0 1 1
 redo 0 0 1;commit 0 2 2 = 1
-- wrong
+1 wrong
 #(def a (ref 1)) (def b (ref 10)) (def c (ref 100)) (future (println (dosync (commute c + 1) (alter b inc) (commute a + 2) (commute b * 3) (commute c * 2))))
 1 5;10 10;100 200
 commit 0 1 1 = 7 99 402
-- wrong
+0 wrong
 #(def a (ref 1)) (def b (ref 10)) (def c (ref 100)) (future (println (dosync (commute c + 1) (alter b inc) (commute a + 2) (commute b * 3) (commute c * 2))))
 1 5;10 10;100 200
 commit 0 1 1 = 7 33
-- wrong
+0 wrong
 #(def r (ref 1)) (def g (agent 10)) (defn share [v] (quot 6 v)) (future (dosync (commute r share) (send g quot 0)))
 1 0;10
 refused 0 1 1 = 1
-- wrong
+0 wrong
+#(def a (atom 1)) (future (println 7) (println (swap! a + 1 2)) (println @a))
+1 4
+swap 0 0 0 = 4;swap 1 1 1 = 9
+1 wrong
+7
+4
 #(future (println (+ 1 2)))
 rooms
 - 2

@@ -36,17 +36,18 @@ fn gives(
     is
 }
 
-/// Whether the thread of the script that `gives` prints what it should, and needs turns where it has none; `swapped` and two operations give
-/// what they should, and `spin` has no end.
+/// Whether the thread of the script that `gives` prints what it should, also without turns, since a call is none; `swapped` and two
+/// operations give what they should, and `spin` has no end.
 pub fn all_give(alloc: Global, program: &Program) -> bool {
     let mut values = Vec::new(alloc);
     let made = values.push(Value::Int(1)).is_ok() && values.push(Value::Int(0)).is_ok();
     let (subtract, quot) = (Callee::Core(Op::Subtract), Callee::Core(Op::Quot));
     let both = values.as_slice();
     made && means_on(alloc, program, &[], 1, "0 done\n[2 1]\n")
-        && means_on(alloc, program, &[], 0, "0 turns\n")
+        && means_on(alloc, program, &[], 0, "0 done\n[2 1]\n")
         && gives(alloc, program, Callee::Function(0), both, 1, "[0 1]")
         && gives(alloc, program, subtract, both, 0, "1")
         && gives(alloc, program, quot, both, 0, "DivideByZero")
+        && gives(alloc, program, Callee::Function(1), &[], 0, "endless")
         && gives(alloc, program, Callee::Function(1), &[], 1_000, "endless")
 }

@@ -8,7 +8,7 @@ use std::thread::Threads;
 use txs_cli::play_with;
 use txs_cli_args::Words;
 use txs_code_meaning::Verified;
-use txs_machine::{Report, RunError};
+use txs_machine::{Entries, RunError};
 use txs_threads::{Gathered, OpenGate, run_threads};
 use txs_world_shared::SharedState;
 
@@ -25,7 +25,7 @@ fn written<T: Threads + Wait + Sync>(
     play_with(
         alloc,
         &|alloc: Global, code: &Verified, workers: usize, steps: u64| -> Result<
-            (SharedState, Report),
+            (SharedState, Entries),
             RunError,
         >
             requires sync { IsSync T.row }

@@ -24,6 +24,7 @@ pub mod Steps
 pub mod Told
 pub mod Tracing
 pub mod Typed
+pub mod Undisturbed
 pub mod Values
 pub mod Whole
 pub mod Working

@@ -10,9 +10,14 @@ use Rattle.txs_theorem_threads.specs.FollowsAll.{source_of, FollowsAll}
 use Rattle.txs_theorem_threads.specs.Sends.{CodeSendsSound, CodesSendSound}
 use Rattle.txs_world.specs.Laws.{ServeKeeps, ActionStays, RefusedIsUndisturbed}
 use Rattle.txs_theorem_runs.specs.Agents.{ThreadsSendSound}
-use Rattle.txs_theorem_runs.specs.Explains.{Explains, code_or_none, ProgramExplains}
-use Rattle.txs_theorem_runs.specs.Report.{RunsProgram, CodesStaged, TypedAreStaged, RunReported}
-use Rattle.txs_theorem_runs.specs.Run.{Play, plays}
+use Rattle.txs_theorem_runs.specs.Refused.{RefusalsUndisturbed}
+use Rattle.txs_theorem_runs.specs.Told.{history_of}
+use Rattle.txs_theorem_runs.proofs.Undisturbed.{entries_undisturbed}
+use Rattle.txs_theorem_threads.specs.Noted.{txs_of}
+use Rattle.txs_tree_meaning.specs.Thread.{thread_meaning}
+use Rattle.txs_theorem_runs.specs.Explains.{RunHolds, code_or_none, ProgramExplains}
+use Rattle.txs_theorem_runs.specs.Report.{ActorTraced, RunsProgram, CodesStaged, TypedAreStaged, RunReported}
+use Rattle.txs_theorem_runs.specs.Run.{State, Play, plays}
 use Rattle.txs_theorem_runs.specs.Staged.{StagedCode}
 use Rattle.txs_theorem_runs.specs.Standing.{StandingCode}
 use Rattle.txs_theorem_runs.proofs.Agents.{run_acts_mean}
@@ -48,18 +53,33 @@ module _ (p : PlainProgram) (threads : List ThreadCode) (functions : List PlainB
     thread_follows : Follows (codes i) (source_of p t)
     thread_follows = subst (λ c. Follows c (source_of p t)) (sym (run.threads_run i code.0 code.1)) (f.each i code.0 t code.1 e)
 
-  program_explains : Explains p.cells (length p.threads) codes (plays p.cells (length p.threads) codes ys) → ProgramExplains p (plays p.cells (length p.threads) codes ys)
+  program_explains : RunHolds p.cells (length p.threads) codes (plays p.cells (length p.threads) codes ys) → ProgramExplains p (plays p.cells (length p.threads) codes ys)
   program_explains h = record {
     books = h.books;
     threads = λ i t e. (h.actors i (thread_staged i t e)).means (source_of p t) refl (thread_follows i t e);
+    noted = λ i t e. (h.actors i (thread_staged i t e)).noted (source_of p t) refl (thread_follows i t e);
     traced = λ i t e. (h.actors i (thread_staged i t e)).traced;
     undisturbed = λ i t e. (h.actors i (thread_staged i t e)).undisturbed;
   }
 
 pub run_reported : Lower → ServeKeeps → ActionStays → RefusedIsUndisturbed → FreshStands → RunReported
 run_reported lower keeps stays refused fresh p threads functions codes ys f agents staged sends run = record {
-  threads = program_explains p threads functions codes ys f agents staged sends run (run_explained lower keeps fresh p.cells (length p.threads) codes ys);
+  threads = program;
   agents = run_acts_mean keeps stays fresh p.cells (length p.threads) codes functions p.functions ys agents run.agents_run (threads_send p threads functions codes ys f agents staged sends run);
-  traced = run_traced keeps fresh p.cells (length p.threads) codes ys;
-  refused = λ i t e. run_refusals refused keeps fresh p.cells (length p.threads) codes ys i (thread_staged p threads functions codes ys f agents staged sends run i t e);
+  traced = traces;
+  refused = refusals;
+  transactions = λ i t e. entries_undisturbed p.cells st.shared.books i (length p.threads) (st.actors i).entries (txs_of (thread_meaning (source_of p t) (st.actors i).turns (history_of p.cells st.shared.books i (st.actors i).entries)))
+      (traces i).hold (program.undisturbed i t e) (refusals i t e) (program.noted i t e);
 }
+  where
+    st : State
+    st = plays p.cells (length p.threads) codes ys
+
+    program : ProgramExplains p st
+    program = program_explains p threads functions codes ys f agents staged sends run (run_explained lower keeps fresh p.cells (length p.threads) codes ys)
+
+    traces : (a : ℕ) → ActorTraced p.cells (length p.threads) st.shared.books a (st.actors a)
+    traces = run_traced keeps fresh p.cells (length p.threads) codes ys
+
+    refusals : (i : ℕ) (t : PlainThread) → nth p.threads i ≡ Some t → RefusalsUndisturbed p.cells st.shared.books (st.actors i).entries
+    refusals i t e = run_refusals refused keeps fresh p.cells (length p.threads) codes ys i (thread_staged p threads functions codes ys f agents staged sends run i t e)

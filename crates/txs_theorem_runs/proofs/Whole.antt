@@ -118,6 +118,7 @@ actor_explained by cells threads code books a x k =
       undisturbed = all_undisturbed by.done cells threads books a x.entries k.told.hold;
       means = λ p same follows. subst (λ (o : Outcome). Explained o (thread_meaning p x.turns seen)) e
           (follows.explained xs seen x.turns (subst (λ ds. RepliesFit ds Out xs seen) (sym same) f) (subst (λ (o : Outcome). Consumed o) (sym e) (consumed k.stage x.at k.staged)));
+      noted = λ p same follows. follows.noted xs seen x.turns (subst (λ ds. RepliesFit ds Out xs seen) (sym same) f) (subst (λ (o : Outcome). Consumed o) (sym e) (consumed k.stage x.at k.staged));
     }
 
 books_stand : (cells : List CellDefinition) (threads : ℕ) (st : State) → SharedStands cells threads st.shared → BooksStand cells threads st.shared
@@ -155,6 +156,8 @@ program_explained by keeps fresh codes p ys f staged =
       books = h.books;
       threads = λ i t e. (let c = has_code codes p.threads i t f.as_many e in
           (h.actors i (staged i)).means (source_of p t) refl (subst (λ k. Follows k (source_of p t)) (sym (ap code_or_none c.1)) (f.each i c.0 t c.1 e)));
+      noted = λ i t e. (let c = has_code codes p.threads i t f.as_many e in
+          (h.actors i (staged i)).noted (source_of p t) refl (subst (λ k. Follows k (source_of p t)) (sym (ap code_or_none c.1)) (f.each i c.0 t c.1 e)));
       traced = λ i t e. (h.actors i (staged i)).traced;
       undisturbed = λ i t e. (h.actors i (staged i)).undisturbed;
     }

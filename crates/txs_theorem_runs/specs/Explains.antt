@@ -15,6 +15,7 @@ use Rattle.txs_code_meaning.specs.Machine.{Halt, ThreadCode, Configuration, Turn
 use Rattle.txs_code_meaning.specs.Opening.{opening}
 use Rattle.txs_theorem_threads.specs.Follows.{Follows}
 use Rattle.txs_theorem_threads.specs.FollowsAll.{source_of, FollowsAll}
+use Rattle.txs_theorem_threads.specs.Noted.{AreNoted, txs_of}
 use Rattle.txs_theorem_threads.specs.RepliesFit.{Out, RepliesFit, Explained}
 use Rattle.txs_world_book.specs.Atom.{LegalAtom}
 use Rattle.txs_world_book.specs.Book.{Each, Legal, Undisturbed, Untouched, cells_in}
@@ -43,13 +44,15 @@ CommitsUndisturbed books [] = Unit {0}
 CommitsUndisturbed books (e ∷ es) = CommitUndisturbed (take e.at (books 0)) e.ask e.reply × CommitsUndisturbed books es
 
 -- An actor is explained by the books: it is where its code comes to on what it was told, this is what it did, its trace names its own events and
--- no others, its commits were undisturbed, and each source that the code follows means just these events, with what was printed and how the actor ended.
+-- no others, its commits were undisturbed, and each source that the code follows means just these events, with what was printed and how the actor ended;
+-- its transactions are those of the actor's commits.
 pub record ActorExplained (cells : List CellDefinition) (code : ThreadCode) (books : ℕ → List Event) (a : ℕ) (x : Actor) : Type 0 where
   pub ran : run code x.turns (opening code (map exchange_of x.entries)) ≡ x.at
   pub fits : RepliesFit cells Out (map exchange_of x.entries) (history_of cells books a x.entries)
   pub traced : TraceHolds books a (trace_of cells books a x.entries)
   pub undisturbed : CommitsUndisturbed books x.entries
   pub means : (p : ThreadSource) → p.cells ≡ cells → Follows code p → Explained (outcome_at x.at) (thread_meaning p x.turns (history_of cells books a x.entries))
+  pub noted : (p : ThreadSource) → p.cells ≡ cells → Follows code p → AreNoted (map exchange_of x.entries) (txs_of (thread_meaning p x.turns (history_of cells books a x.entries)))
 
 -- a book whose events are those of threads, of which there are so many
 abbrev pub AreThreads : ℕ → List Event → Type 0
@@ -62,14 +65,14 @@ pub record BooksStand (cells : List CellDefinition) (threads : ℕ) (sh : Shared
   pub atoms : (c : CellId) → has_atom cells c ≡ true → LegalAtom c (sh.books (home cells c))
   pub by_threads : (c : CellId) → has_atom cells c ≡ true → AreThreads threads (sh.books (home cells c))
 
--- A run is explained: its books are legal, and each actor whose code asks in its stages is explained.
-pub record Explains (cells : List CellDefinition) (threads : ℕ) (codes : ℕ → ThreadCode) (st : State) : Type 0 where
+-- A run holds: its books are legal, and each actor whose code asks in its stages is explained.
+pub record RunHolds (cells : List CellDefinition) (threads : ℕ) (codes : ℕ → ThreadCode) (st : State) : Type 0 where
   pub books : BooksStand cells threads st.shared
   pub actors : (a : ℕ) → StagedCode (codes a) → ActorExplained cells (codes a) st.shared.books a (st.actors a)
 
 -- every list of plays is explained
 abbrev pub RunExplained : Type 0
-RunExplained = (cells : List CellDefinition) (threads : ℕ) (codes : ℕ → ThreadCode) (ys : List Play) → Explains cells threads codes (plays cells threads codes ys)
+RunExplained = (cells : List CellDefinition) (threads : ℕ) (codes : ℕ → ThreadCode) (ys : List Play) → RunHolds cells threads codes (plays cells threads codes ys)
 
 -- an actor that no thread has runs nothing
 abbrev pub code_or_none : Option ThreadCode → ThreadCode
@@ -81,11 +84,13 @@ abbrev pub code_of : List ThreadCode → ℕ → ThreadCode
 code_of codes i = code_or_none (nth codes i)
 
 -- A program explains a run: the books are legal, and each thread means just what its actor did in them, with what was printed and how the actor
--- ended; its trace names its own events and no others, and its commits were undisturbed.
+-- ended; its transactions are those of the actor's commits, its trace names its own events and no others, and its commits were undisturbed.
 pub record ProgramExplains (p : PlainProgram) (st : State) : Type 0 where
   pub books : BooksStand p.cells (length p.threads) st.shared
   pub threads : (i : ℕ) (t : PlainThread) → nth p.threads i ≡ Some t
       → Explained (outcome_at (st.actors i).at) (thread_meaning (source_of p t) (st.actors i).turns (history_of p.cells st.shared.books i (st.actors i).entries))
+  pub noted : (i : ℕ) (t : PlainThread) → nth p.threads i ≡ Some t
+      → AreNoted (map exchange_of (st.actors i).entries) (txs_of (thread_meaning (source_of p t) (st.actors i).turns (history_of p.cells st.shared.books i (st.actors i).entries)))
   pub traced : (i : ℕ) (t : PlainThread) → nth p.threads i ≡ Some t → TraceHolds st.shared.books i (trace_of p.cells st.shared.books i (st.actors i).entries)
   pub undisturbed : (i : ℕ) (t : PlainThread) → nth p.threads i ≡ Some t → CommitsUndisturbed st.shared.books (st.actors i).entries
 

@@ -12,7 +12,7 @@ use Rattle.txs_theorem_runs.specs.Shared.{Shared, store_of, has_atom}
 use Rattle.txs_theorem_runs.specs.Stages.{Stage}
 use Rattle.txs_theorem_runs.specs.Told.{exchange_of, ToldBy}
 use Rattle.txs_theorem_runs.specs.Staged.{StagedCode, IsStaged}
-use Rattle.txs_theorem_runs.specs.Explains.{AreThreads, Explains}
+use Rattle.txs_theorem_runs.specs.Explains.{AreThreads, RunHolds}
 use Rattle.txs_theorem_runs.specs.Run.{Actor, State, Play, opens, play}
 
 -- An actor is where its code comes to on what it was told, which are the books' words, and it has consumed it.
@@ -44,4 +44,4 @@ PlayHolds = (cells : List CellDefinition) (threads : ℕ) (codes : ℕ → Threa
 
 -- where it holds, the run so far is explained
 abbrev pub InvariantExplains : Type 0
-InvariantExplains = (cells : List CellDefinition) (threads : ℕ) (codes : ℕ → ThreadCode) (st : State) → RunInvariant cells threads codes st → Explains cells threads codes st
+InvariantExplains = (cells : List CellDefinition) (threads : ℕ) (codes : ℕ → ThreadCode) (st : State) → RunInvariant cells threads codes st → RunHolds cells threads codes st

@@ -3,19 +3,22 @@ use Rattle.std.specs.Prelude.{◌≡◌, ℕ, List, length, map, Some}
 use Rattle.txs_world_protocol.specs.declared.event.Event.{Event}
 use Rattle.txs_value_base.specs.Places.{nth}
 use Rattle.txs_value_cell.specs.declared.cell.CellDefinition.{CellDefinition}
+use Rattle.txs_tree_meaning.specs.Thread.{thread_meaning}
 use Rattle.txs_tree_meaning.specs.Tree.{PlainThread, PlainProgram}
 use Rattle.txs_code_meaning.specs.Machine.{PlainBody, ThreadCode}
 use Rattle.txs_code_meaning.specs.PlainCode.{PlainCode, thread_code}
 use Rattle.txs_code_meaning.specs.WellTyped.{WellTyped}
 use Rattle.txs_theorem_threads.specs.FollowsAgent.{FollowsAgents}
-use Rattle.txs_theorem_threads.specs.FollowsAll.{FollowsAll}
+use Rattle.txs_theorem_threads.specs.FollowsAll.{source_of, FollowsAll}
+use Rattle.txs_theorem_threads.specs.Noted.{txs_of}
 use Rattle.txs_theorem_threads.specs.Sends.{CodesSendSound}
 use Rattle.txs_theorem_runs.specs.Agents.{RunsAgents, AgentsExplain}
 use Rattle.txs_theorem_runs.specs.Explains.{ProgramExplains}
 use Rattle.txs_theorem_runs.specs.Refused.{RefusalsUndisturbed}
 use Rattle.txs_theorem_runs.specs.Run.{Actor, State, Play, plays}
 use Rattle.txs_theorem_runs.specs.Staged.{StagedCode}
-use Rattle.txs_theorem_runs.specs.Told.{AllHold, trace_of, TraceHolds}
+use Rattle.txs_theorem_runs.specs.Told.{AllHold, trace_of, TraceHolds, history_of}
+use Rattle.txs_theorem_runs.specs.Transactions.{SaidOf, undisturbed}
 
 -- An actor was told what the books say: each of its entries holds, and its trace names its own events and no others.
 pub record ActorTraced (cells : List CellDefinition) (threads : ℕ) (books : ℕ → List Event) (a : ℕ) (x : Actor) : Type 0 where
@@ -34,12 +37,16 @@ pub record RunsProgram (p : PlainProgram) (threads : List ThreadCode) (functions
   pub agents_run : RunsAgents p.cells (length p.threads) codes functions
 
 -- A run's report is explained: the books are legal and each thread means what it did; what the threads sent a program may send, and each action
--- means what it came to; the trace of each actor names its own events and no others; and commits that were refused were undisturbed.
+-- means what it came to; the trace of each actor names its own events and no others; commits that were refused were undisturbed; and so were the
+-- transactions that the threads mean.
 pub record ReportExplained (p : PlainProgram) (functions : List PlainBody) (st : State) : Type 0 where
   pub threads : ProgramExplains p st
   pub agents : AgentsExplain p.cells (length p.threads) functions p.functions st
   pub traced : (a : ℕ) → ActorTraced p.cells (length p.threads) st.shared.books a (st.actors a)
   pub refused : (i : ℕ) (t : PlainThread) → nth p.threads i ≡ Some t → RefusalsUndisturbed p.cells st.shared.books (st.actors i).entries
+  pub transactions : (i : ℕ) (t : PlainThread) → nth p.threads i ≡ Some t
+      → SaidOf (undisturbed p.cells st.shared.books) st.shared.books (trace_of p.cells st.shared.books i (st.actors i).entries)
+      (txs_of (thread_meaning (source_of p t) (st.actors i).turns (history_of p.cells st.shared.books i (st.actors i).entries)))
 
 -- each of these codes asks in its stages
 abbrev pub CodesStaged : List ThreadCode → Type 0

@@ -3,14 +3,15 @@ use Rattle.std.proofs.Common.{ℕ, List, [], refl, sym, subst, arith, ⊎_elim, 
 use Rattle.std.proofs.lemmas.Bool.{cases_lt}
 use Rattle.txs_code_meaning.specs.ActorState.{ActorState}
 use Rattle.txs_code_meaning.specs.Machine.{ThreadCode, Ended, Failed, Asking, Unfinished, Stuck, Outcome}
+use Rattle.txs_theorem_threads.proofs.Account.{waited_eaten}
 use Rattle.txs_theorem_threads.proofs.Longer.{longer}
 use Rattle.txs_theorem_threads.proofs.Fitted.{fits_of}
-use Rattle.txs_theorem_threads.proofs.Grows.{GrowsTo}
 use Rattle.txs_theorem_threads.proofs.Loops.{loops_too}
 use Rattle.txs_theorem_threads.proofs.MoreEvents.{settled_same, needs_before}
 use Rattle.txs_theorem_threads.proofs.More.{more_turns}
 use Rattle.txs_theorem_threads.proofs.Follow.{tree_follows}
-use Rattle.txs_theorem_threads.proofs.Whole.{explained, nothing_after, grown, ends, over_explained, waited_eaten}
+use Rattle.txs_theorem_threads.proofs.Noting.{noted}
+use Rattle.txs_theorem_threads.proofs.Whole.{explained, grown, ends, over_explained, consumed_grown}
 use Rattle.txs_code_meaning.specs.Opening.{opening, target}
 use Rattle.txs_theorem_threads.specs.Behaves.{source, IsMeant, HasEnded, outcome_of, IsOver, Behaves}
 use Rattle.txs_theorem_threads.specs.EndsSo.{NeedsTurns, HasSettled, in_hand, EndsSo}
@@ -26,13 +27,6 @@ use Rattle.txs_tree_meaning.specs.Tree.{ThreadSource}
 use Rattle.txs_value_cell.specs.Cells.{World}
 use Rattle.txs_world_protocol.specs.Ask.{Exchange}
 use Rattle.txs_value_data.specs.declared.value.Value.{Value}
-
-consumed_grown : (s : ActorState) (o : Outcome) → GrowsTo s o → s.todo ≡ [] → Consumed o
-consumed_grown s (Ended u) g e = nothing_after g.done u.todo (sym g.eats ∙ e)
-consumed_grown s (Failed f u) g e = nothing_after g.done u.todo (sym g.eats ∙ e)
-consumed_grown s (Asking u) g e = nothing_after g.done u.todo (sym g.eats ∙ e)
-consumed_grown s (Unfinished u) g e = nothing_after g.done u.todo (sym g.eats ∙ e)
-consumed_grown s Stuck g e = tt
 
 -- what has consumed all replies has done so later
 consumed_later : (code : ThreadCode) (todo : List Exchange) (m j : ℕ) (a o : Outcome) → m ≤ j → target code m todo ≡ a → target code j todo ≡ o → Consumed a → Consumed o
@@ -117,6 +111,7 @@ prints_so code p behaves sound meant todo es m n out f c le eaten =
 pub behaves_follows : (code : ThreadCode) (p : ThreadSource) → Behaves code p → SoundSource p → IsEverMeant p → Follows code p
 behaves_follows code p behaves sound meant = record {
   explained = λ todo es m f c. explained code p behaves sound todo es m (target code m todo) refl f (meant m todo es f) c;
+  noted = λ todo es m f c. noted code p behaves sound todo es m (target code m todo) refl f (meant m todo es f) c;
   reaches = λ todo es n k f t le. (behaves.follows todo n t, subst (λ x. Agrees p.cells x (thread_meaning p k es)) (more_turns p sound todo n k le t) (tree_follows p k todo es sound f));
   goes_on = behaves.goes_on;
   prints_so = prints_so code p behaves sound meant;

@@ -10,7 +10,7 @@ use Rattle.txs_value_cell.specs.Cells.{World}
 use Rattle.txs_value_cell.specs.declared.cell.CellDefinition.{CellDefinition}
 use Rattle.txs_value_data.specs.declared.value.CellId.{CellId}
 use Rattle.txs_tree_meaning.specs.Transaction.{merged}
-use Rattle.txs_theorem_threads.specs.RepliesFit.{Phase, Out, In, Viewed, WithSwap, OnEvent, SaysRetry, SaysRead, SaysCommit, SaysFail, SaysRefused, SaysSent, SaysSendRefused, SaysSwap, SaysBroke, AgreeOn, Goes, OutFits, InFits, ViewedFits, SwapFits, belongs, PhaseFits, IfBelongs, RepliesFit}
+use Rattle.txs_theorem_threads.specs.RepliesFit.{Phase, Out, In, Viewed, WithSwap, OnEvent, SaysRetry, SaysRead, SaysCommit, SaysFail, SaysRefused, SaysSent, SaysSendRefused, SaysSwap, SaysBroke, AgreeOn, Goes, OutFits, InFits, ViewedFits, SwapFits, belongs, PhaseFits, IfBelongs, ReplyFits, RepliesFit}
 use Rattle.txs_theorem_threads.specs.RepliesFitTo.{RepliesFitTo, FittingToFits, OneMoreFits}
 
 -- what holds, holds where something is said of it
@@ -61,6 +61,14 @@ module _ (cells : List CellDefinition) (fs : List SeenEvent) (next next1 : Goes)
   phase_more (In R) a r es h = in_more R a r es h
   phase_more (Viewed R Q) a r es h = viewed_more R Q a r es h
   phase_more (WithSwap c W) a r es h = swap_more c W a r es h
+
+-- what goes on after a reply, where more is known of it
+pub reply_then : (cells : List CellDefinition) (ph : Phase) (q : Ask) (r : Reply) (next next1 : Goes) → ((ph1 : Phase) (es1 : List SeenEvent) → next ph1 es1 → next1 ph1 es1) → (es : List SeenEvent) → ReplyFits cells ph q r next es → ReplyFits cells ph q r next1 es
+reply_then cells ph q r next next1 k es h = go (belongs ph q) h
+  where
+    go : (b : Bool) → IfBelongs b (PhaseFits cells ph q r next es) → IfBelongs b (PhaseFits cells ph q r next1 es)
+    go true g = subst (PhaseFits cells ph q r next1) (append-nil es) (phase_more cells [] next next1 (λ ph1 es1 n. subst (next1 ph1) (sym (append-nil es1)) (k ph1 es1 n)) ph q r es g)
+    go false g = tt
 
 pub fits_of : FittingToFits
 fits_of cells ph [] es end h = h.0

@@ -8,7 +8,7 @@ use Rattle.txs_value_data.specs.declared.value.Value.{Value}
 use Rattle.txs_tree_meaning.specs.Meaning.{Completion, Completes, Recurs, Faults, Retries, Waits, OutOfTurns, Invalid}
 use Rattle.txs_tree_meaning.specs.Thread.{ThreadState, thread_meaning}
 use Rattle.txs_code_meaning.specs.ActorState.{ActorState}
-use Rattle.txs_theorem_threads.proofs.Account.{Account, account_link}
+use Rattle.txs_theorem_threads.proofs.Account.{Account, account_link, plain_splits, waited_on, waited_eaten}
 use Rattle.txs_theorem_threads.proofs.Related.{Related}
 use Rattle.txs_theorem_threads.proofs.Threads.{thread_related}
 use Rattle.txs_theorem_threads.proofs.Worlds.{fit_splits}
@@ -16,22 +16,22 @@ use Rattle.txs_theorem_threads.specs.Behaves.{source}
 use Rattle.txs_theorem_threads.specs.RepliesFit.{Phase, Out, RepliesFit, halted, HasWaited, HasEaten, Agrees, TreeFollows}
 
 -- no event is left where no exchange is
-none_left : (cells : List CellDefinition) (ph : Phase) (xs : List Exchange) (es : List SeenEvent) → RepliesFit cells ph xs es → xs ≡ [] → es ++ [] ≡ []
+pub none_left : (cells : List CellDefinition) (ph : Phase) (xs : List Exchange) (es : List SeenEvent) → RepliesFit cells ph xs es → xs ≡ [] → es ++ [] ≡ []
 none_left cells ph xs es f e = append-nil es ∙ subst (λ l. RepliesFit cells ph l es) e f
 
 -- the events are those of the exchanges
 abbrev exact : (cells : List CellDefinition) → Account cells
 exact cells = record {
-  fits = RepliesFit cells;
-  splits = fit_splits cells;
+  fits = λ txs. RepliesFit cells;
+  splits = plain_splits cells (RepliesFit cells) (fit_splits cells);
   tail = [];
   waits = λ s o. s.todo ≡ [] → HasWaited s.printed o;
   short = λ s o. s.todo ≡ [] → HasEaten s.printed o;
   waits_loose = λ s h o e. absurd (h e);
   short_loose = λ s h o e. absurd (h e);
   short_here = λ s t es fits td pr e. (td ∙ none_left cells Out s.todo es fits e, pr);
-  waiting = λ ph s es y fits h e. subst (λ l. HasWaited s.printed (halted (y l))) (sym (none_left cells ph s.todo es fits e)) h;
-  shortage = λ ph s es y fits h ends e. subst (λ l. HasEaten s.printed (halted (y l))) (sym (none_left cells ph s.todo es fits e)) h;
+  waiting = λ txs ph s es y fits h e. subst (λ l. HasWaited s.printed (halted (y l))) (sym (none_left cells ph s.todo es fits e)) (waited_on s.printed txs (halted (y [])) h);
+  shortage = λ txs ph s es y fits h ends e. subst (λ l. HasEaten s.printed (halted (y l))) (sym (none_left cells ph s.todo es fits e)) (waited_eaten s.printed (halted (y [])) (waited_on s.printed txs (halted (y [])) h));
 }
 
 -- what is left of the events

@@ -12,6 +12,8 @@ pub mod Loops
 pub mod Meant
 pub mod More
 pub mod MoreEvents
+pub mod Noting
+pub mod Owned
 pub mod Placed
 pub mod Quiet
 pub mod Related

@@ -10,7 +10,7 @@ use Rattle.txs_tree_meaning.specs.Meaning.{Completion, Completes, Recurs, Faults
 use Rattle.txs_tree_meaning.specs.Sound.{SoundSource}
 use Rattle.txs_tree_meaning.specs.Thread.{ThreadState, thread_meaning}
 use Rattle.txs_tree_meaning.specs.Tree.{ThreadSource}
-use Rattle.txs_theorem_threads.proofs.Account.{Account, account_link}
+use Rattle.txs_theorem_threads.proofs.Account.{Account, account_link, plain_splits}
 use Rattle.txs_theorem_threads.proofs.Fitted.{if_belongs}
 use Rattle.txs_theorem_threads.proofs.Related.{Related}
 use Rattle.txs_theorem_threads.proofs.Threads.{thread_related}
@@ -23,16 +23,16 @@ use Rattle.txs_theorem_threads.specs.RepliesFitTo.{RepliesFitTo}
 -- exchanges up to a phase, and behind their events an end of what is in hand there
 abbrev up_to : (cells : List CellDefinition) → Phase → World → Account cells
 up_to cells end Q = record {
-  fits = λ ph xs es. RepliesFitTo cells ph xs es end;
-  splits = λ ph x xs es h. if_belongs (belongs ph x.ask) (PhaseFits cells ph x.ask x.reply (λ ph1 es1. RepliesFitTo cells ph1 xs es1 end) es) h.1;
+  fits = λ txs ph xs es. RepliesFitTo cells ph xs es end;
+  splits = plain_splits cells (λ ph xs es. RepliesFitTo cells ph xs es end) (λ ph x xs es h. if_belongs (belongs ph x.ask) (PhaseFits cells ph x.ask x.reply (λ ph1 es1. RepliesFitTo cells ph1 xs es1 end) es) h.1);
   tail = in_hand cells Q end;
   waits = λ s o. Unit {0};
   short = λ s o. s.todo ≡ [] → IsShort o;
   waits_loose = λ s h o. tt;
   short_loose = λ s h o e. absurd (h e);
   short_here = λ s t es f q pr e. tt;
-  waiting = λ ph s es y f eaten. tt;
-  shortage = λ ph s es y f eaten h e.
+  waiting = λ txs ph s es y f eaten. tt;
+  shortage = λ txs ph s es y f eaten h e.
       let z : (es ≡ []) × (ph ≡ end) = subst (λ l. RepliesFitTo cells ph l es end) e f in
       subst (λ l. IsShort (halted (y (l ++ in_hand cells Q end)))) (sym z.0) (subst (λ q. IsShort (halted (y (in_hand cells Q q)))) z.1 (h Q));
 }

@@ -348,8 +348,8 @@ module _ (S : Type 0) (fx : Effects S) (Holds : Suits → Bool → S → Type 0)
       let same : known_of before fun ≡ k = some_known (known_of before fun) k (sym here.0 ∙ e) in
       let earlier : CallsBefore b f = λ Q i h j lt q v y us r t u. calls_below b Q i h j (omega (arith, l, lt)) q v y us r t u in
       let stands = body_sound inside before fun here.1.1 (subst (λ x. MayCall (zone_of inside) x) (sym same) z) in
-      subst (λ o. MeantAs (Holds P) inside None Any (bind (give o s) (λ x s1. turns n x.parameters (λ ws s2. eval fx (at_depth b) n inside x.body ws s2) vs s1))) (sym found.1)
-      (turns_meant S (Holds P) inside None n fun.parameters body
+      subst (λ o. MeantAs (Holds P) inside None Any (bind (give o s) (λ x s1. turns (suc n) x.parameters (λ ws s2. eval fx (at_depth b) n inside x.body ws s2) vs s1))) (sym found.1)
+      (turns_meant S (Holds P) inside None (suc n) fun.parameters body
       (λ ws s2 q g2. eval_meant S fx Holds forms before (at_depth b) (calls_from b f earlier) (callees_from b f earlier) n P w fun.body inside fun.parameters (Some fun.parameters) stands ws q s2 g2)
       vs s (sym a ∙ ap (λ (x : Known). x.parameters) (sym same)) g)
 

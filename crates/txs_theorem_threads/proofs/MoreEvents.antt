@@ -23,7 +23,7 @@ use Rattle.txs_value_data.specs.declared.value.Value.{Value}
 use Rattle.txs_tree_meaning.specs.Known.{known}
 use Rattle.txs_tree_meaning.specs.Meaning.{Completion, Completes, Recurs, Faults, Retries, Waits, OutOfTurns, Invalid, bind, result_of, Applies, eval, call_at}
 use Rattle.txs_tree_meaning.specs.Sound.{SoundSource, SoundFunctions, in_thread}
-use Rattle.txs_tree_meaning.specs.Thread.{ThreadState, with_tx, eats, meant, faulted, faultless, swaps, over, Transacting, run_of, ends_tx, is_retry, eats_tx, on_events, around, thread_meaning}
+use Rattle.txs_tree_meaning.specs.Thread.{ThreadState, with_tx, eats, meant, faulted, faultless, swaps, over, Transacting, run_of, ends_tx, is_retry, eats_tx, on_events, around, thread_meaning, uneaten}
 use Rattle.txs_tree_meaning.specs.Transaction.{TxState, current, taken, done_as, tx_update, in_transaction, tx_start, tx_meaning, valued, merged, commute_writes, final_writes}
 use Rattle.txs_tree_meaning.specs.Tree.{Mark, Tree, PlainFunction, ThreadSource}
 use Rattle.txs_theorem_threads.proofs.Callees.{Keeps, pure_callees, callees_in, function_callees}
@@ -121,6 +121,22 @@ final_alike f g a w C t =
     let now : Writes → ThreadState → Completion ThreadState Writes = λ ws t1. Completes (merged (set_writes w) ws) t1 in
     bind_related ThreadState ThreadState (same_link ThreadState) (commute_writes f w C t) (commute_writes g w C t) now now (redone_alike ThreadState f g a (phase_work w) (valued (commuted w) C) t) (λ ws s1 t1 r1. from_same ThreadState (now ws) s1 t1 r1)
 
+-- what stays to come where turns don't suffice
+uneaten_alike : (l : List SeenEvent) (x y : Completion ThreadState Value) → Related (same_link ThreadState) x y → Related (same_link ThreadState) (uneaten l x) (uneaten l y)
+uneaten_alike l (Completes v s) (Completes w t) h = h
+uneaten_alike l (Completes v s) _ h = absurd h
+uneaten_alike l (Recurs vs s) (Recurs us t) h = h
+uneaten_alike l (Recurs vs s) _ h = absurd h
+uneaten_alike l (Faults e s) (Faults d t) h = h
+uneaten_alike l (Faults e s) _ h = absurd h
+uneaten_alike l (Retries s) (Retries t) h = h
+uneaten_alike l (Retries s) _ h = absurd h
+uneaten_alike l (Waits s) (Waits t) h = h
+uneaten_alike l (Waits s) _ h = absurd h
+uneaten_alike l (OutOfTurns s) y h = tt
+uneaten_alike l Invalid Invalid h = refl
+uneaten_alike l Invalid _ h = absurd (false≢true h)
+
 -- ---- transactions on events
 
 module _ (m : Mark) (node : Tree) (env : List Value) (x y : World → Completion TxState Value) (f g : Applies ThreadState) (b : (R : World) → Related (same_link TxState) (x R) (y R)) (a : Applied ThreadState ThreadState (same_link ThreadState) f g) where
@@ -145,10 +161,11 @@ module _ (m : Mark) (node : Tree) (env : List Value) (x y : World → Completion
   eats_tx_alike (suc k) (e ∷ es) t = of_book (e.book == 0) (is_retry e.kind) (eats_tx_alike k es t)
     where
       of_book : (own again : Bool) → Related (same_link ThreadState) (eats_tx k (with_body x) f es t) (eats_tx k (with_body y) g es t)
-          → Related (same_link ThreadState) (if own then (if again then eats_tx k (with_body x) f es t else ends_tx (with_body x) f e.kind e.R e.Q e.C (record t { todo = es })) else Invalid)
-          (if own then (if again then eats_tx k (with_body y) g es t else ends_tx (with_body y) g e.kind e.R e.Q e.C (record t { todo = es })) else Invalid)
+          → Related (same_link ThreadState) (if own then (if again then eats_tx k (with_body x) f es t else uneaten (e ∷ es) (ends_tx (with_body x) f e.kind e.R e.Q e.C (record t { todo = es }))) else Invalid)
+          (if own then (if again then eats_tx k (with_body y) g es t else uneaten (e ∷ es) (ends_tx (with_body y) g e.kind e.R e.Q e.C (record t { todo = es }))) else Invalid)
       of_book true true rest = rest
-      of_book true false rest = ends_alike e.kind e.R e.Q e.C (record t { todo = es })
+      of_book true false rest =
+          uneaten_alike (e ∷ es) (ends_tx (with_body x) f e.kind e.R e.Q e.C (record t { todo = es })) (ends_tx (with_body y) g e.kind e.R e.Q e.C (record t { todo = es })) (ends_alike e.kind e.R e.Q e.C (record t { todo = es }))
       of_book false again rest = refl
 
 -- ---- swaps on events
@@ -162,8 +179,8 @@ eats_alike : (book : ℕ) (f g : SeenEvent → ThreadState → Completion Thread
 eats_alike book f g h [] t = refl
 eats_alike book f g h (e ∷ es) t = of_book (e.book == book)
   where
-    of_book : (own : Bool) → Related (same_link ThreadState) (if own then f e (record t { todo = es }) else Invalid) (if own then g e (record t { todo = es }) else Invalid)
-    of_book true = h e (record t { todo = es })
+    of_book : (own : Bool) → Related (same_link ThreadState) (if own then uneaten (e ∷ es) (f e (record t { todo = es })) else Invalid) (if own then uneaten (e ∷ es) (g e (record t { todo = es })) else Invalid)
+    of_book true = uneaten_alike (e ∷ es) (f e (record t { todo = es })) (g e (record t { todo = es })) (h e (record t { todo = es }))
     of_book false = refl
 
 -- ---- threads

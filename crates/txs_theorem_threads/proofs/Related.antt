@@ -231,6 +231,9 @@ module _ (S T : Type 0) (k : Link S T) (fx : Effects S) (gx : Effects T) (cf : B
     do_related (more e rest) inside env s t p m r =
         last_related S T k (is_none rest) (eval fx cf nl inside e env s) (eval gx cg nr inside e env t) (λ s1. eval_do fx cf nl inside rest env s1) (λ t1. eval_do gx cg nr inside rest env t1) (eval_related e inside env s t p.0 m r) (λ s1 t1 r1. do_related rest inside env s1 t1 p.1 m r1)
 
+one_more : (S T : Type 0) (k : Link S T) (nl nr : ℕ) → Turns S T k nl nr → Turns S T k (suc nl) (suc nr)
+one_more S T k nl nr u = ⊎_elim (λ e. let p : suc nl ≡ suc nr = omega (arith, e) in inl p) (λ h. let p : suc nl ≤ suc nr = omega (arith, h.0) in inr (p, h.1)) u
+
 -- functions are alike, whatever the depth of calls
 module _ (S T : Type 0) (k : Link S T) (fxs : ℕ → Effects S) (gxs : ℕ → Effects T) (nl nr : ℕ) (functions : List PlainFunction) (Mode : Bool → Type 0) (w : Rules)
     (more_turns : Turns S T k nl nr) (alikes : (d : ℕ) → Alike S T k (fxs d) (gxs d) (call_at fxs nl functions d) (call_at gxs nr functions d) nl nr Mode w)
@@ -240,15 +243,15 @@ module _ (S T : Type 0) (k : Link S T) (fxs : ℕ → Effects S) (gxs : ℕ → 
   call_related d below inside f vs s t may m r = go (nth functions f) refl
     where
       body_l : PlainFunction → S → Completion S Value
-      body_l fun s1 = turns nl fun.parameters (λ ws s2. eval (fxs d) (call_at fxs nl functions d) nl inside fun.body ws s2) vs s1
+      body_l fun s1 = turns (suc nl) fun.parameters (λ ws s2. eval (fxs d) (call_at fxs nl functions d) nl inside fun.body ws s2) vs s1
 
       body_r : PlainFunction → T → Completion T Value
-      body_r fun t1 = turns nr fun.parameters (λ ws t2. eval (gxs d) (call_at gxs nr functions d) nr inside fun.body ws t2) vs t1
+      body_r fun t1 = turns (suc nr) fun.parameters (λ ws t2. eval (gxs d) (call_at gxs nr functions d) nr inside fun.body ws t2) vs t1
 
       go : (o : Option PlainFunction) → nth functions f ≡ o → Related k (bind (give o s) body_l) (bind (give o t) body_r)
       go None e = k.invalid_both
       go (Some fun) e =
-          turns_related S T k nl nr more_turns fun.parameters (λ ws s2. eval (fxs d) (call_at fxs nl functions d) nl inside fun.body ws s2) (λ ws t2. eval (gxs d) (call_at gxs nr functions d) nr inside fun.body ws t2)
+          turns_related S T k (suc nl) (suc nr) (one_more S T k nl nr more_turns) fun.parameters (λ ws s2. eval (fxs d) (call_at fxs nl functions d) nl inside fun.body ws s2) (λ ws t2. eval (gxs d) (call_at gxs nr functions d) nr inside fun.body ws t2)
           (λ ws s2 t2 r2. eval_related S T k (fxs d) (gxs d) (call_at fxs nl functions d) (call_at gxs nr functions d) nl nr Mode w more_turns (alikes d) below fun.body inside ws s2 t2 (bodies inside f fun e may) m r2) vs s t r
 
   pub calls_related : (d : ℕ) → CallsAlike S T k (call_at fxs nl functions d) (call_at gxs nr functions d) Mode w.call

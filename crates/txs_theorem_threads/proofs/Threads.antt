@@ -36,22 +36,22 @@ use Rattle.txs_value_data.specs.declared.value.Value.TheVariants.{Nil, Cell}
 use Rattle.txs_tree_meaning.specs.Known.{Known, known}
 use Rattle.txs_tree_meaning.specs.Meaning.{Completion, Completes, Recurs, Faults, Retries, Waits, OutOfTurns, Invalid, bind, closed, result_of, Effects, apply, eval, call_at}
 use Rattle.txs_tree_meaning.specs.Sound.{SoundSource}
-use Rattle.txs_tree_meaning.specs.Thread.{ThreadState, eats, meant, reads, resets, faulted, faultless, swaps, sends, Transacting, eats_tx, thread_look, thread_put, around, on_events, thread_meaning}
+use Rattle.txs_tree_meaning.specs.Thread.{ThreadState, eats, meant, reads, resets, faulted, faultless, swaps, sends, Transacting, eats_tx, thread_look, thread_put, around, on_events, thread_meaning, uneaten}
 use Rattle.txs_tree_meaning.specs.Transaction.{tx_meaning}
 use Rattle.txs_tree_meaning.specs.Tree.{Mark, Tree, ThreadSource}
 use Rattle.txs_code_meaning.specs.ActorState.{ActorState, Reception, Replied, Unreplied, asks, Continue, heard, on_step, step_of, newest_value, peek, just_done, reset_atom, opened, SwapInHand, open_atom, swap_verdict, close_swap, break_swap, send_verdict, sent, send_now, send_action, Verdict, read_cell, assign_cell, print}
 use Rattle.txs_code_meaning.specs.Opening.{fresh}
-use Rattle.txs_theorem_threads.proofs.Account.{Account, account_link}
+use Rattle.txs_theorem_threads.proofs.Account.{Account, account_link, after_reply, answered_in}
 use Rattle.txs_theorem_threads.proofs.Callees.{Keeps, IsPure}
 use Rattle.txs_theorem_threads.proofs.Placed.{MayCallAt, placed, thread_placed, function_placed}
 use Rattle.txs_theorem_threads.proofs.Quiet.{carried, IsQuiet, quietly, callee_carried}
 use Rattle.txs_theorem_threads.proofs.Related.{Link, Related, Applied, closed_related, Alike, eval_related, calls_related}
 use Rattle.txs_theorem_threads.proofs.Tries.{tries_related}
-use Rattle.txs_theorem_threads.proofs.Worlds.{IsShort, answered, on_cell_related, tx_related}
+use Rattle.txs_theorem_threads.proofs.Worlds.{IsShort, on_cell_related, tx_related}
 use Rattle.txs_theorem_threads.specs.EndsSo.{in_hand}
 use Rattle.txs_theorem_threads.specs.Behaves.{source}
 use Rattle.txs_theorem_threads.specs.OnReplies.{res, telling, tries, swap_concludes, swaps_on, on_replies, Anew}
-use Rattle.txs_theorem_threads.specs.RepliesFit.{Out, WithSwap, OnEvent, SaysRead, SaysSwap, SaysBroke, SaysSent, SaysSendRefused, ReplyFits, halted}
+use Rattle.txs_theorem_threads.specs.RepliesFit.{Out, In, WithSwap, OnEvent, SaysRead, SaysSwap, SaysBroke, SaysSent, SaysSendRefused, ReplyFits, halted}
 
 -- ---- what forms are at their events
 
@@ -89,10 +89,10 @@ module _ (cells : List CellDefinition) (a : Account cells) where
 
   -- an event of this book is eaten
   eats_event : (book : ℕ) (go : SeenEvent → ThreadState → Completion ThreadState Value) (P : SeenEvent → Type 0) (next : List SeenEvent → Type 0) (x : Completion ActorState Value) (es : List SeenEvent) (t : ThreadState) → OnEvent book P next es
-      → ((e : SeenEvent) (es1 : List SeenEvent) → P e → next es1 → Related k x (go e (record t { todo = es1 ++ a.tail }))) → Related k x (eats book go (es ++ a.tail) t)
+      → ((e : SeenEvent) (es1 : List SeenEvent) → P e → next es1 → Related k x (uneaten (e ∷ es1 ++ a.tail) (go e (record t { todo = es1 ++ a.tail })))) → Related k x (eats book go (es ++ a.tail) t)
   eats_event book go P next x [] t m h = absurd m
   eats_event book go P next x (e ∷ es) t m h =
-      subst (λ b. Related k x (if b then go e (record t { todo = es ++ a.tail }) else Invalid)) (sym (ap (λ n. n == book) m.0 ∙ number-itself book)) (h e es m.1 m.2)
+      subst (λ b. Related k x (if b then uneaten (e ∷ es ++ a.tail) (go e (record t { todo = es ++ a.tail })) else Invalid)) (sym (ap (λ n. n == book) m.0 ∙ number-itself book)) (h e es m.1 m.2)
 
   -- the thread on these events, at a form that eats the next one
   abbrev at_events : ℕ → (SeenEvent → ThreadState → Completion ThreadState Value) → ThreadState → List SeenEvent → Completion ThreadState Value
@@ -100,30 +100,30 @@ module _ (cells : List CellDefinition) (a : Account cells) where
 
   -- a form that asks once, and eats the event that its ask is
   asks_once : (book : ℕ) (go : SeenEvent → ThreadState → Completion ThreadState Value) (q : Ask) (x : Reception → Completion ActorState Value) (s : ActorState) (t : ThreadState) → ((u : ActorState) → x (Unreplied u) ≡ Waits u)
-      → k.rel s t → ((es : List SeenEvent) (r : Reply) (xs : List Exchange) → ReplyFits cells Out q r (λ ph1 es1. a.fits ph1 xs es1) es → Related k (x (Replied r (record s { todo = xs }))) (at_events book go t (es ++ a.tail))) → Related k (x (asks q s)) (eats book go t.todo t)
+      → k.rel s t → ((es : List SeenEvent) (r : Reply) (xs : List Exchange) → ReplyFits cells Out q r (after_reply a.fits t.txs q r xs) es → Related k (x (Replied r (record s { todo = xs }))) (at_events book go t (es ++ a.tail))) → Related k (x (asks q s)) (eats book go t.todo t)
   asks_once book go q x s t un r h =
       subst (λ l. Related k (x (asks q s)) (at_events book go t l)) (sym r.2)
-      (answered cells a.fits a.splits Out r.1 q s (λ y. Related k (x y) (at_events book go t (r.1 ++ a.tail))) r.3
-      (subst (λ y. Related k y (at_events book go t (r.1 ++ a.tail))) (sym (un (record s { wants = Some q }))) (a.waiting Out (record s { wants = Some q }) r.1 (at_events book go t) r.3 (refl, r.0)))
+      (answered_in cells a t.txs Out r.1 q s (λ y. Related k (x y) (at_events book go t (r.1 ++ a.tail))) r.3
+      (subst (λ y. Related k y (at_events book go t (r.1 ++ a.tail))) (sym (un (record s { wants = Some q }))) (a.waiting t.txs Out (record s { wants = Some q }) r.1 (at_events book go t) r.3 (refl, r.0, refl)))
       (λ rep xs m. h r.1 rep xs m))
 
   -- a value at the event that is eaten
-  event_gives : (book : ℕ) (go : SeenEvent → ThreadState → Completion ThreadState Value) (P : SeenEvent → Type 0) (v : Value) (s : ActorState) (t : ThreadState) (es : List SeenEvent) → t.printed ≡ s.printed → OnEvent book P (a.fits Out s.todo) es
+  event_gives : (book : ℕ) (go : SeenEvent → ThreadState → Completion ThreadState Value) (P : SeenEvent → Type 0) (v : Value) (s : ActorState) (t : ThreadState) (es : List SeenEvent) → t.printed ≡ s.printed → OnEvent book P (a.fits t.txs Out s.todo) es
       → ((e : SeenEvent) (t1 : ThreadState) → P e → go e t1 ≡ Completes v t1) → Related k (Completes v s) (at_events book go t (es ++ a.tail))
   event_gives book go P v s t es pr m h =
-      eats_event book go P (a.fits Out s.todo) (Completes v s) es (record t { todo = es ++ a.tail }) m
-      (λ e es1 p fits. subst (Related k (Completes v s)) (sym (h e (record t { todo = es1 ++ a.tail }) p)) (refl, (pr, es1, refl, fits)))
+      eats_event book go P (a.fits t.txs Out s.todo) (Completes v s) es (record t { todo = es ++ a.tail }) m
+      (λ e es1 p fits. subst (λ z. Related k (Completes v s) (uneaten (e ∷ es1 ++ a.tail) z)) (sym (h e (record t { todo = es1 ++ a.tail }) p)) (refl, (pr, es1, refl, fits)))
 
   -- a fault there
-  event_breaks : (book : ℕ) (go : SeenEvent → ThreadState → Completion ThreadState Value) (P : SeenEvent → Type 0) (y : Fault) (s : ActorState) (t : ThreadState) (es : List SeenEvent) → t.printed ≡ s.printed → OnEvent book P (a.fits Out s.todo) es
+  event_breaks : (book : ℕ) (go : SeenEvent → ThreadState → Completion ThreadState Value) (P : SeenEvent → Type 0) (y : Fault) (s : ActorState) (t : ThreadState) (es : List SeenEvent) → t.printed ≡ s.printed → OnEvent book P (a.fits t.txs Out s.todo) es
       → ((e : SeenEvent) (t1 : ThreadState) → P e → go e t1 ≡ Faults y t1) → Related k (Faults y s) (at_events book go t (es ++ a.tail))
   event_breaks book go P y s t es pr m h =
-      eats_event book go P (a.fits Out s.todo) (Faults y s) es (record t { todo = es ++ a.tail }) m
-      (λ e es1 p fits. subst (Related k (Faults y s)) (sym (h e (record t { todo = es1 ++ a.tail }) p)) (refl, (pr, Out, es1, refl, fits)))
+      eats_event book go P (a.fits t.txs Out s.todo) (Faults y s) es (record t { todo = es ++ a.tail }) m
+      (λ e es1 p fits. subst (λ z. Related k (Faults y s) (uneaten (e ∷ es1 ++ a.tail) z)) (sym (h e (record t { todo = es1 ++ a.tail }) p)) (refl, (pr, Out, es1, refl, fits)))
 
   -- ---- reads, sets of atoms, sends
 
-  peek_answered : (c : CellId) (s : ActorState) (t : ThreadState) (es : List SeenEvent) (r : Reply) (xs : List Exchange) → t.printed ≡ s.printed → ReplyFits cells Out (ask.Peek c) r (λ ph1 es1. a.fits ph1 xs es1) es
+  peek_answered : (c : CellId) (s : ActorState) (t : ThreadState) (es : List SeenEvent) (r : Reply) (xs : List Exchange) → t.printed ≡ s.printed → ReplyFits cells Out (ask.Peek c) r (λ ph1 es1. a.fits t.txs ph1 xs es1) es
       → Related k (res (heard newest_value (Replied r (record s { todo = xs })))) (at_events (home cells c) (λ e t1. reads c e.kind e.C t1) t (es ++ a.tail))
   peek_answered c s t es (reply.Is v) xs pr m =
       event_gives (home cells c) (λ e t1. reads c e.kind e.C t1) (λ e. SaysRead c e.kind × (e.C c.number ≡ v)) v (record s { todo = xs }) t es pr m (λ e t1 p. read_as c v e.kind e.C t1 p.0 p.1)
@@ -133,7 +133,7 @@ module _ (cells : List CellDefinition) (a : Account cells) where
   unfolding peek
   peek_related c s t r = asks_once (home cells c) (λ e t1. reads c e.kind e.C t1) (ask.Peek c) (λ h. res (heard newest_value h)) s t (λ u. refl) r (λ es rep xs m. peek_answered c s t es rep xs r.0 m)
 
-  reset_answered : (c : CellId) (v : Value) (s : ActorState) (t : ThreadState) (es : List SeenEvent) (r : Reply) (xs : List Exchange) → t.printed ≡ s.printed → ReplyFits cells Out (ask.CloseAt c None v) r (λ ph1 es1. a.fits ph1 xs es1) es
+  reset_answered : (c : CellId) (v : Value) (s : ActorState) (t : ThreadState) (es : List SeenEvent) (r : Reply) (xs : List Exchange) → t.printed ≡ s.printed → ReplyFits cells Out (ask.CloseAt c None v) r (λ ph1 es1. a.fits t.txs ph1 xs es1) es
       → Related k (res (on_step (heard just_done (Replied r (record s { todo = xs }))) (λ u s1. Continue v s1))) (at_events (home cells c) (λ e t1. resets v e.kind t1) t (es ++ a.tail))
   reset_answered c v s t es reply.Done xs pr m =
       event_gives (home cells c) (λ e t1. resets v e.kind t1) (λ e. SaysSwap v e.kind) v (record s { todo = xs }) t es pr m (λ e t1 p. reset_as v e.kind t1 p)
@@ -144,7 +144,7 @@ module _ (cells : List CellDefinition) (a : Account cells) where
   reset_related c v s t r =
       asks_once (home cells c) (λ e t1. resets v e.kind t1) (ask.CloseAt c None v) (λ h. res (on_step (heard just_done h) (λ u s1. Continue v s1))) s t (λ u. refl) r (λ es rep xs m. reset_answered c v s t es rep xs r.0 m)
 
-  send_answered : (act : Action) (s : ActorState) (t : ThreadState) (es : List SeenEvent) (r : Reply) (xs : List Exchange) → t.printed ≡ s.printed → ReplyFits cells Out (ask.Send act) r (λ ph1 es1. a.fits ph1 xs es1) es
+  send_answered : (act : Action) (s : ActorState) (t : ThreadState) (es : List SeenEvent) (r : Reply) (xs : List Exchange) → t.printed ≡ s.printed → ReplyFits cells Out (ask.Send act) r (λ ph1 es1. a.fits t.txs ph1 xs es1) es
       → Related k (res (on_step (heard send_verdict (Replied r (record s { todo = xs }))) (sent act))) (at_events 0 (λ e t1. sends act act.span e.kind t1) t (es ++ a.tail))
   send_answered act s t es reply.Done xs pr m =
       event_gives 0 (λ e t1. sends act act.span e.kind t1) (λ e. SaysSent act e.kind) (Cell act.agent) (record s { todo = xs }) t es pr m (λ e t1 p. sent_as act act.span e.kind t1 p)
@@ -183,7 +183,7 @@ module _ (cells : List CellDefinition) (a : Account cells) where
       abbrev after_callee : Value → ActorState → Completion ActorState Value
       after_callee w s = bind (res (close_swap in_hand_now w s)) (after_close w)
 
-      close_answered : (w : Value) (u : Unit {0}) (s : ActorState) (t : ThreadState) (es : List SeenEvent) (r : Reply) (xs : List Exchange) → q v ≡ Completes w u → t.printed ≡ s.printed → ReplyFits cells (WithSwap c W) (ask.CloseAt c (Some at) w) r (λ ph1 es1. a.fits ph1 xs es1) es
+      close_answered : (w : Value) (u : Unit {0}) (s : ActorState) (t : ThreadState) (es : List SeenEvent) (r : Reply) (xs : List Exchange) → q v ≡ Completes w u → t.printed ≡ s.printed → ReplyFits cells (WithSwap c W) (ask.CloseAt c (Some at) w) r (λ ph1 es1. a.fits t.txs ph1 xs es1) es
           → Related k (bind (res (heard swap_verdict (Replied r (record s { todo = xs })))) (after_close w)) (at_events (home cells c) swapped t (es ++ a.tail))
       close_answered w u s t es reply.Done xs z pr m =
           event_gives (home cells c) swapped (λ e. (c ≡ c) × (W c.number ≡ e.C c.number) × SaysSwap w e.kind) w (record s { todo = xs }) t es pr m
@@ -191,44 +191,44 @@ module _ (cells : List CellDefinition) (a : Account cells) where
       close_answered w u s t es (reply.Changed x) xs z pr m = next (record s { todo = xs }) (record t { todo = es ++ a.tail }) (pr, es, refl, m)
       close_answered w u s t es _ xs z pr m = tt
 
-      close_related : (w : Value) (u : Unit {0}) (s : ActorState) (t : ThreadState) (es : List SeenEvent) → q v ≡ Completes w u → t.printed ≡ s.printed → a.fits (WithSwap c W) s.todo es → Related k (after_callee w s) (at_events (home cells c) swapped t (es ++ a.tail))
+      close_related : (w : Value) (u : Unit {0}) (s : ActorState) (t : ThreadState) (es : List SeenEvent) → q v ≡ Completes w u → t.printed ≡ s.printed → a.fits t.txs (WithSwap c W) s.todo es → Related k (after_callee w s) (at_events (home cells c) swapped t (es ++ a.tail))
       unfolding close_swap
       close_related w u s t es z pr fits =
-          answered cells a.fits a.splits (WithSwap c W) es (ask.CloseAt c (Some at) w) s (λ h. Related k (bind (res (heard swap_verdict h)) (after_close w)) (at_events (home cells c) swapped t (es ++ a.tail))) fits
-          (a.waiting (WithSwap c W) (record s { wants = _ }) es (at_events (home cells c) swapped t) fits (refl, pr)) (λ r xs m. close_answered w u s t es r xs z pr m)
+          answered_in cells a t.txs (WithSwap c W) es (ask.CloseAt c (Some at) w) s (λ h. Related k (bind (res (heard swap_verdict h)) (after_close w)) (at_events (home cells c) swapped t (es ++ a.tail))) fits
+          (a.waiting t.txs (WithSwap c W) (record s { wants = _ }) es (at_events (home cells c) swapped t) fits (refl, pr, refl)) (λ r xs m. close_answered w u s t es r xs z pr m)
 
-      break_answered : (y : Fault) (u : Unit {0}) (s : ActorState) (t : ThreadState) (es : List SeenEvent) (r : Reply) (xs : List Exchange) → q v ≡ Faults y u → t.printed ≡ s.printed → ReplyFits cells (WithSwap c W) (ask.Broke c at) r (λ ph1 es1. a.fits ph1 xs es1) es
+      break_answered : (y : Fault) (u : Unit {0}) (s : ActorState) (t : ThreadState) (es : List SeenEvent) (r : Reply) (xs : List Exchange) → q v ≡ Faults y u → t.printed ≡ s.printed → ReplyFits cells (WithSwap c W) (ask.Broke c at) r (λ ph1 es1. a.fits t.txs ph1 xs es1) es
           → Related k (bind (res (heard just_done (Replied r (record s { todo = xs })))) (λ x s1. Faults y s1)) (at_events (home cells c) swapped t (es ++ a.tail))
       break_answered y u s t es reply.Done xs z pr m =
           event_breaks (home cells c) swapped (λ e. (c ≡ c) × (W ≡ e.R) × SaysBroke e.kind) y (record s { todo = xs }) t es pr m
           (λ e t1 h. broke_as c g e.R e.C t1 e.kind v y ((right v t1).0 ∙ ap (carried t1) z) (ap (λ Z. Z c.number) (sym h.1) ∙ there) h.2)
       break_answered y u s t es _ xs z pr m = tt
 
-      break_related : (y : Fault) (u : Unit {0}) (s : ActorState) (t : ThreadState) (es : List SeenEvent) → q v ≡ Faults y u → t.printed ≡ s.printed → a.fits (WithSwap c W) s.todo es → Related k (bind (res (break_swap in_hand_now s)) (λ x s1. Faults y s1)) (at_events (home cells c) swapped t (es ++ a.tail))
+      break_related : (y : Fault) (u : Unit {0}) (s : ActorState) (t : ThreadState) (es : List SeenEvent) → q v ≡ Faults y u → t.printed ≡ s.printed → a.fits t.txs (WithSwap c W) s.todo es → Related k (bind (res (break_swap in_hand_now s)) (λ x s1. Faults y s1)) (at_events (home cells c) swapped t (es ++ a.tail))
       unfolding break_swap
       break_related y u s t es z pr fits =
-          answered cells a.fits a.splits (WithSwap c W) es (ask.Broke c at) s (λ h. Related k (bind (res (heard just_done h)) (λ x s1. Faults y s1)) (at_events (home cells c) swapped t (es ++ a.tail))) fits
-          (a.waiting (WithSwap c W) (record s { wants = _ }) es (at_events (home cells c) swapped t) fits (refl, pr)) (λ r xs m. break_answered y u s t es r xs z pr m)
+          answered_in cells a t.txs (WithSwap c W) es (ask.Broke c at) s (λ h. Related k (bind (res (heard just_done h)) (λ x s1. Faults y s1)) (at_events (home cells c) swapped t (es ++ a.tail))) fits
+          (a.waiting t.txs (WithSwap c W) (record s { wants = _ }) es (at_events (home cells c) swapped t) fits (refl, pr, refl)) (λ r xs m. break_answered y u s t es r xs z pr m)
 
       -- a swap whose callee needs turns needs them at its end
       swap_short : (u : Unit {0}) (t : ThreadState) (Q : World) → q v ≡ OutOfTurns u → IsShort (halted (at_events (home cells c) swapped t (in_hand cells Q (WithSwap c W))))
       swap_short u t Q z =
           let t1 : ThreadState = record t { todo = [] } in
-          let breaks : Completion ThreadState Value → Completion ThreadState Value = λ r. faulted r (λ y t2. Faults y t2) in
+          let breaks : Completion ThreadState Value → Completion ThreadState Value = λ r. uneaten (in_hand cells Q (WithSwap c W)) (faulted r (λ y t2. Faults y t2)) in
           subst (λ r. IsShort (halted r))
           (sym (ap (λ b. if b then breaks (g (W c.number) t1) else Invalid) (number-itself (home cells c)) ∙ ap (λ x. breaks (g x t1)) there ∙ ap breaks ((right v t1).0 ∙ ap (carried t1) z))) tt
 
-      callee_comes : (z : Completion (Unit {0}) Value) (s : ActorState) (t : ThreadState) (es : List SeenEvent) → q v ≡ z → IsQuiet z → t.printed ≡ s.printed → a.fits (WithSwap c W) s.todo es
+      callee_comes : (z : Completion (Unit {0}) Value) (s : ActorState) (t : ThreadState) (es : List SeenEvent) → q v ≡ z → IsQuiet z → t.printed ≡ s.printed → a.fits t.txs (WithSwap c W) s.todo es
           → Related k (telling (break_swap in_hand_now) (carried s z) after_callee) (at_events (home cells c) swapped t (es ++ a.tail))
       callee_comes (Completes w u) s t es z quiet pr fits = close_related w u s t es z pr fits
       callee_comes (Recurs vs u) s t es z quiet pr fits = tt
       callee_comes (Faults y u) s t es z quiet pr fits = break_related y u s t es z pr fits
       callee_comes (Retries u) s t es z quiet pr fits = absurd quiet
       callee_comes (Waits u) s t es z quiet pr fits = absurd quiet
-      callee_comes (OutOfTurns u) s t es z quiet pr fits = a.shortage (WithSwap c W) s es (at_events (home cells c) swapped t) fits (refl, pr) (λ Q. swap_short u t Q z)
+      callee_comes (OutOfTurns u) s t es z quiet pr fits = a.shortage t.txs (WithSwap c W) s es (at_events (home cells c) swapped t) fits (refl, pr, refl) (λ Q. swap_short u t Q z)
       callee_comes Invalid s t es z quiet pr fits = tt
 
-      opened_comes : (s : ActorState) (t : ThreadState) (es : List SeenEvent) → t.printed ≡ s.printed → a.fits (WithSwap c W) s.todo es → Related k (telling (break_swap in_hand_now) (f v s) after_callee) (at_events (home cells c) swapped t (es ++ a.tail))
+      opened_comes : (s : ActorState) (t : ThreadState) (es : List SeenEvent) → t.printed ≡ s.printed → a.fits t.txs (WithSwap c W) s.todo es → Related k (telling (break_swap in_hand_now) (f v s) after_callee) (at_events (home cells c) swapped t (es ++ a.tail))
       opened_comes s t es pr fits =
           let l = left v s in
           subst (λ y. Related k (telling (break_swap in_hand_now) y after_callee) (at_events (home cells c) swapped t (es ++ a.tail))) (sym l.0) (callee_comes (q v) s t es refl l.1 pr fits)
@@ -237,7 +237,7 @@ module _ (cells : List CellDefinition) (a : Account cells) where
     abbrev after_open : ℕ → SwapInHand × Value → ActorState → Completion ActorState Value
     after_open n o s = telling (break_swap o.0) (f o.1 s) (λ w s1. bind (res (close_swap o.0 w s1)) (λ d s2. swap_concludes d w (swaps_on n span cv f) s2))
 
-    open_answered : (n : ℕ) (next : FollowsSwap n) (s : ActorState) (t : ThreadState) (es : List SeenEvent) (r : Reply) (xs : List Exchange) → t.printed ≡ s.printed → ReplyFits cells Out (ask.OpenAt c) r (λ ph1 es1. a.fits ph1 xs es1) es
+    open_answered : (n : ℕ) (next : FollowsSwap n) (s : ActorState) (t : ThreadState) (es : List SeenEvent) (r : Reply) (xs : List Exchange) → t.printed ≡ s.printed → ReplyFits cells Out (ask.OpenAt c) r (λ ph1 es1. a.fits t.txs ph1 xs es1) es
         → Related k (bind (res (on_step (heard opened (Replied r (record s { todo = xs }))) (λ x s1. Continue (record { cell = c; at = x.0 }, x.1) s1))) (after_open n)) (at_events (home cells c) swapped t (es ++ a.tail))
     open_answered n next s t es (reply.Opened p v) xs pr m = opened_comes n next p m.0 v m.1 (record s { todo = xs }) t es pr m.2
     open_answered n next s t es _ xs pr m = tt
@@ -342,10 +342,10 @@ module _ (p : ThreadSource) (sound : SoundSource p) (a : Account p.cells) (n : �
           subst (λ l. Related link (tries (suc reruns) m.span (λ s1. closed (eval on_replies (left_calls d) n true e env s1)) (apply (left_calls d true) m.span) Anew s) (eats_tx (suc reruns) tx (apply (right_calls d true) m.span) l t)) (sym r.2)
           (tries_related p.cells a (IsPure ks) tx (λ s1. closed (eval on_replies (left_calls d) n true e env s1)) (apply (left_calls d true) m.span) (apply (right_calls d true) m.span) (quietly n p.functions d m.span)
           (left_callee d true m.span) (right_callee d true m.span)
-          (λ R s1 es own fits. tx_related p.cells a.fits a.splits R s1.printed es n p.functions sound.functions d e env s1 keeps own fits refl) (suc reruns) Anew s r.1 t r.0 r.3)
+          (λ txs R s1 es own fits. tx_related p.cells (a.fits txs) (λ W c at r1 xs es1 f. a.splits txs (In W) (ask.Look c at) r1 xs es1 f) R s1.printed es n p.functions sound.functions d e env s1 keeps own fits refl) (suc reruns) Anew s r.1 t r.0 r.3)
 
   -- a sound thread's tree on exchanges that fit is the thread on their events, and those behind them
-  pub thread_related : (todo : List Exchange) (es : List SeenEvent) → a.fits Out todo es → Related link (source p n todo) (thread_meaning p n (es ++ a.tail))
+  pub thread_related : (todo : List Exchange) (es : List SeenEvent) → a.fits [] Out todo es → Related link (source p n todo) (thread_meaning p n (es ++ a.tail))
   thread_related todo es fits =
       let d = length p.functions in
       let t0 : ThreadState = record { todo = es ++ a.tail; printed = []; txs = [] } in

@@ -3,12 +3,13 @@ use Rattle.std.proofs.Common.{ℕ, List, [], refl, sym, subst, arith, ⊎_elim, 
 use Rattle.std.proofs.lemmas.Bool.{cases_lt}
 use Rattle.txs_code_meaning.specs.ActorState.{ActorState}
 use Rattle.txs_code_meaning.specs.Machine.{ThreadCode, Ended, Failed, Asking, Unfinished, Stuck, Outcome}
+use Rattle.txs_theorem_threads.proofs.Account.{waited_eaten}
 use Rattle.txs_theorem_threads.proofs.Longer.{longer}
 use Rattle.txs_theorem_threads.proofs.Grows.{GrowsTo, Later, later}
 use Rattle.txs_theorem_threads.proofs.Follow.{tree_follows}
 use Rattle.txs_code_meaning.specs.Opening.{opening, target}
 use Rattle.txs_theorem_threads.specs.Behaves.{source, IsMeant, HasEnded, outcome_of, IsOver, Behaves}
-use Rattle.txs_theorem_threads.specs.RepliesFit.{Phase, Out, RepliesFit, Halt, Going, Stopped, Short, Rerun, halted, HasWaited, HasEaten, Agrees, HasEatenAll, Explained, Consumed}
+use Rattle.txs_theorem_threads.specs.RepliesFit.{Phase, Out, RepliesFit, halted, HasEaten, Agrees, HasEatenAll, Explained, Consumed}
 use Rattle.txs_tree_meaning.specs.Meaning.{Completion, Completes, Recurs, Faults, Retries, Waits, OutOfTurns, Invalid}
 use Rattle.txs_world_protocol.specs.SeenEvent.{SeenEvent}
 use Rattle.txs_tree_meaning.specs.Thread.{ThreadState, thread_meaning}
@@ -25,13 +26,6 @@ nothing_after (x ∷ xs) ys e = absurd (subst (λ l. elim l as (λ m. Type 0) [ 
 
 fits_nothing : (cells : List CellDefinition) (ph : Phase) (todo : List Exchange) (es : List SeenEvent) → todo ≡ [] → RepliesFit cells ph todo es → es ≡ []
 fits_nothing cells ph todo es e f = subst (λ l. RepliesFit cells ph l es) e f
-
--- what needs an event and has eaten all has eaten all
-pub waited_eaten : (out : List ℕ) (h : Halt ThreadState) → HasWaited out h → HasEaten out h
-waited_eaten out Going h = absurd h
-waited_eaten out (Stopped t) h = h
-waited_eaten out (Short t) h = absurd h
-waited_eaten out (Rerun t) h = absurd h
 
 halted_all : (out : List ℕ) (r : Completion ThreadState Value) → HasEaten out (halted r) → HasEatenAll out r
 halted_all out (Completes v t) h = absurd h
@@ -77,6 +71,14 @@ not_before code todo m j s o over e f =
 grown_over : (code : ThreadCode) (todo : List Exchange) (m : ℕ) (s : ActorState) (o : Outcome) → IsOver o → target code m todo ≡ Unfinished s → (j : ℕ) × (target code j todo ≡ o) → GrowsTo s o
 grown_over code todo m s o over e r = grown code todo m r.0 s o (not_before code todo m r.0 s o over e r.1) e r.1
 
+-- what grew from a state whose exchanges are consumed has consumed them
+pub consumed_grown : (s : ActorState) (o : Outcome) → GrowsTo s o → s.todo ≡ [] → Consumed o
+consumed_grown s (Ended u) g e = nothing_after g.done u.todo (sym g.eats ∙ e)
+consumed_grown s (Failed f u) g e = nothing_after g.done u.todo (sym g.eats ∙ e)
+consumed_grown s (Asking u) g e = nothing_after g.done u.todo (sym g.eats ∙ e)
+consumed_grown s (Unfinished u) g e = nothing_after g.done u.todo (sym g.eats ∙ e)
+consumed_grown s Stuck g e = tt
+
 -- an outcome that is the tree's, with all exchanges consumed
 pub over_explained : (cells : List CellDefinition) (x : Completion ActorState Value) (r : Completion ThreadState Value) → HasEnded x → Agrees cells x r → Consumed (outcome_of x) → Explained (outcome_of x) r
 over_explained cells (Completes v s) r t a e = (v, a.0, a.1, fits_nothing cells Out s.todo a.0.todo e a.3, a.2)
@@ -101,7 +103,7 @@ module _ (code : ThreadCode) (p : ThreadSource) (behaves : Behaves code p) (soun
   pub ends : (todo : List Exchange) (m : ℕ) (x : Completion ActorState Value) → source p m todo ≡ x → HasEnded x → (j : ℕ) × (target code j todo ≡ outcome_of x)
   ends todo m x q t = subst (λ y. (j : ℕ) × (target code j todo ≡ outcome_of y)) q (behaves.follows todo m (subst HasEnded (sym q) t))
 
-  grown_to : (todo : List Exchange) (m : ℕ) (s : ActorState) (x : Completion ActorState Value) → source p m todo ≡ x → IsMeant x → target code m todo ≡ Unfinished s → GrowsTo s (outcome_of x)
+  pub grown_to : (todo : List Exchange) (m : ℕ) (s : ActorState) (x : Completion ActorState Value) → source p m todo ≡ x → IsMeant x → target code m todo ≡ Unfinished s → GrowsTo s (outcome_of x)
   grown_to todo m s (Completes v u) q t e = grown_over code todo m s (Ended u) tt e (ends todo m (Completes v u) q tt)
   grown_to todo m s (Recurs vs u) q t e = absurd t
   grown_to todo m s (Faults f u) q t e = grown_over code todo m s (Failed f u) tt e (ends todo m (Faults f u) q tt)

@@ -41,11 +41,12 @@ use Rattle.txs_tree_meaning.specs.Transaction.{TxState, value_or, own, current, 
 use Rattle.txs_tree_meaning.specs.Tree.{Mark, Tree, PlainFunction}
 use Rattle.txs_code_meaning.specs.ActorState.{ActorState, Reception, Replied, Unreplied, receives, asks, StepResult, Continue, Break, Redo, Await, Malformed, on_step, step_of, heard, value_there, buffered_or, look, set_own, close_own, read_cell, assign_cell, send_action, send_to, print}
 use Rattle.txs_theorem_threads.proofs.Callees.{Keeps, IsPure}
+use Rattle.txs_theorem_threads.proofs.Owned.{Owned, owned_none, owned_set, owned_commute}
 use Rattle.txs_theorem_threads.proofs.Placed.{MayCallAt, placed, function_placed}
 use Rattle.txs_theorem_threads.proofs.Quiet.{carried, IsQuiet, quietly, callee_carried, AllCommutes, commutes_both}
 use Rattle.txs_theorem_threads.proofs.Related.{Link, Related, Applied, bind_related, closed_related, Alike, eval_related, calls_related}
 use Rattle.txs_theorem_threads.specs.OnReplies.{res, on_replies}
-use Rattle.txs_theorem_threads.specs.RepliesFit.{Halt, Going, Stopped, Short, Rerun, Phase, Out, In, OnEvent, SaysRetry, ReplyFits, RepliesFit}
+use Rattle.txs_theorem_threads.specs.RepliesFit.{Halt, Going, Stopped, Short, Rerun, Phase, Out, In, OnEvent, SaysRetry, Goes, ReplyFits, RepliesFit}
 
 -- which exchanges fit which events, by the phase that they begin in
 abbrev pub Fitting : Type 1
@@ -65,10 +66,11 @@ IsShort (Short s) = Unit {0}
 IsShort (Rerun s) = ⊥
 
 -- an ask has no reply yet, or one that fits, and then fewer exchanges are left
-pub answered_less : (cells : List CellDefinition) (F : Fitting) → Splits cells F → (ph : Phase) (es : List SeenEvent) (a : Ask) (s : ActorState) (P : Reception → Type 0) → F ph s.todo es → P (Unreplied (record s { wants = Some a })) →
-    ((r : Reply) (xs : List Exchange) → length xs < length s.todo → ReplyFits cells ph a r (λ ph1 es1. F ph1 xs es1) es → P (Replied r (record s { todo = xs }))) → P (asks a s)
+pub answered_by : (cells : List CellDefinition) (F : Fitting) (ph : Phase) (es : List SeenEvent) (a : Ask) (next : Reply → List Exchange → Goes) → ((r : Reply) (xs : List Exchange) → F ph (record { ask = a; reply = r } ∷ xs) es → ReplyFits cells ph a r (next r xs) es)
+    → (s : ActorState) (P : Reception → Type 0) → F ph s.todo es → P (Unreplied (record s { wants = Some a }))
+    → ((r : Reply) (xs : List Exchange) → length xs < length s.todo → ReplyFits cells ph a r (next r xs) es → P (Replied r (record s { todo = xs }))) → P (asks a s)
 unfolding asks
-answered_less cells F splits ph es a s P fits un he = go s.todo refl fits
+answered_by cells F ph es a next first s P fits un he = go s.todo refl fits
   where
     go : (l : List Exchange) → s.todo ≡ l → F ph l es → P (receives a s l)
     go [] q f = un
@@ -77,8 +79,12 @@ answered_less cells F splits ph es a s P fits un he = go s.todo refl fits
         test : (b : Bool) → same_ask a x.ask ≡ b → P (if b then Replied x.reply (record s { todo = xs }) else Unreplied (record s { wants = Some a }))
         test true e =
             let fewer : length xs < length s.todo = omega (arith, ap length q) in
-            he x.reply xs fewer (subst (λ q1. ReplyFits cells ph q1 x.reply (λ ph1 es1. F ph1 xs es1) es) (sym (same_ask-sound a x.ask e)) (splits ph x xs es f))
+            he x.reply xs fewer (first x.reply xs (subst (λ q1. F ph (record { ask = q1; reply = x.reply } ∷ xs) es) (sym (same_ask-sound a x.ask e)) f))
         test false e = un
+
+pub answered_less : (cells : List CellDefinition) (F : Fitting) → Splits cells F → (ph : Phase) (es : List SeenEvent) (a : Ask) (s : ActorState) (P : Reception → Type 0) → F ph s.todo es → P (Unreplied (record s { wants = Some a })) →
+    ((r : Reply) (xs : List Exchange) → length xs < length s.todo → ReplyFits cells ph a r (λ ph1 es1. F ph1 xs es1) es → P (Replied r (record s { todo = xs }))) → P (asks a s)
+answered_less cells F splits ph es a s P fits un he = answered_by cells F ph es a (λ r xs ph1 es1. F ph1 xs es1) (λ r xs f. splits ph (record { ask = a; reply = r }) xs es f) s P fits un he
 
 pub answered : (cells : List CellDefinition) (F : Fitting) → Splits cells F → (ph : Phase) (es : List SeenEvent) (a : Ask) (s : ActorState) (P : Reception → Type 0) → F ph s.todo es → P (Unreplied (record s { wants = Some a })) → ((r : Reply) (xs : List Exchange) → ReplyFits cells ph a r (λ ph1 es1. F ph1 xs es1) es → P (Replied r (record s { todo = xs }))) → P (asks a s)
 answered cells F splits ph es a s P fits un he = answered_less cells F splits ph es a s P fits un (λ r xs l m. he r xs m)
@@ -141,10 +147,18 @@ cell_is r inside (Key bs) c e = absurd (subst IsOk (sym e) tt)
 cell_is r inside (Text bs) c e = absurd (subst IsOk (sym e) tt)
 cell_is r inside (Vector vs) c e = absurd (subst IsOk (sym e) tt)
 
--- within a try: what was done is the same, each commute is of such a callee, and what is to come fits
+-- what a transaction did so far: each commute is of such a callee, and each ref that it set has a value
+abbrev pub Kept : (Callee → Type 0) → Work → Type 0
+Kept P w = AllCommutes P w.commutes × Owned w
+
+-- in a try on this world the first exchange fits, where it is a look
+abbrev pub LooksFit : List CellDefinition → Fitting → Type 0
+LooksFit cells F = (R : World) (c : CellId) (p : ℕ) (r : Reply) (xs : List Exchange) (es : List SeenEvent) → F (In R) (record { ask = ask.Look c p; reply = r } ∷ xs) es → ReplyFits cells (In R) (ask.Look c p) r (λ ph1 es1. F ph1 xs es1) es
+
+-- within a try: what was done is the same, and is kept so, and what is to come fits
 abbrev pub tx_link : (Callee → Type 0) → Fitting → World → List SeenEvent → List ℕ → Link ActorState TxState
 tx_link P F R es out = record {
-  rel = λ s t. (s.done ≡ t.done) × AllCommutes P s.done.commutes × F (In R) s.todo es × (s.printed ≡ out);
+  rel = λ s t. (s.done ≡ t.done) × Kept P s.done × F (In R) s.todo es × (s.printed ≡ out);
   faults = λ s t. F (In R) s.todo es × (s.printed ≡ out);
   waits = λ s o. F (In R) s.todo es × (s.printed ≡ out);
   out_of_turns = λ s o. IsShort o × F (In R) s.todo es × (s.printed ≡ out);
@@ -159,7 +173,7 @@ tx_link P F R es out = record {
   invalid_loose = λ h b. tt;
 }
 
-module _ (cells : List CellDefinition) (F : Fitting) (splits : Splits cells F) (P : Callee → Type 0) (R : World) (out : List ℕ) (es : List SeenEvent) where
+module _ (cells : List CellDefinition) (F : Fitting) (looks : LooksFit cells F) (P : Callee → Type 0) (R : World) (out : List ℕ) (es : List SeenEvent) where
   abbrev k : Link ActorState TxState
   k = tx_link P F R es out
 
@@ -179,7 +193,9 @@ module _ (cells : List CellDefinition) (F : Fitting) (splits : Splits cells F) (
     where
       go : (o : Option Value) → Related k (res (buffered_or o s (heard value_there (asks (ask.Look c s.at) s)))) (Completes (value_or o (R c.number)) t)
       go (Some v) = (refl, r)
-      go None = answered cells F splits (In R) es (ask.Look c s.at) s (λ h. Related k (res (heard value_there h)) (Completes (R c.number) t)) r.2 (r.2, r.3) (λ rep xs m. looked_related c s t rep xs r m)
+      go None =
+          answered_by cells F (In R) es (ask.Look c s.at) (λ rep xs ph1 es1. F ph1 xs es1) (λ rep xs f. looks R c s.at rep xs es f) s (λ h. Related k (res (heard value_there h)) (Completes (R c.number) t)) r.2 (r.2, r.3)
+          (λ rep xs l m. looked_related c s t rep xs r m)
 
   look_now : (c : CellId) (s : ActorState) (t t1 : TxState) → s.done ≡ t.done → k.rel s t1 → Related k (res (look c s)) (Completes (current R t.done c) t1)
   look_now c s t t1 e r =
@@ -196,15 +212,15 @@ module _ (cells : List CellDefinition) (F : Fitting) (splits : Splits cells F) (
   -- ---- what a ref gets
 
   abbrev OkSome : Result Work FaultKind → Type 0
-  OkSome (Ok w) = AllCommutes P w.commutes
+  OkSome (Ok w) = Kept P w
   OkSome (Err e) = Unit {0}
 
-  set_some : (c : CellId) (v : Value) (w : Work) → AllCommutes P w.commutes → OkSome (set_ref c v w)
+  set_some : (c : CellId) (v : Value) (w : Work) → Kept P w → OkSome (set_ref c v w)
   set_some c v w h = test (is_commuted w c.number)
     where
       test : (b : Bool) → OkSome (if b then Err SetAfterCommute else Ok (record w { values = with_write w.values c v; sets = with_cell w.sets c }))
       test true = tt
-      test false = h
+      test false = (h.0, owned_set c v w h.1)
 
   done_related : (rw : Result Work FaultKind) (span : Span) (v : Value) (s : ActorState) (t : TxState) → OkSome rw → k.rel s t → Related k (res (on_step (step_of rw span s) (λ w s1. Continue v (record s1 { done = w })))) (done_as rw span v t)
   done_related (Ok w) span v s t h r = (refl, (refl, h, r.2, r.3))
@@ -219,7 +235,7 @@ module _ (cells : List CellDefinition) (F : Fitting) (splits : Splits cells F) (
       → Related k (res (close_own (Some (record { cell = c; callee = callee; args = vs })) span w c s)) (Completes w (record t { done = commute_ref c callee vs w t.done; used = used }))
   commute_related c callee vs span w s t used p r =
       let now : Work → Work = λ x. commute_ref c callee vs w x in
-      (refl, (ap now r.0, commutes_both P s.done.commutes (record { cell = c; callee = callee; args = vs } ∷ []) r.1 (p, tt), r.2, r.3))
+      (refl, (ap now r.0, (commutes_both P s.done.commutes (record { cell = c; callee = callee; args = vs } ∷ []) r.1.0 (p, tt), owned_commute c callee vs w s.done r.1.1), r.2, r.3))
 
   -- ---- the forms, whose callees are pure
 
@@ -284,7 +300,7 @@ module _ (cells : List CellDefinition) (F : Fitting) (splits : Splits cells F) (
       (λ c e. let held : Work → Work = λ w. hold_send (act c) w in (sym (cell_is (rule form_of.Send) true v c e), (ap held r.0, r.1, r.2, r.3)))
 
 -- the forms of a try, on replies and on its world, where functions are sound
-module _ (cells : List CellDefinition) (F : Fitting) (splits : Splits cells F) (R : World) (out : List ℕ) (es : List SeenEvent) (n : ℕ) (functions : List PlainFunction) (sound : SoundFunctions [] functions) where
+module _ (cells : List CellDefinition) (F : Fitting) (looks : LooksFit cells F) (R : World) (out : List ℕ) (es : List SeenEvent) (n : ℕ) (functions : List PlainFunction) (sound : SoundFunctions [] functions) where
   abbrev tries_link : Link ActorState TxState
   tries_link = tx_link (IsPure (known functions)) F R es out
 
@@ -317,24 +333,24 @@ module _ (cells : List CellDefinition) (F : Fitting) (splits : Splits cells F) (
 
       tx_looks : (form : LookForm) (inside : Bool) (m : Mark) (c : Value) (s : ActorState) (t : TxState) → may_stand (rule (form_of.Look form)).stands inside ≡ true → inside ≡ true → tries_link.rel s t → Related tries_link (on_replies.look form inside m c s) ((in_transaction R).look form inside m c t)
       tx_looks form true m c s t q i r =
-          on_cell_related TxState tries_link (cell_of (rule (form_of.Look form)) true c) m.span (read_cell form true) (tx_look R form) s t r (λ x e. cell_read cells F splits (IsPure (known functions)) R out es form x s t r)
+          on_cell_related TxState tries_link (cell_of (rule (form_of.Look form)) true c) m.span (read_cell form true) (tx_look R form) s t r (λ x e. cell_read cells F looks (IsPure (known functions)) R out es form x s t r)
       tx_looks form false m c s t q i r = absurd (false≢true i)
 
       tx_puts : (form : PutForm) (inside : Bool) (m : Mark) (c w : Value) (s : ActorState) (t : TxState) → may_stand (rule (form_of.Put form)).stands inside ≡ true → inside ≡ true → tries_link.rel s t → Related tries_link (on_replies.put form inside m c w s) ((in_transaction R).put form inside m c w t)
-      tx_puts form true m c w s t q i r = put_related cells F splits (IsPure (known functions)) R out es form m (cell_of (rule (form_of.Put form)) true c) w s t r
+      tx_puts form true m c w s t q i r = put_related cells F looks (IsPure (known functions)) R out es form m (cell_of (rule (form_of.Put form)) true c) w s t r
       tx_puts form false m c w s t q i r = absurd (false≢true i)
 
       tx_updates : (form : UpdateForm) (inside : Bool) (m : Mark) (c : Value) (callee : Callee) (vs : List Value) (s : ActorState) (t : TxState) → may_stand (rule (form_of.Update form)).stands inside ≡ true → inside ≡ true → IsPure (known functions) callee → (((x : ℕ) → MayCallAt (known functions) inside x) → Applied ActorState TxState tries_link (apply (call_at (λ e. on_replies) n functions d inside) m.span) (apply (call_at (λ e. in_transaction R) n functions d inside) m.span)) → tries_link.rel s t
           → Related tries_link (on_replies.update form inside m c callee vs (apply (call_at (λ e. on_replies) n functions d inside) m.span) s) ((in_transaction R).update form inside m c callee vs (apply (call_at (λ e. in_transaction R) n functions d inside) m.span) t)
       tx_updates update_of.Alter true m c callee vs s t e i p h r =
-          alter_related cells F splits (IsPure (known functions)) R out es (f m.span) (g m.span) (quietly n functions d m.span) (left m.span) (right m.span) (cell_of (rule (form_of.Update update_of.Alter)) true c) m.span callee vs s t p r
+          alter_related cells F looks (IsPure (known functions)) R out es (f m.span) (g m.span) (quietly n functions d m.span) (left m.span) (right m.span) (cell_of (rule (form_of.Update update_of.Alter)) true c) m.span callee vs s t p r
       tx_updates update_of.Commute true m c callee vs s t e i p h r =
-          commutes_related cells F splits (IsPure (known functions)) R out es (f m.span) (g m.span) (quietly n functions d m.span) (left m.span) (right m.span) (cell_of (rule (form_of.Update update_of.Commute)) true c) m callee vs s t p r
+          commutes_related cells F looks (IsPure (known functions)) R out es (f m.span) (g m.span) (quietly n functions d m.span) (left m.span) (right m.span) (cell_of (rule (form_of.Update update_of.Commute)) true c) m callee vs s t p r
       tx_updates update_of.Swap true m c callee vs s t e i p h r = tt
       tx_updates form false m c callee vs s t e i p h r = absurd (false≢true i)
 
       tx_sends : (inside : Bool) (m : Mark) (c : Value) (callee : Callee) (vs : List Value) (s : ActorState) (t : TxState) → inside ≡ true → IsPure (known functions) callee → tries_link.rel s t → Related tries_link (on_replies.send inside m c callee vs s) ((in_transaction R).send inside m c callee vs t)
-      tx_sends true m c callee vs s t i p r = held_related cells F splits (IsPure (known functions)) R out es m c callee vs s t r
+      tx_sends true m c callee vs s t i p r = held_related cells F looks (IsPure (known functions)) R out es m c callee vs s t r
       tx_sends false m c callee vs s t i p r = absurd (false≢true i)
 
       tx_dosync : (inside : Bool) (m : Mark) (e : Tree) (env : List Value) (s : ActorState) (t : TxState) → inside ≡ true → Keeps (placed (known functions)) true e →
@@ -349,7 +365,7 @@ module _ (cells : List CellDefinition) (F : Fitting) (splits : Splits cells F) (
   tx_related d e env s p own fits pr =
       let cf = call_at (λ x. on_replies) n functions d in
       let cg = call_at (λ x. in_transaction R) n functions d in
-      let nothing : AllCommutes (IsPure (known functions)) s.done.commutes = subst (λ w. AllCommutes (IsPure (known functions)) w.commutes) (sym own) tt in
+      let nothing : Kept (IsPure (known functions)) s.done = subst (λ w. Kept (IsPure (known functions)) w) (sym own) (tt, owned_none) in
       closed_related ActorState TxState tries_link (eval on_replies cf n true e env s) (eval (in_transaction R) cg n true e env tx_start)
       (eval_related ActorState TxState tries_link on_replies (in_transaction R) cf cg n n (λ i. i ≡ true) (placed (known functions)) (inl refl) (tx_alike d)
       (calls_related ActorState TxState tries_link (λ x. on_replies) (λ x. in_transaction R) n n functions (λ i. i ≡ true) (placed (known functions)) (inl refl) tx_alike (function_placed functions sound) d) e true env s tx_start p refl (own, nothing, fits, pr))

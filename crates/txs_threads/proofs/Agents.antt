@@ -6,14 +6,15 @@ use Rattle.txs_value_data.specs.declared.value.CellId.{CellId}
 use Rattle.txs_value_data.specs.declared.value.CellKind.{CellKind}
 use Rattle.txs_value_data.specs.declared.value.CellKind.TheVariants.{Ref, Atom, Agent}
 use Rattle.txs_code_meaning.specs.PlainCode.{PlainCode}
-use Rattle.txs_machine_actor.specs.PlainActor.{IsActorOf, agents_from, with_agent}
+use Rattle.txs_machine_actor.specs.PlainActor.{IsActorOf}
+use Rattle.txs_value_cell.specs.Agents.{agents_from, with_agent}
 use Rattle.txs_world_book.specs.Book.{has_agent}
 use Rattle.txs_world_book.specs.Served.{cells_of}
 use Rattle.txs_world.specs.Store.{next_action}
 use Rattle.txs_world_shared.specs.SharedState.{PlainShared, shared_of}
 use Rattle.txs_machine.specs.Agents.{agents_of, AreDrained}
 use Rattle.txs_machine.specs.RunOver.{IsStateOf}
-use Rattle.txs_machine.specs.declared.schedule.Ran.{Ran}
+use Rattle.txs_world_protocol.specs.declared.report.Ran.{Ran}
 use Rattle.txs_machine.proofs.Together.{agent_at}
 use Rattle.txs_threads_gather.specs.Gather.{Agrees}
 use Rattle.txs_threads_gather.specs.Played.{PlainPlayed}

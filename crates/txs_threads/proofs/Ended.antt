@@ -1,7 +1,7 @@
 -- Every thread of a report has ended.
 use Rattle.std.proofs.Common.{◌≡◌, ◌∙◌, ℕ, zero, suc, List, [], ◌∷◌, Option, Some, None, sym, ap, subst}
 use Rattle.txs_machine.specs.Schedule.{HaveEnded}
-use Rattle.txs_machine.specs.declared.schedule.Ran.{Ran}
+use Rattle.txs_world_protocol.specs.declared.report.Ran.{Ran}
 use Rattle.txs_threads.specs.Run.{AllEnded}
 
 abbrev is_some : {A : Type 0} → Option A → Type 0

@@ -4,7 +4,7 @@ use Rattle.txs_code_meaning.specs.PlainCode.{PlainCode}
 use Rattle.txs_machine.specs.Agents.{agents_of, AreDrained, AreExplainedBy}
 use Rattle.txs_machine.specs.RunOver.{IsStateOf}
 use Rattle.txs_machine.specs.Schedule.{HaveEnded, IsExplainedBy}
-use Rattle.txs_machine.specs.declared.schedule.Ran.{Ran}
+use Rattle.txs_world_protocol.specs.declared.report.Ran.{Ran}
 use Rattle.txs_threads_gather.specs.Gather.{AllHaveDone, AllHaveAttended}
 use Rattle.txs_world_shared.specs.SharedState.{PlainShared, numbered_book, shared_of}
 use Rattle.txs_value_base.specs.Places.{nth}

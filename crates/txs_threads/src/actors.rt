@@ -1,7 +1,8 @@
 //! The actors of a code before their first turns: one for each thread, and behind them one for each agent.
 
 ghost use Rattle.std.specs.Prelude.{◌≡◌, ◌<◌, ◌≤◌, ◌+◌, ◌++◌, [], length, IfOk, OnOk};
-ghost use Rattle.txs_machine_actor.specs.PlainActor.{Lives, with_agent};
+ghost use Rattle.txs_machine_actor.specs.PlainActor.{Lives};
+ghost use Rattle.txs_value_cell.specs.Agents.{with_agent};
 ghost use Rattle.txs_machine_actor.specs.Turns.{IsNew};
 ghost use Rattle.txs_machine.specs.Agents.{agents_of};
 ghost use Rattle.txs_threads_gather.specs.Callees.{AreCallees};

@@ -5,7 +5,7 @@ use Rattle.txs_value_cell.specs.declared.cell.CellDefinition.{CellDefinition}
 use Rattle.txs_value_data.specs.declared.value.CellId.{CellId}
 use Rattle.txs_value_data.specs.declared.value.CellKind.{CellKind}
 use Rattle.txs_value_data.specs.declared.value.CellKind.TheVariants.{Ref, Atom, Agent}
-use Rattle.txs_machine_actor.specs.PlainActor.{agents_from, with_agent}
+use Rattle.txs_value_cell.specs.Agents.{agents_from, with_agent}
 
 -- one more, or not
 one_more : (k : CellKind) (n : ℕ) (gs : List CellId) → length (with_agent k n gs) ≡ length (with_agent k 0 []) + length gs

@@ -7,8 +7,6 @@ use Rattle.txs_world_protocol.specs.declared.event.Outcome.{Outcome}
 use Rattle.txs_world_protocol.specs.declared.event.Outcome.TheVariants as outcome
 use Rattle.txs_world_protocol.specs.declared.event.Outcome.TheVariants.{JournalFull}
 use Rattle.txs_value_base.specs.Places.{nth}
-use Rattle.txs_value_cell.specs.declared.cell.CellDefinition.{CellDefinition}
-use Rattle.txs_tree_meaning.specs.Thread.{thread_meaning}
 use Rattle.txs_tree_meaning.specs.Tree.{PlainThread, PlainProgram}
 use Rattle.txs_code_meaning.specs.ActorState.{ActorState}
 use Rattle.txs_code_meaning.specs.Machine.{ThreadCode, Configuration, Turned, Unfinished}
@@ -17,7 +15,8 @@ use Rattle.txs_code_meaning.specs.PlainCode.{CodeBody, PlainCode, thread_code, f
 use Rattle.txs_theorem_threads.specs.Follows.{Follows}
 use Rattle.txs_theorem_threads.specs.FollowsAgent.{GoesOn}
 use Rattle.txs_theorem_threads.specs.FollowsAll.{source_of, FollowsAll}
-use Rattle.txs_machine_actor.specs.PlainActor.{PlainActor, agents_from, own_body, code_of}
+use Rattle.txs_machine_actor.specs.PlainActor.{PlainActor, own_body, code_of}
+use Rattle.txs_value_cell.specs.Agents.{agents_from}
 use Rattle.txs_world_book.specs.Book.{has_agent}
 use Rattle.txs_world_book.specs.Book as world
 use Rattle.txs_world.specs.Laws.{DoneIsUndisturbed, RefusedIsUndisturbed}
@@ -28,7 +27,7 @@ use Rattle.txs_theorem_runs.specs.Invariant.{SharedStands}
 use Rattle.txs_theorem_runs.specs.Report.{RunsProgram, ReportExplained, CodesStaged, RunReported}
 use Rattle.txs_theorem_runs.specs.Run.{State, Play, plays}
 use Rattle.txs_theorem_runs.specs.Shared.{untouched}
-use Rattle.txs_theorem_runs.specs.Told.{Entry, exchange_of, AllHold, TraceHolds, trace_of, seen_of}
+use Rattle.txs_theorem_runs.specs.Told.{Entry, exchange_of, AllHold, TraceHolds, trace_of}
 use Rattle.txs_theorem_runs.proofs.Refused.{all_refused}
 use Rattle.txs_theorem_runs.proofs.Whole.{all_undisturbed}
 use Rattle.txs_world_shared.specs.SharedState.{PlainShared, shared_of}
@@ -36,13 +35,13 @@ use Rattle.txs_threads_replay.specs.Goes.{GoesTo}
 use Rattle.txs_threads_replay.specs.Laws.{entries_of, IsRunTo, ReplayRuns}
 use Rattle.txs_threads_replay.specs.Replay.{entry_of, Replays, AreReplayed}
 use Rattle.txs_threads_replay.specs.declared.kept.Kept.{Kept}
-use Rattle.txs_machine.specs.Agents.{agents_of, AgentHasDone, NeverEnds, ExplainsAgent, AreExplainedBy}
+use Rattle.txs_machine.specs.Agents.{agents_of, AgentHasDone, AreExplainedBy}
 use Rattle.txs_machine.specs.RunOver.{RunOver, IsLimited, AskedOn, AtFullBook, books_of, places_of}
-use Rattle.txs_machine.specs.Schedule.{HasDone, ExplainsSo, HasPrintedLeast, ExplainsThread, IsExplainedBy}
-use Rattle.txs_world_protocol.specs.declared.event.Place.{Place}
+use Rattle.txs_machine.specs.RunTheorem.{HasDone, ExplainsThread, NeverEnds, ExplainsAgent}
+use Rattle.txs_machine.specs.Schedule.{IsExplainedBy}
 use Rattle.txs_machine.specs.declared.run_error.RunError.TheVariants as run_error
-use Rattle.txs_machine.specs.declared.schedule.Ran.{Ran}
-use Rattle.txs_machine.proofs.Explaining.{Known, part_explained, part_printed, code_at, length_map, books_stand}
+use Rattle.txs_world_protocol.specs.declared.report.Ran.{Ran}
+use Rattle.txs_machine.proofs.Explaining.{Known, part_explained, part_printed, code_at, length_map, MeansSo, LeastSo, entry_explained, books_stand}
 use Rattle.txs_machine.proofs.Together.{agent_at, agent_acts}
 use Rattle.txs_threads_gather.specs.Adds.{kept_trace}
 use Rattle.txs_threads_gather.specs.Gather.{HasFullBook, IsPlayer, AreWhole, ArePlayed, ArePlayers, IsMadeFor, kept_by, Agrees, IsReportOf, AreReportsOf, AllHaveDone, AllHaveAttended}
@@ -237,12 +236,6 @@ as_many s [] (r ∷ rs) h = absurd h
 as_many s (p ∷ ps) [] h = absurd h
 as_many s (p ∷ ps) (r ∷ rs) h = ap suc (as_many s ps rs h.1)
 
-abbrev MeansSo : PlainProgram → PlainThread → (ℕ → List Event) → Option Outcome → List ℕ → List Place → List CellDefinition → Type 0
-MeansSo p t books o out trace cells = (n : ℕ) × ExplainsSo o out (thread_meaning (source_of p t) n (seen_of cells books (places_of trace)))
-
-abbrev LeastSo : PlainProgram → PlainThread → (ℕ → List Event) → List ℕ → List Place → List CellDefinition → Type 0
-LeastSo p t books out trace cells = HasPrintedLeast p t (seen_of cells books (places_of trace)) out
-
 -- an entry that says what its actor did is explained by each source that the code follows
 thread_explained : Known → (code : PlainCode) (k limit : ℕ) (books : ℕ → List Event) (r : Ran) → HasDone code k limit books r
     → (p : PlainProgram) (t : PlainThread) → p.cells ≡ code.cells → FollowsAll (map (thread_code code) code.threads) p → nth p.threads k ≡ Some t → ExplainsThread p k t books r
@@ -250,14 +243,12 @@ thread_explained by code k limit books r d p t same follows e =
     let a = d.actor in
     let tr = r.trace.items in
     let f : Follows (code_of code k) (source_of p t) = follows.each k (code_of code k) t (code_at code code.threads p.threads k k t follows.as_many e) e in
-    let means : MeansSo p t books a.outcome a.printed tr code.cells = part_explained by code k books tr a d.waits d.over d.traced (source_of p t) same f in
+    let means : MeansSo p t books a.outcome a.printed tr code.cells = part_explained by code k books tr a d.waits d.over d.traced (source_of p t) same f d.undisturbed d.refused in
     let least : LeastSo p t books a.printed tr code.cells = part_printed by code k books tr a d.waits d.over d.traced (source_of p t) same f in
-    record {
-      traced = subst (TraceHolds books k) (sym d.traced) d.over.told.traced;
-      means = subst (λ o. MeansSo p t books o r.printed.items tr p.cells) d.ended
-          (subst (λ out. MeansSo p t books a.outcome out tr p.cells) d.printed (subst (MeansSo p t books a.outcome a.printed tr) (sym same) means));
-      least = subst (λ out. LeastSo p t books out tr p.cells) d.printed (subst (LeastSo p t books a.printed tr) (sym same) least);
-    }
+    entry_explained p k t books r (subst (TraceHolds books k) (sym d.traced) d.over.told.traced)
+    (subst (λ o. MeansSo p t books o r.printed.items tr p.cells) d.ended
+    (subst (λ out. MeansSo p t books a.outcome out tr p.cells) d.printed (subst (MeansSo p t books a.outcome a.printed tr) (sym same) means)))
+    (subst (λ out. LeastSo p t books out tr p.cells) d.printed (subst (LeastSo p t books a.printed tr) (sym same) least))
 
 -- where parts agree, each program that the code follows explains what its threads did
 pub all_explained : Known → (code : PlainCode) (limit : ℕ) (s : PlainShared) (served : ℕ) (ps : List PlainPlayed) (rs : List Ran) → Agrees code limit s served ps → SharedStands s.cells s.threads (shared_of s)

@@ -12,8 +12,8 @@ use Rattle.txs_threads_replay.specs.Replay.{entry_of, AreReplayed}
 use Rattle.txs_threads_replay.specs.declared.kept.Kept.{Kept}
 use Rattle.txs_machine.specs.Agents.{actors_of, AgentHasDone}
 use Rattle.txs_machine.specs.RunOver.{books_of, places_of}
-use Rattle.txs_machine.specs.Schedule.{HasDone}
-use Rattle.txs_machine.specs.declared.schedule.Ran.{Ran}
+use Rattle.txs_machine.specs.RunTheorem.{HasDone}
+use Rattle.txs_world_protocol.specs.declared.report.Ran.{Ran}
 use Rattle.txs_threads_gather.specs.Adds.{kept_trace}
 use Rattle.txs_threads_gather.specs.Played.{PlainPlayed, HasPlayed}
 

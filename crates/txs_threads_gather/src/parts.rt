@@ -2,7 +2,7 @@
 
 ghost use Rattle.std.specs.Prelude.{◌≡◌, ◌≤◌, ◌<◌, ◌↔◌, ◌⊎◌, [], length, take, drop, false, IsTrue, IfOk, IfErr, OnOk, vec_capacity};
 ghost use Rattle.txs_machine.specs.Agents.{agents_of, AreExplainedBy};
-ghost use Rattle.txs_machine_actor.specs.PlainActor.{agents_from, with_agent};
+ghost use Rattle.txs_value_cell.specs.Agents.{agents_from, with_agent};
 ghost use Rattle.txs_machine.specs.RunOver.{places_of};
 ghost use Rattle.txs_machine.specs.Schedule.{IsExplainedBy};
 ghost use Rattle.txs_threads_gather.specs.Adds.{adds_event, kept_trace, IsNotedBehind};
@@ -15,7 +15,7 @@ use crate::played::Played;
 use std::alloc::{AllocError, Global};
 use txs_code_encode::same_code;
 use txs_code_meaning::Verified;
-use txs_machine::{Place, Ran, Report, RunError, actors_explained};
+use txs_machine::{Entries, Place, Ran, RunError, actors_explained};
 use txs_theorem_runs::law::{every_report_is_explained, told_fits, typed_threads_are_staged};
 use txs_theorem_threads::replies_fit;
 use txs_threads_replay::law::replay_runs;
@@ -32,7 +32,7 @@ use txs_world_shared::SharedState;
 #[derive(Drop)]
 pub struct Gathered {
     pub shared: SharedState,
-    pub report: Report,
+    pub report: Entries,
 }
 
 /// Whether an actor that was stopped by a full book was stopped where that is full.
@@ -217,12 +217,12 @@ fn report_parts(
     shared: &SharedState,
     played: &[Played<'_>],
     threads: usize,
-) -> Result<Report, AllocError>
+) -> Result<Entries, AllocError>
     requires { threads ≤ length played.now }
     ensures threads { IfOk result (λ r. AreReportsOf shared.now (take threads played.now) r.threads.items) }
     ensures agents { IfOk result (λ r. AreReportsOf shared.now (drop threads played.now) r.agents.items) }
 {
-    let mut report = Report {
+    let mut report = Entries {
         threads: Vec::new(alloc),
         agents: Vec::new(alloc),
     };
@@ -308,7 +308,7 @@ fn compare(
     shared: &SharedState,
     served: u64,
     played: Vec<Played<'_>>,
-) -> Result<Report, RunError>
+) -> Result<Entries, RunError>
     ensures agrees { IfOk result (λ r. Agrees code.now max_steps shared.now served played.entry.items) }
     ensures played { IfOk result (λ r. ArePlayed played.entry.items) }
     ensures threads { IfOk result (λ r. AreReportsOf shared.now (take shared.now.threads played.entry.items) r.threads.items) }

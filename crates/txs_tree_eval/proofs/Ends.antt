@@ -1,24 +1,28 @@
 -- What a thread means, by what its body means.
-use Rattle.std.proofs.Common.{◌≡◌, ℕ, zero, suc, ◌<◌, true, false, List, [], ◌∷◌, length, get_or, Option, Some, None, Result, Ok, Err, IfOk, IfSome, sym, ap, ◌∙◌, subst, subst₂, arith}
+use Rattle.std.proofs.Common.{◌≡◌, ℕ, zero, suc, ◌<◌, ◌-◌, true, false, List, [], ◌∷◌, ◌++◌, length, map, get_or, Option, Some, None, Result, Ok, Err, IfOk, IfSome, sym, ap, ◌∙◌, subst, subst₂, ⊎_elim, arith}
 use Rattle.std.proofs.lemmas.Bool.{false≢true}
 use Rattle.txs_value_base.specs.Places.{nth}
 use Rattle.txs_value_cell.specs.declared.cell.CellDefinition.{CellDefinition}
 use Rattle.txs_value_data.specs.declared.value.Value.{Value}
+use Rattle.txs_value_data.specs.declared.value.Value.TheVariants.{Nil}
 use Rattle.txs_world_protocol.specs.SeenEvent.{SeenEvent}
+use Rattle.txs_world_protocol.specs.declared.event.EventKind.TheVariants.{Broke}
 use Rattle.txs_world_protocol.specs.declared.event.Outcome.{Outcome}
-use Rattle.txs_tree_eval.specs.Told.{Account, Accounts, Concluded, Tells, TellsTx, Waitless, thread_source, source_in}
+use Rattle.txs_tree_eval.specs.Told.{Account, Accounts, Concluded, Tells, TellsOf, TellsWrong, lacking, told_tx, TellsTx, Waitless, thread_source, source_in}
 use Rattle.txs_tree_eval_node.specs.Evaluated.{Yields, means, around_it, forms_on, thread_state, idle}
 use Rattle.txs_tree_eval_transaction.specs.Worked.{Gives, Stops, tx_state}
 use Rattle.txs_tree_meaning.specs.Known.{known}
-use Rattle.txs_tree_meaning.specs.Meaning.{Completion, Completes, Faults, OutOfTurns, closed, eval, call_at}
+use Rattle.txs_tree_meaning.specs.Meaning.{Completion, Completes, Recurs, Faults, Retries, Waits, OutOfTurns, Invalid, closed, eval, call_at}
+use Rattle.txs_tree_meaning.specs.Right.{on_right, eats_right, right_meaning}
 use Rattle.txs_tree_eval_node.specs.Setting.{Setting, callable, zone_in}
 use Rattle.txs_tree_meaning.specs.Sound.{Sound, SoundTree, in_thread, in_dosync}
-use Rattle.txs_tree_meaning.specs.Thread.{ThreadState, on_events, thread_meaning}
+use Rattle.txs_tree_meaning.specs.Thread.{ThreadState, Surroundings, thread_meaning}
 use Rattle.txs_tree_meaning.specs.Transaction.{TxState, tx_start, tx_meaning}
-use Rattle.txs_tree_meaning.specs.Tree.{Tree}
+use Rattle.txs_tree_meaning.specs.Tree.{Tree, ThreadSource}
 use Rattle.txs_tree_meaning.specs.View.{Parts, tree_of, thread_of, threads_of, functions_of, program_of}
 use Rattle.txs_tree_eval_transaction.specs.Views.{PlainView, world_of}
 use Rattle.txs_tree_eval.specs.declared.meaning.Needs.{Needs}
+use Rattle.txs_tree_eval.specs.declared.meaning.Needs.TheVariants.{Wrong as NotAllowed}
 use Rattle.txs_tree_eval.specs.declared.meaning.ThreadMeaning.{ThreadMeaning}
 use Rattle.txs_tree_meaning.specs.declared.node.Function.{Function}
 use Rattle.txs_tree_meaning.specs.declared.node.Thread.{Thread}
@@ -32,6 +36,9 @@ use Rattle.txs_value_base.specs.declared.fault.Fault as fault
 use Rattle.txs_tree_eval_node.proofs.Called.{sound_everywhere}
 use Rattle.txs_tree_meaning.proofs.Callable.{length-functions_of}
 use Rattle.txs_tree_eval_node.proofs.Ending.{closed_gives}
+use Rattle.txs_tree_eval_node.proofs.Evaluation.{stops_again}
+use Rattle.txs_tree_eval_node.proofs.Right.{Steady, Three, at, thread_goes}
+use Rattle.txs_tree_eval.proofs.Beginning.{Left, Before, same_wait, either_way, waits_behind, goes_right}
 use Rattle.txs_tree_meaning.proofs.Soundness.{SoundThread-at}
 
 thread-at : (ts : List Thread) (k : ℕ) (t : Thread) → k < length ts → t ≡ get_or ts k t → nth (threads_of ts) k ≡ Some (thread_of t)
@@ -46,15 +53,71 @@ whole cells fs n o = record { cells = cells; functions = fs; depth = length fs; 
 pub whole_of : (setting : Setting) (cs ds : List CellDefinition) (fs gs : List Function) (n : ℕ) (o : Option PlainView) → setting ≡ whole cs fs n o → cs ≡ ds → fs ≡ gs → setting ≡ whole ds gs n o
 whole_of setting cs ds fs gs n o is same_cells same = is ∙ ap (λ l. whole l fs n o) same_cells ∙ ap (λ l. whole ds l n o) same
 
+-- a place that no recur leaves
+closed_given : (r : Result Value ThreadStop) (s : ThreadState) (c : Completion ThreadState Value) → Gives false r s c → Gives false r s (closed c)
+closed_given (Ok v) s c h = ap closed h
+closed_given (Err y) s c h = stops_again false y s c (λ vs t. Invalid) h
+
+abbrev IsWaiting : Completion ThreadState Value → Type 0
+IsWaiting (Completes v s) = ⊥
+IsWaiting (Recurs vs s) = ⊥
+IsWaiting (Faults f s) = ⊥
+IsWaiting (Retries s) = ⊥
+IsWaiting (Waits s) = Unit {0}
+IsWaiting (OutOfTurns s) = ⊥
+IsWaiting Invalid = ⊥
+
 -- what is told of an end is what the meaning says
-tells_end : (r : Result Value ThreadStop) (c : Completion ThreadState Value) (s : ThreadState) (m : ThreadMeaning) (k : ℕ) (needs : Needs) (outcome : Option Outcome)
-    → Gives false r s c → Concluded r needs outcome → Account m k s needs outcome → Tells m k (closed c)
-tells_end (Ok v) c s m k needs outcome h e a = subst (λ x. Tells m k (closed x)) (sym h) (subst₂ (λ n o. Account m k s n o) e.0 e.1 a)
-tells_end (Err (Fault f)) c s m k needs outcome h e a = subst (λ x. Tells m k (closed x)) (sym h) (subst₂ (λ n o. Account m k s n o) e.0 e.1 a)
-tells_end (Err Event) c s m k needs outcome h e a = subst (λ x. Tells m k (closed x)) (sym h.1) (subst₂ (λ n o. Account m k s n o) e.0 e.1 a)
-tells_end (Err Wrong) c s m k needs outcome h e a = subst (λ x. Tells m k (closed x)) (sym h.1) (a.needs ∙ e.0, a.outcome ∙ e.1)
-tells_end (Err Turns) c s m k needs outcome h e a = subst (λ x. Tells m k (closed x)) (sym h) (subst₂ (λ n o. Account m k s n o) e.0 e.1 a)
-tells_end (Err Memory) c s m k needs outcome h e a = absurd e
+module _ (m : ThreadMeaning) (k right : ℕ) (before : Completion ThreadState Value) (f : SeenEvent) (gs : List SeenEvent) (c x y : Completion ThreadState Value) (three : Three f gs c x y) (s : ThreadState) where
+  -- where the meaning is that of the thread that waits before what it doesn't allow
+  tells_same : (r : Result Value ThreadStop) (needs : Needs) (outcome : Option Outcome) → c ≡ x → Gives false r s x → Concluded r (length s.todo) needs outcome → Account m (k - length s.todo) s needs outcome → TellsOf m k right before c
+  tells_same (Ok v) needs outcome same h e a = subst (λ d. TellsOf m k right before d) (sym (same ∙ h)) (subst₂ (λ n o. Account m (k - length s.todo) s n o) e.0 e.1 a)
+  tells_same (Err (Fault g)) needs outcome same h e a = subst (λ d. TellsOf m k right before d) (sym (same ∙ h)) (subst₂ (λ n o. Account m (k - length s.todo) s n o) e.0 e.1 a)
+  tells_same (Err Event) needs outcome same h e a =
+      let dry : s.todo ≡ [] = waits_behind f gs c x y s three (same ∙ h.1) in
+      subst (λ d. TellsOf m k right before d) (sym (same ∙ h.1)) (subst₂ (λ n o. Account m (k - length s.todo) s n o) (e.0 ∙ ap (λ l. lacking (length l)) dry) e.1 a)
+  tells_same (Err Wrong) needs outcome same h e a =
+      let dry : s.todo ≡ [] = waits_behind f gs c x y s three (same ∙ h.1) in
+      subst (λ d. TellsOf m k right before d) (sym (same ∙ h.1)) (subst₂ (λ n o. Account m (k - length s.todo) s n o) (e.0 ∙ ap (λ l. lacking (length l)) dry) e.1 a)
+  tells_same (Err Turns) needs outcome same h e a = subst (λ d. TellsOf m k right before d) (sym (same ∙ h)) (subst₂ (λ n o. Account m (k - length s.todo) s n o) e.0 e.1 a)
+  tells_same (Err Memory) needs outcome same h e a = absurd e
+
+  -- how many events are right, and what it means on them
+  abbrev pub Right : Type 0
+  Right = (right ≡ k - length s.todo) × (t : ThreadState) × (before ≡ Waits t) × (s.printed ≡ t.printed) × (s.txs ≡ t.txs)
+
+  -- where it waits before an event that it doesn't allow
+  tells_left : (needs : Needs) (outcome : Option Outcome) → c ≡ Invalid → Left s → Right → needs ≡ lacking (length s.todo) → outcome ≡ None → Account m (k - length s.todo) s needs outcome → TellsOf m k right before c
+  tells_left needs outcome none left told lack end a =
+      let some : lacking (length s.todo) ≡ NotAllowed = ap (λ l. lacking (length l)) left.2 in
+      let account : Account m right told.1 NotAllowed None = record {
+        printed = a.printed ∙ told.3;
+        eaten = a.eaten ∙ sym told.0;
+        txs = a.txs ∙ ap (λ l. map told_tx l) told.4;
+        needs = a.needs ∙ lack ∙ some;
+        outcome = a.outcome ∙ end;
+      } in
+      subst (λ d. TellsOf m k right before d) (sym none) (subst (λ d. TellsWrong m right d) (sym told.2) account)
+
+  tells_stopped : (r : Result Value ThreadStop) (needs : Needs) (outcome : Option Outcome) → c ≡ Invalid → Before x → (x ≡ Waits s → Right) → Gives false r s x → Concluded r (length s.todo) needs outcome → Account m (k - length s.todo) s needs outcome → TellsOf m k right before c
+  tells_stopped (Ok v) needs outcome none stop told h e a = absurd (subst IsWaiting (sym stop.1 ∙ h) tt)
+  tells_stopped (Err (Fault g)) needs outcome none stop told h e a = absurd (subst IsWaiting (sym stop.1 ∙ h) tt)
+  tells_stopped (Err Event) needs outcome none stop told h e a =
+      let here : s ≡ stop.0 = same_wait s stop.0 (sym h.1 ∙ stop.1) in
+      tells_left needs outcome none (subst (λ t. Left t) (sym here) stop.2) (told h.1) e.0 e.1 a
+  tells_stopped (Err Wrong) needs outcome none stop told h e a =
+      let here : s ≡ stop.0 = same_wait s stop.0 (sym h.1 ∙ stop.1) in
+      tells_left needs outcome none (subst (λ t. Left t) (sym here) stop.2) (told h.1) e.0 e.1 a
+  tells_stopped (Err Turns) needs outcome none stop told h e a = absurd (subst IsWaiting (sym stop.1 ∙ h) tt)
+  tells_stopped (Err Memory) needs outcome none stop told h e a = absurd e
+
+  tells_end : (r : Result Value ThreadStop) (needs : Needs) (outcome : Option Outcome) → (c ≡ Invalid → x ≡ Waits s → Right) → Gives false r s x → Concluded r (length s.todo) needs outcome → Account m (k - length s.todo) s needs outcome → TellsOf m k right before c
+  tells_end r needs outcome told h e a =
+      ⊎_elim (λ same. tells_same r needs outcome same h e a) (λ stop. tells_stopped r needs outcome stop.0 stop.1 (told stop.0) h e a) (either_way f gs c x y three)
+
+-- some event
+abbrev any_event : SeenEvent
+any_event = record { book = 0; kind = Broke 0; R = λ k. Nil; Q = λ k. Nil; C = λ k. Nil }
 
 -- a read of the lent threads, as a read of the program's
 module _ (us : List Thread) (parts : Parts) (k : ℕ) (r : Thread) (same : us ≡ parts.threads) (lt : k < length parts.threads) (is : r ≡ get_or us k r) (n : ℕ) (setting : Setting) (same_setting : setting ≡ whole parts.cells parts.functions n None) where
@@ -70,32 +133,59 @@ module _ (us : List Thread) (parts : Parts) (k : ℕ) (r : Thread) (same : us �
       let everywhere = sound_everywhere parts.cells parts.functions n None body in_thread 0 None sound in
       subst (λ d. SoundTree (callable setting) (zone_in setting) d None body) (sym none) (subst (λ x. SoundTree (callable x) (zone_in x) 0 None body) (sym same_setting) everywhere)
 
-  -- the body on these events, where calls go so deep
+  abbrev x : Surroundings
+  x = around_it (whole parts.cells parts.functions n None)
+
+  -- the body on these events, where calls go so deep and the thread waits before what it doesn't allow
   abbrev body_on : List SeenEvent → ℕ → Completion ThreadState Value
-  body_on es d =
-      let x = around_it (whole parts.cells parts.functions n None) in
-      eval (on_events x d) (call_at (on_events x) n (functions_of parts.functions) d) n false body [] (idle es)
+  body_on es d = eval (on_right x d) (call_at (on_right x) n (functions_of parts.functions) d) n false body [] (idle es)
 
-  pub told_thread : (m : ThreadMeaning) (j : ℕ) (es : List SeenEvent) (env : List Value) (st st1 : State) (end : Result Value ThreadStop) (needs : Needs) (outcome : Option Outcome) → env ≡ [] → thread_state st.thread ≡ idle es
-      → Yields setting end st1 (means setting body env st) → Concluded end needs outcome → Account m j (thread_state st1.thread) needs outcome → IfSome (thread_source (program_of parts) k) (λ p. Tells m j (thread_meaning p n es))
-  told_thread m j es env st st1 end needs outcome no_locals fresh h e a =
-      let here : Yields (whole parts.cells parts.functions n None) end st1 (means (whole parts.cells parts.functions n None) body env st) = subst (λ y. Yields y end st1 (means y body env st)) same_setting h in
-      let x = around_it (whole parts.cells parts.functions n None) in
-      let from : List Value → ThreadState → Completion ThreadState Value = λ l t. eval (on_events x (length parts.functions)) (call_at (on_events x) n (functions_of parts.functions) (length parts.functions)) n false body l t in
-      let begun : Gives false end (thread_state st1.thread) (body_on es (length parts.functions)) = subst₂ (λ l t. Gives false end (thread_state st1.thread) (from l t)) no_locals fresh here in
-      let told : Tells m j (closed (body_on es (length parts.functions))) = tells_end end (body_on es (length parts.functions)) (thread_state st1.thread) m j needs outcome begun e a in
-      let deep : Tells m j (closed (body_on es (length (functions_of parts.functions)))) = subst (λ d. Tells m j (closed (body_on es d))) (sym (length-functions_of parts.functions)) told in
-      subst (λ o. IfSome (source_in (program_of parts) o) (λ p. Tells m j (thread_meaning p n es))) (sym (thread-at parts.threads k (get_or us k r) lt at_place)) deep
+  -- the source of the thread
+  abbrev source : ThreadSource
+  source = record { functions = functions_of parts.functions; cells = parts.cells; main = body }
 
-  pub told_account : {E : Type 0} (a : Result ThreadMeaning E) (j : ℕ) (es : List SeenEvent) (env : List Value) (st st1 : State) (end : Result Value ThreadStop) → env ≡ [] → thread_state st.thread ≡ idle es
-      → Yields setting end st1 (means setting body env st) → IfOk a (λ m. Accounts m j (thread_state st1.thread) end) → IfOk a (λ m. IfSome (thread_source (program_of parts) k) (λ p. Tells m j (thread_meaning p n es)))
-  told_account (Ok m) j es env st st1 end no_locals fresh h a = told_thread m j es env st st1 end a.0 a.1 no_locals fresh h a.2 a.3
-  told_account (Err x) j es env st st1 end no_locals fresh h a = a
+  -- how deep calls may go
+  abbrev deep : ℕ
+  deep = length (functions_of parts.functions)
+
+  module _ (sound : Sound (program_of parts)) where
+    sound_main : SoundTree (callable (at any_event [] parts.cells parts.functions n sound.functions deep)) in_thread 0 None body
+    sound_main =
+        let main : SoundTree (known (functions_of parts.functions)) in_thread 0 None body = (SoundThread-at (known (functions_of parts.functions)) parts.threads k (get_or us k r) sound.threads lt at_place).0 in
+        let everywhere = sound_everywhere parts.cells parts.functions n None body in_thread 0 None main in
+        subst (λ d. SoundTree (callable (at any_event [] parts.cells parts.functions n sound.functions d)) in_thread 0 None body) (sym (length-functions_of parts.functions)) everywhere
+
+    three : (f : SeenEvent) (gs es : List SeenEvent) → Three f gs (thread_meaning source n es) (closed (body_on es deep)) (closed (body_on (es ++ f ∷ gs) deep))
+    three f gs es = (thread_goes f gs parts.cells parts.functions n sound.functions deep body sound_main).0 (idle es)
+
+    steady : (es : List SeenEvent) → Steady (length es) (closed (body_on es deep))
+    steady es = (thread_goes any_event [] parts.cells parts.functions n sound.functions deep body sound_main).1 (idle es)
+
+    pub told_thread : (m : ThreadMeaning) (j : ℕ) (es : List SeenEvent) (env : List Value) (st st1 : State) (end : Result Value ThreadStop) (needs : Needs) (outcome : Option Outcome) → j ≡ length es → env ≡ [] → thread_state st.thread ≡ idle es
+        → Yields setting end st1 (means setting body env st) → Concluded end (length (thread_state st1.thread).todo) needs outcome → Account m (j - length (thread_state st1.thread).todo) (thread_state st1.thread) needs outcome
+        → IfSome (thread_source (program_of parts) k) (λ p. Tells m p n es)
+    told_thread m j es env st st1 end needs outcome many no_locals fresh h e a =
+        let s = thread_state st1.thread in
+        let here : Yields (whole parts.cells parts.functions n None) end st1 (means (whole parts.cells parts.functions n None) body env st) = subst (λ y. Yields y end st1 (means y body env st)) same_setting h in
+        let from : List Value → ThreadState → Completion ThreadState Value = λ l t. eval (on_right x (length parts.functions)) (call_at (on_right x) n (functions_of parts.functions) (length parts.functions)) n false body l t in
+        let begun : Gives false end s (body_on es (length parts.functions)) = subst₂ (λ l t. Gives false end s (from l t)) no_locals fresh here in
+        let whole_of_it : Gives false end s (closed (body_on es deep)) = subst (λ d. Gives false end s (closed (body_on es d))) (sym (length-functions_of parts.functions)) (closed_given end s (body_on es (length parts.functions)) begun) in
+        let account : Account m (length es - length s.todo) s needs outcome = subst (λ i. Account m (i - length s.todo) s needs outcome) many a in
+        let told : Tells m source n es = tells_end m (length es) (eats_right source n [] es) (right_meaning source n es) any_event [] (thread_meaning source n es) (closed (body_on es deep)) (closed (body_on (es ++ any_event ∷ []) deep)) (three any_event [] es) s end needs outcome
+        (λ none waits. goes_right source n (λ l. closed (body_on l deep)) three steady any_event es s none waits) whole_of_it e account in
+        subst (λ o. IfSome (source_in (program_of parts) o) (λ p. Tells m p n es)) (sym (thread-at parts.threads k (get_or us k r) lt at_place)) told
+
+    pub told_account : {E : Type 0} (a : Result ThreadMeaning E) (j : ℕ) (es : List SeenEvent) (env : List Value) (st st1 : State) (end : Result Value ThreadStop) → j ≡ length es → env ≡ [] → thread_state st.thread ≡ idle es
+        → Yields setting end st1 (means setting body env st) → IfOk a (λ m. Accounts m j (thread_state st1.thread) end) → IfOk a (λ m. IfSome (thread_source (program_of parts) k) (λ p. Tells m p n es))
+    told_account (Ok m) j es env st st1 end many no_locals fresh h a = told_thread m j es env st st1 end a.0 a.1 many no_locals fresh h a.2 a.3
+    told_account (Err z) j es env st st1 end many no_locals fresh h a = a
 
 -- an account of what was concluded
-pub accounted : {E : Type 0} (a : Result ThreadMeaning E) (k : ℕ) (s : ThreadState) (end : Result Value ThreadStop) (needs : Needs) (outcome : Option Outcome) → Concluded end needs outcome → IfOk a (λ m. Account m k s needs outcome) → IfOk a (λ m. Accounts m k s end)
-accounted (Ok m) k s end needs outcome e h = (needs, outcome, e, h)
-accounted (Err x) k s end needs outcome e h = h
+pub accounted : {E : Type 0} (a : Result ThreadMeaning E) (k : ℕ) (s : ThreadState) (end : Result Value ThreadStop) (needs : Needs) (outcome : Option Outcome) (left eaten : ℕ) → left ≡ length s.todo → eaten ≡ k - left
+    → Concluded end left needs outcome → IfOk a (λ m. Account m eaten s needs outcome) → IfOk a (λ m. Accounts m k s end)
+accounted (Ok m) k s end needs outcome left eaten few ate e h =
+    (needs, outcome, subst (λ l. Concluded end l needs outcome) few e, subst (λ i. Account m i s needs outcome) (ate ∙ ap (λ l. k - l) few) h)
+accounted (Err x) k s end needs outcome left eaten few ate e h = h
 
 -- ---- the body of a transaction
 

@@ -12,6 +12,6 @@ pub told_each : (rs : List Transacted) → map told_run rs ≡ map told_tx (map 
 told_each [] = refl
 told_each (r ∷ rs) = ap (λ l. told_run r ∷ l) (told_each rs)
 
--- how many events were eaten
-pub eaten_of : (es : List Seen) (i n left eaten : ℕ) → left ≡ length es - i → eaten ≡ n - left → eaten ≡ n - length (drop i (seen_events es))
-eaten_of es i n left eaten l e = e ∙ ap (λ k. n - k) (l ∙ sym (length-drop i (seen_events es) ∙ ap (λ k. k - i) (length-seen es)))
+-- how many events are left
+pub left_of : (es : List Seen) (i left : ℕ) → left ≡ length es - i → left ≡ length (drop i (seen_events es))
+left_of es i left l = l ∙ sym (length-drop i (seen_events es) ∙ ap (λ k. k - i) (length-seen es))

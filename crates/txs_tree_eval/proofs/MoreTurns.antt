@@ -145,10 +145,10 @@ module _ (n m : ℕ) (le : n ≤ m) where
   calls_last fs zero f vs s = refl
   calls_last fs (suc b) f vs s =
       bind_lasts (give (nth fs f) s) (give (nth fs f) s)
-      (λ fun t. turns n fun.parameters (λ ws u. eval no_effects (pure_calls n fs b) n false fun.body ws u) vs t)
-      (λ fun t. turns m fun.parameters (λ ws u. eval no_effects (pure_calls m fs b) m false fun.body ws u) vs t)
+      (λ fun t. turns (suc n) fun.parameters (λ ws u. eval no_effects (pure_calls n fs b) n false fun.body ws u) vs t)
+      (λ fun t. turns (suc m) fun.parameters (λ ws u. eval no_effects (pure_calls m fs b) m false fun.body ws u) vs t)
       (lasts-same (give (nth fs f) s))
-      (λ fun t. turns_lasts n m fun.parameters (λ ws u. eval no_effects (pure_calls n fs b) n false fun.body ws u) (λ ws u. eval no_effects (pure_calls m fs b) m false fun.body ws u) le
+      (λ fun t. turns_lasts (suc n) (suc m) fun.parameters (λ ws u. eval no_effects (pure_calls n fs b) n false fun.body ws u) (λ ws u. eval no_effects (pure_calls m fs b) m false fun.body ws u) (omega (arith, le))
       (λ ws u. tree_lasts (pure_calls n fs b) (pure_calls m fs b) (λ g us x. calls_last fs b g us x) fun.body ws u) vs t)
 
   pub meaning_lasts : (fs : List PlainFunction) (callee : Callee) (vs : List Value) → Lasts (pure_meaning n fs callee vs) (pure_meaning m fs callee vs)

@@ -1,9 +1,11 @@
 -- What is told of a meaning: of a thread, of a transaction, of a pure callee.
-use Rattle.std.specs.Prelude.{◌≡◌, ◌-◌, ℕ, map, length, Option, Some, None, Result, Ok, Err, ⊤}
+use Rattle.std.specs.Prelude.{◌≡◌, ◌-◌, ℕ, zero, suc, List, [], map, length, Option, Some, None, Result, Ok, Err, ⊤}
+use Rattle.txs_world_protocol.specs.SeenEvent.{SeenEvent}
 use Rattle.txs_world_protocol.specs.declared.event.Outcome.{Outcome}
 use Rattle.txs_world_protocol.specs.declared.event.Outcome.TheVariants.{Done, Failed}
 use Rattle.txs_tree_meaning.specs.Meaning.{Completion, Completes, Recurs, Faults, Retries, Waits, OutOfTurns, Invalid}
-use Rattle.txs_tree_meaning.specs.Thread.{TxRun, ThreadState}
+use Rattle.txs_tree_meaning.specs.Right.{eats_right, right_meaning}
+use Rattle.txs_tree_meaning.specs.Thread.{TxRun, ThreadState, thread_meaning}
 use Rattle.txs_tree_meaning.specs.Transaction.{TxState}
 use Rattle.txs_tree_meaning.specs.Tree.{PlainProgram, PlainThread, ThreadSource}
 use Rattle.txs_tree_eval.specs.declared.meaning.Needs.{Needs}
@@ -32,37 +34,51 @@ abbrev pub told_tx : TxRun → TxMeaning
 told_tx x = record { result = Ok x.result; done = x.state.done; reads = x.state.reads; used = x.state.used }
 
 -- what was printed, how many events were eaten, the transactions, what is needed, and how the thread ended
-pub record Account (m : ThreadMeaning) (events : ℕ) (s : ThreadState) (lack : Needs) (end : Option Outcome) : Type 0 where
+pub record Account (m : ThreadMeaning) (ate : ℕ) (s : ThreadState) (lack : Needs) (end : Option Outcome) : Type 0 where
   pub printed : m.printed ≡ s.printed
-  pub eaten : m.eaten ≡ events - length s.todo
+  pub eaten : m.eaten ≡ ate
   pub txs : m.txs ≡ map told_tx s.txs
   pub needs : m.needs ≡ lack
   pub outcome : m.outcome ≡ end
 
--- what a thread needs whose body ends so, and its outcome
-abbrev pub Concluded : Result Value ThreadStop → Needs → Option Outcome → Type 0
-Concluded (Ok v) needs end = (needs ≡ Nothing) × (end ≡ Some Done)
-Concluded (Err (Fault f)) needs end = (needs ≡ Nothing) × (end ≡ Some (Failed f))
-Concluded (Err NoEvent) needs end = (needs ≡ Event) × (end ≡ None)
-Concluded (Err OtherEvent) needs end = (needs ≡ Wrong) × (end ≡ None)
-Concluded (Err NoTurns) needs end = (needs ≡ Turns) × (end ≡ None)
-Concluded (Err Memory) needs end = ⊥
+-- what a thread lacks that waits where so many events are left
+abbrev pub lacking : ℕ → Needs
+lacking zero = Event
+lacking (suc k) = Wrong
 
--- the same of a thread whose body ends so
+-- what a thread needs whose body ends so where so many events are left, and its outcome
+abbrev pub Concluded : Result Value ThreadStop → ℕ → Needs → Option Outcome → Type 0
+Concluded (Ok v) left needs end = (needs ≡ Nothing) × (end ≡ Some Done)
+Concluded (Err (Fault f)) left needs end = (needs ≡ Nothing) × (end ≡ Some (Failed f))
+Concluded (Err NoEvent) left needs end = (needs ≡ lacking left) × (end ≡ None)
+Concluded (Err OtherEvent) left needs end = (needs ≡ lacking left) × (end ≡ None)
+Concluded (Err NoTurns) left needs end = (needs ≡ Turns) × (end ≡ None)
+Concluded (Err Memory) left needs end = ⊥
+
+-- the same of a thread on so many events whose body ends so
 abbrev pub Accounts : ThreadMeaning → ℕ → ThreadState → Result Value ThreadStop → Type 0
-Accounts m events s end = (lack : Needs) × (outcome : Option Outcome) × Concluded end lack outcome × Account m events s lack outcome
+Accounts m events s end = (lack : Needs) × (outcome : Option Outcome) × Concluded end (length s.todo) lack outcome × Account m (events - length s.todo) s lack outcome
 
--- An evaluation on so many events tells how the meaning ends, with the bytes that are printed, the events that are eaten and the
--- transactions until then. A meaning at which the thread doesn't end says what it needs. No thread ends in a recur or runs
--- again as a whole.
-abbrev pub Tells : ThreadMeaning → ℕ → Completion ThreadState Value → Type 0
-Tells m k (Completes v s) = Account m k s Nothing (Some Done)
-Tells m k (Recurs vs s) = ⊥
-Tells m k (Faults f s) = Account m k s Nothing (Some (Failed f))
-Tells m k (Retries s) = ⊥
-Tells m k (Waits s) = Account m k s Event None
-Tells m k (OutOfTurns s) = Account m k s Turns None
-Tells m k Invalid = (m.needs ≡ Wrong) × (m.outcome ≡ None)
+-- the answer where a thread allows so many events, on which it means this, and not the next one: it waits there
+abbrev pub TellsWrong : ThreadMeaning → ℕ → Completion ThreadState Value → Type 0
+TellsWrong m right (Waits s) = Account m right s Wrong None
+TellsWrong m right _ = ⊥
+
+-- The answer on k events says how the meaning ends, with the bytes that are printed, the events that are eaten and the transactions
+-- until then. A meaning at which the thread doesn't end says what it needs. If there is none, the answer is about the events before the
+-- first that the thread doesn't allow: how many they are, and what it means on them. No thread ends in a recur or runs again as a whole.
+abbrev pub TellsOf : ThreadMeaning → ℕ → ℕ → Completion ThreadState Value → Completion ThreadState Value → Type 0
+TellsOf m k right before (Completes v s) = Account m (k - length s.todo) s Nothing (Some Done)
+TellsOf m k right before (Recurs vs s) = ⊥
+TellsOf m k right before (Faults f s) = Account m (k - length s.todo) s Nothing (Some (Failed f))
+TellsOf m k right before (Retries s) = ⊥
+TellsOf m k right before (Waits s) = Account m (k - length s.todo) s Event None
+TellsOf m k right before (OutOfTurns s) = Account m (k - length s.todo) s Turns None
+TellsOf m k right before Invalid = TellsWrong m right before
+
+-- the answer for a thread on these events, with at most n turns of each loop
+abbrev pub Tells : ThreadMeaning → ThreadSource → ℕ → List SeenEvent → Type 0
+Tells m p n es = TellsOf m (length es) (eats_right p n [] es) (right_meaning p n es) (thread_meaning p n es)
 
 -- what is told of a transaction that was committed or refused
 abbrev pub told_run : Transacted → TxMeaning

@@ -1,9 +1,8 @@
 //! What a thread means.
 
-ghost use Rattle.std.specs.Prelude.{◌≡◌, ◌<◌, length, map, IfOk, IfSome};
-ghost use Rattle.txs_tree_eval.specs.Told.{Account, Accounts, Concluded, Tells, thread_source, told_run};
+ghost use Rattle.std.specs.Prelude.{◌≡◌, ◌<◌, ◌-◌, length, map, IfOk, IfSome};
+ghost use Rattle.txs_tree_eval.specs.Told.{Account, Accounts, Concluded, Tells, lacking, thread_source, told_run};
 ghost use Rattle.txs_tree_eval_node.specs.Evaluated.{thread_state};
-ghost use Rattle.txs_tree_meaning.specs.Thread.{thread_meaning};
 ghost use Rattle.txs_tree_meaning.specs.View.{program_of};
 ghost use Rattle.txs_tree_eval_node.specs.Events.{seen_events};
 
@@ -25,13 +24,13 @@ pub enum Needs {
     Event,
     /// More turns of a loop.
     Turns,
-    /// The events aren't those of the thread.
+    /// The next event isn't one that the thread allows.
     Wrong,
 }
 
 /// What a thread means on some events: the bytes that it prints, what it needs, its outcome, how many events it ate, and what
 /// is told of each transaction whose commit or refusal it ate, in order. The outcome is there where it needs nothing: Done
-/// where its body has a value, Failed where it faults.
+/// where its body has a value, Failed where it faults. Before an event that the thread doesn't allow it stays as it is.
 #[derive(Drop)]
 pub struct ThreadMeaning {
     pub printed: Listed<u8>,
@@ -59,18 +58,16 @@ fn told(alloc: Global, runs: Vec<Transacted<'_>>) -> Result<Listed<TxMeaning>, A
     Ok(Listed::from_vec(txs))
 }
 
-/// The meaning of a thread on so many events that needs this or ended so.
+/// The meaning of a thread that ate so many events, and needs this or ended so.
 fn account(
     alloc: Global,
-    events: usize,
+    eaten: usize,
     thread: Progress<'_>,
     needs: Needs,
     outcome: Option<Outcome>,
 ) -> Result<ThreadMeaning, AllocError>
-    ensures { IfOk result (λ m. Account m events (thread_state thread.entry) needs outcome) }
+    ensures { IfOk result (λ m. Account m eaten (thread_state thread.entry) needs outcome) }
 {
-    let left = thread.events.len().saturating_sub(thread.eaten);
-    let eaten = events.saturating_sub(left);
     let txs = told(alloc, thread.txs)?;
     Ok(ThreadMeaning {
         printed: Listed::from_vec(thread.printed),
@@ -81,15 +78,27 @@ fn account(
     })
 }
 
-/// What a thread needs whose body ends so, and its outcome.
-fn conclude(end: Result<Value, ThreadStop>) -> Result<(Needs, Option<Outcome>), AllocError>
-    ensures { IfOk result (λ r. Concluded end r.0 r.1) }
+/// What a thread lacks that waits where so many events are left.
+fn lacking(left: usize) -> Needs
+    ensures { result ≡ lacking left }
+{
+    if left == 0 {
+        return Needs::Event;
+    }
+    Needs::Wrong
+}
+
+/// What a thread needs whose body ends so where so many events are left, and its outcome.
+fn conclude(
+    end: Result<Value, ThreadStop>,
+    left: usize,
+) -> Result<(Needs, Option<Outcome>), AllocError>
+    ensures { IfOk result (λ r. Concluded end left r.0 r.1) }
 {
     match end {
         Ok(_) => Ok((Needs::Nothing, Some(Outcome::Done))),
         Err(ThreadStop::Fault(fault)) => Ok((Needs::Nothing, Some(Outcome::Failed(fault)))),
-        Err(ThreadStop::Event) => Ok((Needs::Event, None)),
-        Err(ThreadStop::Wrong) => Ok((Needs::Wrong, None)),
+        Err(ThreadStop::Event | ThreadStop::Wrong) => Ok((lacking(left), None)),
         Err(ThreadStop::Turns) => Ok((Needs::Turns, None)),
         Err(ThreadStop::Memory) => Err(AllocError),
     }
@@ -104,12 +113,15 @@ fn tell_thread(
 ) -> Result<ThreadMeaning, AllocError>
     ensures { IfOk result (λ m. Accounts m events (thread_state thread.entry) end) }
 {
-    let (needs, outcome) = conclude(end)?;
-    account(alloc, events, thread, needs, outcome)
+    let left = thread.events.len().saturating_sub(thread.eaten);
+    let eaten = events.saturating_sub(left);
+    let (needs, outcome) = conclude(end, left)?;
+    account(alloc, eaten, thread, needs, outcome)
 }
 
 /// The meaning of the program's thread at this place, counted from 0, on these events with their worlds, where each loop makes
-/// at most `turns` turns. An error where there is no memory for it.
+/// at most `turns` turns. If the thread doesn't allow some event, the answer is about the events before the first such one.
+/// An error where there is no memory for it.
 pub fn eval_thread<'a>(
     alloc: Global,
     program: &'a Program,
@@ -119,7 +131,7 @@ pub fn eval_thread<'a>(
 ) -> Result<ThreadMeaning, AllocError>
     requires { thread < length program.now.threads }
     ensures { IfOk result (λ m. IfSome (thread_source (program_of program.now) thread)
-        (λ p. Tells m (length events.now) (thread_meaning p turns (seen_events events.now)))) }
+        (λ p. Tells m p turns (seen_events events.now))) }
 {
     program.is_sound();
     let context = Context::new(program.cells(), program.functions(), turns, None);

@@ -6,7 +6,7 @@ use Rattle.txs_value_base.specs.declared.fault.Span.{Span}
 use Rattle.txs_value_base.specs.declared.op.Callee.{Callee}
 use Rattle.txs_value_base.specs.declared.op.Callee.TheVariants.{Core as CoreOp, Function}
 use Rattle.txs_value_data.specs.declared.value.Value.{Value}
-use Rattle.txs_tree_eval_node.specs.Evaluated.{applied}
+use Rattle.txs_tree_eval_node.specs.Evaluated.{AnswersAt, applied}
 use Rattle.txs_tree_eval_transaction.specs.Worked.{Gives, Told}
 use Rattle.txs_tree_meaning.specs.Meaning.{Completion, Effects, apply, call_at}
 use Rattle.txs_tree_eval_node.specs.Setting.{Setting, callable}
@@ -25,6 +25,15 @@ told_from s s1 (Err Event) p c h g = absurd (false≢true (sym g.0))
 told_from s s1 (Err Wrong) p c h g = absurd (false≢true (sym g.0))
 told_from s s1 (Err Turns) p c h g = pure_turns s p c h s1 g
 told_from s s1 (Err Memory) p c h g = tt
+
+-- the same at an event
+pub answers_from : {S A : Type 0} (s : S) (r : Result A ThreadStop) (p : Completion (Unit {0}) A) (c : Completion S A) → Agrees s p c → Told r p → AnswersAt r s c
+answers_from s (Ok v) p c h t = subst (λ x. Agrees s x c) t h
+answers_from s (Err (Fault f)) p c h t = subst (λ x. Agrees s x c) t h
+answers_from s (Err Event) p c h t = absurd (false≢true (sym t.0))
+answers_from s (Err Wrong) p c h t = absurd (false≢true (sym t.0))
+answers_from s (Err Turns) p c h t = subst (λ x. Agrees s x c) t h
+answers_from s (Err Memory) p c h t = tt
 
 module _ {S : Type 0} (b : Bool) (s : S) where
   pub carried : {A : Type 0} (r : Result A ThreadStop) (p : Completion (Unit {0}) A) (c : Completion S A) → Agrees s p c → Told r p → Gives b r s c
@@ -45,3 +54,9 @@ module _ {S : Type 0} (b : Bool) (s : S) where
     pub told_applies : (callee : Callee) (vs : List Value) (r : Result Value ThreadStop) → SoundCallee (callable x) callee (length vs) → Told r (applied x callee vs span)
         → Gives b r s (apply (call_at fx x.turns (functions_of x.functions) x.depth inside) span callee vs s)
     told_applies callee vs r h t = carried r (applied x callee vs span) (apply (call_at fx x.turns (functions_of x.functions) x.depth inside) span callee vs s) (callee_agrees callee vs h) t
+
+-- the same at an event
+pub answers_applies : {S : Type 0} (s : S) (x : Setting) (sound : SoundFunctions [] (functions_of x.functions)) (fx : ℕ → Effects S) (inside : Bool) (span : Span) (callee : Callee) (vs : List Value) (r : Result Value ThreadStop) → SoundCallee (callable x) callee (length vs) → Told r (applied x callee vs span)
+    → AnswersAt r s (apply (call_at fx x.turns (functions_of x.functions) x.depth inside) span callee vs s)
+answers_applies s x sound fx inside span callee vs r h t =
+    answers_from s r (applied x callee vs span) (apply (call_at fx x.turns (functions_of x.functions) x.depth inside) span callee vs s) (callee_agrees true s x sound fx inside span callee vs h) t

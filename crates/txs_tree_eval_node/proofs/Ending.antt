@@ -6,18 +6,20 @@ use Rattle.txs_world_protocol.specs.Ask.{Writes, same_writes, same_actions}
 use Rattle.txs_world_protocol.specs.SeenEvent.{SeenEvent}
 use Rattle.txs_world_protocol.specs.declared.event.EventKind.{EventKind}
 use Rattle.txs_world_protocol.specs.declared.event.EventKind.TheVariants.{Read, Commit, Retry, Fail, Refused, Send as Sent, SendRefused, Act as Acted, Swap as Swapped, Broke}
-use Rattle.txs_tree_eval_node.specs.Evaluated.{Yields, Ate, EatsNone, BodyStops, Runs, SoundCommutes, forms_on, calls_on, around_it, means, final_means, transacting, at_end, eat_means, carried_on, ended, end_view, Closes, closes, closing, commit_closes, refuse_closes, end_stop, ends_as, body_means, dosync_means, part, is_on, thread_state, tx_run}
+use Rattle.txs_tree_eval_node.specs.Evaluated.{HaltsAt, AnswersAt, Yields, Comes, ComesNone, with_todo, retried, BodyStops, Runs, SoundCommutes, forms_on, calls_on, around_it, means, final_means, transacting, at_end, eat_means, carried_on, ended, end_view, Closes, closes, closing, commit_closes, refuse_closes, end_stop, ends_as, body_means, dosync_means, part, is_on, thread_state, tx_run}
 use Rattle.txs_tree_eval_transaction.specs.Worked.{Stops, Gives, Told, ToldOf, tx_state}
 use Rattle.txs_tree_eval_node.specs.Events.{seen_event}
 use Rattle.txs_tree_meaning.specs.Meaning.{Completion, Completes, Recurs, Faults, Retries, Waits, OutOfTurns, Invalid, bind, closed, Applies, apply, eval}
 use Rattle.txs_tree_eval_node.specs.Setting.{Setting, callable, on_view, zone_on}
 use Rattle.txs_tree_meaning.specs.Sound.{SoundFunctions, SoundTree, in_dosync}
-use Rattle.txs_tree_meaning.specs.Thread.{TxRun, ThreadState, Transacting, over, faultless, faulted, meant, with_tx, run_of, ends_tx, is_retry, eats_tx}
+use Rattle.txs_tree_meaning.specs.Right.{up_to, behind_retries}
+use Rattle.txs_tree_meaning.specs.Thread.{TxRun, ThreadState, Transacting, over, faultless, faulted, meant, with_tx, run_of, ends_tx, is_retry, uneaten, eats_tx}
 use Rattle.txs_tree_meaning.specs.Transaction.{TxState, tx_start, final_writes}
 use Rattle.txs_tree_meaning.specs.Tree.{Mark, Tree}
 use Rattle.txs_tree_meaning.specs.View.{functions_of}
 use Rattle.txs_tree_eval_transaction.specs.Views.{PlainView, plain_view, plain_world, world_of}
-use Rattle.txs_tree_eval_node.specs.declared.closing.Closing.TheVariants.{Committed, Stopped}
+use Rattle.txs_tree_eval_node.specs.declared.closing.Closing.{Closing}
+use Rattle.txs_tree_eval_node.specs.declared.closing.Closing.TheVariants.{Refused as ARefused, Committed, Stopped}
 use Rattle.txs_tree_eval_node.specs.declared.seen.Seen.{Seen}
 use Rattle.txs_tree_eval_node.specs.declared.state.Progress.{Progress}
 use Rattle.txs_tree_eval_node.specs.declared.state.State.{State}
@@ -32,9 +34,9 @@ use Rattle.txs_value_base.specs.declared.fault.FaultKind.TheVariants.{AgentFaile
 use Rattle.txs_value_base.specs.declared.fault.Span.{Span}
 use Rattle.txs_value_data.specs.declared.value.Value.{Value}
 use Rattle.txs_tree_eval_node.proofs.Acting.{finals_agree}
-use Rattle.txs_tree_eval_node.proofs.Applying.{carried}
-use Rattle.txs_tree_eval_node.proofs.Evaluation.{stops_again, stops_bind}
-use Rattle.txs_tree_eval_node.proofs.Forms.{faultless_stop, faulted_stop}
+use Rattle.txs_tree_eval_node.proofs.Applying.{answers_from}
+use Rattle.txs_tree_eval_node.proofs.Evaluation.{stops_again, halts_bind}
+use Rattle.txs_tree_eval_node.proofs.Forms.{IsOther, faultless_stop, faulted_stop}
 use Rattle.txs_tree_eval_node.proofs.Recurs.{keeps_sound}
 
 -- ---- the body
@@ -74,7 +76,7 @@ module _ (x inner : Setting) (w : PlainView) (same : inner ≡ on_view x w) (bod
 
 -- ---- its end
 
-pub carried_stop : {A : Type 0} (t : ThreadState) (c : Completion TxState Value) (go : Value → TxState → Completion ThreadState A) (y : ThreadStop) → BodyStops y c → Stops false y t (carried_on t c go)
+pub carried_stop : {A : Type 0} (t : ThreadState) (c : Completion TxState Value) (go : Value → TxState → Completion ThreadState A) (y : ThreadStop) → BodyStops y c → HaltsAt y t (carried_on t c go)
 carried_stop t c go (Fault f) h = ap (λ r. carried_on t r go) h.1
 carried_stop t c go Event h = absurd h
 carried_stop t c go Wrong h = absurd h
@@ -101,20 +103,20 @@ module _ (x : Setting) (m : Mark) (body : Tree) (env : List Value) (r w : PlainV
   with_finals v y = bind (finals_of y) (λ ws t1. Completes (run_of (transacting x m body env) v y, ws) t1)
 
   -- where the body gives no value
-  pub ended_unrun : (y : ThreadStop) → BodyStops y outcome → Stops false y t (ended x m body env r w t)
+  pub ended_unrun : (y : ThreadStop) → BodyStops y outcome → HaltsAt y t (ended x m body env r w t)
   ended_unrun y h = carried_stop t outcome with_finals y h
 
   -- where it gives one
   module _ (sound : SoundFunctions [] (functions_of x.functions)) (q : Transacted) (run : Runs (Ok q) m body env outcome) (calm : SoundCommutes (callable x) q.work.done.commutes) where
-    finals : (res : Result Writes ThreadStop) → Told res (final_means x q.work.done w m.span) → Gives false res t (finals_of (tx_state q.work))
-    finals res h = carried false t res (final_means x q.work.done w m.span) (finals_of (tx_state q.work)) (finals_agree t x sound (forms_on None (around_it x)) true m.span q.work.done w calm) h
+    finals : (res : Result Writes ThreadStop) → Told res (final_means x q.work.done w m.span) → AnswersAt res t (finals_of (tx_state q.work))
+    finals res h = answers_from t res (final_means x q.work.done w m.span) (finals_of (tx_state q.work)) (finals_agree t x sound (forms_on None (around_it x)) true m.span q.work.done w calm) h
 
     ended_run : ended x m body env r w t ≡ with_finals q.result (tx_state q.work)
     ended_run = ap (λ c. carried_on t c with_finals) run.0
 
-    pub ended_stop : (y : ThreadStop) → Told {A = Writes} (Err y) (final_means x q.work.done w m.span) → Stops false y t (ended x m body env r w t)
+    pub ended_stop : (y : ThreadStop) → Told {A = Writes} (Err y) (final_means x q.work.done w m.span) → HaltsAt y t (ended x m body env r w t)
     ended_stop y h =
-        subst (λ c. Stops false y t c) (sym ended_run) (stops_bind false y t (finals_of (tx_state q.work)) (λ ws t1. Completes (run_of (transacting x m body env) q.result (tx_state q.work), ws) t1) (finals (Err y) h))
+        subst (λ c. HaltsAt y t c) (sym ended_run) (halts_bind y t (finals_of (tx_state q.work)) (λ ws t1. Completes (run_of (transacting x m body env) q.result (tx_state q.work), ws) t1) (finals (Err y) h))
 
     pub ended_done : (last : Writes) → Told (Ok last) (final_means x q.work.done w m.span) → ended x m body env r w t ≡ Completes (tx_run q, last) t
     ended_done last h =
@@ -202,9 +204,9 @@ module _ (x : Setting) (m : Mark) (body : Tree) (env : List Value) (t : ThreadSt
   ends_unviewed (Broke at) h = refl
 
 -- a run that is noted, if it is the one that is meant
-pub noted : (b : Bool) → b ≡ true → (v : Value) (t u : ThreadState) (res : Result Value ThreadStop) → MatchResult res (λ w. (w ≡ v) × (u ≡ t)) (λ y. y ≡ Memory) → Gives false res u (meant b v t)
+pub noted : (b : Bool) → b ≡ true → (v : Value) (t u : ThreadState) (res : Result Value ThreadStop) → MatchResult res (λ w. (w ≡ v) × (u ≡ t)) (λ y. y ≡ Memory) → AnswersAt res u (meant b v t)
 noted b is v t u (Ok w) h = ap (λ k. meant k v t) is ∙ ap (λ z. Completes z t) (sym h.0) ∙ ap (λ s. Completes w s) (sym h.1)
-noted b is v t u (Err y) h = subst (λ z. Stops false z u (meant b v t)) (sym h) tt
+noted b is v t u (Err y) h = subst (λ z. HaltsAt z u (meant b v t)) (sym h) tt
 
 -- one run more
 pub noted_more : (p : Progress) (r : Transacted) (txs : List Transacted) → txs ≡ p.txs.items ++ r ∷ [] → record { todo = (thread_state p).todo; printed = (thread_state p).printed; txs = map tx_run txs } ≡ with_tx (tx_run r) (thread_state p)
@@ -213,28 +215,28 @@ noted_more p r txs e =
     ap made (ap (map tx_run) e ∙ map-append tx_run p.txs.items (r ∷ []))
 
 -- a stop of the body or a commute
-pub end_stops : (k : EventKind) (span : Span) (y : ThreadStop) (t : ThreadState) (c : Completion ThreadState (TxRun × Writes)) → Stops false y t c → Stops false (end_stop k y) t (closes k span c)
+pub end_stops : (k : EventKind) (span : Span) (y : ThreadStop) (t : ThreadState) (c : Completion ThreadState (TxRun × Writes)) → HaltsAt y t c → HaltsAt (end_stop k y) t (closes k span c)
 end_stops (Commit at view writes sent) span y t c h = faultless_stop y t c (λ r s. meant (same_writes r.1 writes && same_actions r.0.state.done.sends sent) r.0.result (with_tx r.0 s)) h
 end_stops (Fail at view) span y t c h = faulted_stop y t c h
 end_stops (Refused at view agent) span y t c h = faultless_stop y t c (λ r s. Faults (fault_at AgentFailed span) (with_tx r.0 s)) h
-end_stops (Read d) span y t c h = (refl, refl)
-end_stops (Retry since d b) span y t c h = (refl, refl)
-end_stops (Sent a) span y t c h = (refl, refl)
-end_stops (SendRefused d) span y t c h = (refl, refl)
-end_stops (Acted d n v) span y t c h = (refl, refl)
-end_stops (Swapped v) span y t c h = (refl, refl)
-end_stops (Broke at) span y t c h = (refl, refl)
+end_stops (Read d) span y t c h = refl
+end_stops (Retry since d b) span y t c h = refl
+end_stops (Sent a) span y t c h = refl
+end_stops (SendRefused d) span y t c h = refl
+end_stops (Acted d n v) span y t c h = refl
+end_stops (Swapped v) span y t c h = refl
+end_stops (Broke at) span y t c h = refl
 
 -- what a run is to the event is what the event makes of it
 module _ (span : Span) (r : TxRun) (ws : Writes) (t : ThreadState) (res : Result Value ThreadStop) (u : ThreadState) where
-  no_end : Closes (Stopped Wrong) span r res t u → Gives {A = Value} false res u Invalid
-  no_end h = subst (λ q. Gives {A = Value} false q u Invalid) (sym h.0) (refl, refl)
+  no_end : Closes (Stopped Wrong) span r res t u → AnswersAt {A = Value} res u Invalid
+  no_end h = subst (λ q. AnswersAt {A = Value} q u Invalid) (sym h.0) refl
 
-  as_meant : (b : Bool) → Closes (if b then Committed else Stopped Wrong) span r res t u → Gives false res u (meant b r.result (with_tx r t))
+  as_meant : (b : Bool) → Closes (if b then Committed else Stopped Wrong) span r res t u → AnswersAt res u (meant b r.result (with_tx r t))
   as_meant true h = h
   as_meant false h = no_end h
 
-  ended_as : (k : EventKind) → Closes (ends_as k ws r.state.done.sends) span r res t u → Gives false res u (closes k span (Completes (r, ws) t))
+  ended_as : (k : EventKind) → Closes (ends_as k ws r.state.done.sends) span r res t u → AnswersAt res u (closes k span (Completes (r, ws) t))
   ended_as (Refused at view agent) h = h
   ended_as (Commit at view writes sent) h = as_meant (same_writes ws writes && same_actions r.state.done.sends sent) h
   ended_as (Fail at view) h = no_end h
@@ -250,12 +252,60 @@ module _ (span : Span) (r : TxRun) (ws : Writes) (t : ThreadState) (res : Result
 module _ (x : Setting) (m : Mark) (body : Tree) (env : List Value) (r w : PlainView) (t : ThreadState) (sound : SoundFunctions [] (functions_of x.functions)) (q : Transacted) (run : Runs (Ok q) m body env (body_means x body env r))
     (calm : SoundCommutes (callable x) q.work.done.commutes) where
   pub ended_closed : {V : Type 0} (f : V → Writes) (last : Result V ThreadStop) (k : EventKind) (res : Result Value ThreadStop) (u : ThreadState) → ToldOf f last (final_means x q.work.done w m.span)
-      → Closes (closing f k last q.work.done.sends) m.span (tx_run q) res t u → Gives false res u (closes k m.span (ended x m body env r w t))
+      → Closes (closing f k last q.work.done.sends) m.span (tx_run q) res t u → AnswersAt res u (closes k m.span (ended x m body env r w t))
   ended_closed f (Ok v) k res u told h =
-      subst (λ c. Gives false res u (closes k m.span c)) (sym (ended_done x m body env r w t sound q run calm (f v) told)) (ended_as m.span (tx_run q) (f v) t res u k h)
+      subst (λ c. AnswersAt res u (closes k m.span c)) (sym (ended_done x m body env r w t sound q run calm (f v) told)) (ended_as m.span (tx_run q) (f v) t res u k h)
   ended_closed f (Err y) k res u told h =
       let stops = end_stops k m.span y t (ended x m body env r w t) (ended_stop x m body env r w t sound q run calm y told) in
-      subst (λ p. Gives false p u (closes k m.span (ended x m body env r w t))) (sym h.0) (subst (λ s. Stops false (end_stop k y) s (closes k m.span (ended x m body env r w t))) (sym h.1) stops)
+      subst (λ p. AnswersAt p u (closes k m.span (ended x m body env r w t))) (sym h.0) (subst (λ s. HaltsAt (end_stop k y) s (closes k m.span (ended x m body env r w t))) (sym h.1) stops)
+
+abbrev IsFault : Completion ThreadState Value → Type 0
+IsFault (Faults g s) = Unit {0}
+IsFault _ = ⊥
+
+abbrev IsValue : Completion ThreadState Value → Type 0
+IsValue (Completes v s) = Unit {0}
+IsValue _ = ⊥
+
+-- the same with other events to come
+abbrev at_todo : {A : Type 0} → List SeenEvent → Completion ThreadState A → Completion ThreadState A
+at_todo es (Completes a t) = Completes a (with_todo es t)
+at_todo es (Recurs vs t) = Recurs vs (with_todo es t)
+at_todo es (Faults f t) = Faults f (with_todo es t)
+at_todo es (Retries t) = Retries (with_todo es t)
+at_todo es (Waits t) = Waits (with_todo es t)
+at_todo es (OutOfTurns t) = OutOfTurns (with_todo es t)
+at_todo es Invalid = Invalid
+
+gives_todo : (es : List SeenEvent) (res : Result Value ThreadStop) (u : ThreadState) (c : Completion ThreadState Value) → AnswersAt res u c → AnswersAt res (with_todo es u) (at_todo es c)
+gives_todo es (Ok v) u c h = ap (λ d. at_todo es d) h
+gives_todo es (Err (Fault f)) u c h = ap (λ d. at_todo es d) h
+gives_todo es (Err Event) u c h = absurd h
+gives_todo es (Err Wrong) u c h = ap (λ d. at_todo es d) h
+gives_todo es (Err Turns) u c h = ap (λ d. at_todo es d) h
+gives_todo es (Err Memory) u c h = tt
+
+pub closes_todo : (q : Closing) (span : Span) (r : TxRun) (es : List SeenEvent) (res : Result Value ThreadStop) (t u : ThreadState) → Closes q span r res t u → Closes q span r res (with_todo es t) (with_todo es u)
+closes_todo ARefused span r es res t u h = gives_todo es res u (Faults (fault_at AgentFailed span) (with_tx r t)) h
+closes_todo Committed span r es res t u h = gives_todo es res u (Completes r.result (with_tx r t)) h
+closes_todo (Stopped y) span r es res t u h = (h.0, ap (with_todo es) h.1)
+
+-- where the event isn't allowed, the thread is as it was
+no_fault : (c : Completion ThreadState Value) → IsFault c → c ≡ Invalid → ⊥
+no_fault c is h = subst IsFault h is
+
+no_value : (c : Completion ThreadState Value) → IsValue c → c ≡ Invalid → ⊥
+no_value c is h = subst IsValue h is
+
+pub closes_other : (q : Closing) (span : Span) (r : TxRun) (res : Result Value ThreadStop) (t u : ThreadState) → Closes q span r res t u → IsOther res → t ≡ u
+closes_other q span r (Ok v) t u h o = absurd o
+closes_other q span r (Err (Fault f)) t u h o = absurd o
+closes_other q span r (Err Event) t u h o = absurd o
+closes_other q span r (Err Turns) t u h o = absurd o
+closes_other q span r (Err Memory) t u h o = absurd o
+closes_other ARefused span r (Err Wrong) t u h o = absurd (no_fault (Faults (fault_at AgentFailed span) (with_tx r t)) tt h)
+closes_other Committed span r (Err Wrong) t u h o = absurd (no_value (Completes r.result (with_tx r t)) tt h)
+closes_other (Stopped y) span r (Err Wrong) t u h o = sym h.1
 
 -- ---- the events that it eats
 
@@ -269,32 +319,52 @@ module _ (d : Transacting) (f : Applies ThreadState) where
   eats_same zero es us t = refl
   eats_same (suc k) [] us t = refl
   eats_same (suc k) (e ∷ es) us t =
-      let end = ends_tx d f e.kind e.R e.Q e.C (record t { todo = es }) in
+      let end = uneaten (e ∷ es) (ends_tx d f e.kind e.R e.Q e.C (record t { todo = es })) in
       ap (λ r. if e.book == 0 then (if is_retry e.kind then r else end) else Invalid) (eats_same k es us t)
 
-  eaten : (k : ℕ) (e : Seen) (t u : ThreadState) (b : Bool) → Ate 0 e t u → is_retry e.kind.now ≡ b
-      → eats_tx (suc k) d f t.todo t ≡ (if b then eats_tx k d f u.todo t else ends_tx d f e.kind.now (world_of (plain_view e.start)) (world_of (plain_view e.view)) (world_of (plain_view e.here)) (record t { todo = u.todo }))
-  eaten k e t u b h is =
+  -- what the transaction means at its end's event, behind which these come
+  abbrev ending : Seen → List SeenEvent → ThreadState → Completion ThreadState Value
+  ending e es t = uneaten (seen_event e ∷ es) (ends_tx d f e.kind.now (world_of (plain_view e.start)) (world_of (plain_view e.view)) (world_of (plain_view e.here)) (with_todo es t))
+
+  eaten : (k : ℕ) (e : Seen) (t : ThreadState) (b : Bool) (h : Comes 0 e t) → is_retry e.kind.now ≡ b → eats_tx (suc k) d f t.todo t ≡ (if b then eats_tx k d f h.0 t else ending e h.0 t)
+  eaten k e t b h is =
       let a = seen_event e in
-      let end = ends_tx d f a.kind a.R a.Q a.C (record t { todo = u.todo }) in
-      ap (λ es. eats_tx (suc k) d f es t) h.0 ∙ ap (λ (c : Bool). if c then (if is_retry a.kind then eats_tx k d f u.todo t else end) else Invalid) h.1 ∙ ap (λ (c : Bool). if c then eats_tx k d f u.todo t else end) is
+      let end = ending e h.0 t in
+      ap (λ es. eats_tx (suc k) d f es t) h.1 ∙ ap (λ (c : Bool). if c then (if is_retry a.kind then eats_tx k d f h.0 t else end) else Invalid) h.2 ∙ ap (λ (c : Bool). if c then eats_tx k d f h.0 t else end) is
 
-  pub eats_more : (k : ℕ) (e : Seen) (t u : ThreadState) → Ate 0 e t u → is_retry e.kind.now ≡ true → eats_tx (suc k) d f t.todo t ≡ eats_tx k d f u.todo u
-  eats_more k e t u h is = eaten k e t u true h is ∙ sym (eats_same k u.todo u.todo t) ∙ ap (λ s. eats_tx k d f u.todo s) (sym h.2)
+  pub eats_more : (k : ℕ) (e : Seen) (t u : ThreadState) (h : Comes 0 e t) → u ≡ with_todo h.0 t → is_retry e.kind.now ≡ true → eats_tx (suc k) d f t.todo t ≡ eats_tx k d f u.todo u
+  eats_more k e t u h rest is = eaten k e t true h is ∙ sym (eats_same k h.0 h.0 t) ∙ ap (λ s. eats_tx k d f s.todo s) (sym rest)
 
-  pub eats_end : (k : ℕ) (e : Seen) (t u : ThreadState) → Ate 0 e t u → is_retry e.kind.now ≡ false
-      → eats_tx (suc k) d f t.todo t ≡ ends_tx d f e.kind.now (world_of (plain_view e.start)) (world_of (plain_view e.view)) (world_of (plain_view e.here)) u
-  eats_end k e t u h is = eaten k e t u false h is ∙ ap (λ s. ends_tx d f e.kind.now (world_of (plain_view e.start)) (world_of (plain_view e.view)) (world_of (plain_view e.here)) s) (sym h.2)
+  pub eats_end : (k : ℕ) (e : Seen) (t : ThreadState) (h : Comes 0 e t) → is_retry e.kind.now ≡ false → eats_tx (suc k) d f t.todo t ≡ ending e h.0 t
+  eats_end k e t h is = eaten k e t false h is
 
-  pub eats_none : (k : ℕ) (y : ThreadStop) (t u : ThreadState) → EatsNone 0 y t u → Stops false y u (eats_tx (suc k) d f t.todo t)
-  eats_none k Event t u h = (refl, ap (λ es. eats_tx (suc k) d f es t) h.0 ∙ ap (λ l. Waits (record t { todo = l })) (sym h.0) ∙ ap Waits (sym h.1))
-  eats_none k Wrong t u h =
+  pub eats_none : (k : ℕ) (y : ThreadStop) (w t : ThreadState) → w ≡ retried (suc k) t → ComesNone 0 y t → Stops false y t (up_to w (eats_tx (suc k) d f t.todo t))
+  eats_none k Event w t is h = (refl, ap (λ es. up_to w (eats_tx (suc k) d f es t)) h ∙ ap (λ l. Waits (record t { todo = l })) (sym h))
+  eats_none k Wrong w t is h =
       let e = h.0 in
-      let end = ends_tx d f e.kind e.R e.Q e.C (record t { todo = h.1 }) in
-      (refl, ap (λ es. eats_tx (suc k) d f es t) h.2 ∙ ap (λ (b : Bool). if b then (if is_retry e.kind then eats_tx k d f h.1 t else end) else Invalid) h.3)
-  eats_none k (Fault g) t u h = absurd h
-  eats_none k Turns t u h = absurd h
-  eats_none k Memory t u h = absurd h
+      let end = uneaten (e ∷ h.1) (ends_tx d f e.kind e.R e.Q e.C (record t { todo = h.1 })) in
+      let stays : w ≡ t = is ∙ ap (λ es. with_todo (behind_retries (suc k) es) t) h.2 ∙ ap (λ (b : Bool). with_todo (if b then (if is_retry e.kind then behind_retries k h.1 else e ∷ h.1) else e ∷ h.1) t) h.3 ∙ ap (λ l. with_todo l t) (sym h.2) in (
+        refl,
+        ap (λ es. up_to w (eats_tx (suc k) d f es t)) h.2 ∙ ap (λ (b : Bool). up_to w (if b then (if is_retry e.kind then eats_tx k d f h.1 t else end) else Invalid)) h.3 ∙ ap (λ s. Waits s) stays,
+      )
+  eats_none k (Fault g) w t is h = absurd h
+  eats_none k Turns w t is h = absurd h
+  eats_none k Memory w t is h = absurd h
+
+-- the retries that are left to eat
+pub retried_end : (k : ℕ) (e : Seen) (t : ThreadState) (h : Comes 0 e t) → is_retry e.kind.now ≡ false → retried (suc k) t ≡ t
+retried_end k e t h is =
+    ap (λ es. with_todo (behind_retries (suc k) es) t) h.1
+    ∙ ap (λ (b : Bool). with_todo (if b then (if is_retry e.kind.now then behind_retries k h.0 else seen_event e ∷ h.0) else seen_event e ∷ h.0) t) h.2
+    ∙ ap (λ (b : Bool). with_todo (if b then behind_retries k h.0 else seen_event e ∷ h.0) t) is
+    ∙ ap (λ l. with_todo l t) (sym h.1)
+
+pub retried_more : (k : ℕ) (e : Seen) (t u : ThreadState) (h : Comes 0 e t) → u ≡ with_todo h.0 t → is_retry e.kind.now ≡ true → retried (suc k) t ≡ retried k u
+retried_more k e t u h rest is =
+    ap (λ es. with_todo (behind_retries (suc k) es) t) h.1
+    ∙ ap (λ (b : Bool). with_todo (if b then (if is_retry e.kind.now then behind_retries k h.0 else seen_event e ∷ h.0) else seen_event e ∷ h.0) t) h.2
+    ∙ ap (λ (b : Bool). with_todo (if b then behind_retries k h.0 else seen_event e ∷ h.0) t) is
+    ∙ ap (λ s. retried k s) (sym rest)
 
 -- ---- a dosync in a transaction, or outside
 

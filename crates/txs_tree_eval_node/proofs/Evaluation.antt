@@ -9,7 +9,7 @@ use Rattle.txs_value_apply.specs.Truth.{choose}
 use Rattle.txs_value_cell.specs.declared.form.PutForm.{PutForm}
 use Rattle.txs_value_data.specs.declared.value.Value.{Value}
 use Rattle.txs_value_data.specs.declared.value.Value.TheVariants.{Nil, Truth, Int, Key, Text, Vector, Cell}
-use Rattle.txs_tree_eval_node.specs.Evaluated.{Part, part, is_on, forms_on, forms_in, calls_in, around_it, GivesAll, Yields, Steps, StepsOn, means, all_mean, if_means, do_means, let_means, locals_mean, loop_means, turns_mean, call_means, finishes, finish_means, strict_means, acts, act_means, form_means}
+use Rattle.txs_tree_eval_node.specs.Evaluated.{HaltsAt, AnswersAt, Part, part, is_on, forms_on, forms_in, calls_in, around_it, GivesAll, Yields, Steps, StepsOn, means, all_mean, if_means, do_means, let_means, locals_mean, loop_means, turns_mean, call_means, finishes, finish_means, strict_means, acts, act_means, form_means}
 use Rattle.txs_tree_eval_transaction.specs.Worked.{Stops, GivesOf}
 use Rattle.txs_tree_meaning.specs.Meaning.{Completion, Completes, Recurs, Faults, Retries, Waits, OutOfTurns, Invalid, bind, again, give, turns, Effects, eval, eval_all, eval_let, eval_do, call_at}
 use Rattle.txs_tree_eval_node.specs.Setting.{Setting, deeper}
@@ -140,6 +140,16 @@ stops_steps on r y s c err h = subst (λ x. StepsOn on x s c) (sym err) h
 
 pub stops_gives : {S V A : Type 0} (f : V → A) (on : Bool) (r : Result V ThreadStop) (y : ThreadStop) (s : S) (c : Completion S A) → r ≡ Err y → Stops on y s c → GivesOf f on r s c
 stops_gives f on r y s c err h = subst (λ x. GivesOf f on x s c) (sym err) h
+
+pub halts_bind : {S A B : Type 0} (y : ThreadStop) (s : S) (c : Completion S A) (go : A → S → Completion S B) → HaltsAt y s c → HaltsAt y s (bind c go)
+halts_bind (Fault f) s c go h = ap (λ d. bind d go) h
+halts_bind Event s c go h = h
+halts_bind Wrong s c go h = ap (λ d. bind d go) h
+halts_bind Turns s c go h = ap (λ d. bind d go) h
+halts_bind Memory s c go h = h
+
+pub halts_answers : {S A : Type 0} (r : Result A ThreadStop) (y : ThreadStop) (s : S) (c : Completion S A) → r ≡ Err y → HaltsAt y s c → AnswersAt r s c
+halts_answers r y s c err h = subst (λ x. AnswersAt x s c) (sym err) h
 
 -- ---- here
 
@@ -338,20 +348,21 @@ module _ (setting : Setting) (f : ℕ) (fun : PlainFunction) (left : 0 < setting
   abbrev body_at : PlainFunction → List Value → Part setting.world → Completion (Part setting.world) Value
   body_at g = λ ws t. eval (fx_at (setting.depth - 1)) (call_at fx_at setting.turns (functions_of setting.functions) (setting.depth - 1)) setting.turns (is_on setting.world) g.body ws t
 
-  pub call_turns : (d : ℕ) (vs env ws : List Value) (out : State) → fun.parameters ≡ d → env ≡ [] → ws ≡ vs → call_means setting f vs out ≡ turns_mean (deeper setting) setting.turns d fun.body env ws out
+  pub call_turns : (d : ℕ) (vs env ws : List Value) (out : State) → fun.parameters ≡ d → env ≡ [] → ws ≡ vs → call_means setting f vs out ≡ turns_mean (deeper setting) (suc setting.turns) d fun.body env ws out
   call_turns d vs env ws out many none_before same =
       let one_more : setting.depth ≡ suc (setting.depth - 1) = omega (arith, left) in
       let s : Part setting.world = part setting.world out in
       ap (λ k. call_at fx_at setting.turns (functions_of setting.functions) k (is_on setting.world) f vs s) one_more
-      ∙ ap (λ o. bind (give o s) (λ g t. turns setting.turns g.parameters (body_at g) vs t)) there
-      ∙ ap (λ k. turns setting.turns k (body_at fun) vs s) many
-      ∙ ap (λ us. turns setting.turns d (body_at fun) us s) (sym same)
-      ∙ ap (λ l. turns_mean (deeper setting) setting.turns d fun.body l ws out) (sym none_before)
+      ∙ ap (λ o. bind (give o s) (λ g t. turns (suc setting.turns) g.parameters (body_at g) vs t)) there
+      ∙ ap (λ k. turns (suc setting.turns) k (body_at fun) vs s) many
+      ∙ ap (λ us. turns (suc setting.turns) d (body_at fun) us s) (sym same)
+      ∙ ap (λ l. turns_mean (deeper setting) (suc setting.turns) d fun.body l ws out) (sym none_before)
 
-  pub called : (d : ℕ) (vs env ws : List Value) (out out1 : State) (r : Result Value ThreadStop) (x : Setting) → x ≡ deeper setting → fun.parameters ≡ d → env ≡ [] → ws ≡ vs → Yields x r out1 (turns_mean x x.turns d fun.body env ws out)
+  pub called : (n d : ℕ) (vs env ws : List Value) (out out1 : State) (r : Result Value ThreadStop) (x : Setting) → n ≡ suc setting.turns → x ≡ deeper setting → fun.parameters ≡ d → env ≡ [] → ws ≡ vs → Yields x r out1 (turns_mean x n d fun.body env ws out)
       → Yields setting r out1 (call_means setting f vs out)
-  called d vs env ws out out1 r x is many none_before same h =
-      subst (λ c. Yields setting r out1 c) (sym (call_turns d vs env ws out many none_before same)) (subst (λ y. Yields y r out1 (turns_mean y y.turns d fun.body env ws out)) is h)
+  called n d vs env ws out out1 r x as_many is many none_before same h =
+      let here : Yields x r out1 (turns_mean x (suc setting.turns) d fun.body env ws out) = subst (λ k. Yields x r out1 (turns_mean x k d fun.body env ws out)) as_many h in
+      subst (λ c. Yields setting r out1 c) (sym (call_turns d vs env ws out many none_before same)) (subst (λ y. Yields y r out1 (turns_mean y (suc setting.turns) d fun.body env ws out)) is here)
 
 -- the values of the next turn behind the locals before them
 pub rebound : (b : ℕ) (now later ws : List Value) → b ≤ length now → later ≡ take b now ++ ws → (take b later ≡ take b now) × (length later ≡ b + length ws) × (drop b later ≡ ws)

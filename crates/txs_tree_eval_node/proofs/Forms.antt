@@ -7,7 +7,7 @@ use Rattle.txs_world_protocol.specs.SeenEvent.{SeenEvent, atoms_below, home}
 use Rattle.txs_world_protocol.specs.declared.event.EventKind.{EventKind}
 use Rattle.txs_world_protocol.specs.declared.event.EventKind.TheVariants.{Read, Commit, Retry, Fail, Refused, Send as Sent, SendRefused, Act as Acted, Swap as Swapped, Broke}
 use Rattle.txs_frame.specs.Frame.{set_ref, hold_send}
-use Rattle.txs_tree_eval_node.specs.Evaluated.{Ate, EatsNone, ReadyIn, forms_on, calls_on, around_it, inside_means, outside_means, update_means, swap_means, applied, SwapAte, SwapsNone, swap_ends, swap_gives, swap_of, is_broke, is_read_of, is_swap_to, sending, sent_as, part, is_on, Yields, Finishes, Steps, step_of, call_means, finish_means, thread_state}
+use Rattle.txs_tree_eval_node.specs.Evaluated.{HaltsAt, AnswersAt, Comes, ComesNone, with_todo, after, ReadyIn, forms_on, calls_on, around_it, inside_means, outside_means, update_means, swap_means, applied, IsSwap, IsNoSwap, swap_ends, swap_gives, swap_of, is_broke, is_read_of, is_swap_to, sending, sent_as, part, is_on, Yields, Finishes, Steps, step_of, call_means, finish_means, thread_state}
 use Rattle.txs_tree_eval_transaction.specs.Worked.{Stops, Gives, Told, RefCell, UpdatesRef, update_begins, update_ends, of_one, stop_without_fault, with_work, tx_state}
 use Rattle.txs_tree_eval_node.specs.Events.{seen_event}
 use Rattle.txs_tree_eval_node.specs.Shapes.{form_of_act}
@@ -15,11 +15,12 @@ use Rattle.txs_value_apply.specs.Core.{core, vector_of}
 use Rattle.txs_tree_meaning.specs.Meaning.{Completion, Completes, Recurs, Faults, Retries, Waits, OutOfTurns, Invalid, bind, result_of, allowed, Applies, apply}
 use Rattle.txs_tree_eval_node.specs.Setting.{Setting, callable, on_view, zone_on}
 use Rattle.txs_tree_meaning.specs.Sound.{SoundCallee, PureCall, SoundFunctions, MayStand, in_thread, in_dosync}
-use Rattle.txs_tree_meaning.specs.Thread.{ThreadState, Surroundings, eats, reads, resets, sends, swaps, meant, faultless, faulted, thread_look, thread_put, thread_update, outside_form}
+use Rattle.txs_tree_meaning.specs.Right.{up_to}
+use Rattle.txs_tree_meaning.specs.Thread.{ThreadState, Surroundings, uneaten, eats, reads, resets, sends, swaps, meant, faultless, faulted, thread_look, thread_put, thread_update, outside_form}
 use Rattle.txs_tree_meaning.specs.Transaction.{TxState, on_cell, done_as, tx_look, tx_put, tx_update}
 use Rattle.txs_tree_meaning.specs.Tree.{Mark}
 use Rattle.txs_tree_meaning.specs.View.{functions_of}
-use Rattle.txs_tree_eval_transaction.specs.Views.{PlainView, plain_view, world_of}
+use Rattle.txs_tree_eval_transaction.specs.Views.{PlainView, world_of}
 use Rattle.txs_tree_eval_node.specs.declared.shape.Act.{Act}
 use Rattle.txs_tree_eval_node.specs.declared.shape.Act.TheVariants.{Look as a_look, Put as a_put, Update as an_update, Send as a_send}
 use Rattle.txs_tree_eval_node.specs.declared.shape.Strict.{Strict}
@@ -60,7 +61,7 @@ use Rattle.txs_value_data.specs.declared.value.CellKind.{CellKind}
 use Rattle.txs_value_data.specs.declared.value.CellKind.TheVariants.{Ref, Atom, Agent}
 use Rattle.txs_value_data.specs.declared.value.Value.{Value}
 use Rattle.txs_value_data.specs.declared.value.Value.TheVariants.{Nil, Truth, Int, Key, Text, Vector, Cell}
-use Rattle.txs_tree_eval_node.proofs.Applying.{callee_agrees, told_applies, told_from}
+use Rattle.txs_tree_eval_node.proofs.Applying.{callee_agrees, told_applies, answers_applies, told_from}
 use Rattle.txs_tree_eval_node.proofs.Evaluation.{stops_bind}
 use Rattle.txs_tree_eval_node.proofs.Shaping.{stepped}
 use Rattle.txs_tree_meaning.proofs.PureLaw.{Agrees}
@@ -171,6 +172,14 @@ module _ (x : Setting) (r : PlainView) (m : Mark) (v : Value) (t : TxState) (cel
 
 -- ---- outside
 
+-- a stop is the same where the thread waits before what it doesn't allow
+up_to_stop : (y : ThreadStop) (s t : ThreadState) (c : Completion ThreadState Value) → Stops false y s c → Stops false y s (up_to t c)
+up_to_stop (Fault f) s t c h = ap (λ d. up_to t d) h
+up_to_stop Event s t c h = (refl, ap (λ d. up_to t d) h.1)
+up_to_stop Wrong s t c h = (refl, ap (λ d. up_to t d) h.1)
+up_to_stop Turns s t c h = ap (λ d. up_to t d) h
+up_to_stop Memory s t c h = tt
+
 stands_outside : (s : Standing) (c : Completion ThreadState Value) → MayStand in_thread s → allowed (may_stand s false) c ≡ c
 stands_outside Anywhere c h = refl
 stands_outside Inside c h = absurd h
@@ -181,41 +190,46 @@ module _ (x : Setting) (m : Mark) (v : Value) (t : ThreadState) where
   pub took_outside : (form : CellForm) (go : CellId → ThreadState → Completion ThreadState Value) (c : CellId) → MayStand in_thread (rule form).stands → Told (Ok c) (result_of (cell_of (rule form) false v) m.span tt) → outside_form form (on_cell form false m.span v go t) ≡ go c t
   took_outside form go c stands h = stands_outside (rule form).stands (on_cell form false m.span v go t) stands ∙ took false t form false m.span v go c h
 
-  untaken_out : (form : CellForm) (go : CellId → ThreadState → Completion ThreadState Value) (y : ThreadStop) → MayStand in_thread (rule form).stands → Told {A = CellId} (Err y) (result_of (cell_of (rule form) false v) m.span tt) → Stops false y t (outside_form form (on_cell form false m.span v go t))
-  untaken_out form go y stands h = subst (λ c. Stops false y t c) (sym (stands_outside (rule form).stands (on_cell form false m.span v go t) stands)) (untaken false t form false m.span v go y h)
+  untaken_out : (form : CellForm) (go : CellId → ThreadState → Completion ThreadState Value) (y : ThreadStop) → MayStand in_thread (rule form).stands → Told {A = CellId} (Err y) (result_of (cell_of (rule form) false v) m.span tt)
+      → Stops false y t (up_to t (outside_form form (on_cell form false m.span v go t)))
+  untaken_out form go y stands h =
+      up_to_stop y t t (outside_form form (on_cell form false m.span v go t))
+      (subst (λ c. Stops false y t c) (sym (stands_outside (rule form).stands (on_cell form false m.span v go t) stands)) (untaken false t form false m.span v go y h))
 
   pub untaken_outside : (act : Act) (vs : List Value) (y : ThreadStop) → ReadyIn (callable x) in_thread act (length vs) → Told {A = CellId} (Err y) (result_of (cell_of (rule (form_of_act act)) false v) m.span tt) → Stops false y t (outside_means x act m v vs t)
   untaken_outside (a_look form) vs y ready h = untaken_out (form_of.Look form) (thread_look (around_it x) form) y ready h
   untaken_outside (a_put form) [] y ready h = absurd (omega (arith, ready.1))
   untaken_outside (a_put form) (w ∷ ws) y ready h = untaken_out (form_of.Put form) (λ c t1. thread_put (around_it x) form c w t1) y ready.0 h
   untaken_outside (an_update form callee) vs y ready h = untaken_out (form_of.Update form) (λ c t1. thread_update (around_it x) form c callee vs (apply (calls_on None x false) m.span) t1) y ready.0 h
-  untaken_outside (a_send callee) vs y ready h = untaken false t form_of.Send false m.span v _ y h
+  untaken_outside (a_send callee) vs y ready h =
+      let go : CellId → ThreadState → Completion ThreadState Value = λ c t1. eats 0 (λ e t2. sends (record { agent = c; callee = callee; args = vs; span = m.span }) m.span e.kind t2) t1.todo t1 in
+      up_to_stop y t t (on_cell form_of.Send false m.span v go t) (untaken false t form_of.Send false m.span v go y h)
 
 module _ (x : Setting) (m : Mark) (v : Value) (t : ThreadState) (cell : CellId) (res : Result Value ThreadStop) (t1 : ThreadState) where
   -- an atom is reset to the one argument
   pub put_outside : (form : PutForm) (vs : List Value) → ReadyIn (callable x) in_thread (a_put form) (length vs) → Told (Ok cell) (result_of (cell_of (rule (form_of.Put form)) false v) m.span tt)
-      → Gives false res t1 (of_one (λ w. eats (home x.cells cell) (λ e s. resets w e.kind s) t.todo t) vs) → Gives false res t1 (outside_means x (a_put form) m v vs t)
+      → Gives false res t1 (of_one (λ w. up_to t (eats (home x.cells cell) (λ e s. resets w e.kind s) t.todo t)) vs) → Gives false res t1 (outside_means x (a_put form) m v vs t)
   put_outside form [] ready told h = absurd (omega (arith, ready.1))
-  put_outside Reset (w ∷ ws) ready told h = subst (λ c. Gives false res t1 c) (sym (took_outside x m v t (form_of.Put Reset) (λ c s. thread_put (around_it x) Reset c w s) cell ready.0 told)) h
+  put_outside Reset (w ∷ ws) ready told h = subst (λ c. Gives false res t1 (up_to t c)) (sym (took_outside x m v t (form_of.Put Reset) (λ c s. thread_put (around_it x) Reset c w s) cell ready.0 told)) h
   put_outside RefSet (w ∷ ws) ready told h = absurd ready.0
 
   -- a cell is read
   pub look_outside : (form : LookForm) (vs : List Value) → ReadyIn (callable x) in_thread (a_look form) (length vs) → Told (Ok cell) (result_of (cell_of (rule (form_of.Look form)) false v) m.span tt)
-      → Gives false res t1 (eats (home x.cells cell) (λ e s. reads cell e.kind e.C s) t.todo t) → Gives false res t1 (outside_means x (a_look form) m v vs t)
-  look_outside Deref vs ready told h = subst (λ c. Gives false res t1 c) (sym (took_outside x m v t (form_of.Look Deref) (λ c s. thread_look (around_it x) Deref c s) cell ready told)) h
+      → Gives false res t1 (up_to t (eats (home x.cells cell) (λ e s. reads cell e.kind e.C s) t.todo t)) → Gives false res t1 (outside_means x (a_look form) m v vs t)
+  look_outside Deref vs ready told h = subst (λ c. Gives false res t1 (up_to t c)) (sym (took_outside x m v t (form_of.Look Deref) (λ c s. thread_look (around_it x) Deref c s) cell ready told)) h
   look_outside Ensure vs ready told h = absurd ready
 
   -- a send eats its event
   pub send_outside : (callee : Callee) (vs : List Value) → Told (Ok cell) (result_of (cell_of (rule form_of.Send) false v) m.span tt)
-      → Gives false res t1 (eats 0 (λ e s. sends (record { agent = cell; callee = callee; args = vs; span = m.span }) m.span e.kind s) t.todo t) → Gives false res t1 (outside_means x (a_send callee) m v vs t)
+      → Gives false res t1 (up_to t (eats 0 (λ e s. sends (record { agent = cell; callee = callee; args = vs; span = m.span }) m.span e.kind s) t.todo t)) → Gives false res t1 (outside_means x (a_send callee) m v vs t)
   send_outside callee vs told h =
-      subst (λ c. Gives false res t1 c) (sym (took false t form_of.Send false m.span v (λ c s. eats 0 (λ e s2. sends (record { agent = c; callee = callee; args = vs; span = m.span }) m.span e.kind s2) s.todo s) cell told)) h
+      subst (λ c. Gives false res t1 (up_to t c)) (sym (took false t form_of.Send false m.span v (λ c s. eats 0 (λ e s2. sends (record { agent = c; callee = callee; args = vs; span = m.span }) m.span e.kind s2) s.todo s) cell told)) h
 
   -- an atom is swapped
   pub update_outside : (form : UpdateForm) (callee : Callee) (vs : List Value) → ReadyIn (callable x) in_thread (an_update form callee) (length vs) → Told (Ok cell) (result_of (cell_of (rule (form_of.Update form)) false v) m.span tt)
-      → Gives false res t1 (swap_means x callee cell vs m.span t) → Gives false res t1 (outside_means x (an_update form callee) m v vs t)
+      → Gives false res t1 (up_to t (eats (home x.cells cell) (λ e s. swap_means x callee cell vs m.span e s) t.todo t)) → Gives false res t1 (outside_means x (an_update form callee) m v vs t)
   update_outside Swap callee vs ready told h =
-      subst (λ c. Gives false res t1 c) (sym (took_outside x m v t (form_of.Update Swap) (λ c s. thread_update (around_it x) Swap c callee vs (apply (calls_on None x false) m.span) s) cell ready.0 told)) h
+      subst (λ c. Gives false res t1 (up_to t c)) (sym (took_outside x m v t (form_of.Update Swap) (λ c s. thread_update (around_it x) Swap c callee vs (apply (calls_on None x false) m.span) s) cell ready.0 told)) h
   update_outside Alter callee vs ready told h = absurd ready.0
   update_outside Commute callee vs ready told h = absurd ready.0
 
@@ -287,24 +301,24 @@ module _ (x : Setting) (r : PlainView) (m : Mark) (v : Value) (t : TxState) (cel
 
 -- ---- where a fault may not come, or nothing else
 
-pub faultless_stop : {S A : Type 0} (y : ThreadStop) (s : S) (c : Completion S A) (go : A → S → Completion S Value) → Stops false y s c → Stops false (stop_without_fault y) s (faultless c go)
-faultless_stop (Fault f) s c go h = (refl, ap (λ r. faultless r go) h)
-faultless_stop Event s c go h = (refl, ap (λ r. faultless r go) h.1)
-faultless_stop Wrong s c go h = (refl, ap (λ r. faultless r go) h.1)
+pub faultless_stop : {S A : Type 0} (y : ThreadStop) (s : S) (c : Completion S A) (go : A → S → Completion S Value) → HaltsAt y s c → HaltsAt (stop_without_fault y) s (faultless c go)
+faultless_stop (Fault f) s c go h = ap (λ r. faultless r go) h
+faultless_stop Event s c go h = absurd h
+faultless_stop Wrong s c go h = ap (λ r. faultless r go) h
 faultless_stop Turns s c go h = ap (λ r. faultless r go) h
 faultless_stop Memory s c go h = tt
 
-pub faulted_stop : {S A : Type 0} (y : ThreadStop) (s : S) (c : Completion S A) → Stops false y s c → Stops false y s (faulted c (λ g t. Faults g t))
+pub faulted_stop : {S A : Type 0} (y : ThreadStop) (s : S) (c : Completion S A) → HaltsAt y s c → HaltsAt y s (faulted c (λ g t. Faults g t))
 faulted_stop (Fault f) s c h = ap (λ r. faulted r (λ g t. Faults g t)) h
-faulted_stop Event s c h = (refl, ap (λ r. faulted r (λ g t. Faults g t)) h.1)
-faulted_stop Wrong s c h = (refl, ap (λ r. faulted r (λ g t. Faults g t)) h.1)
+faulted_stop Event s c h = absurd h
+faulted_stop Wrong s c h = ap (λ r. faulted r (λ g t. Faults g t)) h
 faulted_stop Turns s c h = ap (λ r. faulted r (λ g t. Faults g t)) h
 faulted_stop Memory s c h = tt
 
 -- ---- `swap!`
 
 module _ (c : CellId) (g : Value → ThreadState → Completion ThreadState Value) (R C : World) (t : ThreadState) where
-  swaps_to : (k : EventKind) (new : Value) → swap_of k ≡ Some new → swaps c g k R C t ≡ faultless (g (C c.number) t) (λ v t1. meant (same_value v new) v t1)
+  pub swaps_to : (k : EventKind) (new : Value) → swap_of k ≡ Some new → swaps c g k R C t ≡ faultless (g (C c.number) t) (λ v t1. meant (same_value v new) v t1)
   swaps_to (Swapped w) new h = ap (λ o. faultless (g (C c.number) t) (λ v t1. meant (same_value v (or_else w o)) v t1)) h
   swaps_to (Read d) new h = absurd (nothing h)
   swaps_to (Commit at view writes sent) new h = absurd (nothing h)
@@ -316,7 +330,7 @@ module _ (c : CellId) (g : Value → ThreadState → Completion ThreadState Valu
   swaps_to (Acted d n w) new h = absurd (nothing h)
   swaps_to (Broke at) new h = absurd (nothing h)
 
-  swaps_broken : (k : EventKind) → is_broke k ≡ true → swaps c g k R C t ≡ faulted (g (R c.number) t) (λ f t1. Faults f t1)
+  pub swaps_broken : (k : EventKind) → is_broke k ≡ true → swaps c g k R C t ≡ faulted (g (R c.number) t) (λ f t1. Faults f t1)
   swaps_broken (Broke at) h = refl
   swaps_broken (Swapped w) h = absurd (false≢true h)
   swaps_broken (Read d) h = absurd (false≢true h)
@@ -328,7 +342,7 @@ module _ (c : CellId) (g : Value → ThreadState → Completion ThreadState Valu
   swaps_broken (SendRefused d) h = absurd (false≢true h)
   swaps_broken (Acted d n w) h = absurd (false≢true h)
 
-  swaps_else : (k : EventKind) → swap_of k ≡ None → is_broke k ≡ false → swaps c g k R C t ≡ Invalid
+  pub swaps_else : (k : EventKind) → swap_of k ≡ None → is_broke k ≡ false → swaps c g k R C t ≡ Invalid
   swaps_else (Broke at) h b = absurd (never b)
   swaps_else (Swapped w) h b = absurd (nothing (sym h))
   swaps_else (Read d) h b = refl
@@ -340,18 +354,38 @@ module _ (c : CellId) (g : Value → ThreadState → Completion ThreadState Valu
   swaps_else (SendRefused d) h b = refl
   swaps_else (Acted d n w) h b = refl
 
--- an event that was eaten
-pub ate : {A : Type 0} (book : ℕ) (go : SeenEvent → ThreadState → Completion ThreadState A) (e : Seen) (t u : ThreadState) → Ate book e t u → eats book go t.todo t ≡ go (seen_event e) u
-ate book go e t u h =
-    ap (λ es. eats book go es t) h.0 ∙ ap (λ (b : Bool). if b then go (seen_event e) (record t { todo = u.todo }) else Invalid) h.1 ∙ ap (λ s. go (seen_event e) s) (sym h.2)
+-- the next event, which is of the book
+comes : {A : Type 0} (book : ℕ) (go : SeenEvent → ThreadState → Completion ThreadState A) (e : Seen) (t : ThreadState) (h : Comes book e t) → eats book go t.todo t ≡ uneaten (seen_event e ∷ h.0) (go (seen_event e) (with_todo h.0 t))
+comes book go e t h =
+    ap (λ es. eats book go es t) h.1 ∙ ap (λ (b : Bool). if b then uneaten (seen_event e ∷ h.0) (go (seen_event e) (with_todo h.0 t)) else Invalid) h.2
 
-pub ate_none : {A : Type 0} (book : ℕ) (go : SeenEvent → ThreadState → Completion ThreadState A) (y : ThreadStop) (t u : ThreadState) → EatsNone book y t u → Stops false y u (eats book go t.todo t)
-ate_none book go Event t u h = (refl, ap (λ es. eats book go es t) h.0 ∙ ap Waits (sym h.1))
-ate_none book go Wrong t u h =
-    (refl, ap (λ es. eats book go es t) h.2 ∙ ap (λ (b : Bool). if b then go h.0 (record t { todo = h.1 }) else Invalid) h.3)
-ate_none book go (Fault f) t u h = absurd h
-ate_none book go Turns t u h = absurd h
-ate_none book go Memory t u h = absurd h
+comes_none : (book : ℕ) (go : SeenEvent → ThreadState → Completion ThreadState Value) (y : ThreadStop) (t : ThreadState) → ComesNone book y t → Stops false y t (up_to t (eats book go t.todo t))
+comes_none book go Event t h = (refl, ap (λ es. up_to t (eats book go es t)) h)
+comes_none book go Wrong t h =
+    (refl, ap (λ es. up_to t (eats book go es t)) h.2 ∙ ap (λ (b : Bool). up_to t (if b then uneaten (h.0 ∷ h.1) (go h.0 (with_todo h.1 t)) else Invalid)) h.3)
+comes_none book go (Fault f) t h = absurd h
+comes_none book go Turns t h = absurd h
+comes_none book go Memory t h = absurd h
+
+-- whether the event isn't one that the thread allows
+abbrev pub IsOther : {A : Type 0} → Result A ThreadStop → Type 0
+IsOther (Ok v) = ⊥
+IsOther (Err (Fault f)) = ⊥
+IsOther (Err Event) = ⊥
+IsOther (Err Wrong) = Unit {0}
+IsOther (Err Turns) = ⊥
+IsOther (Err Memory) = ⊥
+
+-- An answer at an event, which stays to come where turns don't suffice for it. Where it isn't allowed, the thread is as it was before.
+pub answered : (r : Result Value ThreadStop) (e : SeenEvent) (es : List SeenEvent) (w t u : ThreadState) (c : Completion ThreadState Value) → t.todo ≡ e ∷ es → (IsOther r → w ≡ t) → u ≡ after r es t → AnswersAt r (with_todo es t) c
+    → Gives false r u (up_to w (uneaten (e ∷ es) c))
+answered (Ok v) e es w t u c here same is h = ap (λ d. up_to w (uneaten (e ∷ es) d)) h ∙ ap (λ s. Completes v s) (sym is)
+answered (Err (Fault f)) e es w t u c here same is h = ap (λ d. up_to w (uneaten (e ∷ es) d)) h ∙ ap (λ s. Faults f s) (sym is)
+answered (Err Event) e es w t u c here same is h = absurd h
+answered (Err Wrong) e es w t u c here same is h = (refl, ap (λ d. up_to w (uneaten (e ∷ es) d)) h ∙ ap (λ s. Waits s) (same tt ∙ sym is))
+answered (Err Turns) e es w t u c here same is h =
+    ap (λ d. up_to w (uneaten (e ∷ es) d)) h ∙ ap (λ l. OutOfTurns (with_todo l t)) (sym here) ∙ ap (λ s. OutOfTurns s) (sym is)
+answered (Err Memory) e es w t u c here same is h = tt
 
 -- what an event of a read, a reset or a send is
 reads_as : (c : CellId) (k : EventKind) (C : World) (t : ThreadState) → reads c k C t ≡ meant (is_read_of c k) (C c.number) t
@@ -366,7 +400,7 @@ reads_as c (Acted d n w) C t = refl
 reads_as c (Swapped w) C t = refl
 reads_as c (Broke at) C t = refl
 
-resets_as : (v : Value) (k : EventKind) (t : ThreadState) → resets v k t ≡ meant (is_swap_to v k) v t
+pub resets_as : (v : Value) (k : EventKind) (t : ThreadState) → resets v k t ≡ meant (is_swap_to v k) v t
 resets_as v (Read d) t = refl
 resets_as v (Commit at view writes sent) t = refl
 resets_as v (Retry since d n) t = refl
@@ -414,14 +448,17 @@ reset_as v b k t vs one is = ap (λ l. of_one (λ w. resets w k t) l) one ∙ re
 pub send_as : (a : Action) (span : Span) (t : ThreadState) (k : EventKind) (q : Sending) → q ≡ sending a k → sends a span k t ≡ sent_as a span t q
 send_as a span t k q is = sends_as a span t k ∙ ap (λ p. sent_as a span t p) (sym is)
 
--- what is given at the event that was eaten is given of the thread
-pub gives_at : {A : Type 0} (book b : ℕ) → book ≡ b → (go : SeenEvent → ThreadState → Completion ThreadState A) (e : Seen) (t u : ThreadState) → Ate book e t u → (r : Result A ThreadStop) → Gives false r u (go (seen_event e) u) → Gives false r u (eats b go t.todo t)
-gives_at book b is go e t u eaten r h = subst (λ k. Gives false r u (eats k go t.todo t)) is (subst (λ q. Gives false r u q) (sym (ate book go e t u eaten)) h)
+-- what is given at the next event is given of the thread
+pub gives_at : (book b : ℕ) → book ≡ b → (go : SeenEvent → ThreadState → Completion ThreadState Value) (e : Seen) (t u : ThreadState) (h : Comes book e t) (r : Result Value ThreadStop) → u ≡ after r h.0 t → AnswersAt r (with_todo h.0 t) (go (seen_event e) (with_todo h.0 t))
+    → Gives false r u (up_to t (eats b go t.todo t))
+gives_at book b is go e t u h r eaten given =
+    subst (λ k. Gives false r u (up_to t (eats k go t.todo t))) is
+    (subst (λ q. Gives false r u (up_to t q)) (sym (comes book go e t h)) (answered r (seen_event e) h.0 t t u (go (seen_event e) (with_todo h.0 t)) h.1 (λ o. refl) eaten given))
 
-pub reset_eaten : (book b : ℕ) → book ≡ b → (e : Seen) (t u : ThreadState) → Ate book e t u → (r : Result Value ThreadStop) (vs : List Value) → Gives false r u (of_one (λ w. resets w e.kind.now u) vs)
-    → Gives false r u (of_one (λ w. eats b (λ a s. resets w a.kind s) t.todo t) vs)
-reset_eaten book b is e t u eaten r [] h = h
-reset_eaten book b is e t u eaten r (w ∷ ws) h = gives_at book b is (λ a s. resets w a.kind s) e t u eaten r h
+pub reset_eaten : (book b : ℕ) → book ≡ b → (e : Seen) (t u : ThreadState) (h : Comes book e t) (r : Result Value ThreadStop) → u ≡ after r h.0 t → (vs : List Value) → length vs ≡ 1 → AnswersAt r (with_todo h.0 t) (of_one (λ w. resets w e.kind.now (with_todo h.0 t)) vs)
+    → Gives false r u (of_one (λ w. up_to t (eats b (λ a s. resets w a.kind s) t.todo t)) vs)
+reset_eaten book b is e t u h r eaten [] one given = absurd (omega (arith, one))
+reset_eaten book b is e t u h r eaten (w ∷ ws) one given = gives_at book b is (λ a s. resets w a.kind s) e t u h r eaten given
 
 -- an agent is of the store's book
 module _ (span : Span) (fault : FaultKind) (d : CellId) where
@@ -443,59 +480,42 @@ pub send_home : (x : Setting) (v : Value) (span : Span) (d : CellId) → Told (O
 send_home x v span d told = ap (λ k. if same_kind k Atom then suc (atoms_below x.cells d.number) else 0) (agent_of v span d told)
 
 -- where there was no such event
-pub uneaten_outside : (x : Setting) (m : Mark) (v : Value) (t : ThreadState) (cell : CellId) (t1 : ThreadState) (act : Act) (vs : List Value) (y : ThreadStop) (book : ℕ) → book ≡ home x.cells cell → ReadyIn (callable x) in_thread act (length vs)
-    → Told (Ok cell) (result_of (cell_of (rule (form_of_act act)) false v) m.span tt) → EatsNone book y t t1 → Stops false y t1 (outside_means x act m v vs t)
-uneaten_outside x m v t cell t1 (a_look form) vs y book is ready told none = look_outside x m v t cell (Err y) t1 form vs ready told (subst (λ b. Stops false y t1 (eats b (λ e s. reads cell e.kind e.C s) t.todo t)) is (ate_none book (λ e s. reads cell e.kind e.C s) y t t1 none))
-uneaten_outside x m v t cell t1 (a_put form) [] y book is ready told none = absurd (omega (arith, ready.1))
-uneaten_outside x m v t cell t1 (a_put form) (w ∷ ws) y book is ready told none = put_outside x m v t cell (Err y) t1 form (w ∷ ws) ready told (subst (λ b. Stops false y t1 (eats b (λ e s. resets w e.kind s) t.todo t)) is (ate_none book (λ e s. resets w e.kind s) y t t1 none))
-uneaten_outside x m v t cell t1 (an_update form callee) vs y book is ready told none =
-    let go : SeenEvent → ThreadState → Completion ThreadState Value = λ e s. swaps cell (λ u s1. apply (calls_on None x false) m.span callee (u ∷ vs) s1) e.kind e.R e.C s in
-    update_outside x m v t cell (Err y) t1 form callee vs ready told (subst (λ b. Stops false y t1 (eats b go t.todo t)) is (ate_none book go y t t1 none))
-uneaten_outside x m v t cell t1 (a_send callee) vs y book is ready told none =
+pub none_outside : (x : Setting) (m : Mark) (v : Value) (t : ThreadState) (cell : CellId) (act : Act) (vs : List Value) (y : ThreadStop) (book : ℕ) → book ≡ home x.cells cell → ReadyIn (callable x) in_thread act (length vs)
+    → Told (Ok cell) (result_of (cell_of (rule (form_of_act act)) false v) m.span tt) → ComesNone book y t → Stops false y t (outside_means x act m v vs t)
+none_outside x m v t cell (a_look form) vs y book is ready told none = look_outside x m v t cell (Err y) t form vs ready told (subst (λ b. Stops false y t (up_to t (eats b (λ e s. reads cell e.kind e.C s) t.todo t))) is (comes_none book (λ e s. reads cell e.kind e.C s) y t none))
+none_outside x m v t cell (a_put form) [] y book is ready told none = absurd (omega (arith, ready.1))
+none_outside x m v t cell (a_put form) (w ∷ ws) y book is ready told none = put_outside x m v t cell (Err y) t form (w ∷ ws) ready told (subst (λ b. Stops false y t (up_to t (eats b (λ e s. resets w e.kind s) t.todo t))) is (comes_none book (λ e s. resets w e.kind s) y t none))
+none_outside x m v t cell (an_update form callee) vs y book is ready told none =
+    let go : SeenEvent → ThreadState → Completion ThreadState Value = λ e s. swap_means x callee cell vs m.span e s in
+    update_outside x m v t cell (Err y) t form callee vs ready told (subst (λ b. Stops false y t (up_to t (eats b go t.todo t))) is (comes_none book go y t none))
+none_outside x m v t cell (a_send callee) vs y book is ready told none =
     let go : SeenEvent → ThreadState → Completion ThreadState Value = λ e s. sends (record { agent = cell; callee = callee; args = vs; span = m.span }) m.span e.kind s in
-    send_outside x m v t cell (Err y) t1 callee vs told (subst (λ b. Stops false y t1 (eats b go t.todo t)) (is ∙ send_home x v m.span cell told) (ate_none book go y t t1 none))
+    send_outside x m v t cell (Err y) t callee vs told (subst (λ b. Stops false y t (up_to t (eats b go t.todo t))) (is ∙ send_home x v m.span cell told) (comes_none book go y t none))
 
--- the event of a swap
-module _ (book : ℕ) (e : Seen) (t u : ThreadState) (eaten : Ate book e t u) (c : CellId) (g : Value → ThreadState → Completion ThreadState Value) where
-  abbrev swapping : Completion ThreadState Value
-  swapping = eats book (λ a s. swaps c g a.kind a.R a.C s) t.todo t
-
-  at_event : swapping ≡ swaps c g e.kind.now (world_of (plain_view e.start)) (world_of (plain_view e.here)) u
-  at_event = ate book (λ a s. swaps c g a.kind a.R a.C s) e t u eaten
-
-  pub ate_swap : (new : Value) → swap_of e.kind.now ≡ Some new → swapping ≡ swap_ends (Some new) (g (world_of (plain_view e.here) c.number) u)
-  ate_swap new to = at_event ∙ swaps_to c g (world_of (plain_view e.start)) (world_of (plain_view e.here)) u e.kind.now new to
-
-  pub ate_broken : is_broke e.kind.now ≡ true → swapping ≡ swap_ends None (g (world_of (plain_view e.start) c.number) u)
-  ate_broken broken = at_event ∙ swaps_broken c g (world_of (plain_view e.start)) (world_of (plain_view e.here)) u e.kind.now broken
-
-  pub ate_other : swap_of e.kind.now ≡ None → is_broke e.kind.now ≡ false → swapping ≡ Invalid
-  ate_other no_swap whole = at_event ∙ swaps_else c g (world_of (plain_view e.start)) (world_of (plain_view e.here)) u e.kind.now no_swap whole
-
--- what it makes of what the callee gave
-swap_named : (w : Value) (u : ThreadState) (b : Bool) → Gives false (if b then Ok w else Err Wrong) u (meant b w u)
+-- what a swap makes of what the callee gave
+swap_named : (w : Value) (u : ThreadState) (b : Bool) → AnswersAt (if b then Ok w else Err Wrong) u (meant b w u)
 swap_named w u true = refl
-swap_named w u false = (refl, refl)
+swap_named w u false = refl
 
-swap_given : (o : Option Value) (r : Result Value ThreadStop) (u : ThreadState) (c : Completion ThreadState Value) → Gives false r u c → Gives false (swap_gives r o) u (swap_ends o c)
-swap_given (Some new) (Ok w) u c h = subst (λ d. Gives false (swap_gives (Ok w) (Some new)) u (faultless d (λ z s. meant (same_value z new) z s))) (sym h) (swap_named w u (same_value w new))
+swap_given : (o : Option Value) (r : Result Value ThreadStop) (u : ThreadState) (c : Completion ThreadState Value) → AnswersAt r u c → AnswersAt (swap_gives r o) u (swap_ends o c)
+swap_given (Some new) (Ok w) u c h = subst (λ d. AnswersAt (swap_gives (Ok w) (Some new)) u (faultless d (λ z s. meant (same_value z new) z s))) (sym h) (swap_named w u (same_value w new))
 swap_given (Some new) (Err y) u c h = faultless_stop y u c (λ z s. meant (same_value z new) z s) h
-swap_given None (Ok w) u c h = (refl, ap (λ d. faulted d (λ f s. Faults f s)) h)
+swap_given None (Ok w) u c h = ap (λ d. faulted d (λ f s. Faults f s)) h
 swap_given None (Err y) u c h = faulted_stop y u c h
 
-module _ (x : Setting) (sound : SoundFunctions [] (functions_of x.functions)) (callee : Callee) (cell : CellId) (vs : List Value) (span : Span) (t u : ThreadState) where
+module _ (x : Setting) (sound : SoundFunctions [] (functions_of x.functions)) (callee : Callee) (cell : CellId) (vs : List Value) (span : Span) (e : SeenEvent) (t : ThreadState) where
   abbrev on_value : Value → ThreadState → Completion ThreadState Value
   on_value v s = apply (calls_on None x false) span callee (v ∷ vs) s
 
-  pub swap_stop : (book : ℕ) (y : ThreadStop) → book ≡ home x.cells cell → SwapsNone book y t u → Stops false y u (swap_means x callee cell vs span t)
-  swap_stop book y is h = subst (λ b. SwapsNone b y t u) is h cell on_value
+  pub swap_stop : (y : ThreadStop) → IsNoSwap e y → HaltsAt y t (swap_means x callee cell vs span e t)
+  swap_stop y h = h cell on_value t
 
-  pub swap_done : (book : ℕ) (w : PlainView) (o : Option Value) (v : Value) (r res : Result Value ThreadStop) → book ≡ home x.cells cell → SwapAte book w o t u → v ≡ world_of w cell.number
-      → SoundCallee (callable x) callee (suc (length vs)) → Told r (applied x callee (v ∷ vs) span) → res ≡ swap_gives r o → Gives false res u (swap_means x callee cell vs span t)
-  swap_done book w o v r res is eaten value fits told ends =
-      let here = subst (λ b. SwapAte b w o t u) is eaten cell on_value in
-      let given = swap_given o r u (on_value v u) (told_applies false u x sound (forms_on None (around_it x)) false span callee (v ∷ vs) r fits told) in
-      subst (λ q. Gives false q u (swap_means x callee cell vs span t)) (sym ends) (subst (λ c. Gives false (swap_gives r o) u c) (sym (here ∙ ap (λ a. swap_ends o (on_value a u)) (sym value))) given)
+  pub swap_done : (w : PlainView) (o : Option Value) (v : Value) (r res : Result Value ThreadStop) → IsSwap e w o → v ≡ world_of w cell.number
+      → SoundCallee (callable x) callee (suc (length vs)) → Told r (applied x callee (v ∷ vs) span) → res ≡ swap_gives r o → AnswersAt res t (swap_means x callee cell vs span e t)
+  swap_done w o v r res swap value fits told ends =
+      let here = swap cell on_value t in
+      let given = swap_given o r t (on_value v t) (answers_applies t x sound (forms_on None (around_it x)) false span callee (v ∷ vs) r fits told) in
+      subst (λ q. AnswersAt q t (swap_means x callee cell vs span e t)) (sym ends) (subst (λ c. AnswersAt (swap_gives r o) t c) (sym (here ∙ ap (λ a. swap_ends o (on_value a t)) (sym value))) given)
 
 -- ---- a pure function in a transaction of its own, on no world
 

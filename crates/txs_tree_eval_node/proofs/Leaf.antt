@@ -2,6 +2,9 @@
 use Rattle.std.proofs.Common.{◌≡◌, ℕ, zero, suc, ◌+◌, ◌<◌, List, [], ◌∷◌, length, get_or, drop, refl, sym, ap, subst, arith}
 use Rattle.txs_tree_eval_node.specs.Events.{seen_event, seen_events}
 use Rattle.txs_tree_eval_node.specs.declared.seen.Seen.{Seen}
+use Rattle.txs_tree_eval_node.specs.declared.state.Progress.{Progress}
+use Rattle.txs_tree_eval_node.specs.Evaluated.{thread_state}
+use Rattle.txs_world_protocol.specs.SeenEvent.{SeenEvent}
 
 todo_suc : (es : List Seen) (i : ℕ) (e : Seen) → i < length es → e ≡ get_or es i e → drop i (seen_events es) ≡ seen_event e ∷ drop (suc i) (seen_events es)
 todo_suc [] i e lt is = absurd (omega (arith, lt))
@@ -12,6 +15,28 @@ pub todo_here : (es : List Seen) (i : ℕ) (e : Seen) → i < length es → e �
 todo_here es i e lt is =
     let same : suc i ≡ i + 1 = omega arith in
     subst (λ k. drop i (seen_events es) ≡ seen_event e ∷ drop k (seen_events es)) same (todo_suc es i e lt is)
+
+-- where an event is left, there is one
+left_some : (es : List Seen) (i : ℕ) (e : SeenEvent) (fs : List SeenEvent) → drop i (seen_events es) ≡ e ∷ fs → i < length es
+left_some [] zero e fs h = absurd (omega (arith, ap length h))
+left_some [] (suc i) e fs h = absurd (omega (arith, ap length h))
+left_some (f ∷ es) zero e fs h = omega arith
+left_some (f ∷ es) (suc i) e fs h = omega (arith, left_some es i e fs h)
+
+pub event_left : (p : Progress) (e : SeenEvent) (es : List SeenEvent) → (thread_state p).todo ≡ e ∷ es → p.eaten < length p.events.now
+event_left p e es h = left_some p.events.now p.eaten e es h
+
+-- those behind the next event
+after_suc : (es : List Seen) (i : ℕ) (e : SeenEvent) (fs : List SeenEvent) → drop i (seen_events es) ≡ e ∷ fs → drop (suc i) (seen_events es) ≡ fs
+after_suc [] zero e fs h = absurd (omega (arith, ap length h))
+after_suc [] (suc i) e fs h = absurd (omega (arith, ap length h))
+after_suc (f ∷ es) zero e fs h = ap (drop 1) h
+after_suc (f ∷ es) (suc i) e fs h = after_suc es i e fs h
+
+pub event_skipped : (es : List Seen) (i : ℕ) (e : SeenEvent) (fs : List SeenEvent) → drop i (seen_events es) ≡ e ∷ fs → drop (i + 1) (seen_events es) ≡ fs
+event_skipped es i e fs h =
+    let same : suc i ≡ i + 1 = omega arith in
+    subst (λ k. drop k (seen_events es) ≡ fs) same (after_suc es i e fs h)
 
 pub length-seen : (es : List Seen) → length (seen_events es) ≡ length es
 length-seen [] = refl

@@ -7,4 +7,5 @@ pub mod Evaluation
 pub mod Forms
 pub mod Leaf
 pub mod Recurs
+pub mod Right
 pub mod Shaping

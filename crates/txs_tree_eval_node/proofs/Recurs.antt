@@ -34,11 +34,12 @@ use Rattle.txs_value_data.specs.declared.value.Value.{Value}
 use Rattle.txs_value_data.specs.declared.value.Value.TheVariants.{Nil, Truth, Int, Key, Text, Vector, Cell}
 use Rattle.txs_tree_eval_node.specs.Evaluated.{Part, part, is_on, forms_on, calls_on, around_it, means, SoundCommutes}
 use Rattle.txs_tree_meaning.specs.Known.{Known, known}
-use Rattle.txs_tree_meaning.specs.Meaning.{Completion, Completes, Recurs, Faults, Retries, Waits, OutOfTurns, Invalid, bind, again, closed, allowed, give, result_of, Applies, apply, turns, Effects, eval, eval_all, eval_let, eval_do}
+use Rattle.txs_tree_meaning.specs.Meaning.{Completion, Completes, Recurs, Faults, Retries, Waits, OutOfTurns, Invalid, bind, again, closed, allowed, give, result_of, Applies, apply, turns, Effects, eval, eval_all, eval_let, eval_do, call_at}
 use Rattle.txs_tree_eval_node.specs.Setting.{Setting, callable, zone_on, on_view}
 use Rattle.txs_tree_meaning.specs.Sound.{SoundCall, SoundCallee, SoundTree, SoundAll, SoundLet, SoundDo, SoundFunctions, in_dosync}
-use Rattle.txs_tree_meaning.specs.Thread.{ThreadState, Surroundings, Transacting, on_events, with_tx, eats, meant, reads, resets, swaps, faulted, faultless, sends, over, run_of, ends_tx, is_retry, eats_tx, thread_look, thread_put, thread_update, outside_form}
-use Rattle.txs_tree_meaning.specs.Transaction.{TxState, on_cell, own, current, noted, tx_look, tx_put, tx_update, done_as, final_writes}
+use Rattle.txs_tree_meaning.specs.Right.{up_to, behind_retries, on_right}
+use Rattle.txs_tree_meaning.specs.Thread.{ThreadState, Surroundings, Transacting, on_events, with_tx, uneaten, eats, meant, reads, resets, swaps, faulted, faultless, sends, over, run_of, ends_tx, is_retry, eats_tx, thread_look, thread_put, thread_update, outside_form}
+use Rattle.txs_tree_meaning.specs.Transaction.{TxState, in_transaction, on_cell, own, current, noted, tx_look, tx_put, tx_update, done_as, final_writes}
 use Rattle.txs_tree_meaning.specs.Tree.{Mark, Tree, Const, Local, If, Do, Let, Loop, Recur, Core, Call, VectorOf, Println, Dosync, Look, Put, Update, Send, Trees, none, more, count, PlainFunction}
 use Rattle.txs_tree_meaning.specs.View.{functions_of}
 use Rattle.txs_tree_eval_transaction.specs.Views.{PlainView, world_of}
@@ -148,9 +149,19 @@ module _ (tail : Option ℕ) where
   if_as true c d f g = f
   if_as false c d f g = g
 
+  uneaten_as : (es : List SeenEvent) (c : Completion ThreadState Value) → RecursAs tail c → RecursAs tail (uneaten es c)
+  uneaten_as es (Completes v t) h = tt
+  uneaten_as es (Recurs vs t) h = h
+  uneaten_as es (Faults f t) h = tt
+  uneaten_as es (Retries t) h = tt
+  uneaten_as es (Waits t) h = tt
+  uneaten_as es (OutOfTurns t) h = tt
+  uneaten_as es Invalid h = tt
+
   eats_as : (book : ℕ) (go : SeenEvent → ThreadState → Completion ThreadState Value) (es : List SeenEvent) (t : ThreadState) → ((e : SeenEvent) (t1 : ThreadState) → RecursAs tail (go e t1)) → RecursAs tail (eats book go es t)
   eats_as book go [] t h = tt
-  eats_as book go (e ∷ es) t h = if_as (e.book == book) (go e (record t { todo = es })) Invalid (h e (record t { todo = es })) tt
+  eats_as book go (e ∷ es) t h =
+      if_as (e.book == book) (uneaten (e ∷ es) (go e (record t { todo = es }))) Invalid (uneaten_as (e ∷ es) (go e (record t { todo = es })) (h e (record t { todo = es }))) tt
 
   reads_as : (c : CellId) (k : EventKind) (C : World) (t : ThreadState) → RecursAs tail (reads c k C t)
   reads_as c (Read d) C t = meant_as (same_cell c d) (C c.number) t
@@ -223,8 +234,8 @@ module _ (tail : Option ℕ) where
   eats_tx_as (suc k) d f [] t = tt
   eats_tx_as (suc k) d f (e ∷ es) t =
       let end = ends_tx d f e.kind e.R e.Q e.C (record t { todo = es }) in
-      if_as (e.book == 0) (if is_retry e.kind then eats_tx k d f es t else end) Invalid
-      (if_as (is_retry e.kind) (eats_tx k d f es t) end (eats_tx_as k d f es t) (ends_tx_as d f e.kind e.R e.Q e.C (record t { todo = es }))) tt
+      if_as (e.book == 0) (if is_retry e.kind then eats_tx k d f es t else uneaten (e ∷ es) end) Invalid
+      (if_as (is_retry e.kind) (eats_tx k d f es t) (uneaten (e ∷ es) end) (eats_tx_as k d f es t) (uneaten_as (e ∷ es) end (ends_tx_as d f e.kind e.R e.Q e.C (record t { todo = es })))) tt
 
   thread_look_as : (x : Surroundings) (form : LookForm) (c : CellId) (t : ThreadState) → RecursAs tail (thread_look x form c t)
   thread_look_as x Deref c t = eats_as (home x.cells c) (λ e t1. reads c e.kind e.C t1) t.todo t (λ e t1. reads_as c e.kind e.C t1)
@@ -424,67 +435,81 @@ module _ (top : Option (List Known)) where
 
 -- ---- what each family leaves, while this transaction runs or none
 
-abbrev KeepsOn : (o : Option PlainView) → Option (List Known) → Part o → Type 0
+-- a transaction runs on some world, or none
+abbrev shape : Option World → Option PlainView
+shape None = None
+shape (Some R) = Some (record { cells = []; place = 0 })
+
+-- the forms on cells there
+abbrev forms_at : (o : Option World) → Surroundings → ℕ → Effects (Part (shape o))
+forms_at None x d = on_right x d
+forms_at (Some R) x d = in_transaction R
+
+-- what functions mean there
+abbrev calls_at : (o : Option World) → Setting → Bool → ℕ → List Value → Part (shape o) → Completion (Part (shape o)) Value
+calls_at o x = call_at (forms_at o (around_it x)) x.turns (functions_of x.functions) x.depth
+
+abbrev KeepsOn : (o : Option World) → Option (List Known) → Part (shape o) → Type 0
 KeepsOn None top t = Unit {0}
-KeepsOn (Some r) top t = KeptBy top t.done.commutes
+KeepsOn (Some R) top t = KeptBy top t.done.commutes
 
 -- nothing is kept of a thread
-plain : (tail : Option ℕ) (c : Completion ThreadState Value) → RecursAs tail c → Fine (λ t. Unit {0}) tail c
-plain tail (Completes a s) h = tt
-plain tail (Recurs vs s) h = (h, tt)
-plain tail (Faults f s) h = tt
-plain tail (Retries s) h = tt
-plain tail (Waits s) h = tt
-plain tail (OutOfTurns s) h = tt
-plain tail Invalid h = tt
+right : (tail : Option ℕ) (s : ThreadState) (c : Completion ThreadState Value) → RecursAs tail c → Fine (λ t. Unit {0}) tail (up_to s c)
+right tail s (Completes a t) h = tt
+right tail s (Recurs vs t) h = (h, tt)
+right tail s (Faults f t) h = tt
+right tail s (Retries t) h = tt
+right tail s (Waits t) h = tt
+right tail s (OutOfTurns t) h = tt
+right tail s Invalid h = tt
 
 module _ (top : Option (List Known)) (x : Surroundings) (d : ℕ) (tail : Option ℕ) where
-  print_fine : (o : Option PlainView) (vs : List Value) (s : Part o) → KeepsOn o top s → Fine (KeepsOn o top) tail ((forms_on o x d).print (is_on o) vs s)
+  print_fine : (o : Option World) (vs : List Value) (s : Part (shape o)) → KeepsOn o top s → Fine (KeepsOn o top) tail ((forms_at o x d).print (is_on (shape o)) vs s)
   print_fine None vs s h = tt
-  print_fine (Some r) vs s h = tt
+  print_fine (Some R) vs s h = tt
 
-  look_fine : (o : Option PlainView) (form : LookForm) (m : Mark) (v : Value) (s : Part o) → KeepsOn o top s → Fine (KeepsOn o top) tail ((forms_on o x d).look form (is_on o) m v s)
-  look_fine None form m v s h = plain tail ((on_events x d).look form false m v s) (look_as tail x d m v s form)
-  look_fine (Some r) form m v s h = on_cell_fine (Keeps top) tail (form_of.Look form) true m.span v (tx_look (world_of r) form) s h (λ c t p. tx_look_fine top (world_of r) tail form c t p)
+  look_fine : (o : Option World) (form : LookForm) (m : Mark) (v : Value) (s : Part (shape o)) → KeepsOn o top s → Fine (KeepsOn o top) tail ((forms_at o x d).look form (is_on (shape o)) m v s)
+  look_fine None form m v s h = right tail s ((on_events x d).look form false m v s) (look_as tail x d m v s form)
+  look_fine (Some R) form m v s h = on_cell_fine (Keeps top) tail (form_of.Look form) true m.span v (tx_look R form) s h (λ c t p. tx_look_fine top R tail form c t p)
 
-  put_fine : (o : Option PlainView) (form : PutForm) (m : Mark) (v w : Value) (s : Part o) → KeepsOn o top s → Fine (KeepsOn o top) tail ((forms_on o x d).put form (is_on o) m v w s)
-  put_fine None form m v w s h = plain tail ((on_events x d).put form false m v w s) (put_as tail x d m v s form w)
-  put_fine (Some r) form m v w s h = on_cell_fine (Keeps top) tail (form_of.Put form) true m.span v (λ c t. tx_put form m.span c w t) s h (λ c t p. tx_put_fine top (world_of r) tail form m.span c w t p)
+  put_fine : (o : Option World) (form : PutForm) (m : Mark) (v w : Value) (s : Part (shape o)) → KeepsOn o top s → Fine (KeepsOn o top) tail ((forms_at o x d).put form (is_on (shape o)) m v w s)
+  put_fine None form m v w s h = right tail s ((on_events x d).put form false m v w s) (put_as tail x d m v s form w)
+  put_fine (Some R) form m v w s h = on_cell_fine (Keeps top) tail (form_of.Put form) true m.span v (λ c t. tx_put form m.span c w t) s h (λ c t p. tx_put_fine top R tail form m.span c w t p)
 
-  update_fine : (o : Option PlainView) (form : UpdateForm) (m : Mark) (v : Value) (callee : Callee) (vs : List Value) (f : Applies (Part o)) (s : Part o) → CalleeBy top callee (suc (length vs))
-      → ((us : List Value) (t : Part o) → length us ≡ suc (length vs) → KeepsOn o top t → Fine (KeepsOn o top) None (f callee us t)) → KeepsOn o top s → Fine (KeepsOn o top) tail ((forms_on o x d).update form (is_on o) m v callee vs f s)
-  update_fine None form m v callee vs f s sound each h = plain tail ((on_events x d).update form false m v callee vs f s) (update_as tail x d m v s form callee vs f)
-  update_fine (Some r) form m v callee vs f s sound each h =
-      on_cell_fine (Keeps top) tail (form_of.Update form) true m.span v (λ c t. tx_update (world_of r) form m c callee vs f t) s h (λ c t p. tx_update_fine top (world_of r) tail form m c callee vs f t sound each p)
+  update_fine : (o : Option World) (form : UpdateForm) (m : Mark) (v : Value) (callee : Callee) (vs : List Value) (f : Applies (Part (shape o))) (s : Part (shape o)) → CalleeBy top callee (suc (length vs))
+      → ((us : List Value) (t : Part (shape o)) → length us ≡ suc (length vs) → KeepsOn o top t → Fine (KeepsOn o top) None (f callee us t)) → KeepsOn o top s → Fine (KeepsOn o top) tail ((forms_at o x d).update form (is_on (shape o)) m v callee vs f s)
+  update_fine None form m v callee vs f s sound each h = right tail s ((on_events x d).update form false m v callee vs f s) (update_as tail x d m v s form callee vs f)
+  update_fine (Some R) form m v callee vs f s sound each h =
+      on_cell_fine (Keeps top) tail (form_of.Update form) true m.span v (λ c t. tx_update R form m c callee vs f t) s h (λ c t p. tx_update_fine top R tail form m c callee vs f t sound each p)
 
-  send_fine : (o : Option PlainView) (m : Mark) (v : Value) (callee : Callee) (vs : List Value) (s : Part o) → KeepsOn o top s → Fine (KeepsOn o top) tail ((forms_on o x d).send (is_on o) m v callee vs s)
-  send_fine None m v callee vs s h = plain tail ((on_events x d).send false m v callee vs s) (send_as tail x d m v s callee vs)
-  send_fine (Some r) m v callee vs s h = on_cell_fine (Keeps top) tail form_of.Send true m.span v _ s h (λ c t p. p)
+  send_fine : (o : Option World) (m : Mark) (v : Value) (callee : Callee) (vs : List Value) (s : Part (shape o)) → KeepsOn o top s → Fine (KeepsOn o top) tail ((forms_at o x d).send (is_on (shape o)) m v callee vs s)
+  send_fine None m v callee vs s h = right tail s ((on_events x d).send false m v callee vs s) (send_as tail x d m v s callee vs)
+  send_fine (Some R) m v callee vs s h = on_cell_fine (Keeps top) tail form_of.Send true m.span v _ s h (λ c t p. p)
 
-  dosync_fine : (o : Option PlainView) (m : Mark) (body : Tree) (env : List Value) (run : Part o → Completion (Part o) Value) (f : Applies (Part o)) (s : Part o)
-      → (is_on o ≡ true → Fine (KeepsOn o top) tail (run s)) → Fine (KeepsOn o top) tail ((forms_on o x d).dosync (is_on o) m body env run f s)
-  dosync_fine None m body env run f s each = plain tail ((on_events x d).dosync false m body env run f s) (eats_tx_as tail x.tries _ f s.todo s)
-  dosync_fine (Some r) m body env run f s each = each refl
+  dosync_fine : (o : Option World) (m : Mark) (body : Tree) (env : List Value) (run : Part (shape o) → Completion (Part (shape o)) Value) (f : Applies (Part (shape o))) (s : Part (shape o))
+      → (is_on (shape o) ≡ true → Fine (KeepsOn o top) tail (run s)) → Fine (KeepsOn o top) tail ((forms_at o x d).dosync (is_on (shape o)) m body env run f s)
+  dosync_fine None m body env run f s each = right tail (record s { todo = behind_retries x.tries s.todo }) ((on_events x d).dosync false m body env run f s) (eats_tx_as tail x.tries _ f s.todo s)
+  dosync_fine (Some R) m body env run f s each = each refl
 
 -- in a transaction
-zone_is : (o : Option PlainView) → is_on o ≡ true → zone_on o ≡ in_dosync
+zone_is : (o : Option World) → is_on (shape o) ≡ true → zone_on (shape o) ≡ in_dosync
 zone_is None h = absurd (false≢true h)
-zone_is (Some r) h = refl
+zone_is (Some R) h = refl
 
-module _ (top : Option (List Known)) (ks : List Known) (wide : (callee : Callee) (k : ℕ) → SoundCallee ks callee k → CalleeBy top callee k) (o : Option PlainView) (x : Surroundings) (b n : ℕ) (call : Bool → ℕ → List Value → Part o → Completion (Part o) Value)
-    (calls : (f : ℕ) (vs : List Value) (s : Part o) → SoundCall ks (zone_on o) f (length vs) → KeepsOn o top s → Fine (KeepsOn o top) None (call (is_on o) f vs s))
-    (pures : (f k : ℕ) → SoundCallee ks (Function f) k → SoundCall ks (zone_on o) f k) where
-  abbrev fx : Effects (Part o)
-  fx = forms_on o x b
+module _ (top : Option (List Known)) (ks : List Known) (wide : (callee : Callee) (k : ℕ) → SoundCallee ks callee k → CalleeBy top callee k) (o : Option World) (x : Surroundings) (b n : ℕ) (call : Bool → ℕ → List Value → Part (shape o) → Completion (Part (shape o)) Value)
+    (calls : (f : ℕ) (vs : List Value) (s : Part (shape o)) → SoundCall ks (zone_on (shape o)) f (length vs) → KeepsOn o top s → Fine (KeepsOn o top) None (call (is_on (shape o)) f vs s))
+    (pures : (f k : ℕ) → SoundCallee ks (Function f) k → SoundCall ks (zone_on (shape o)) f k) where
+  abbrev fx : Effects (Part (shape o))
+  fx = forms_at o x b
 
   abbrev on : Bool
-  on = is_on o
+  on = is_on (shape o)
 
-  abbrev P : Part o → Type 0
+  abbrev P : Part (shape o) → Type 0
   P = KeepsOn o top
 
   -- a call gives no recur
-  unrecurred : (tail : Option ℕ) (c : Completion (Part o) Value) → Fine P None c → Fine P tail c
+  unrecurred : (tail : Option ℕ) (c : Completion (Part (shape o)) Value) → Fine P None c → Fine P tail c
   unrecurred tail (Completes a s) h = h
   unrecurred tail (Recurs vs s) h = absurd (subst IsSome (sym h.0) tt)
   unrecurred tail (Faults f s) h = tt
@@ -493,12 +518,12 @@ module _ (top : Option (List Known)) (ks : List Known) (wide : (callee : Callee)
   unrecurred tail (OutOfTurns s) h = tt
   unrecurred tail Invalid h = tt
 
-  applies : (span : Span) (callee : Callee) (k : ℕ) → SoundCallee ks callee k → (us : List Value) (s : Part o) → length us ≡ k → P s → Fine P None (apply (call on) span callee us s)
+  applies : (span : Span) (callee : Callee) (k : ℕ) → SoundCallee ks callee k → (us : List Value) (s : Part (shape o)) → length us ≡ k → P s → Fine P None (apply (call on) span callee us s)
   applies span (CoreOp op) k sound us s many p = result_fine P None (core op us) span s p
-  applies span (Function f) k sound us s many p = calls f us s (subst (λ j. SoundCall ks (zone_on o) f j) (sym many) (pures f k sound)) p
+  applies span (Function f) k sound us s many p = calls f us s (subst (λ j. SoundCall ks (zone_on (shape o)) f j) (sym many) (pures f k sound)) p
 
   mutual
-    tree_fine : (e : Tree) (d : ℕ) (tail : Option ℕ) (env : List Value) (s : Part o) → SoundTree ks (zone_on o) d tail e → P s → Fine P tail (eval fx call n on e env s)
+    tree_fine : (e : Tree) (d : ℕ) (tail : Option ℕ) (env : List Value) (s : Part (shape o)) → SoundTree ks (zone_on (shape o)) d tail e → P s → Fine P tail (eval fx call n on e env s)
     tree_fine (Const v m) d tail env s h p = p
     tree_fine (Local i m) d tail env s h p = give_fine P tail (nth env i) s p
     tree_fine (If c a e m) d tail env s h p =
@@ -515,7 +540,7 @@ module _ (top : Option (List Known)) (ks : List Known) (wide : (callee : Callee)
         all_fine P (count args) tail (eval_all fx call n on args env s) (λ vs s1. result_of (core op vs) m.span s1) (row_fine args d env s h.1 p) (λ vs s1 many p1. result_fine P tail (core op vs) m.span s1 p1)
     tree_fine (Call f args m) d tail env s h p =
         all_fine P (count args) tail (eval_all fx call n on args env s) (λ vs s1. call on f vs s1) (row_fine args d env s h.1 p)
-        (λ vs s1 many p1. unrecurred tail (call on f vs s1) (calls f vs s1 (subst (λ k. SoundCall ks (zone_on o) f k) (sym many) h.0) p1))
+        (λ vs s1 many p1. unrecurred tail (call on f vs s1) (calls f vs s1 (subst (λ k. SoundCall ks (zone_on (shape o)) f k) (sym many) h.0) p1))
     tree_fine (VectorOf items m) d tail env s h p =
         all_fine P (count items) tail (eval_all fx call n on items env s) (λ vs s1. result_of (vector_of vs) m.span s1) (row_fine items d env s h.1 p) (λ vs s1 many p1. result_fine P tail (vector_of vs) m.span s1 p1)
     tree_fine (Println args m) d tail env s h p =
@@ -539,19 +564,19 @@ module _ (top : Option (List Known)) (ks : List Known) (wide : (callee : Callee)
         bind_fine P None tail (eval fx call n on cell env s) (λ v s1. bind (eval_all fx call n on args env s1) (λ vs s2. fx.send on m v callee vs s2)) (tree_fine cell d None env s h.0 p)
         (λ v s1 p1. all_fine P (count args) tail (eval_all fx call n on args env s1) (λ vs s2. fx.send on m v callee vs s2) (row_fine args d env s1 h.2 p1) (λ vs s2 many p2. send_fine top x b tail o m v callee vs s2 p2))
 
-    row_fine : (es : Trees) (d : ℕ) (env : List Value) (s : Part o) → SoundAll ks (zone_on o) d es → P s → FineAll P (count es) (eval_all fx call n on es env s)
+    row_fine : (es : Trees) (d : ℕ) (env : List Value) (s : Part (shape o)) → SoundAll ks (zone_on (shape o)) d es → P s → FineAll P (count es) (eval_all fx call n on es env s)
     row_fine none d env s h p = (refl, p)
     row_fine (more e rest) d env s h p =
         bind_all P None (suc (count rest)) (eval fx call n on e env s) (λ v s1. bind (eval_all fx call n on rest env s1) (λ vs s2. Completes (v ∷ vs) s2)) (tree_fine e d None env s h.0 p)
         (λ v s1 p1. one_more P (count rest) v (eval_all fx call n on rest env s1) (row_fine rest d env s1 h.1 p1))
 
-    let_fine : (es : Trees) (d : ℕ) (env : List Value) (s : Part o) → SoundLet ks (zone_on o) d es → P s → Fine P None (eval_let fx call n on es env s)
+    let_fine : (es : Trees) (d : ℕ) (env : List Value) (s : Part (shape o)) → SoundLet ks (zone_on (shape o)) d es → P s → Fine P None (eval_let fx call n on es env s)
     let_fine none d env s h p = p
     let_fine (more e rest) d env s h p =
         bind_fine P None None (eval fx call n on e env s) (λ v s1. bind (eval_let fx call n on rest (env ++ v ∷ []) s1) (λ vs s2. Completes (v ∷ vs) s2)) (tree_fine e d None env s h.0 p)
         (λ v s1 p1. bind_fine P None None (eval_let fx call n on rest (env ++ v ∷ []) s1) (λ vs s2. Completes (v ∷ vs) s2) (let_fine rest (d + 1) (env ++ v ∷ []) s1 h.1 p1) (λ vs s2 p2. p2))
 
-    do_fine : (es : Trees) (d : ℕ) (tail : Option ℕ) (env : List Value) (s : Part o) → SoundDo ks (zone_on o) d tail es → P s → Fine P tail (eval_do fx call n on es env s)
+    do_fine : (es : Trees) (d : ℕ) (tail : Option ℕ) (env : List Value) (s : Part (shape o)) → SoundDo ks (zone_on (shape o)) d tail es → P s → Fine P tail (eval_do fx call n on es env s)
     do_fine none d tail env s h p = absurd h
     do_fine (more e none) d tail env s h p = tree_fine e d tail env s h p
     do_fine (more e (more f rest)) d tail env s h p =
@@ -564,9 +589,9 @@ abbrev asked : Bool → List Known → Option (List Known)
 asked true ks = Some ks
 asked false ks = None
 
-module _ (cells : List CellDefinition) (fs : List function.Function) (n : ℕ) (o : Option PlainView) (d : ℕ) (ask : Bool) (sound : SoundFunctions [] (functions_of fs)) where
+module _ (cells : List CellDefinition) (fs : List function.Function) (n : ℕ) (o : Option World) (d : ℕ) (ask : Bool) (sound : SoundFunctions [] (functions_of fs)) where
   abbrev at : ℕ → Setting
-  at b = record { cells = cells; functions = fs; depth = b; turns = n; world = o }
+  at b = record { cells = cells; functions = fs; depth = b; turns = n; world = shape o }
 
   abbrev most : Option (List Known)
   most = asked ask (callable (at d))
@@ -579,54 +604,66 @@ module _ (cells : List CellDefinition) (fs : List function.Function) (n : ℕ) (
   widened true b le callee k h = narrow b le callee k h
   widened false b le callee k h = tt
 
-  abbrev Q : Part o → Type 0
+  abbrev Q : Part (shape o) → Type 0
   Q = KeepsOn o most
 
-  body_fine : (b f : ℕ) (vs : List Value) (s : Part o) → suc b ≤ d → SoundCall (callable (at (suc b))) (zone_on o) f (length vs)
-      → ((g : ℕ) (us : List Value) (t : Part o) → SoundCall (callable (at b)) (zone_on o) g (length us) → Q t → Fine Q None (calls_on o (at b) (is_on o) g us t))
+  body_fine : (b f : ℕ) (vs : List Value) (s : Part (shape o)) → suc b ≤ d → SoundCall (callable (at (suc b))) (zone_on (shape o)) f (length vs)
+      → ((g : ℕ) (us : List Value) (t : Part (shape o)) → SoundCall (callable (at b)) (zone_on (shape o)) g (length us) → Q t → Fine Q None (calls_at o (at b) (is_on (shape o)) g us t))
       → Q s → (found : Option PlainFunction) → nth (functions_of fs) f ≡ found
-      → Fine Q None (bind (give found s) (λ fun s1. turns n fun.parameters (λ ws s2. eval (forms_on o (around_it (at b)) b) (calls_on o (at b)) n (is_on o) fun.body ws s2) vs s1))
+      → Fine Q None (bind (give found s) (λ fun s1. turns (suc n) fun.parameters (λ ws s2. eval (forms_at o (around_it (at b)) b) (calls_at o (at b)) n (is_on (shape o)) fun.body ws s2) vs s1))
   body_fine b f vs s le h below p None there = tt
   body_fine b f vs s le h below p (Some fun) there =
       let low : suc b - 1 ≡ b = omega arith in
       let k = length vs in
       let many : fun.parameters ≡ k = as_many (at (suc b)) f k h fun sound there in
-      let body : SoundTree (callable (at b)) (zone_on o) fun.parameters (Some fun.parameters) fun.body =
-      subst (λ j. SoundTree (callable (at b)) (zone_on o) j (Some j) fun.body) (sym many) (subst (λ j. SoundTree (callable (at j)) (zone_on o) k (Some k) fun.body) low (called_body (at (suc b)) f k h fun sound there)) in
-      turns_fine Q n fun.parameters None (λ ws s2. eval (forms_on o (around_it (at b)) b) (calls_on o (at b)) n (is_on o) fun.body ws s2)
-      (λ ws s2 p2. tree_fine most (callable (at b)) (widened ask b (omega (arith, le))) o (around_it (at b)) b n (calls_on o (at b)) below (λ g j pure. pure_here (at b) g j pure) fun.body fun.parameters (Some fun.parameters) ws s2 body p2)
+      let body : SoundTree (callable (at b)) (zone_on (shape o)) fun.parameters (Some fun.parameters) fun.body =
+      subst (λ j. SoundTree (callable (at b)) (zone_on (shape o)) j (Some j) fun.body) (sym many) (subst (λ j. SoundTree (callable (at j)) (zone_on (shape o)) k (Some k) fun.body) low (called_body (at (suc b)) f k h fun sound there)) in
+      turns_fine Q (suc n) fun.parameters None (λ ws s2. eval (forms_at o (around_it (at b)) b) (calls_at o (at b)) n (is_on (shape o)) fun.body ws s2)
+      (λ ws s2 p2. tree_fine most (callable (at b)) (widened ask b (omega (arith, le))) o (around_it (at b)) b n (calls_at o (at b)) below (λ g j pure. pure_here (at b) g j pure) fun.body fun.parameters (Some fun.parameters) ws s2 body p2)
       vs s p
 
-  calls_fine : (b f : ℕ) (vs : List Value) (s : Part o) → b ≤ d → SoundCall (callable (at b)) (zone_on o) f (length vs) → Q s → Fine Q None (calls_on o (at b) (is_on o) f vs s)
+  calls_fine : (b f : ℕ) (vs : List Value) (s : Part (shape o)) → b ≤ d → SoundCall (callable (at b)) (zone_on (shape o)) f (length vs) → Q s → Fine Q None (calls_at o (at b) (is_on (shape o)) f vs s)
   calls_fine zero f vs s le h p = tt
   calls_fine (suc b) f vs s le h p = body_fine b f vs s le h (λ g us t sc q. calls_fine b g us t (omega (arith, le)) sc q) p (nth (functions_of fs) f) refl
 
-  whole_fine : (e : Tree) (l : ℕ) (tail : Option ℕ) (env : List Value) (s : Part o) → SoundTree (callable (at d)) (zone_on o) l tail e → Q s → Fine Q tail (eval (forms_on o (around_it (at d)) d) (calls_on o (at d)) n (is_on o) e env s)
+  whole_fine : (e : Tree) (l : ℕ) (tail : Option ℕ) (env : List Value) (s : Part (shape o)) → SoundTree (callable (at d)) (zone_on (shape o)) l tail e → Q s → Fine Q tail (eval (forms_at o (around_it (at d)) d) (calls_at o (at d)) n (is_on (shape o)) e env s)
   whole_fine e l tail env s h p =
-      tree_fine most (callable (at d)) (widened ask d (omega arith)) o (around_it (at d)) d n (calls_on o (at d)) (λ f vs t c q. calls_fine d f vs t (omega arith) c q) (λ f k pure. pure_here (at d) f k pure) e l tail env s h p
+      tree_fine most (callable (at d)) (widened ask d (omega arith)) o (around_it (at d)) d n (calls_at o (at d)) (λ f vs t c q. calls_fine d f vs t (omega arith) c q) (λ f k pure. pure_here (at d) f k pure) e l tail env s h p
 
 -- ---- what the evaluator needs of it
 
-nothing_asked : (o : Option PlainView) (ks : List Known) (s : Part o) → KeepsOn o (asked false ks) s
-nothing_asked None ks s = tt
-nothing_asked (Some r) ks s = tt
+recurs_of : {S : Type 0} (P : S → Type 0) (tail : Option ℕ) (c : Completion S Value) → Fine P tail c → RecursAs tail c
+recurs_of P tail (Completes a s) h = tt
+recurs_of P tail (Recurs vs s) h = h.0
+recurs_of P tail (Faults f s) h = tt
+recurs_of P tail (Retries s) h = tt
+recurs_of P tail (Waits s) h = tt
+recurs_of P tail (OutOfTurns s) h = tt
+recurs_of P tail Invalid h = tt
 
-module _ (x : Setting) (sound : SoundFunctions [] (functions_of x.functions)) (e : Tree) (d : ℕ) (env : List Value) (out out1 : State) (vs : List Value) where
-  recurs_as : (tail : Option ℕ) → SoundTree (callable x) (zone_on x.world) d tail e → means x e env out ≡ Recurs vs (part x.world out1) → tail ≡ Some (length vs)
-  recurs_as tail h is =
-      (subst (λ c. Fine (KeepsOn x.world (asked false (callable x))) tail c) is
-      (whole_fine x.cells x.functions x.turns x.world x.depth false sound e d tail env (part x.world out) h (nothing_asked x.world (callable x) (part x.world out)))).0
+module _ (x : Setting) (sound : SoundFunctions [] (functions_of x.functions)) (e : Tree) (d : ℕ) (env : List Value) where
+  recurs_on : (o : Option PlainView) (tail : Option ℕ) (s : Part o) → SoundTree (callable x) (zone_on o) d tail e → RecursAs tail (eval (forms_on o (around_it x) x.depth) (calls_on o x) x.turns (is_on o) e env s)
+  recurs_on None tail s h = recurs_of (KeepsOn None None) tail (eval (forms_on None (around_it x) x.depth) (calls_on None x) x.turns false e env s) (whole_fine x.cells x.functions x.turns None x.depth false sound e d tail env s h tt)
+  recurs_on (Some r) tail s h = recurs_of (KeepsOn (Some (world_of r)) None) tail (eval (forms_on (Some r) (around_it x) x.depth) (calls_on (Some r) x) x.turns true e env s) (whole_fine x.cells x.functions x.turns (Some (world_of r)) x.depth false sound e d tail env s h tt)
 
-  -- a recur in tail position of a loop has as many values
-  pub recurs_many : (k : ℕ) → SoundTree (callable x) (zone_on x.world) d (Some k) e → means x e env out ≡ Recurs vs (part x.world out1) → length vs ≡ k
-  recurs_many k h is = sym (ap many_in (recurs_as (Some k) h is))
+  module _ (out out1 : State) (vs : List Value) where
+    recurs_as : (tail : Option ℕ) → SoundTree (callable x) (zone_on x.world) d tail e → means x e env out ≡ Recurs vs (part x.world out1) → tail ≡ Some (length vs)
+    recurs_as tail h is = subst (λ c. RecursAs tail c) is (recurs_on x.world tail (part x.world out) h)
 
-  -- in no tail position there is no recur
-  pub never_recurs : SoundTree (callable x) (zone_on x.world) d None e → means x e env out ≡ Recurs vs (part x.world out1) → ⊥
-  never_recurs h is = subst IsSome (sym (recurs_as None h is)) tt
+    -- a recur in tail position of a loop has as many values
+    pub recurs_many : (k : ℕ) → SoundTree (callable x) (zone_on x.world) d (Some k) e → means x e env out ≡ Recurs vs (part x.world out1) → length vs ≡ k
+    recurs_many k h is = sym (ap many_in (recurs_as (Some k) h is))
+
+    -- in no tail position there is no recur
+    pub never_recurs : SoundTree (callable x) (zone_on x.world) d None e → means x e env out ≡ Recurs vs (part x.world out1) → ⊥
+    never_recurs h is = subst IsSome (sym (recurs_as None h is)) tt
 
 -- the commutes that a transaction's body keeps have pure callees
+pub keeps_sound_on : (x : Setting) (R : World) (sound : SoundFunctions [] (functions_of x.functions)) (e : Tree) (d : ℕ) (env : List Value) (t u : TxState) (v : Value) → SoundTree (callable x) in_dosync d None e
+    → SoundCommutes (callable x) t.done.commutes → eval (in_transaction R) (call_at (λ b. in_transaction R) x.turns (functions_of x.functions) x.depth) x.turns true e env t ≡ Completes v u → SoundCommutes (callable x) u.done.commutes
+keeps_sound_on x R sound e d env t u v h before is =
+    subst (λ c. Fine (Keeps (Some (callable x))) None c) is (whole_fine x.cells x.functions x.turns (Some R) x.depth true sound e d None env t h before)
+
 pub keeps_sound : (x : Setting) (r : PlainView) (sound : SoundFunctions [] (functions_of x.functions)) (e : Tree) (d : ℕ) (env : List Value) (t u : TxState) (v : Value) → SoundTree (callable x) in_dosync d None e
     → SoundCommutes (callable x) t.done.commutes → eval (forms_on (Some r) (around_it (on_view x r)) x.depth) (calls_on (Some r) (on_view x r)) x.turns true e env t ≡ Completes v u → SoundCommutes (callable x) u.done.commutes
-keeps_sound x r sound e d env t u v h before is =
-    subst (λ c. Fine (Keeps (Some (callable x))) None c) is (whole_fine x.cells x.functions x.turns (Some r) x.depth true sound e d None env t h before)
+keeps_sound x r sound e d env t u v h before is = keeps_sound_on x (world_of r) sound e d env t u v h before is

@@ -1,7 +1,7 @@
 -- What the plain evaluators answer.
 use Rattle.std.specs.Prelude.{◌≡◌, ◌&&◌, ◌==◌, ℕ, suc, Bool, true, false, List, [], ◌∷◌, ◌++◌, map, drop, length, Option, Some, None, Result, Ok, Err, if◌then◌else◌, ⊤}
 use Rattle.txs_world_protocol.specs.Ask.{Writes, same_cell, same_value, same_writes, same_action, same_actions}
-use Rattle.txs_world_protocol.specs.SeenEvent.{SeenEvent, home}
+use Rattle.txs_world_protocol.specs.SeenEvent.{SeenEvent}
 use Rattle.txs_world_protocol.specs.declared.event.EventKind.{EventKind}
 use Rattle.txs_world_protocol.specs.declared.event.EventKind.TheVariants.{Read, Commit as Committed, Fail as Failing, Refused as Refusing, Send as Sent, SendRefused, Swap as Swapped, Broke}
 use Rattle.txs_frame.specs.Frame.{Work}
@@ -14,7 +14,8 @@ use Rattle.txs_tree_meaning.specs.Meaning.{Completion, Completes, Recurs, Faults
 use Rattle.txs_tree_meaning.specs.Pure.{pure_calls}
 use Rattle.txs_tree_eval_node.specs.Setting.{Setting, callable, zone_in}
 use Rattle.txs_tree_meaning.specs.Sound.{Zone, MayStand, SoundCall, SoundCallee}
-use Rattle.txs_tree_meaning.specs.Thread.{TxRun, ThreadState, Surroundings, Transacting, on_events, eats, swaps, faultless, faulted, meant, with_tx, run_of, ends_tx, eats_tx}
+use Rattle.txs_tree_meaning.specs.Right.{up_to, behind_retries, on_right}
+use Rattle.txs_tree_meaning.specs.Thread.{TxRun, ThreadState, Surroundings, Transacting, swaps, faultless, faulted, meant, with_tx, run_of, ends_tx, uneaten, eats_tx}
 use Rattle.txs_tree_meaning.specs.Transaction.{TxState, in_transaction, tx_update, tx_meaning, redone, final_writes}
 use Rattle.txs_tree_meaning.specs.Tree.{Mark, Tree, Trees, count}
 use Rattle.txs_tree_meaning.specs.View.{tree_of, functions_of}
@@ -81,9 +82,9 @@ abbrev pub part : (o : Option PlainView) → State → Part o
 part None s = thread_state s.thread
 part (Some r) s = tx_state s.tx
 
--- the forms on cells there
+-- the forms on cells there; a thread waits before an event that it doesn't allow
 abbrev pub forms_on : (o : Option PlainView) → Surroundings → ℕ → Effects (Part o)
-forms_on None x d = on_events x d
+forms_on None x d = on_right x d
 forms_on (Some r) x d = in_transaction (world_of r)
 
 -- what surrounds an evaluation
@@ -103,6 +104,20 @@ abbrev pub calls_in : (x : Setting) → Bool → ℕ → List Value → Part x.w
 calls_in x = calls_on x.world x
 
 -- ---- answers
+
+-- Why there is no value at an event, with the state that it leaves, or there was no memory. Where the event isn't allowed there is no
+-- meaning. Nothing is waited for.
+abbrev pub HaltsAt : {S A : Type 0} → ThreadStop → S → Completion S A → Type 0
+HaltsAt (Fault f) s c = c ≡ Faults f s
+HaltsAt NoEvent s c = ⊥
+HaltsAt OtherEvent s c = c ≡ Invalid
+HaltsAt NoTurns s c = c ≡ OutOfTurns s
+HaltsAt Memory s c = ⊤
+
+-- the value at an event and the state that it leaves are those of the meaning, or it stops so
+abbrev pub AnswersAt : {S A : Type 0} → Result A ThreadStop → S → Completion S A → Type 0
+AnswersAt (Ok v) s c = c ≡ Completes v s
+AnswersAt (Err y) s c = HaltsAt y s c
 
 -- the same here
 abbrev pub Yields : (x : Setting) → {A : Type 0} → Result A ThreadStop → State → Completion (Part x.world) A → Type 0
@@ -142,40 +157,69 @@ abbrev pub swap_gives : Result Value ThreadStop → Option Value → Result Valu
 swap_gives (Ok v) o = if names o v then Ok v else Err OtherEvent
 swap_gives (Err y) o = Err (swap_stop o y)
 
--- an event of the book was eaten
-abbrev pub Ate : ℕ → Seen → ThreadState → ThreadState → Type 0
-Ate book e t u = (t.todo ≡ seen_event e ∷ u.todo) × ((e.book == book) ≡ true) × (u ≡ record t { todo = u.todo })
+-- the next event is this one, and of the book; behind it come these
+abbrev pub Comes : ℕ → Seen → ThreadState → Type 0
+Comes book e t = (es : List SeenEvent) × (t.todo ≡ seen_event e ∷ es) × ((e.book == book) ≡ true)
 
 -- no event is there, or the next one is of another book
-abbrev pub EatsNone : ℕ → ThreadStop → ThreadState → ThreadState → Type 0
-EatsNone book NoEvent t u = (t.todo ≡ []) × (u ≡ t)
-EatsNone book OtherEvent t u = (e : SeenEvent) × (es : List SeenEvent) × (t.todo ≡ e ∷ es) × ((e.book == book) ≡ false)
-EatsNone book (Fault f) t u = ⊥
-EatsNone book NoTurns t u = ⊥
-EatsNone book Memory t u = ⊥
+abbrev pub ComesNone : ℕ → ThreadStop → ThreadState → Type 0
+ComesNone book NoEvent t = t.todo ≡ []
+ComesNone book OtherEvent t = (e : SeenEvent) × (es : List SeenEvent) × (t.todo ≡ e ∷ es) × ((e.book == book) ≡ false)
+ComesNone book (Fault f) t = ⊥
+ComesNone book NoTurns t = ⊥
+ComesNone book Memory t = ⊥
 
--- the retries of a transaction were eaten, and the event of its end
-abbrev pub EndAte : Seen → ThreadState → ThreadState → Type 0
-EndAte e t u =
-    (d : Transacting) (f : Applies ThreadState) → eats_tx (suc reruns) d f t.todo t ≡ ends_tx d f e.kind.now (world_of (plain_view e.start)) (world_of (plain_view e.view)) (world_of (plain_view e.here)) u
+-- with other events to come
+abbrev pub with_todo : List SeenEvent → ThreadState → ThreadState
+with_todo es t = record t { todo = es }
+
+-- the state after an answer at an event, behind which these come: the event is eaten, but it stays to come where turns don't suffice
+-- for it, or it isn't allowed
+abbrev pub after : Result Value ThreadStop → List SeenEvent → ThreadState → ThreadState
+after (Ok v) es t = with_todo es t
+after (Err (Fault f)) es t = with_todo es t
+after (Err NoEvent) es t = with_todo es t
+after (Err OtherEvent) es t = t
+after (Err NoTurns) es t = t
+after (Err Memory) es t = with_todo es t
+
+-- the same, whichever event it is
+abbrev pub Eats : Result Value ThreadStop → ThreadState → ThreadState → Type 0
+Eats r t u = (e : SeenEvent) (es : List SeenEvent) → t.todo ≡ e ∷ es → u ≡ after r es t
+
+-- where the retries of a transaction were eaten
+abbrev pub retried : ℕ → ThreadState → ThreadState
+retried k t = with_todo (behind_retries k t.todo) t
+
+-- they were eaten, and the event of its end comes next
+abbrev pub EndComes : Seen → ThreadState → ThreadState → Type 0
+EndComes e t u =
+    (es : List SeenEvent)
+    × (u.todo ≡ seen_event e ∷ es)
+    × (retried (suc reruns) t ≡ u)
+    × ((d : Transacting) (f : Applies ThreadState)
+    → eats_tx (suc reruns) d f t.todo t ≡ uneaten (seen_event e ∷ es) (ends_tx d f e.kind.now (world_of (plain_view e.start)) (world_of (plain_view e.view)) (world_of (plain_view e.here)) (with_todo es u)))
 
 -- there is no such event, or there are too many retries
 abbrev pub EndsNone : Span → ThreadStop → ThreadState → ThreadState → Type 0
-EndsNone span y t u = (d : Transacting) (f : Applies ThreadState) → d.mark.span ≡ span → Stops false y u (eats_tx (suc reruns) d f t.todo t)
+EndsNone span y t u = (d : Transacting) (f : Applies ThreadState) → d.mark.span ≡ span → Stops false y u (up_to (retried (suc reruns) t) (eats_tx (suc reruns) d f t.todo t))
 
 -- what a swap makes of what its callee gave, where the event names a value, or is a broken swap
 abbrev pub swap_ends : Option Value → Completion ThreadState Value → Completion ThreadState Value
 swap_ends (Some new) c = faultless c (λ v s. meant (same_value v new) v s)
 swap_ends None c = faulted c (λ g s. Faults g s)
 
--- the event of a swap was eaten: the world that has the atom's value, and the value that it names
-abbrev pub SwapAte : ℕ → PlainView → Option Value → ThreadState → ThreadState → Type 0
-SwapAte book w o t u =
-    (c : CellId) (g : Value → ThreadState → Completion ThreadState Value) → eats book (λ e s. swaps c g e.kind e.R e.C s) t.todo t ≡ swap_ends o (g (world_of w c.number) u)
+-- what `swap!` does at an event
+abbrev pub swap_on : SeenEvent → CellId → (Value → ThreadState → Completion ThreadState Value) → ThreadState → Completion ThreadState Value
+swap_on e c g t = swaps c g e.kind e.R e.C t
 
--- there is no such event
-abbrev pub SwapsNone : ℕ → ThreadStop → ThreadState → ThreadState → Type 0
-SwapsNone book y t u = (c : CellId) (g : Value → ThreadState → Completion ThreadState Value) → Stops false y u (eats book (λ e s. swaps c g e.kind e.R e.C s) t.todo t)
+-- an event of a swap: the world that has the atom's value, and the value that it names
+abbrev pub IsSwap : SeenEvent → PlainView → Option Value → Type 0
+IsSwap e w o = (c : CellId) (g : Value → ThreadState → Completion ThreadState Value) (t : ThreadState) → swap_on e c g t ≡ swap_ends o (g (world_of w c.number) t)
+
+-- an event of none
+abbrev pub IsNoSwap : SeenEvent → ThreadStop → Type 0
+IsNoSwap e y = (c : CellId) (g : Value → ThreadState → Completion ThreadState Value) (t : ThreadState) → HaltsAt y t (swap_on e c g t)
 
 -- ---- parts of a meaning
 
@@ -285,10 +329,9 @@ outside_means x act m c vs t = acts None x act m c vs t
 abbrev pub update_means : Setting → PlainView → UpdateForm → Callee → CellId → List Value → Mark → TxState → Completion TxState Value
 update_means x r form callee c vs m t = tx_update (world_of r) form m c callee vs (apply (calls_on (Some r) x true) m.span) t
 
--- `swap!` outside
-abbrev pub swap_means : Setting → Callee → CellId → List Value → Span → ThreadState → Completion ThreadState Value
-swap_means x callee c vs span t =
-    eats (home x.cells c) (λ e t1. swaps c (λ v t2. apply (calls_on None x false) span callee (v ∷ vs) t2) e.kind e.R e.C t1) t.todo t
+-- `swap!` outside, at its event
+abbrev pub swap_means : Setting → Callee → CellId → List Value → Span → SeenEvent → ThreadState → Completion ThreadState Value
+swap_means x callee c vs span e t = swap_on e c (λ v t1. apply (calls_on None x false) span callee (v ∷ vs) t1) t
 
 -- ---- what events are
 
@@ -362,9 +405,9 @@ abbrev pub dosync_means : (x : Setting) → Mark → Tree → List Value → Sta
 dosync_means x m body env s =
     (forms_in x).dosync (is_on x.world) m body env (λ t. closed (eval (forms_in x) (calls_in x) x.turns true body env t)) (apply (calls_in x true) m.span) (part x.world s)
 
--- one outside, at most k events
+-- one outside, at most k events; the thread waits before an end that it doesn't allow
 abbrev pub eat_means : Setting → ℕ → Mark → Tree → List Value → ThreadState → Completion ThreadState Value
-eat_means x k m body env t = eats_tx k (transacting x m body env) (at_end x m.span) t.todo t
+eat_means x k m body env t = up_to (retried k t) (eats_tx k (transacting x m body env) (at_end x m.span) t.todo t)
 
 -- its body on a world
 abbrev pub body_means : Setting → Tree → List Value → PlainView → Completion TxState Value
@@ -428,8 +471,8 @@ closing f k (Err y) held = AStopped (end_stop k y)
 
 -- what is given then, and the state that is left
 abbrev pub Closes : Closing → Span → TxRun → Result Value ThreadStop → ThreadState → ThreadState → Type 0
-Closes ARefused span r res t u = Gives false res u (Faults (fault_at AgentFailed span) (with_tx r t))
-Closes ACommitted span r res t u = Gives false res u (Completes r.result (with_tx r t))
+Closes ARefused span r res t u = AnswersAt res u (Faults (fault_at AgentFailed span) (with_tx r t))
+Closes ACommitted span r res t u = AnswersAt res u (Completes r.result (with_tx r t))
 Closes (AStopped y) span r res t u = (res ≡ Err y) × (u ≡ t)
 
 -- a run, where the body gave a value

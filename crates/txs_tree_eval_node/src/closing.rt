@@ -85,7 +85,8 @@ pub(crate) fn close<'a>(
     span: Span,
     thread: &mut Progress<'a>,
 ) -> Result<Value, ThreadStop>
-    ensures { Closes (closing (λ ws. ws.items) kind.now last run.entry.work.done.sends) span (tx_run run.entry) result (thread_state thread.old) (thread_state thread.new) }
+    ensures value { Closes (closing (λ ws. ws.items) kind.now last run.entry.work.done.sends) span (tx_run run.entry) result (thread_state thread.old) (thread_state thread.new) }
+    ensures kept { (thread_state thread.new).todo ≡ (thread_state thread.old).todo }
 {
     match closes_as(kind, last, run.work.done.sends()) {
         Closing::Refused => thread.refuse(run, span),

@@ -1,9 +1,9 @@
 //! The meaning of nodes, by plain recursion: outside every transaction on a thread's events, and in one on one world.
 
-ghost use Rattle.std.specs.Prelude.{true, false, ℕ, ◌≡◌, ◌≤◌, ◌-◌, ◌+◌, ◌++◌, ◌∷◌, [], suc, Bool, length, take, drop, None, Some, IsTrue, IfOk, OnOk, MatchResult};
+ghost use Rattle.std.specs.Prelude.{true, false, ◌≡◌, ◌≤◌, ◌-◌, ◌+◌, ◌++◌, ◌∷◌, [], suc, Bool, length, take, drop, None, Some, IsTrue, IfOk, OnOk, MatchResult};
 ghost use Rattle.txs_frame.specs.Frame.{commuted, phase_work, set_writes};
-ghost use Rattle.txs_world_protocol.specs.SeenEvent.{home};
-ghost use Rattle.txs_tree_eval_node.specs.Evaluated.{Ate, Steps, Yields, GivesAll, Ready, ReadyIn, Finishes, Runs, SoundCommutes, means, all_mean, do_means, if_means, let_means, locals_mean, loop_means, turns_mean, call_means, finish_means, strict_means, form_means, inside_means, outside_means, update_means, swap_means, applied, dosync_means, eat_means, body_means, final_means, redone_means, step_of, thread_state};
+ghost use Rattle.txs_tree_eval_node.specs.Events.{seen_event};
+ghost use Rattle.txs_tree_eval_node.specs.Evaluated.{AnswersAt, Steps, Yields, GivesAll, Ready, ReadyIn, Finishes, Runs, SoundCommutes, means, all_mean, do_means, if_means, let_means, locals_mean, loop_means, turns_mean, call_means, finish_means, strict_means, form_means, inside_means, outside_means, update_means, swap_means, applied, dosync_means, eat_means, body_means, final_means, redone_means, step_of, thread_state};
 ghost use Rattle.txs_tree_eval_transaction.specs.Worked.{Told, ToldOf, Gives, RefCell, UpdatesRef, tx_state};
 ghost use Rattle.txs_tree_eval_node.specs.declared.evaluate.Step.TheVariants.{Value as AValue};
 ghost use Rattle.txs_tree_eval_transaction.specs.declared.stop.ThreadStop.TheVariants.{Memory};
@@ -399,14 +399,15 @@ fn act_outside<'a>(
         (outside_means context.now act (mark_of span wanted) value.now args.items (thread_state thread.old)) }
 {
     let cell = take_cell(act.form(), false, value, span)?;
-    let event = thread.eat(context.home(cell))?;
+    let event = thread.next(context.home(cell))?;
     match act {
-        Act::Look(_) => read_at(event, cell),
-        Act::Put(_) => reset_at(event, args),
+        Act::Look(_) => thread.eat(read_at(event, cell)),
+        Act::Put(_) => thread.eat(reset_at(event, args)),
         Act::Update(_, callee) => {
-            swap(alloc, context, callee, cell, args.as_slice(), span, event)
+            let args = args.as_slice();
+            thread.eat(swap(alloc, context, callee, cell, args, span, event))
         }
-        Act::Send(callee) => send_at(event, cell, callee, args, span),
+        Act::Send(callee) => thread.eat(send_at(event, cell, callee, args, span)),
     }
 }
 
@@ -422,8 +423,7 @@ fn swap<'a>(
     event: &Seen<'a>,
 ) -> Result<Value, ThreadStop>
     requires { SoundCallee (callable context.now) callee (suc (length args.now)) }
-    ensures { (book : ℕ) (t u : ThreadState) → Ate book event.now t u → book ≡ home context.now.cells cell
-        → Gives false result u (swap_means context.now callee cell args.now span t) }
+    ensures { (t : ThreadState) → AnswersAt result t (swap_means context.now callee cell args.now span (seen_event event.now) t) }
 {
     context.is_sound();
     let (world, new) = swap_at(event)?;
@@ -496,7 +496,8 @@ fn evaluate_dosync<'a>(
     as_step(eat_dosync(alloc, context, dosync, locals, &mut state.thread))
 }
 
-/// A transaction eats retries, and then the event of its end, on whose worlds its body and its commutes run.
+/// A transaction eats retries, and then the event of its end, on whose worlds its body and its commutes run. That event stays
+/// to come where their turns don't suffice.
 #[cycle(evaluate)]
 fn eat_dosync<'a>(
     alloc: Global,
@@ -518,10 +519,11 @@ fn eat_dosync<'a>(
     };
     let run = match run_body(alloc, context, dosync, event.start, locals) {
         Ok(run) => run,
-        Err(stop) => return Err(end_stop(event.kind, stop)),
+        Err(stop) => return thread.eat(Err(end_stop(event.kind, stop))),
     };
     let last = final_writes(alloc, context, &run.work.done, world, dosync.span);
-    close(event.kind, run, last, dosync.span, thread)
+    let given = close(event.kind, run, last, dosync.span, thread);
+    thread.eat(given)
 }
 
 /// The body of a dosync on a world, as if it ran alone.
@@ -677,17 +679,19 @@ fn evaluate_loop<'a>(
 {
     let before = locals.len();
     bind_locals(alloc, context, nodes, locals, state)?;
-    let given = run_turns(alloc, context, body, before, locals, state);
+    let turns = u64::from(context.turns());
+    let given = run_turns(alloc, context, body, turns, before, locals, state);
     locals.truncate(before);
     as_step(given)
 }
 
-/// The turns of a body, whose own locals are those from `before` on: what it gives in the last one.
+/// At most so many turns of a body, whose own locals are those from `before` on: what it gives in the last one.
 #[cycle(evaluate)]
 fn run_turns<'a>(
     alloc: Global,
     context: &Context<'a>,
     body: &'a Node,
+    turns: u64,
     before: usize,
     locals: &mut Vec<Value>,
     state: &mut State<'a>,
@@ -695,11 +699,11 @@ fn run_turns<'a>(
     requires place { before ≤ length locals.old.items }
     requires body { SoundTree (callable context.now) (zone_in context.now) (length locals.old.items) (Some (length locals.old.items - before)) (tree_of body.now) }
     ensures value { Yields context.now result state.new
-        (turns_mean context.now context.now.turns (length locals.old.items - before) (tree_of body.now) (take before locals.old.items) (drop before locals.old.items) state.old) }
+        (turns_mean context.now turns (length locals.old.items - before) (tree_of body.now) (take before locals.old.items) (drop before locals.old.items) state.old) }
     ensures kept { OnOk result (take before locals.new.items ≡ take before locals.old.items) }
 {
     context.is_sound();
-    for _turn in 0..context.turns() {
+    for _turn in 0..turns {
         match evaluate_tail(alloc, context, body, locals, state)? {
             Step::Value(value) => return Ok(value),
             Step::Recur(values) => rebind(locals, before, values)?,
@@ -708,7 +712,8 @@ fn run_turns<'a>(
     Err(ThreadStop::Turns)
 }
 
-/// What the function of this number gives on these values, which are its first locals.
+/// What the function of this number gives on these values, which are its first locals. A call is no turn: its body runs once, and
+/// each recur to it is a turn.
 #[cycle(evaluate)]
 fn call<'a>(
     alloc: Global,
@@ -723,5 +728,7 @@ fn call<'a>(
 {
     let function = context.function(usize::from(number));
     let inner = context.deeper();
-    run_turns(alloc, &inner, &function.body, 0, &mut values, state)
+    let body = &function.body;
+    let turns = u64::from(context.turns());
+    run_turns(alloc, &inner, body, turns + 1, 0, &mut values, state)
 }

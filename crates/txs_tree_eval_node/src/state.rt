@@ -1,8 +1,8 @@
 //! What an evaluation has done so far.
 
-ghost use Rattle.std.specs.Prelude.{false, ◌≡◌, MatchResult};
-ghost use Rattle.txs_tree_eval_node.specs.Evaluated.{Ate, EatsNone, thread_state, tx_run, idle};
-ghost use Rattle.txs_tree_eval_transaction.specs.Worked.{Gives, tx_state};
+ghost use Rattle.std.specs.Prelude.{◌≡◌, ◌<◌, ◌∷◌, List, length, MatchResult};
+ghost use Rattle.txs_tree_eval_node.specs.Evaluated.{AnswersAt, Comes, ComesNone, Eats, with_todo, thread_state, tx_run, idle};
+ghost use Rattle.txs_tree_eval_transaction.specs.Worked.{tx_state};
 ghost use Rattle.txs_tree_eval_transaction.specs.declared.stop.ThreadStop.TheVariants.{Memory};
 ghost use Rattle.txs_tree_meaning.specs.Meaning.{Faults};
 ghost use Rattle.txs_tree_meaning.specs.Thread.{with_tx};
@@ -10,6 +10,7 @@ ghost use Rattle.txs_value_base.specs.Places.{fault_at};
 ghost use Rattle.txs_value_base.specs.declared.fault.FaultKind.TheVariants.{AgentFailed};
 ghost use Rattle.txs_tree_meaning.specs.Transaction.{tx_start};
 ghost use Rattle.txs_tree_eval_node.specs.Events.{seen_events};
+ghost use Rattle.txs_world_protocol.specs.SeenEvent.{SeenEvent};
 
 use crate::seen::Seen;
 use std::alloc::Global;
@@ -83,9 +84,9 @@ impl<'a> State<'a> {
 }
 
 impl<'a> Progress<'a> {
-    /// Eats the next event, which has to be of this book.
-    pub(crate) fn eat(&mut self, book: usize) -> Result<&'a Seen<'a>, ThreadStop>
-        ensures { MatchResult result (λ e. Ate book e.now (thread_state self.old) (thread_state self.new)) (λ y. EatsNone book y (thread_state self.old) (thread_state self.new)) }
+    /// The next event, which has to be of this book.
+    pub(crate) fn next(&self, book: usize) -> Result<&'a Seen<'a>, ThreadStop>
+        ensures { MatchResult result (λ e. Comes book e.now (thread_state self.now)) (λ y. ComesNone book y (thread_state self.now)) }
     {
         let events = self.events;
         let Some(event) = events.get(self.eaten) else {
@@ -94,13 +95,41 @@ impl<'a> Progress<'a> {
         if event.book != book {
             return Err(ThreadStop::Wrong);
         }
-        self.eaten += 1;
         Ok(event)
+    }
+
+    /// The next event is eaten.
+    pub(crate) fn skip(&mut self)
+        requires { self.old.eaten < length self.old.events.now }
+        ensures { (e : SeenEvent) (es : List SeenEvent) → (thread_state self.old).todo ≡ e ∷ es → thread_state self.new ≡ with_todo es (thread_state self.old) }
+    {
+        self.eaten += 1;
+    }
+
+    /// What is given at the next event, which is eaten, but stays to come where turns don't suffice for it or it isn't allowed.
+    pub(crate) fn eat(&mut self, given: Result<Value, ThreadStop>) -> Result<Value, ThreadStop>
+        requires { self.old.eaten < length self.old.events.now }
+        ensures same { result ≡ given }
+        ensures eaten { Eats given (thread_state self.old) (thread_state self.new) }
+    {
+        match given {
+            Ok(value) => {
+                self.skip();
+                Ok(value)
+            }
+            Err(ThreadStop::Turns) => Err(ThreadStop::Turns),
+            Err(ThreadStop::Wrong) => Err(ThreadStop::Wrong),
+            Err(stop) => {
+                self.skip();
+                Err(stop)
+            }
+        }
     }
 
     /// A transaction came to its end, and gives its result.
     pub(crate) fn note(&mut self, run: Transacted<'a>) -> Result<Value, ThreadStop>
-        ensures { MatchResult result (λ v. (v ≡ run.entry.result) × (thread_state self.new ≡ with_tx (tx_run run.entry) (thread_state self.old))) (λ y. y ≡ Memory) }
+        ensures value { MatchResult result (λ v. (v ≡ run.entry.result) × (thread_state self.new ≡ with_tx (tx_run run.entry) (thread_state self.old))) (λ y. y ≡ Memory) }
+        ensures kept { (thread_state self.new).todo ≡ (thread_state self.old).todo }
     {
         let value = match copy_value(&run.result) {
             Ok(value) => value,
@@ -115,7 +144,8 @@ impl<'a> Progress<'a> {
 
     /// The same where it was refused.
     pub(crate) fn refuse(&mut self, run: Transacted<'a>, span: Span) -> Result<Value, ThreadStop>
-        ensures { Gives false result (thread_state self.new) (Faults (fault_at AgentFailed span) (with_tx (tx_run run.entry) (thread_state self.old))) }
+        ensures value { AnswersAt result (thread_state self.new) (Faults (fault_at AgentFailed span) (with_tx (tx_run run.entry) (thread_state self.old))) }
+        ensures kept { (thread_state self.new).todo ≡ (thread_state self.old).todo }
     {
         self.txs.push(run)?;
         Err(ThreadStop::Fault(Fault {

@@ -1,8 +1,9 @@
 //! What the forms on cells do outside every transaction, at the events that they eat, but for applying callees.
 
-ghost use Rattle.std.specs.Prelude.{false, ◌≡◌, ℕ, length, option_copied, MatchResult};
-ghost use Rattle.txs_tree_eval_node.specs.Evaluated.{Ate, EndAte, EndsNone, SwapAte, SwapsNone, thread_state, is_swap_to, sending, swap_gives};
-ghost use Rattle.txs_tree_eval_transaction.specs.Worked.{Gives, of_one};
+ghost use Rattle.std.specs.Prelude.{◌≡◌, length, option_copied, MatchResult};
+ghost use Rattle.txs_tree_eval_node.specs.Evaluated.{AnswersAt, EndComes, EndsNone, IsSwap, IsNoSwap, thread_state, is_swap_to, sending, swap_gives};
+ghost use Rattle.txs_tree_eval_node.specs.Events.{seen_event};
+ghost use Rattle.txs_tree_eval_transaction.specs.Worked.{of_one};
 ghost use Rattle.txs_tree_eval_transaction.specs.Views.{plain_view, world_of};
 ghost use Rattle.txs_tree_meaning.specs.Thread.{ThreadState, reads, resets, sends, is_retry};
 
@@ -88,15 +89,16 @@ pub(crate) fn end_swap(
 }
 
 impl<'a> Progress<'a> {
-    /// A transaction eats retries, and then the event of its end, which is given; it faults where it is tried too often.
+    /// A transaction eats retries. The next event is that of its end; it faults where it is tried too often.
     pub(crate) fn end_of_tx(&mut self, span: Span) -> Result<&'a Seen<'a>, ThreadStop>
-        ensures { MatchResult result (λ e. EndAte e.now (thread_state self.old) (thread_state self.new)) (λ y. EndsNone span y (thread_state self.old) (thread_state self.new)) }
+        ensures { MatchResult result (λ e. EndComes e.now (thread_state self.old) (thread_state self.new)) (λ y. EndsNone span y (thread_state self.old) (thread_state self.new)) }
     {
         for _try in 0..TRIES {
-            let event = self.eat(0)?;
+            let event = self.next(0)?;
             if !is_retry(event.kind) {
                 return Ok(event);
             }
+            self.skip();
         }
         Err(ThreadStop::Fault(Fault {
             kind: FaultKind::RetryLimit,
@@ -108,8 +110,8 @@ impl<'a> Progress<'a> {
 /// `swap!` at its event, a swap or a broken one: the world that has its atom's value, and the value that a swap names.
 pub(crate) fn swap_at<'a>(event: &Seen<'a>) -> Result<(RefView<'a>, Option<&'a Value>), ThreadStop>
     ensures { MatchResult result
-        (λ s. (book : ℕ) (t u : ThreadState) → Ate book event.now t u → SwapAte book (plain_view s.0) (option_copied s.1) t u)
-        (λ y. (book : ℕ) (t u : ThreadState) → Ate book event.now t u → SwapsNone book y t u) }
+        (λ s. IsSwap (seen_event event.now) (plain_view s.0) (option_copied s.1))
+        (λ y. IsNoSwap (seen_event event.now) y) }
 {
     match event.kind {
         EventKind::Swap { new } => Ok((event.here, Some(new))),
@@ -120,7 +122,7 @@ pub(crate) fn swap_at<'a>(event: &Seen<'a>) -> Result<(RefView<'a>, Option<&'a V
 
 /// A read at its event, which is one of the cell: the value at that event's place.
 pub(crate) fn read_at(event: &Seen<'_>, cell: CellId) -> Result<Value, ThreadStop>
-    ensures { (t : ThreadState) → Gives false result t (reads cell event.now.kind.now (world_of (plain_view event.now.here)) t) }
+    ensures { (t : ThreadState) → AnswersAt result t (reads cell event.now.kind.now (world_of (plain_view event.now.here)) t) }
 {
     match event.kind {
         EventKind::Read { cell: other } => {
@@ -136,7 +138,7 @@ pub(crate) fn read_at(event: &Seen<'_>, cell: CellId) -> Result<Value, ThreadSto
 /// `reset!` at its event, which is a swap to the one value among the arguments: that value.
 pub(crate) fn reset_at(event: &Seen<'_>, mut args: Vec<Value>) -> Result<Value, ThreadStop>
     requires { length args.items ≡ 1 }
-    ensures { (t : ThreadState) → Gives false result t (of_one (λ v. resets v event.now.kind.now t) args.items) }
+    ensures { (t : ThreadState) → AnswersAt result t (of_one (λ v. resets v event.now.kind.now t) args.items) }
 {
     match args.pop() {
         Some(value) => {
@@ -158,7 +160,7 @@ pub(crate) fn send_at(
     args: Vec<Value>,
     span: Span,
 ) -> Result<Value, ThreadStop>
-    ensures { (t : ThreadState) → Gives false result t
+    ensures { (t : ThreadState) → AnswersAt result t
         (sends (record { agent = agent; callee = callee; args = args.items; span = span }) span event.now.kind.now t) }
 {
     let args = Listed::from_vec(args);

@@ -28,11 +28,11 @@ abbrev pub with_use : Bool → Work → TxState → TxState
 with_use used w t = record t { done = w; used = used }
 
 -- A stop is that of the meaning, with the state that it leaves, or there was no memory. In a transaction nothing is waited for,
--- and nothing can be wrong.
+-- and nothing can be wrong. Outside, a thread waits for an event, or before one that isn't its own.
 abbrev pub Stops : {S A : Type 0} → Bool → ThreadStop → S → Completion S A → Type 0
 Stops inside (Fault f) s c = c ≡ Faults f s
 Stops inside NoEvent s c = (inside ≡ false) × (c ≡ Waits s)
-Stops inside OtherEvent s c = (inside ≡ false) × (c ≡ Invalid)
+Stops inside OtherEvent s c = (inside ≡ false) × (c ≡ Waits s)
 Stops inside NoTurns s c = c ≡ OutOfTurns s
 Stops inside Memory s c = ⊤
 

@@ -11,9 +11,10 @@ use Rattle.txs_value_apply.specs.Core.{core}
 use Rattle.txs_tree_meaning.specs.Meaning.{Completion, Completes, Recurs, Faults, Retries, Waits, OutOfTurns, Invalid, apply}
 use Rattle.txs_tree_meaning.specs.Pure.{pure_calls, pure_meaning, nowhere}
 use Rattle.txs_tree_meaning.specs.Sound.{SoundTree, in_thread}
-use Rattle.txs_tree_meaning.specs.Thread.{ThreadState, Surroundings, thread_in}
+use Rattle.txs_tree_meaning.specs.Right.{eats_right, right_meaning}
+use Rattle.txs_tree_meaning.specs.Thread.{ThreadState, Surroundings, thread_in, thread_meaning}
 use Rattle.txs_tree_meaning.specs.Transaction.{tx_meaning, final_writes}
-use Rattle.txs_tree_meaning.specs.Tree.{Mark, Tree, Const, Local, Do, Call, Core, VectorOf, Println, Dosync, Look, Put, Update, Send, none, more, PlainFunction}
+use Rattle.txs_tree_meaning.specs.Tree.{Mark, Tree, Const, Local, Do, Loop, Recur, Call, Core, VectorOf, Println, Dosync, Look, Put, Update, Send, none, more, PlainFunction, ThreadSource}
 use Rattle.txs_value_cell.specs.Cells.{World}
 use Rattle.txs_value_base.specs.Places.{fault_at}
 use Rattle.txs_value_cell.specs.declared.action.Action.{Action}
@@ -283,6 +284,55 @@ limit_spared = refl
 waits_for_its_end : run one_commute (retry false ∷ []) ≡ Waits 0
 waits_for_its_end = refl
 
+-- ---- turns
+
+-- with so many turns of each loop
+abbrev with_turns : ℕ → List PlainFunction → Surroundings
+with_turns n fs = record { cells = []; tries = 3; turns = n; functions = fs }
+
+-- `(dosync (ref-set r (loop [] 1)))` on a commit that gives the ref 5: where the loop has no turn, the commit stays to come; where it has
+-- one, it isn't allowed
+abbrev sets_by_loop : Tree
+sets_by_loop = Dosync (Put RefSet (constant (Cell (ref_of 0))) (Loop none (constant (int 1)) (wanted 0 0)) (unwanted 0 0)) (unwanted 0 0)
+
+abbrev commit_of : ℕ → SeenEvent
+commit_of n = seen (Commit 0 0 ((ref_of 0, int n) ∷ []) []) (all_are 0) (all_are 0) (all_are 0)
+
+commit_stays_to_come : brief (thread_in (with_turns 0 []) sets_by_loop (retry false ∷ commit_of 5 ∷ [])) ≡ OutOfTurns 1
+commit_stays_to_come = refl
+
+commit_is_read : brief (thread_in (with_turns 1 []) sets_by_loop (retry false ∷ commit_of 5 ∷ [])) ≡ Invalid
+commit_is_read = refl
+
+commit_is_right : brief (thread_in (with_turns 1 []) sets_by_loop (retry false ∷ commit_of 1 ∷ [])) ≡ Completes (int 1) 0
+commit_is_right = refl
+
+-- a swap by a function that has no turn for its loop
+abbrev gives_one_by_loop : PlainFunction
+gives_one_by_loop = record { parameters = 1; body = Loop none (constant (int 1)) (wanted 0 0); span = at 0 0 }
+
+abbrev swaps_by_loop : Tree
+swaps_by_loop = Update Swap (constant (Cell an_atom)) (Function 0) none (unwanted 0 0)
+
+swap_stays_to_come : brief (thread_in (with_turns 0 (gives_one_by_loop ∷ [])) swaps_by_loop (seen_of_atom (Swapped (int 5)) (all_are 0) (all_are 0) ∷ [])) ≡ OutOfTurns 1
+swap_stays_to_come = refl
+
+swap_is_read : brief (thread_in (with_turns 1 (gives_one_by_loop ∷ [])) swaps_by_loop (seen_of_atom (Swapped (int 5)) (all_are 0) (all_are 0) ∷ [])) ≡ Invalid
+swap_is_read = refl
+
+-- a call is no turn, each recur to a function is one
+abbrev gives_seven : PlainFunction
+gives_seven = record { parameters = 0; body = constant (int 7); span = at 0 0 }
+
+called_without_turns : pure_meaning 0 (gives_seven ∷ []) (Function 0) [] ≡ Completes (int 7) tt
+called_without_turns = refl
+
+abbrev recurs_forever : PlainFunction
+recurs_forever = record { parameters = 0; body = Recur none (wanted 0 0); span = at 0 0 }
+
+recurs_are_turns : pure_meaning 2 (recurs_forever ∷ []) (Function 0) [] ≡ OutOfTurns tt
+recurs_are_turns = refl
+
 -- a read outside takes the value at its own place, of its own cell
 one_read : run (Look Deref (constant (Cell (ref_of 0))) (wanted 0 0)) (seen (Read (ref_of 0)) (all_are 1) (all_are 1) (all_are 2) ∷ retry false ∷ []) ≡ Completes (int 2) 1
 one_read = refl
@@ -324,6 +374,22 @@ both_sent = refl
 
 second_send_refused : run two_sends (seen (Sent sends_quot) (all_are 0) (all_are 0) (all_are 0) ∷ seen (SendRefused an_agent) (all_are 0) (all_are 0) (all_are 0) ∷ []) ≡ Faults (fault_at AgentFailed (at 43 55)) 0
 second_send_refused = refl
+
+-- an event that the thread doesn't allow, how many come before it, and what the thread means on those
+abbrev sent_twice : List SeenEvent
+sent_twice = seen (Sent sends_quot) (all_are 0) (all_are 0) (all_are 0) ∷ seen (Sent sends_quot) (all_are 0) (all_are 0) (all_are 0) ∷ seen (Sent sends_inc) (all_are 0) (all_are 0) (all_are 0) ∷ []
+
+abbrev sends_both : ThreadSource
+sends_both = record { functions = []; cells = []; main = two_sends }
+
+second_is_wrong : brief (thread_meaning sends_both 3 sent_twice) ≡ Invalid
+second_is_wrong = refl
+
+one_is_right : eats_right sends_both 3 [] sent_twice ≡ 1
+one_is_right = refl
+
+waits_behind_it : brief (right_meaning sends_both 3 sent_twice) ≡ Waits 0
+waits_behind_it = refl
 
 first_action_faults : pure_meaning 3 [] (CoreOp Quot) (int 10 ∷ int 0 ∷ []) ≡ Faults (fault_at DivideByZero nowhere) tt
 unfolding core

@@ -193,13 +193,13 @@ module _ {S : Type 0} (s : S) where
     function_agrees : (b f : ℕ) (vs : List Value)
         → ((g : ℕ) (us : List Value) → is_pure (nth (known functions) g) ≡ true → Agrees (call_at (λ d. no_effects) n functions b false g us tt) (call_at fx n functions b inside g us s))
         → is_pure (nth (known functions) f) ≡ true → (o : Option PlainFunction) → nth functions f ≡ o
-        → Agrees (bind (give o tt) (λ fun t. turns n fun.parameters (λ ws t1. eval no_effects (call_at (λ d. no_effects) n functions b) n false fun.body ws t1) vs t))
-        (bind (give o s) (λ fun t. turns n fun.parameters (λ ws t1. eval (fx b) (call_at fx n functions b) n inside fun.body ws t1) vs t))
+        → Agrees (bind (give o tt) (λ fun t. turns (suc n) fun.parameters (λ ws t1. eval no_effects (call_at (λ d. no_effects) n functions b) n false fun.body ws t1) vs t))
+        (bind (give o s) (λ fun t. turns (suc n) fun.parameters (λ ws t1. eval (fx b) (call_at fx n functions b) n inside fun.body ws t1) vs t))
     function_agrees b f vs below pure None found = refl
     function_agrees b f vs below pure (Some fun) found =
         let at_place = function_at functions f fun sound found in
         let body : pure_in (take f (known functions)) fun.body ≡ true = sym (ap is_pure at_place.0) ∙ pure in
-        turns_agrees n fun.parameters (λ ws t1. eval no_effects (call_at (λ d. no_effects) n functions b) n false fun.body ws t1) (λ ws t1. eval (fx b) (call_at fx n functions b) n inside fun.body ws t1)
+        turns_agrees (suc n) fun.parameters (λ ws t1. eval no_effects (call_at (λ d. no_effects) n functions b) n false fun.body ws t1) (λ ws t1. eval (fx b) (call_at fx n functions b) n inside fun.body ws t1)
         (λ ws. tree_agrees (fx b) n inside (take f (known functions)) (call_at (λ d. no_effects) n functions b) (call_at fx n functions b)
         (λ g us is. below g us (pure-before f (known functions) g is)) fun.body ws body)
         vs

@@ -164,8 +164,8 @@ abbrev mutual
   eval_do fx call n inside (more e rest) env s =
       last_or (is_none rest) (eval fx call n inside e env s) (λ s1. eval_do fx call n inside rest env s1)
 
--- a function's meaning, where calls go at most b deep; what the forms do may depend on that depth too
+-- a function's meaning, where calls go at most b deep; at most n recurs go to it. What the forms do may depend on that depth too
 abbrev pub call_at : {S : Type 0} → (ℕ → Effects S) → ℕ → List PlainFunction → ℕ → Bool → ℕ → List Value → S → Completion S Value
 call_at fx n functions zero inside f vs s = Invalid
 call_at fx n functions (suc b) inside f vs s =
-    bind (give (nth functions f) s) (λ fun s1. turns n fun.parameters (λ ws s2. eval (fx b) (call_at fx n functions b) n inside fun.body ws s2) vs s1)
+    bind (give (nth functions f) s) (λ fun s1. turns (suc n) fun.parameters (λ ws s2. eval (fx b) (call_at fx n functions b) n inside fun.body ws s2) vs s1)

@@ -48,10 +48,20 @@ pub record ThreadState : Type 0 where
 abbrev pub with_tx : TxRun → ThreadState → ThreadState
 with_tx x t = record t { txs = t.txs ++ x ∷ [] }
 
+-- an event for which turns don't suffice stays to come
+abbrev pub uneaten : {A : Type 0} → List SeenEvent → Completion ThreadState A → Completion ThreadState A
+uneaten es (Completes a t) = Completes a t
+uneaten es (Recurs vs t) = Recurs vs t
+uneaten es (Faults f t) = Faults f t
+uneaten es (Retries t) = Retries t
+uneaten es (Waits t) = Waits t
+uneaten es (OutOfTurns t) = OutOfTurns (record t { todo = es })
+uneaten es Invalid = Invalid
+
 -- the next event is eaten, if it is of this book
 abbrev pub eats : {A : Type 0} → ℕ → (SeenEvent → ThreadState → Completion ThreadState A) → List SeenEvent → ThreadState → Completion ThreadState A
 eats book go [] t = Waits t
-eats book go (e ∷ es) t = if e.book == book then go e (record t { todo = es }) else Invalid
+eats book go (e ∷ es) t = if e.book == book then uneaten (e ∷ es) (go e (record t { todo = es })) else Invalid
 
 -- a value that an event names is the one that is meant
 abbrev pub meant : Bool → Value → ThreadState → Completion ThreadState Value
@@ -145,7 +155,7 @@ eats_tx zero d f es t = Faults (fault_at RetryLimit d.mark.span) (record t { tod
 eats_tx (suc k) d f [] t = Waits (record t { todo = [] })
 eats_tx (suc k) d f (e ∷ es) t =
     if e.book == 0
-    then (if is_retry e.kind then eats_tx k d f es t else ends_tx d f e.kind e.R e.Q e.C (record t { todo = es }))
+    then (if is_retry e.kind then eats_tx k d f es t else uneaten (e ∷ es) (ends_tx d f e.kind e.R e.Q e.C (record t { todo = es })))
     else Invalid
 
 -- what a thread's meaning is told of: the cells' definitions, how many tries a transaction has, how many turns a loop, and the functions

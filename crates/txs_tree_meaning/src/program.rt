@@ -1,6 +1,7 @@
 //! Programs: cells, functions and threads that the checks accepted.
 
 ghost use Rattle.std.specs.Prelude.{◌≡◌};
+ghost use Rattle.txs_tree_meaning.specs.Marked.{MarkedProgram};
 ghost use Rattle.txs_tree_meaning.specs.Sound.{Sound};
 ghost use Rattle.txs_tree_meaning.specs.View.{Parts, program_of};
 
@@ -70,5 +71,12 @@ impl Program {
         ensures { Sound (program_of self.now) }
     {
         let _ = &self.raw;
+    }
+
+    /// The mark of each node whose result is used says that it is wanted.
+    pub fn is_marked(&self)
+        ensures { MarkedProgram (program_of self.now) }
+    {
+        self.raw.is_marked();
     }
 }

@@ -1,6 +1,7 @@
 //! Programs of which names are resolved.
 
 ghost use Rattle.std.specs.Prelude.{◌≡◌};
+ghost use Rattle.txs_tree_meaning.specs.Marked.{MarkedProgram};
 ghost use Rattle.txs_tree_meaning.specs.Scoped.{Scoped};
 ghost use Rattle.txs_tree_meaning.specs.View.{Parts, program_of};
 
@@ -10,7 +11,7 @@ use txs_value_cell::CellDefinition;
 
 /// A program of which names are resolved, and that the checks haven't seen: the cells that it defines, in the
 /// order of their numbers, its functions and its threads, each in script order. Contracts see it as
-/// `program_of` its parts, which is scoped.
+/// `program_of` its parts, which is scoped. The mark of each node whose result is used says that it is wanted.
 pub struct Raw {
     cells: Vec<CellDefinition>,
     functions: Vec<Function>,
@@ -43,16 +44,19 @@ impl Model for Raw {
 
     ghost view = { λ p. record { cells = p.cells.items; functions = p.functions.items; threads = p.threads.items } };
 
+    ghost use Rattle.txs_tree_meaning.specs.Marked.{MarkedProgram};
     ghost use Rattle.txs_tree_meaning.specs.Scoped.{Scoped};
     ghost use Rattle.txs_tree_meaning.specs.View.{program_of};
 
-    ghost invariant = { λ p. Scoped (program_of (record { cells = p.cells.items; functions = p.functions.items; threads = p.threads.items })) };
+    ghost invariant = { λ p. Scoped (program_of (record { cells = p.cells.items; functions = p.functions.items; threads = p.threads.items }))
+        × MarkedProgram (program_of (record { cells = p.cells.items; functions = p.functions.items; threads = p.threads.items })) };
 }
 
 impl Raw {
     /// The program of these cells, functions and threads, whose names are resolved.
     pub fn new(cells: Vec<CellDefinition>, functions: Vec<Function>, threads: Vec<Thread>) -> Raw
-        requires { Scoped (program_of (record { cells = cells.items; functions = functions.items; threads = threads.items })) }
+        requires scoped { Scoped (program_of (record { cells = cells.items; functions = functions.items; threads = threads.items })) }
+        requires marked { MarkedProgram (program_of (record { cells = cells.items; functions = functions.items; threads = threads.items })) }
         ensures { result ≡ record { cells = cells.items; functions = functions.items; threads = threads.items } }
     {
         Raw {
@@ -82,5 +86,12 @@ impl Raw {
         ensures { result.now ≡ self.now.threads }
     {
         self.threads.as_slice()
+    }
+
+    /// The mark of each node whose result is used says that it is wanted.
+    pub fn is_marked(&self)
+        ensures { MarkedProgram (program_of self.now) }
+    {
+        let _ = &self.threads;
     }
 }

@@ -92,6 +92,28 @@ impl Store {
         self.journal.book.as_slice()
     }
 
+    /// The events alone.
+    pub fn into_events(self) -> Vec<Event>
+        ensures { result.items ≡ self.book }
+    {
+        let Store {
+            alloc: _,
+            cells,
+            threads: _,
+            slots,
+            inboxes,
+            journal,
+            spare,
+            queue,
+        } = self;
+        drop(cells);
+        drop(slots);
+        drop(inboxes);
+        drop(spare);
+        drop(queue);
+        journal.into_book()
+    }
+
     /// The newest value of a cell: of an agent its state. Of an atom it is the value that it opened with, since the atom's book
     /// has its newest.
     pub fn newest(&self, cell: CellId) -> &Value

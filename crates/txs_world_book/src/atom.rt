@@ -79,6 +79,22 @@ impl AtomBook {
         self.journal.book.as_slice()
     }
 
+    /// The events alone.
+    pub fn into_events(self) -> Vec<Event>
+        ensures { result.items ≡ self.book }
+    {
+        let AtomBook {
+            cell: _,
+            opening,
+            value,
+            swapped: _,
+            journal,
+        } = self;
+        drop(opening);
+        drop(value);
+        journal.into_book()
+    }
+
     /// The newest value.
     pub fn newest(&self) -> &Value
         ensures { result.now ≡ atom_newest self.now }

@@ -32,6 +32,16 @@ impl Journal {
         }
     }
 
+    /// The events alone.
+    pub fn into_book(self) -> Vec<Event>
+        ensures { result.items ≡ self.book.items }
+    {
+        let Journal { book, views, tries } = self;
+        drop(views);
+        drop(tries);
+        book
+    }
+
     /// Adds an event, and answers how many there are with it.
     #[inline(always)]
     pub fn add(&mut self, actor: u16, kind: EventKind) -> Result<u32, AllocError>

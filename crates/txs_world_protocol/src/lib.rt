@@ -1,12 +1,14 @@
 //! What actors ask of the shared state, what they are told, and what a book keeps of it: asks, replies,
-//! events, and how a run ends. Each is plain data to every contract, and a copy is equal to what it was
+//! events, how a run ends, and what is reported of it. Each is plain data to every contract, and a copy is equal to what it was
 //! made of.
 #![tactic(auto)]
 
 pub mod ask;
 pub mod copy;
 pub mod event;
+pub mod report;
 
 pub use ask::{Ask, Reply};
 pub use copy::{copy_ask, copy_event, copy_reply, copy_writes};
 pub use event::{Event, EventKind, Outcome, Place};
+pub use report::{Ran, Report};

@@ -1,4 +1,6 @@
 pub mod Asking
 pub mod Opening
 pub mod Placing
+pub mod Growing
 pub mod Serving
+pub mod There

@@ -4,6 +4,7 @@
 
 mod atoms;
 pub mod law;
+mod parts;
 mod serve;
 pub mod state;
 

@@ -1,6 +1,6 @@
 //! The state that all actors share.
 
-ghost use Rattle.std.specs.Prelude.{◌≡◌, ◌≤◌, ◌<◌, ◌↔◌, ℕ, [], length, true, IfOk, IsTrue};
+ghost use Rattle.std.specs.Prelude.{◌≡◌, ◌≤◌, ◌<◌, ◌↔◌, ◌∷◌, ℕ, [], length, true, IfOk, IsTrue};
 ghost use Rattle.txs_world_protocol.specs.SeenEvent.{home, atoms_below};
 ghost use Rattle.txs_theorem_runs.specs.Invariant.{SharedStands};
 ghost use Rattle.txs_theorem_runs.specs.Shared.{untouched, has_atom, atom_of, book_for};
@@ -10,11 +10,12 @@ ghost use Rattle.txs_world_book.specs.Book.{has_cell, has_agent, mail_after};
 ghost use Rattle.txs_world_book.specs.Served.{cells_of};
 
 use crate::atoms::{atom_named, copy_cells, open_atoms, open_places};
+use crate::parts::move_books;
 use std::alloc::{AllocError, Global};
 use std::marker::Model;
 use txs_value_base::Fault;
 use txs_value_cell::CellDefinition;
-use txs_value_data::{CellId, CellKind, Value, same};
+use txs_value_data::{CellId, CellKind, Listed, Value, same};
 use txs_world::Store;
 use txs_world_book::AtomBook;
 use txs_world_protocol::{Ask, Event};
@@ -129,6 +130,26 @@ impl SharedState {
         ensures rest { (n : ℕ) → result ≤ n → numbered_book self.now n ≡ [] }
     {
         self.atoms.len() + 1
+    }
+
+    /// The books themselves: the store's, and those of the atoms in the order of their cells.
+    ///
+    /// # Errors
+    /// `AllocError` where there was no memory for the list of the atoms' books.
+    pub fn into_books(self, alloc: Global) -> Result<(Vec<Event>, Vec<Listed<Event>>), AllocError>
+        ensures { IfOk result (λ books. books.0.items ∷ books.1.items ≡ self.books) }
+    {
+        let mut books = Vec::with_capacity(alloc, self.atoms.len())?;
+        let SharedState {
+            cells,
+            store,
+            atoms,
+            places,
+        } = self;
+        drop(cells);
+        drop(places);
+        move_books(atoms, &mut books);
+        Ok((store.into_events(), books))
     }
 
     /// The number of the book that an ask is for.

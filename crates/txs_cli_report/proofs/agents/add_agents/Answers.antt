@@ -6,7 +6,7 @@ use Rattle.txs_value_cell.specs.declared.cell.CellDefinition.{CellDefinition}
 use Rattle.txs_cli_report.specs.AgentLines.{AreAgentsTold, failure_of, named_from, status_of_agents}
 use Rattle.txs_cli_report.specs.Lent.{script_of}
 use Rattle.txs_cli_report.proofs.OfAgents.{entry_there, left_more, lines_more, status_of_more}
-use Rattle.txs_cli_report.proofs.There.{there}
+use Rattle.txs_world_shared.proofs.There.{there}
 use Rattle.txs_cli_report.proofs.agents.add_agents.Goals as goal
 
 pub add_cell-requires-clause-there : goal.add_cell-requires-clause-there

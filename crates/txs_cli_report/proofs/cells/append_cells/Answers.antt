@@ -8,7 +8,7 @@ use Rattle.txs_value_data.proofs.PrintedLemmas.{Extends-after}
 use Rattle.txs_value_data.specs.declared.value.CellId.{CellId}
 use Rattle.txs_value_data.specs.declared.value.Value.{Value}
 use Rattle.txs_value_cell.specs.declared.cell.CellDefinition.{CellDefinition}
-use Rattle.txs_cli_report.proofs.There.{there}
+use Rattle.txs_world_shared.proofs.There.{there}
 use Rattle.txs_cli_report.proofs.cells.append_cells.Goals as goal
 
 -- one more line, before those to come

@@ -1,6 +1,6 @@
 use Rattle.std.proofs.Common.{◌≡◌, ◌≤◌, ◌<◌, ◌+◌, ◌++◌, ℕ, List, [], length, drop, get_or, rules, refl, sym, ap, ◌∙◌, subst}
 use Rattle.std.proofs.lemmas.List.{append-nil, drop_all}
-use Rattle.txs_machine.specs.declared.schedule.Ran.{Ran}
+use Rattle.txs_world_protocol.specs.declared.report.Ran.{Ran}
 use Rattle.txs_cli_report.specs.Lent.{script_of}
 use Rattle.txs_cli_report.specs.Lines.{AreLessons, all_printed, status_from}
 use Rattle.txs_cli_report.proofs.Threads.{lessons_more, printed_more, status_more}

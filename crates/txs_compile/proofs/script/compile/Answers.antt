@@ -2,6 +2,11 @@ use Rattle.txs_tree_meaning.specs.View.{program_of}
 use Rattle.txs_gen.proofs.OwnCells.{code_names_own_cells}
 use Rattle.txs_compile.proofs.script.compile.Goals as goal
 
+pub returns-clause-marked : goal.returns-clause-marked
+returns-clause-marked c =
+    let p = c.in_ok-program.ensures.ok in
+    c.resolved_is_marked.ensures p.forms (program_of c.in_ok-program.program) p.resolved
+
 pub returns-clause-code : goal.returns-clause-code
 returns-clause-code c =
     c.code_of_program_follows.ensures c.in_ok-verified.verified (program_of c.in_ok-program.program) c.in_ok-program.ensures.ok.sound c.in_ok-verified.ensures

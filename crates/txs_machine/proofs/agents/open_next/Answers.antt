@@ -4,7 +4,7 @@ use Rattle.txs_value_cell.specs.declared.cell.CellDefinition.{CellDefinition}
 use Rattle.txs_code_meaning.specs.PlainCode.{PlainCode}
 use Rattle.txs_value_data.specs.declared.value.CellId.{CellId}
 use Rattle.txs_value_data.specs.declared.value.CellKind.TheVariants.{Agent}
-use Rattle.txs_machine_actor.specs.PlainActor.{agents_from}
+use Rattle.txs_value_cell.specs.Agents.{agents_from}
 use Rattle.txs_machine.specs.Plays.{AreOpenedFor}
 use Rattle.txs_machine.specs.Running.{IsAgentAt}
 use Rattle.txs_machine.specs.declared.player.AgentPlayer.{AgentPlayer}

@@ -1,7 +1,7 @@
 use Rattle.std.proofs.Common.{◌≡◌, ◌<◌, ◌∙◌, List, length, get_or, ap, subst, rules, [], arith}
 use Rattle.txs_value_cell.specs.declared.cell.CellDefinition.{CellDefinition}
 use Rattle.txs_code_meaning.specs.PlainCode.{PlainCode}
-use Rattle.txs_machine_actor.specs.PlainActor.{with_agent}
+use Rattle.txs_value_cell.specs.Agents.{with_agent}
 use Rattle.txs_machine.proofs.Opened.{agents_few, agents_behind}
 use Rattle.txs_machine.proofs.schedule.count_actors.Goals as goal
 

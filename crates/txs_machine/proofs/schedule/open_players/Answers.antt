@@ -2,7 +2,7 @@ use Rattle.std.proofs.Common.{◌≡◌, ◌<◌, ◌≤◌, ◌+◌, ◌++◌, 
 use Rattle.txs_value_cell.specs.declared.cell.CellDefinition.{CellDefinition}
 use Rattle.txs_code_meaning.specs.PlainCode.{PlainCode}
 use Rattle.txs_machine_actor.proofs.Following.{actors_run}
-use Rattle.txs_machine_actor.specs.PlainActor.{agents_from}
+use Rattle.txs_value_cell.specs.Agents.{agents_from}
 use Rattle.txs_machine_actor.specs.Turns.{IsNew}
 use Rattle.txs_theorem_runs.proofs.Typed.{typed_stands}
 use Rattle.txs_world_book.specs.Served.{cells_of}

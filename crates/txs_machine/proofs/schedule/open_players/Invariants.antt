@@ -1,5 +1,5 @@
 use Rattle.std.proofs.Common.{◌≡◌, ◌≤◌, length, take, [], vec_capacity}
-use Rattle.txs_machine_actor.specs.PlainActor.{agents_from}
+use Rattle.txs_value_cell.specs.Agents.{agents_from}
 use Rattle.txs_machine.specs.Playing.{AreBetween, AreNew}
 use Rattle.txs_machine.specs.Plays.{AreOpened, AreOpenedFor}
 use Rattle.txs_machine.proofs.schedule.open_players.Given as goal

@@ -1,5 +1,5 @@
 use Rattle.std.proofs.Common.{◌≡◌, ◌++◌, drop}
-use Rattle.txs_machine_actor.specs.PlainActor.{agents_from}
+use Rattle.txs_value_cell.specs.Agents.{agents_from}
 use Rattle.txs_threads.proofs.actors.agents_in.Given as goal
 
 abbrev pub invariant-loop-number : goal.invariant-loop-number

@@ -2,7 +2,7 @@ use Rattle.std.proofs.Common.{List, rules, inl, refl, subst, sym, ap, length, â—
 use Rattle.txs_value_data.specs.declared.value.CellId.{CellId}
 use Rattle.txs_threads_gather.specs.Gather.{AllHaveDone, AllHaveAttended}
 use Rattle.txs_world_shared.specs.SharedState.{PlainShared}
-use Rattle.txs_machine.specs.declared.schedule.Ran.{Ran}
+use Rattle.txs_world_protocol.specs.declared.report.Ran.{Ran}
 use Rattle.txs_threads.specs.Run.{AllEnded, AllDrained, IsLeft}
 use Rattle.txs_threads.proofs.Agents.{are_agents, are_drained, state_of}
 use Rattle.txs_threads.proofs.Ended.{all_ended}

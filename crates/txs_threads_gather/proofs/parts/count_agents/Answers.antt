@@ -1,5 +1,5 @@
 use Rattle.std.proofs.Common.{◌≡◌, ◌<◌, ◌≤◌, length, get_or, rules, [], arith}
-use Rattle.txs_machine_actor.specs.PlainActor.{with_agent}
+use Rattle.txs_value_cell.specs.Agents.{with_agent}
 use Rattle.txs_threads_gather.proofs.Counting.{agents_next, agents_few}
 use Rattle.txs_threads_gather.proofs.parts.count_agents.Goals as goal
 

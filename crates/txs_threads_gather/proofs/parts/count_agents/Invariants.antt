@@ -1,5 +1,5 @@
 use Rattle.std.proofs.Common.{◌≡◌, ◌+◌, drop, length}
-use Rattle.txs_machine_actor.specs.PlainActor.{agents_from}
+use Rattle.txs_value_cell.specs.Agents.{agents_from}
 use Rattle.txs_threads_gather.proofs.parts.count_agents.Given as goal
 
 abbrev pub invariant-loop-cell : goal.invariant-loop-cell

@@ -1,9 +1,10 @@
-use Rattle.std.proofs.Common.{[], ap, length, sym, subst, IfOk}
+use Rattle.std.proofs.Common.{◌≡◌, [], ap, length, sym, subst, IfOk}
 use Rattle.txs_tree_eval.specs.Told.{Accounts}
 use Rattle.txs_tree_eval_node.specs.Evaluated.{thread_state}
 use Rattle.txs_tree_eval_node.specs.Events.{seen_events}
 use Rattle.txs_tree_meaning.specs.Sound.{SoundFunctions}
 use Rattle.txs_tree_meaning.specs.View.{functions_of}
+use Rattle.txs_tree_eval_node.proofs.Leaf.{length-seen}
 use Rattle.txs_tree_eval.proofs.Ends.{whole_of, sound_body, told_account}
 use Rattle.txs_tree_eval.proofs.meaning.eval_thread.Goals as goal
 
@@ -21,5 +22,6 @@ returns c =
     let p = c.args.program.now in
     let whole = whole_of c.new-context.result c.cells.result.now p.cells c.functions.result.now p.functions c.args.turns _ c.new-context.ensures c.cells.ensures c.functions.ensures in
     let told = subst (λ t. IfOk c.tell_thread.result (λ m. Accounts m (length c.args.events.now) (thread_state t) c.evaluate-end.result)) c.into_thread.ensures c.tell_thread.ensures in
-    told_account c.threads.result.now p c.args.thread c.index-threads-thread.result c.threads.ensures.value c.requires c.index-threads-thread.is c.args.turns c.new-context.result whole c.tell_thread.result (length c.args.events.now) (seen_events c.args.events.now) c.new-locals.result.items c.new-state.result c.evaluate-end.new.state c.evaluate-end.result
+    let many : length c.args.events.now ≡ length (seen_events c.args.events.now) = sym (length-seen c.args.events.now) in
+    told_account c.threads.result.now p c.args.thread c.index-threads-thread.result c.threads.ensures.value c.requires c.index-threads-thread.is c.args.turns c.new-context.result whole c.threads.ensures.sound c.tell_thread.result (length c.args.events.now) (seen_events c.args.events.now) c.new-locals.result.items c.new-state.result c.evaluate-end.new.state c.evaluate-end.result many
     c.new-locals.ensures.items c.new-state.ensures.thread c.evaluate-end.ensures.value told

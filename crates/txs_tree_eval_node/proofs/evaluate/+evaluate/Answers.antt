@@ -9,12 +9,13 @@ use Rattle.txs_value_data.specs.Limits.{reruns}
 use Rattle.txs_value_base.specs.Places.{nth}
 use Rattle.txs_value_data.specs.declared.value.CellId.{CellId}
 use Rattle.txs_value_data.specs.declared.value.Value.{Value}
-use Rattle.txs_tree_eval_node.specs.Evaluated.{Finishes, ReadyIn, SoundCommutes, part, is_on, forms_in, calls_in, Yields, GivesAll, Steps, means, all_mean, do_means, let_means, locals_mean, if_means, strict_means, loop_means, turns_mean, form_means, inside_means, outside_means, update_means, swap_means, applied, redone_means, final_means, dosync_means, transacting, at_end, eat_means, ended, end_stop, thread_state}
-use Rattle.txs_tree_eval_transaction.specs.Worked.{Stops, Gives, Told, tx_state}
-use Rattle.txs_tree_meaning.specs.Meaning.{Completes, result_of}
+use Rattle.txs_tree_eval_node.specs.Evaluated.{AnswersAt, Finishes, ReadyIn, retried, SoundCommutes, part, is_on, forms_in, calls_in, Yields, GivesAll, Steps, means, all_mean, do_means, let_means, locals_mean, if_means, strict_means, loop_means, turns_mean, form_means, inside_means, outside_means, update_means, swap_means, applied, redone_means, final_means, dosync_means, transacting, at_end, eat_means, ended, closing, closes, end_stop, with_todo, thread_state, tx_run}
+use Rattle.txs_tree_eval_transaction.specs.Worked.{Gives, Told, tx_state}
+use Rattle.txs_tree_meaning.specs.Meaning.{Completes, Waits, result_of}
 use Rattle.txs_tree_eval_node.specs.Setting.{callable, zone_in, zone_on, on_view}
 use Rattle.txs_tree_meaning.specs.Sound.{SoundCall, SoundCallee, SoundTree, SoundAll, SoundDo, SoundLet, nodes, nodes_in, in_thread, in_dosync}
-use Rattle.txs_tree_meaning.specs.Thread.{reads, sends}
+use Rattle.txs_tree_meaning.specs.Right.{up_to}
+use Rattle.txs_tree_meaning.specs.Thread.{uneaten, reads, sends}
 use Rattle.txs_tree_meaning.specs.Transaction.{merged}
 use Rattle.txs_tree_meaning.specs.Tree.{count}
 use Rattle.txs_tree_meaning.specs.View.{tree_of, trees_of, mark_of, function_of, functions_of}
@@ -22,10 +23,12 @@ use Rattle.txs_tree_eval_transaction.specs.Views.{PlainView, or_nil, plain_view,
 use Rattle.txs_tree_eval_node.proofs.Acting.{redone_made, redone_unmade, acted_inside, acted_outside, sound_at, redone_stop, redone_more, phase_sound, finals_stop, finals_done}
 use Rattle.txs_tree_eval_node.proofs.Called.{in_room, room, room-deeper, room_on, depth_left, is_function, as_many, called_body, pure_here}
 use Rattle.txs_tree_eval_node.proofs.Counting.{item_smaller, nodes-some, nodes-last}
-use Rattle.txs_tree_eval_node.proofs.Ending.{zone_running, body_stop, body_done, body_keeps, ended_unrun, ended_closed, ends_viewed, ends_unviewed, end_stops, running, joined, begun}
-use Rattle.txs_tree_eval_node.proofs.Evaluation.{StopsAt, collects, collects-start, cell_stop, if_stop, strict_stop, strict_done, rebound, stops_steps, stops_gives, local_done, all_more, all_stop, do_stop, do_done, locals_more, locals_stop, let_stop, let_done, loop_stop, loop_done, turn_value, turn_stop, turn_recur, take_kept, called, if_goes, args_stop, acted, const_done}
-use Rattle.txs_tree_eval_node.proofs.Forms.{untaken_inside, untaken_outside, uneaten_outside, gives_at, reset_eaten, send_home, updates_ref, update_takes, update_unbegun, update_stop, update_done, update_inside, called_alone, core_done, vector_done, call_done, print_done, swap_stop, swap_done, put_inside, send_inside, put_outside, update_outside, put_takes, look_inside, look_outside, send_outside}
+use Rattle.txs_tree_eval_node.proofs.Ending.{closes_todo, closes_other, zone_running, body_stop, body_done, body_keeps, ended_unrun, ended_closed, ends_viewed, ends_unviewed, end_stops, running, joined, begun}
+use Rattle.txs_tree_eval_node.proofs.Evaluation.{halts_answers, StopsAt, collects, collects-start, cell_stop, if_stop, strict_stop, strict_done, rebound, stops_steps, stops_gives, local_done, all_more, all_stop, do_stop, do_done, locals_more, locals_stop, let_stop, let_done, loop_stop, loop_done, turn_value, turn_stop, turn_recur, take_kept, called, if_goes, args_stop, acted, const_done}
+use Rattle.txs_tree_eval_node.proofs.Forms.{IsOther, untaken_inside, untaken_outside, none_outside, answered, gives_at, reset_eaten, send_home, updates_ref, update_takes, update_unbegun, update_stop, update_done, update_inside, called_alone, core_done, vector_done, call_done, print_done, swap_stop, swap_done, put_inside, send_inside, put_outside, update_outside, put_takes, look_inside, look_outside, send_outside}
+use Rattle.txs_tree_eval_node.proofs.Leaf.{event_left}
 use Rattle.txs_tree_eval_node.proofs.Recurs.{recurs_many, never_recurs}
+use Rattle.txs_tree_eval_node.specs.Events.{seen_event}
 use Rattle.txs_tree_meaning.proofs.Soundness.{SoundAll-from, SoundLet-from, SoundDo-parts, count-from}
 use Rattle.txs_tree_eval_node.proofs.Shaping.{halted, kept_by, kept_then, kept_as, copied, stepped, strict_sound, strict_smaller, strict_finishes, strict_whole, form_sound, form_smaller, form_whole}
 use Rattle.txs_tree_eval_node.specs.Shapes.{IsShape, form_of_act}
@@ -67,7 +70,8 @@ call-returns t c =
     let left = depth_left s c.args.number (length vs) c.requires in
     let as_given : length vs ≡ length vs - 0 = omega arith in
     let many : fun.parameters ≡ length vs - 0 = as_many s c.args.number (length vs) c.requires fun c.function-function.ensures.sound there ∙ as_given in
-    called s c.args.number fun left there (length vs - 0) vs (take 0 vs) (drop 0 vs) c.args.state.now c.run_turns.new.state c.run_turns.result c.deeper-inner.result c.deeper-inner.ensures many (search rules) (search rules) c.run_turns.ensures.value
+    let many_turns : c.from-turns.result + 1 ≡ suc s.turns = omega (arith, c.from-turns.ensures, c.turns.ensures) in
+    called s c.args.number fun left there (c.from-turns.result + 1) (length vs - 0) vs (take 0 vs) (drop 0 vs) c.args.state.now c.run_turns.new.state c.run_turns.result c.deeper-inner.result many_turns c.deeper-inner.ensures many (search rules) (search rules) c.run_turns.ensures.value
 
 pub evaluate_all-loop-node-init : goal.evaluate_all-loop-node-init
 evaluate_all-loop-node-init t c =
@@ -198,13 +202,13 @@ run_turns-returns-in_err-value-clause-value t c =
     let out = c.loop-turn.state in
     let later = c.evaluate_tail.new.state in
     let d = length old - b in
-    let k = n.turns - c.loop-turn._turn in
-    let m = n.turns - (c.loop-turn._turn + 1) in
-    let left : k ≡ suc m = omega (arith, c.loop-turn-test.true, c.turns-turn-end.ensures) in
+    let k = c.args.turns - c.loop-turn._turn in
+    let m = c.args.turns - (c.loop-turn._turn + 1) in
+    let left : k ≡ suc m = omega (arith, c.loop-turn-test.true) in
     let many : length (drop b now) ≡ d = length-drop b now ∙ ap (λ l. l - b) c.loop-turn.invariant.1 in
     let y = c.in_err-value.field-0.0 in
     let rest = turn_stop n body b d k m (take b old) now out later left c.loop-turn.invariant.0 many y c.in_err-value.ensures.value in
-    stops_gives (λ v. v) (is_on n.world) c.from_residual.result y (part n.world later) (turns_mean n n.turns d body (take b old) (drop b old) c.args.state.now) (halted c.from_residual.result y c.from_residual.ensures.1) (subst (λ w. StopsAt n y later w) (sym c.loop-turn.invariant.2) rest)
+    stops_gives (λ v. v) (is_on n.world) c.from_residual.result y (part n.world later) (turns_mean n c.args.turns d body (take b old) (drop b old) c.args.state.now) (halted c.from_residual.result y c.from_residual.ensures.1) (subst (λ w. StopsAt n y later w) (sym c.loop-turn.invariant.2) rest)
 
 pub run_turns-returns-in-Value-clause-value : goal.run_turns-returns-in-Value-clause-value
 run_turns-returns-in-Value-clause-value t c =
@@ -216,9 +220,9 @@ run_turns-returns-in-Value-clause-value t c =
     let out = c.loop-turn.state in
     let later = c.evaluate_tail.new.state in
     let d = length old - b in
-    let k = n.turns - c.loop-turn._turn in
-    let m = n.turns - (c.loop-turn._turn + 1) in
-    let left : k ≡ suc m = omega (arith, c.loop-turn-test.true, c.turns-turn-end.ensures) in
+    let k = c.args.turns - c.loop-turn._turn in
+    let m = c.args.turns - (c.loop-turn._turn + 1) in
+    let left : k ≡ suc m = omega (arith, c.loop-turn-test.true) in
     let many : length (drop b now) ≡ d = length-drop b now ∙ ap (λ l. l - b) c.loop-turn.invariant.1 in
     let is = subst (λ s. Steps n (Ok s) later (means n body now out)) c.in-Value.is c.in_ok-value.ensures.value in
     c.loop-turn.invariant.2 ∙ turn_value n body b d k m (take b old) now out later left c.loop-turn.invariant.0 many c.in-Value.value is
@@ -233,9 +237,9 @@ run_turns-loop-turn-preserved t c =
     let out = c.loop-turn.state in
     let later = c.evaluate_tail.new.state in
     let d = length old - b in
-    let k = n.turns - c.loop-turn._turn in
-    let m = n.turns - (c.loop-turn._turn + 1) in
-    let left : k ≡ suc m = omega (arith, c.loop-turn-test.true, c.turns-turn-end.ensures) in
+    let k = c.args.turns - c.loop-turn._turn in
+    let m = c.args.turns - (c.loop-turn._turn + 1) in
+    let left : k ≡ suc m = omega (arith, c.loop-turn-test.true) in
     let many : length (drop b now) ≡ d = length-drop b now ∙ ap (λ l. l - b) c.loop-turn.invariant.1 in
     let ws = c.in-Recur.values.items in
     let next = c.rebind.new.locals.items in
@@ -255,7 +259,7 @@ run_turns-returns-clause-value t c =
     let n = c.args.context.now in
     let b = c.args.before in
     let old = c.args.locals.now.items in
-    let over : n.turns - c.loop-turn._turn ≡ 0 = omega (arith, c.loop-turn-test.false, c.turns-turn-end.ensures) in
+    let over : c.args.turns - c.loop-turn._turn ≡ 0 = omega (arith, c.loop-turn-test.false) in
     c.loop-turn.invariant.2 ∙ ap (λ k. turns_mean n k (length old - b) (tree_of c.args.body.now) (take b old) (drop b c.loop-turn.locals.items) c.loop-turn.state) over
 
 pub bind_locals-evaluate-requires : goal.bind_locals-evaluate-requires
@@ -346,11 +350,10 @@ act_outside-returns-in_err-event t c =
     let x = c.args.context.now in
     let y = c.in_err-event.field-0.0 in
     let before = thread_state c.args.thread.now in
-    let after = thread_state c.eat.new.self in
     let told = subst (λ f. Told (Ok c.in_ok-cell.cell) (result_of (cell_of (rule f) false c.args.value.now) c.args.span tt)) c.form.ensures c.in_ok-cell.ensures in
     let stopped : c.from_residual-in_err-event.result ≡ Err y = halted c.from_residual-in_err-event.result y c.from_residual-in_err-event.ensures.1 in
-    λ wanted. stops_gives (λ v. v) false c.from_residual-in_err-event.result y after (outside_means x c.args.act (mark_of c.args.span wanted) c.args.value.now c.args.args.items before) stopped
-    (uneaten_outside x (mark_of c.args.span wanted) c.args.value.now before c.in_ok-cell.cell after c.args.act c.args.args.items y c.home.result c.home.ensures c.requires told c.in_err-event.ensures)
+    λ wanted. stops_gives (λ v. v) false c.from_residual-in_err-event.result y before (outside_means x c.args.act (mark_of c.args.span wanted) c.args.value.now c.args.args.items before) stopped
+    (none_outside x (mark_of c.args.span wanted) c.args.value.now before c.in_ok-cell.cell c.args.act c.args.args.items y c.home.result c.home.ensures c.requires told c.in_err-event.ensures)
 
 pub apply_callee-call-given-requires : goal.apply_callee-call-given-requires
 apply_callee-call-given-requires t c =
@@ -593,14 +596,21 @@ act_outside-returns-in-Put t c =
     let x = c.args.context.now in
     let form = c.in-Put.field-0 in
     let cell = c.in_ok-cell.cell in
+    let e = c.in_ok-event.event.now in
+    let h = c.in_ok-event.ensures in
     let before = thread_state c.args.thread.now in
-    let after = thread_state c.eat.new.self in
+    let later = thread_state c.eat-in-Put.new.self in
     let ready = subst (λ a. ReadyIn (callable x) in_thread a (length c.args.args.items)) c.in-Put.is c.requires in
     let told = subst (λ f. Told (Ok cell) (result_of (cell_of (rule f) false c.args.value.now) c.args.span tt)) (c.form.ensures ∙ ap form_of_act c.in-Put.is) c.in_ok-cell.ensures in
     let r = c.reset_at.result in
-    let given = reset_eaten c.home.result (home x.cells cell) c.home.ensures c.in_ok-event.event.now before after c.in_ok-event.ensures r c.args.args.items (c.reset_at.ensures after) in
-    λ wanted. subst (λ a. Gives false r after (outside_means x a (mark_of c.args.span wanted) c.args.value.now c.args.args.items before)) (sym c.in-Put.is)
-    (put_outside x (mark_of c.args.span wanted) c.args.value.now before cell r after form c.args.args.items ready told given)
+    let given = reset_eaten c.home.result (home x.cells cell) c.home.ensures e before later h r (c.eat-in-Put.ensures.eaten (seen_event e) h.0 h.1) c.args.args.items ready.1 (c.reset_at.ensures (with_todo h.0 before)) in
+    λ wanted. subst₂ (λ a q. Gives false q later (outside_means x a (mark_of c.args.span wanted) c.args.value.now c.args.args.items before)) (sym c.in-Put.is) (sym c.eat-in-Put.ensures.same)
+    (put_outside x (mark_of c.args.span wanted) c.args.value.now before cell r later form c.args.args.items ready told given)
+
+pub act_outside-eat-requires-in-Put : goal.act_outside-eat-requires-in-Put
+act_outside-eat-requires-in-Put t c =
+    let h = c.in_ok-event.ensures in
+    event_left c.args.thread.now (seen_event c.in_ok-event.event.now) h.0 h.1
 
 pub evaluate_let-returns-clause-value : goal.evaluate_let-returns-clause-value
 evaluate_let-returns-clause-value t c =
@@ -619,7 +629,10 @@ evaluate_loop-returns-clause-value t c =
     let many : length now - b ≡ count es = omega (arith, place, counted) in
     let kept : take b now ≡ c.args.locals.now.items = subst (λ k. take k now ≡ c.args.locals.now.items) (sym place) c.in_ok-bind_locals.ensures.kept in
     let out = c.run_turns-given.new.state in
-    let given = stepped x c.run_turns-given.result c.as_step.result out (turns_mean x x.turns (length now - b) body (take b now) (drop b now) c.bind_locals.new.state) c.as_step.ensures c.run_turns-given.ensures.value in
+    let n = c.from-turns.result in
+    let as_many : n ≡ x.turns = c.from-turns.ensures ∙ c.turns.ensures in
+    let counted_turns = stepped x c.run_turns-given.result c.as_step.result out (turns_mean x n (length now - b) body (take b now) (drop b now) c.bind_locals.new.state) c.as_step.ensures c.run_turns-given.ensures.value in
+    let given = subst (λ k. Steps x c.as_step.result out (turns_mean x k (length now - b) body (take b now) (drop b now) c.bind_locals.new.state)) as_many counted_turns in
     loop_done x es body c.args.locals.now.items c.args.state.now now c.bind_locals.new.state out c.as_step.result c.in_ok-bind_locals.ensures.value b (length now - b) place many kept given
 
 pub evaluate_dosync-returns-then-is_some-clause-value : goal.evaluate_dosync-returns-then-is_some-clause-value
@@ -699,9 +712,12 @@ eat_dosync-returns-in-None-clause-value t c =
     let env = c.args.locals.now.items in
     let e = c.in_ok-event.event.now in
     let r = plain_view e.start in
-    let before = thread_state c.end_of_tx.new.self in
+    let h = c.in_ok-event.ensures in
+    let before = with_todo h.0 (thread_state c.end_of_tx.new.self) in
     let other = sym c.end_view.ensures ∙ ap plain_world c.in-None.is in
-    (refl, c.in_ok-event.ensures (transacting x m body env) (at_end x m.span) ∙ ends_unviewed x m body env before r (plain_view e.view) (plain_view e.here) r e.kind.now other)
+    let w = retried (suc reruns) (thread_state c.args.thread.now) in
+    let none = h.3 (transacting x m body env) (at_end x m.span) ∙ ap (λ o. uneaten (seen_event e ∷ h.0) o) (ends_unviewed x m body env before r (plain_view e.view) (plain_view e.here) r e.kind.now other) in
+    (refl, ap (λ o. up_to w o) none ∙ ap (λ s. Waits s) h.2)
 
 pub eat_dosync-returns-in-Err-clause-value : goal.eat_dosync-returns-in-Err-clause-value
 eat_dosync-returns-in-Err-clause-value t c =
@@ -711,12 +727,18 @@ eat_dosync-returns-in-Err-clause-value t c =
     let env = c.args.locals.now.items in
     let e = c.in_ok-event.event.now in
     let r = plain_view e.start in
-    let before = thread_state c.end_of_tx.new.self in
+    let h = c.in_ok-event.ensures in
+    let now = thread_state c.end_of_tx.new.self in
+    let before = with_todo h.0 now in
+    let later = thread_state c.eat.new.self in
     let w = plain_view c.in-Some.world in
     let viewed = sym c.end_view.ensures ∙ ap plain_world c.in-Some.is in
-    let whole = c.in_ok-event.ensures (transacting x m body env) (at_end x m.span) ∙ ends_viewed x m body env before r (plain_view e.view) (plain_view e.here) w e.kind.now viewed in
+    let end = closes e.kind.now m.span (ended x m body env r w before) in
+    let whole = h.3 (transacting x m body env) (at_end x m.span) ∙ ap (λ o. uneaten (seen_event e ∷ h.0) o) (ends_viewed x m body env before r (plain_view e.view) (plain_view e.here) w e.kind.now viewed) in
     let stops = end_stops e.kind.now m.span c.in-Err.stop before (ended x m body env r w before) (ended_unrun x m body env r w before c.in-Err.stop c.in-Err.ensures.value) in
-    subst (λ z. Stops false z before (eat_means x (suc reruns) m body env (thread_state c.args.thread.now))) (sym c.end_stop.ensures) (subst (λ q. Stops false (end_stop e.kind.now c.in-Err.stop) before q) (sym whole) stops)
+    let given = subst (λ z. AnswersAt {A = Value} (Err z) before end) (sym c.end_stop.ensures) stops in
+    let start = retried (suc reruns) (thread_state c.args.thread.now) in
+    subst₂ (λ q o. Gives false q later (up_to start o)) (sym c.eat.ensures.same) (sym whole) (answered (Err c.end_stop.result) (seen_event e) h.0 start now later end h.1 (λ o. h.2) (c.eat.ensures.eaten (seen_event e) h.0 h.1) given)
 
 pub eat_dosync-returns-in_err-event-clause-value : goal.eat_dosync-returns-in_err-event-clause-value
 eat_dosync-returns-in_err-event-clause-value t c =
@@ -788,26 +810,27 @@ pub swap-returns-in_err-world : goal.swap-returns-in_err-world
 swap-returns-in_err-world t c =
     let x = c.args.context.now in
     let y = c.in_err-world.field-0.0 in
+    let e = seen_event c.args.event.now in
     let stopped : c.from_residual.result ≡ Err y = halted c.from_residual.result y c.from_residual.ensures.1 in
-    λ book before after eaten is. stops_gives (λ v. v) false c.from_residual.result y after (swap_means x c.args.callee c.args.cell c.args.args.now c.args.span before) stopped
-    (swap_stop x c.is_sound.ensures c.args.callee c.args.cell c.args.args.now c.args.span before after book y is (c.in_err-world.ensures book before after eaten))
+    λ s. halts_answers c.from_residual.result y s (swap_means x c.args.callee c.args.cell c.args.args.now c.args.span e s) stopped
+    (swap_stop x c.is_sound.ensures c.args.callee c.args.cell c.args.args.now c.args.span e s y c.in_err-world.ensures)
 
 pub swap-returns-in_err-value : goal.swap-returns-in_err-value
 swap-returns-in_err-value t c =
     let stopped : c.from_residual-in_err-value.result ≡ Err Memory = halted c.from_residual-in_err-value.result Memory c.from_residual-in_err-value.ensures.1 in
-    λ book before after eaten is. stops_gives (λ v. v) false c.from_residual-in_err-value.result Memory after (swap_means c.args.context.now c.args.callee c.args.cell c.args.args.now c.args.span before) stopped tt
+    λ s. halts_answers c.from_residual-in_err-value.result Memory s (swap_means c.args.context.now c.args.callee c.args.cell c.args.args.now c.args.span (seen_event c.args.event.now) s) stopped tt
 
 pub swap-returns : goal.swap-returns
 swap-returns t c =
-    λ book before after eaten is. swap_done c.args.context.now c.is_sound.ensures c.args.callee c.args.cell c.args.args.now c.args.span before after book (plain_view c.in_ok-world.world) (option_copied c.in_ok-world.new) c.in_ok-value.value
-    c.apply_on.result c.end_swap.result is (c.in_ok-world.ensures book before after eaten) c.in_ok-value.ensures c.requires c.apply_on.ensures c.end_swap.ensures
+    λ s. swap_done c.args.context.now c.is_sound.ensures c.args.callee c.args.cell c.args.args.now c.args.span (seen_event c.args.event.now) s (plain_view c.in_ok-world.world) (option_copied c.in_ok-world.new) c.in_ok-value.value
+    c.apply_on.result c.end_swap.result c.in_ok-world.ensures c.in_ok-value.ensures c.requires c.apply_on.ensures c.end_swap.ensures
 
 pub act_outside-swap-requires : goal.act_outside-swap-requires
 act_outside-swap-requires t c =
     let x = c.args.context.now in
     let ready = subst (λ a. ReadyIn (callable x) in_thread a (length c.args.args.items)) c.in-Update.is c.requires in
     let smaller : room x + 4 < room x + 5 = omega arith in
-    (search (rules, smaller), subst (λ l. SoundCallee (callable x) c.in-Update.callee (suc (length l))) (sym c.as_slice.ensures.value) ready.1)
+    (search (rules, smaller), subst (λ l. SoundCallee (callable x) c.in-Update.callee (suc (length l))) (sym c.as_slice-args.ensures.value) ready.1)
 
 pub act_outside-returns-in-Update : goal.act_outside-returns-in-Update
 act_outside-returns-in-Update t c =
@@ -815,13 +838,23 @@ act_outside-returns-in-Update t c =
     let form = c.in-Update.field-0 in
     let callee = c.in-Update.callee in
     let cell = c.in_ok-cell.cell in
+    let e = c.in_ok-event.event.now in
+    let h = c.in_ok-event.ensures in
     let before = thread_state c.args.thread.now in
-    let after = thread_state c.eat.new.self in
-    let ready = subst (λ a. ReadyIn (callable x) in_thread a (length c.args.args.items)) c.in-Update.is c.requires in
+    let later = thread_state c.eat-in-Update.new.self in
+    let vs = c.args.args.items in
+    let ready = subst (λ a. ReadyIn (callable x) in_thread a (length vs)) c.in-Update.is c.requires in
     let told = subst (λ f. Told (Ok cell) (result_of (cell_of (rule f) false c.args.value.now) c.args.span tt)) (c.form.ensures ∙ ap form_of_act c.in-Update.is) c.in_ok-cell.ensures in
-    let given = subst (λ l. Gives false c.swap.result after (swap_means x callee cell l c.args.span before)) c.as_slice.ensures.value (c.swap.ensures c.home.result before after c.in_ok-event.ensures c.home.ensures) in
-    λ wanted. subst (λ a. Gives false c.swap.result after (outside_means x a (mark_of c.args.span wanted) c.args.value.now c.args.args.items before)) (sym c.in-Update.is)
-    (update_outside x (mark_of c.args.span wanted) c.args.value.now before cell c.swap.result after form callee c.args.args.items ready told given)
+    let r = c.swap.result in
+    let swapped = subst (λ l. AnswersAt r (with_todo h.0 before) (swap_means x callee cell l c.args.span (seen_event e) (with_todo h.0 before))) c.as_slice-args.ensures.value (c.swap.ensures (with_todo h.0 before)) in
+    let given = gives_at c.home.result (home x.cells cell) c.home.ensures (λ a s. swap_means x callee cell vs c.args.span a s) e before later h r (c.eat-in-Update.ensures.eaten (seen_event e) h.0 h.1) swapped in
+    λ wanted. subst₂ (λ a q. Gives false q later (outside_means x a (mark_of c.args.span wanted) c.args.value.now vs before)) (sym c.in-Update.is) (sym c.eat-in-Update.ensures.same)
+    (update_outside x (mark_of c.args.span wanted) c.args.value.now before cell r later form callee vs ready told given)
+
+pub act_outside-eat-requires-in-Update : goal.act_outside-eat-requires-in-Update
+act_outside-eat-requires-in-Update t c =
+    let h = c.in_ok-event.ensures in
+    event_left c.args.thread.now (seen_event c.in_ok-event.event.now) h.0 h.1
 
 pub eat_dosync-returns-clause-value : goal.eat_dosync-returns-clause-value
 eat_dosync-returns-clause-value t c =
@@ -831,13 +864,34 @@ eat_dosync-returns-clause-value t c =
     let env = c.args.locals.now.items in
     let e = c.in_ok-event.event.now in
     let r = plain_view e.start in
-    let before = thread_state c.end_of_tx.new.self in
+    let h = c.in_ok-event.ensures in
+    let now = thread_state c.end_of_tx.new.self in
+    let before = with_todo h.0 now in
     let w = plain_view c.in-Some.world in
     let viewed = sym c.end_view.ensures ∙ ap plain_world c.in-Some.is in
-    let whole = c.in_ok-event.ensures (transacting x m body env) (at_end x m.span) ∙ ends_viewed x m body env before r (plain_view e.view) (plain_view e.here) w e.kind.now viewed in
-    let after = thread_state c.close.new.thread in
-    subst (λ q. Gives false c.close.result after q) (sym whole)
-    (ended_closed x m body env r w before c.is_sound.ensures c.in-Ok.run' c.in-Ok.ensures.value c.in-Ok.ensures.sound (λ (ws : Vec (CellId × Value) Global). ws.items) c.final_writes-last.result e.kind.now c.close.result after c.final_writes-last.ensures c.close.ensures)
+    let end = closes e.kind.now m.span (ended x m body env r w before) in
+    let whole = h.3 (transacting x m body env) (at_end x m.span) ∙ ap (λ o. uneaten (seen_event e ∷ h.0) o) (ends_viewed x m body env before r (plain_view e.view) (plain_view e.here) w e.kind.now viewed) in
+    let shut = thread_state c.close-given.new.thread in
+    let later = thread_state c.eat-2.new.self in
+    let res = c.close-given.result in
+    let run = c.in-Ok.run' in
+    let items : Vec (CellId × Value) Global → Writes = λ ws. ws.items in
+    let closed = closes_todo (closing items e.kind.now c.final_writes-last.result run.work.done.sends) m.span (tx_run run) h.0 res now shut c.close-given.ensures.value in
+    let given = ended_closed x m body env r w before c.is_sound.ensures run c.in-Ok.ensures.value c.in-Ok.ensures.sound items c.final_writes-last.result e.kind.now res (with_todo h.0 shut) c.final_writes-last.ensures closed in
+    let left = c.close-given.ensures.kept ∙ h.1 in
+    let start = retried (suc reruns) (thread_state c.args.thread.now) in
+    let as_before : IsOther res → start ≡ shut = λ o. h.2 ∙ closes_other (closing items e.kind.now c.final_writes-last.result run.work.done.sends) m.span (tx_run run) res now shut c.close-given.ensures.value o in
+    subst₂ (λ q o. Gives false q later (up_to start o)) (sym c.eat-2.ensures.same) (sym whole) (answered res (seen_event e) h.0 start shut later end left as_before (c.eat-2.ensures.eaten (seen_event e) h.0 left) given)
+
+pub eat_dosync-eat-requires : goal.eat_dosync-eat-requires
+eat_dosync-eat-requires t c =
+    let h = c.in_ok-event.ensures in
+    event_left c.end_of_tx.new.self (seen_event c.in_ok-event.event.now) h.0 h.1
+
+pub eat_dosync-eat-requires-2 : goal.eat_dosync-eat-requires-2
+eat_dosync-eat-requires-2 t c =
+    let h = c.in_ok-event.ensures in
+    event_left c.close-given.new.thread (seen_event c.in_ok-event.event.now) h.0 (c.close-given.ensures.kept ∙ h.1)
 
 pub final_writes-redo-requires : goal.final_writes-redo-requires
 final_writes-redo-requires t c =
@@ -911,29 +965,43 @@ act_outside-returns-in-Look t c =
     let x = c.args.context.now in
     let form = c.in-Look.field-0 in
     let cell = c.in_ok-cell.cell in
+    let e = c.in_ok-event.event.now in
+    let h = c.in_ok-event.ensures in
     let before = thread_state c.args.thread.now in
-    let after = thread_state c.eat.new.self in
+    let later = thread_state c.eat.new.self in
     let ready = subst (λ a. ReadyIn (callable x) in_thread a (length c.args.args.items)) c.in-Look.is c.requires in
     let told = subst (λ f. Told (Ok cell) (result_of (cell_of (rule f) false c.args.value.now) c.args.span tt)) (c.form.ensures ∙ ap form_of_act c.in-Look.is) c.in_ok-cell.ensures in
     let r = c.read_at.result in
-    let given = gives_at c.home.result (home x.cells cell) c.home.ensures (λ e s. reads cell e.kind e.C s) c.in_ok-event.event.now before after c.in_ok-event.ensures r (c.read_at.ensures after) in
-    λ wanted. subst (λ a. Gives false r after (outside_means x a (mark_of c.args.span wanted) c.args.value.now c.args.args.items before)) (sym c.in-Look.is)
-    (look_outside x (mark_of c.args.span wanted) c.args.value.now before cell r after form c.args.args.items ready told given)
+    let given = gives_at c.home.result (home x.cells cell) c.home.ensures (λ a s. reads cell a.kind a.C s) e before later h r (c.eat.ensures.eaten (seen_event e) h.0 h.1) (c.read_at.ensures (with_todo h.0 before)) in
+    λ wanted. subst₂ (λ a q. Gives false q later (outside_means x a (mark_of c.args.span wanted) c.args.value.now c.args.args.items before)) (sym c.in-Look.is) (sym c.eat.ensures.same)
+    (look_outside x (mark_of c.args.span wanted) c.args.value.now before cell r later form c.args.args.items ready told given)
+
+pub act_outside-eat-requires : goal.act_outside-eat-requires
+act_outside-eat-requires t c =
+    let h = c.in_ok-event.ensures in
+    event_left c.args.thread.now (seen_event c.in_ok-event.event.now) h.0 h.1
 
 pub act_outside-returns-in-Send : goal.act_outside-returns-in-Send
 act_outside-returns-in-Send t c =
     let x = c.args.context.now in
     let cell = c.in_ok-cell.cell in
+    let e = c.in_ok-event.event.now in
+    let h = c.in_ok-event.ensures in
     let before = thread_state c.args.thread.now in
-    let after = thread_state c.eat.new.self in
+    let later = thread_state c.eat-in-Send.new.self in
     let callee = c.in-Send.callee in
     let vs = c.args.args.items in
     let told = subst (λ f. Told (Ok cell) (result_of (cell_of (rule f) false c.args.value.now) c.args.span tt)) (c.form.ensures ∙ ap form_of_act c.in-Send.is) c.in_ok-cell.ensures in
     let r = c.send_at.result in
-    let given = gives_at c.home.result 0 (c.home.ensures ∙ send_home x c.args.value.now c.args.span cell told) (λ e s. sends (record { agent = cell; callee = callee; args = vs; span = c.args.span }) c.args.span e.kind s) c.in_ok-event.event.now before after c.in_ok-event.ensures r
-    (c.send_at.ensures after) in
-    λ wanted. subst (λ a. Gives false r after (outside_means x a (mark_of c.args.span wanted) c.args.value.now vs before)) (sym c.in-Send.is)
-    (send_outside x (mark_of c.args.span wanted) c.args.value.now before cell r after callee vs told given)
+    let given = gives_at c.home.result 0 (c.home.ensures ∙ send_home x c.args.value.now c.args.span cell told) (λ a s. sends (record { agent = cell; callee = callee; args = vs; span = c.args.span }) c.args.span a.kind s) e before later h r (c.eat-in-Send.ensures.eaten (seen_event e) h.0 h.1)
+    (c.send_at.ensures (with_todo h.0 before)) in
+    λ wanted. subst₂ (λ a q. Gives false q later (outside_means x a (mark_of c.args.span wanted) c.args.value.now vs before)) (sym c.in-Send.is) (sym c.eat-in-Send.ensures.same)
+    (send_outside x (mark_of c.args.span wanted) c.args.value.now before cell r later callee vs told given)
+
+pub act_outside-eat-requires-in-Send : goal.act_outside-eat-requires-in-Send
+act_outside-eat-requires-in-Send t c =
+    let h = c.in_ok-event.ensures in
+    event_left c.args.thread.now (seen_event c.in_ok-event.event.now) h.0 h.1
 
 -- ---- what is kept, and what goes on as it is
 
@@ -1039,7 +1107,7 @@ pub evaluate_dosync-returns-clause-kept : goal.evaluate_dosync-returns-clause-ke
 evaluate_dosync-returns-clause-kept t c = kept_as (c.eat_dosync.new.locals.items ≡ c.args.locals.now.items) c.eat_dosync.result c.as_step-2.result c.as_step-2.ensures c.eat_dosync.ensures.kept
 
 pub eat_dosync-returns-clause-kept : goal.eat_dosync-returns-clause-kept
-eat_dosync-returns-clause-kept t c = kept_by c.close.result c.in-Ok.ensures.kept
+eat_dosync-returns-clause-kept t c = kept_by c.eat-2.result c.in-Ok.ensures.kept
 
 pub evaluate_all-returns-clause-kept : goal.evaluate_all-returns-clause-kept
 evaluate_all-returns-clause-kept t c = c.loop-node.invariant.0
@@ -1206,7 +1274,7 @@ run_turns-loop-turn-init t c =
     let n = c.args.context.now in
     let b = c.args.before in
     let old = c.args.locals.now.items in
-    let all : n.turns ≡ n.turns - 0 = omega arith in
+    let all : c.args.turns ≡ c.args.turns - 0 = omega arith in
     (refl, refl, ap (λ k. turns_mean n k (length old - b) (tree_of c.args.body.now) (take b old) (drop b old) c.args.state.now) all)
 
 pub evaluate_tail-returns-in-Const-clause-kept : goal.evaluate_tail-returns-in-Const-clause-kept

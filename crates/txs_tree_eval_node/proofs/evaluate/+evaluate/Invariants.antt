@@ -107,8 +107,8 @@ abbrev pub invariant-run_turns-loop-turn : goal.invariant-run_turns-loop-turn
 invariant-run_turns-loop-turn l =
     (take l.before l.locals.items ≡ take l.before l.fn.locals.items)
     × (length l.locals.items ≡ length l.fn.locals.items)
-    × (turns_mean l.context l.context.turns (length l.fn.locals.items - l.before) (tree_of l.body) (take l.before l.fn.locals.items) (drop l.before l.fn.locals.items) l.fn.state
-    ≡ turns_mean l.context (l.context.turns - l._turn) (length l.fn.locals.items - l.before) (tree_of l.body) (take l.before l.fn.locals.items) (drop l.before l.locals.items) l.state)
+    × (turns_mean l.context l.turns (length l.fn.locals.items - l.before) (tree_of l.body) (take l.before l.fn.locals.items) (drop l.before l.fn.locals.items) l.fn.state
+    ≡ turns_mean l.context (l.turns - l._turn) (length l.fn.locals.items - l.before) (tree_of l.body) (take l.before l.fn.locals.items) (drop l.before l.locals.items) l.state)
 
 -- the commutes that are left
 abbrev pub invariant-redo-loop-commute : goal.invariant-redo-loop-commute

@@ -1,4 +1,4 @@
-use Rattle.std.proofs.Common.{refl, sym, ap, ◌∙◌}
+use Rattle.std.proofs.Common.{sym, ap, ◌∙◌}
 use Rattle.txs_tree_eval_node.specs.Evaluated.{sending}
 use Rattle.txs_tree_eval_node.specs.declared.thread.Sending.TheVariants.{Sent, Refused, Other}
 use Rattle.txs_value_cell.specs.declared.action.Action.{Action}
@@ -21,4 +21,4 @@ pub returns-in-Other : goal.returns-in-Other
 returns-in-Other c =
     let k = c.args.event.now.kind.now in
     let a : Action = record { agent = c.args.agent; callee = c.args.callee; args = c.args.args.items; span = c.args.span } in
-    λ t. (refl, send_as a c.args.span t k Other (sym c.in-Other.is ∙ c.sent_as-sending.ensures ∙ ap (λ l. sending (record { agent = c.args.agent; callee = c.args.callee; args = l; span = c.args.span }) k) c.from_vec-args.ensures))
+    λ t. send_as a c.args.span t k Other (sym c.in-Other.is ∙ c.sent_as-sending.ensures ∙ ap (λ l. sending (record { agent = c.args.agent; callee = c.args.callee; args = l; span = c.args.span }) k) c.from_vec-args.ensures)

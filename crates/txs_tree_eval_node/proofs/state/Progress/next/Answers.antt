@@ -1,8 +1,8 @@
-use Rattle.std.proofs.Common.{rules, refl, drop, ◌+◌}
+use Rattle.std.proofs.Common.{rules, drop, ◌+◌}
 use Rattle.std.proofs.lemmas.Bool.{eq-eqb, ne_eqb}
 use Rattle.txs_tree_eval_node.specs.Events.{seen_event, seen_events}
 use Rattle.txs_tree_eval_node.proofs.Leaf.{todo_here}
-use Rattle.txs_tree_eval_node.proofs.state.Progress.eat.Goals as goal
+use Rattle.txs_tree_eval_node.proofs.state.Progress.next.Goals as goal
 
 pub returns-then-event-book : goal.returns-then-event-book
 returns-then-event-book c =
@@ -14,4 +14,4 @@ pub returns : goal.returns
 returns c =
     let es = c.args.self.now.events.now in
     let i = c.args.self.now.eaten in
-    (todo_here es i c.in-Some.event.now (search rules) (search rules), eq-eqb c.in-Some.event.now.book c.args.book c.if-event-book.false, refl)
+    (drop (i + 1) (seen_events es), todo_here es i c.in-Some.event.now (search rules) (search rules), eq-eqb c.in-Some.event.now.book c.args.book c.if-event-book.false)

@@ -1,0 +1,565 @@
+-- A thread notes a transaction for each commit and each refusal that it eats.
+use Rattle.std.proofs.Common.{◌≡◌, ◌≤◌, ℕ, zero, suc, ◌+◌, ◌==◌, ◌&&◌, Bool, true, false, List, [], ◌∷◌, ◌++◌, length, length-append, take, Option, Some, None, Result, Ok, Err, nat_eq, refl, sym, ap, ◌∙◌, subst, arith, if◌then◌else◌}
+use Rattle.std.proofs.lemmas.Bool.{eqb-true, false≢true}
+use Rattle.std.proofs.lemmas.List.{append_assoc, append-nil}
+use Rattle.txs_world_protocol.proofs.AskLemmas.{same_writes-sound, same_ask-sound}
+use Rattle.txs_world_protocol.specs.Ask.{Writes, buffered, with_write, same_value, same_cell, same_writes, same_action, same_actions}
+use Rattle.txs_world_protocol.specs.SeenEvent.{SeenEvent, home}
+use Rattle.txs_world_protocol.specs.declared.ask.Ask.{Ask}
+use Rattle.txs_world_protocol.specs.declared.ask.Ask.TheVariants as ask
+use Rattle.txs_world_protocol.specs.declared.event.EventKind.{EventKind}
+use Rattle.txs_world_protocol.specs.declared.event.EventKind.TheVariants as event
+use Rattle.txs_value_cell.specs.Cells.{World}
+use Rattle.txs_value_cell.specs.Forms.{rule, may_stand, cell_of}
+use Rattle.txs_value_cell.specs.declared.action.Action.{Action}
+use Rattle.txs_value_cell.specs.declared.cell.CellDefinition.{CellDefinition}
+use Rattle.txs_value_cell.specs.declared.form.CellForm.TheVariants as form_of
+use Rattle.txs_value_cell.specs.declared.form.LookForm.{LookForm}
+use Rattle.txs_value_cell.specs.declared.form.LookForm.TheVariants.{Deref, Ensure}
+use Rattle.txs_value_cell.specs.declared.form.PutForm.{PutForm}
+use Rattle.txs_value_cell.specs.declared.form.PutForm.TheVariants.{RefSet, Reset}
+use Rattle.txs_value_cell.specs.declared.form.UpdateForm.{UpdateForm}
+use Rattle.txs_value_cell.specs.declared.form.UpdateForm.TheVariants.{Alter, Commute, Swap}
+use Rattle.txs_frame.specs.declared.frame.Commute.{Commute as CommuteOf}
+use Rattle.txs_frame.specs.Frame.{Work, set_writes, commuted, phase_work}
+use Rattle.txs_value_apply.specs.Core.{core, vector_of}
+use Rattle.txs_value_apply.specs.Truth.{choose}
+use Rattle.txs_value_base.specs.Places.{nth, fault_at}
+use Rattle.txs_value_base.specs.declared.fault.FaultKind.{FaultKind}
+use Rattle.txs_value_base.specs.declared.fault.FaultKind.TheVariants.{AgentFailed}
+use Rattle.txs_value_base.specs.declared.fault.Span.{Span}
+use Rattle.txs_value_base.specs.declared.op.Callee.{Callee}
+use Rattle.txs_value_data.specs.Limits.{reruns}
+use Rattle.txs_value_data.specs.declared.value.CellId.{CellId}
+use Rattle.txs_value_data.specs.declared.value.Value.{Value}
+use Rattle.txs_value_data.specs.declared.value.Value.TheVariants.{Nil, Truth, Int, Key, Text, Vector, Cell}
+use Rattle.txs_tree_meaning.specs.Known.{known}
+use Rattle.txs_tree_meaning.specs.Meaning.{Completion, Completes, Recurs, Faults, Retries, Waits, OutOfTurns, Invalid, bind, again, closed, give, result_of, allowed, Applies, turns, apply, eval, eval_all, eval_let, eval_do, call_at}
+use Rattle.txs_tree_meaning.specs.Pure.{nowhere}
+use Rattle.txs_tree_meaning.specs.Sound.{Zone, in_function, in_thread, in_dosync, SoundTree, SoundAll, SoundLet, SoundDo, SoundFunctions}
+use Rattle.txs_tree_meaning.specs.Thread.{TxRun, ThreadState, with_tx, eats, meant, reads, resets, faulted, faultless, swaps, sends, over, Transacting, run_of, ends_tx, is_retry, uneaten, eats_tx, Surroundings, thread_look, thread_put, thread_update, on_events, thread_meaning}
+use Rattle.txs_tree_meaning.specs.Transaction.{TxState, value_or, valued, merged, redone, final_writes, tx_meaning}
+use Rattle.txs_tree_meaning.specs.Tree.{Mark, Tree, Const, Local, If, Do, Let, Loop, Recur, Core, Call, VectorOf, Println, Dosync, Look, Put, Update, Send, Trees, none, more, count, PlainFunction}
+use Rattle.txs_tree_meaning.proofs.Callable.{both, function_at, nth-take, tree-widened}
+use Rattle.txs_theorem_threads.specs.Noted.{IsNone}
+use Rattle.txs_theorem_threads.proofs.Callees.{IsPure, sound_pure}
+use Rattle.txs_theorem_threads.proofs.Quiet.{carried, IsQuiet, quietly, callee_carried, AllCommutes, phase_some, redone_carried}
+use Rattle.txs_theorem_serial.specs.Laws.{ThreadsNote}
+use Rattle.txs_tree_meaning.specs.Marked.{Marked, MarkedAll, MarkedDo, MarkedFunctions}
+use Rattle.txs_theorem_serial.specs.Serial.{purely, Met, Committed, RunOf, RunsOf, Noted, EndsNoted}
+use Rattle.txs_theorem_serial.proofs.Alone.{met_suits}
+use Rattle.txs_theorem_serial.proofs.Bodies.{marked_at}
+use Rattle.txs_theorem_serial.proofs.Deeper.{tx_deeper, quiet_deeper}
+use Rattle.txs_theorem_serial.proofs.Remakes.{splits}
+
+-- ---- sends that are found equal are equal
+
+sends_of : Ask → List Action
+sends_of (ask.Commit at sets ensured view commuted sends) = sends
+sends_of _ = []
+
+sends_equal : (xs ys : List Action) → same_actions xs ys ≡ true → xs ≡ ys
+unfolding sends_of
+sends_equal xs ys h = ap sends_of (same_ask-sound (ask.Commit 0 [] [] 0 [] xs) (ask.Commit 0 [] [] 0 [] ys) h)
+
+-- any value
+abbrev Any : {A : Type 0} → A → Type 0
+Any a = Unit {0}
+
+-- these writes, made with nothing around
+abbrev given : Writes → Completion (Unit {0}) Writes
+given ws = Completes ws tt
+
+module _ (functions : List PlainFunction) (n : ℕ) where
+  -- ---- transactions of more events
+
+  run_on : (k : EventKind) (R Q C : World) (rest next : List TxRun → Type 0) (xs ys : List TxRun) → ((zs : List TxRun) → rest zs → next (zs ++ ys)) → RunOf functions n k R Q C rest xs → RunOf functions n k R Q C next (xs ++ ys)
+  run_on (event.Read c) R Q C rest next xs ys h r = h xs r
+  run_on (event.Commit at view ws sends) R Q C rest next [] ys h r = absurd r
+  run_on (event.Commit at view ws sends) R Q C rest next (x ∷ xs) ys h r = (r.0, h xs r.1)
+  run_on (event.Retry since c commute) R Q C rest next xs ys h r = h xs r
+  run_on (event.Fail at view) R Q C rest next xs ys h r = h xs r
+  run_on (event.Refused at view g) R Q C rest next [] ys h r = absurd r
+  run_on (event.Refused at view g) R Q C rest next (x ∷ xs) ys h r = (r.0, h xs r.1)
+  run_on (event.Send x) R Q C rest next xs ys h r = h xs r
+  run_on (event.SendRefused g) R Q C rest next xs ys h r = h xs r
+  run_on (event.Act g k new) R Q C rest next xs ys h r = h xs r
+  run_on (event.Swap new) R Q C rest next xs ys h r = h xs r
+  run_on (event.Broke at) R Q C rest next xs ys h r = h xs r
+
+  runs_both : (es fs : List SeenEvent) (xs ys : List TxRun) → RunsOf functions n es xs → RunsOf functions n fs ys → RunsOf functions n (es ++ fs) (xs ++ ys)
+  runs_both [] fs [] ys h k = k
+  runs_both [] fs (x ∷ xs) ys h k = absurd h
+  runs_both (e ∷ es) fs xs ys h k = run_on e.kind e.R e.Q e.C (λ zs. RunsOf functions n es zs) (λ zs. RunsOf functions n (es ++ fs) zs) xs ys (λ zs r. runs_both es fs zs ys r k) h
+
+  module _ (es0 : List SeenEvent) where
+    abbrev NotedIn : List SeenEvent → List TxRun → Type 0
+    NotedIn todo txs = Noted functions n es0 todo txs
+
+    abbrev NotedAt : ThreadState → Type 0
+    NotedAt t = NotedIn t.todo t.txs
+
+    -- one more event is eaten, with its transaction, if it is such a one
+    abbrev Next : EventKind → World → World → World → List SeenEvent → List TxRun → Type 0
+    Next k R Q C es txs = (xs : List TxRun) → RunOf functions n k R Q C IsNone xs → NotedIn es (txs ++ xs)
+
+    next_event : (e : SeenEvent) (es : List SeenEvent) (txs : List TxRun) → NotedIn (e ∷ es) txs → Next e.kind e.R e.Q e.C es txs
+    next_event e es txs h xs r = record {
+      eaten = h.eaten ++ e ∷ [];
+      split = h.split ∙ sym (append_assoc h.eaten (e ∷ []) es);
+      runs = runs_both h.eaten (e ∷ []) txs xs h.runs r;
+    }
+
+    -- an event without a transaction
+    without : (k : EventKind) (R Q C : World) (es : List SeenEvent) (txs : List TxRun) → Next k R Q C es txs → RunOf functions n k R Q C IsNone [] → NotedIn es txs
+    without k R Q C es txs next r = subst (λ xs. NotedIn es xs) (append-nil txs) (next [] r)
+
+    -- wherever it is, the events that were eaten have their transactions
+    abbrev Reaches : {A : Type 0} → (A → Type 0) → Completion ThreadState A → Type 0
+    Reaches P (Completes a t) = P a × NotedAt t
+    Reaches P (Recurs vs t) = NotedAt t
+    Reaches P (Faults f t) = NotedAt t
+    Reaches P (Retries t) = NotedAt t
+    Reaches P (Waits t) = NotedAt t
+    Reaches P (OutOfTurns t) = NotedAt t
+    Reaches P Invalid = Unit {0}
+
+    -- the same at an event that is being eaten: where turns don't suffice, the transactions are still these
+    abbrev Within : {A : Type 0} → List TxRun → Completion ThreadState A → Type 0
+    Within txs (Completes a t) = NotedAt t
+    Within txs (Recurs vs t) = NotedAt t
+    Within txs (Faults f t) = NotedAt t
+    Within txs (Retries t) = NotedAt t
+    Within txs (Waits t) = NotedAt t
+    Within txs (OutOfTurns t) = t.txs ≡ txs
+    Within txs Invalid = Unit {0}
+
+    within_reaches : (l : List SeenEvent) (txs : List TxRun) (c : Completion ThreadState Value) → NotedIn l txs → Within txs c → Reaches Any (uneaten l c)
+    within_reaches l txs (Completes a t) g h = (tt, h)
+    within_reaches l txs (Recurs vs t) g h = h
+    within_reaches l txs (Faults f t) g h = h
+    within_reaches l txs (Retries t) g h = h
+    within_reaches l txs (Waits t) g h = h
+    within_reaches l txs (OutOfTurns t) g h = subst (NotedIn l) (sym h) g
+    within_reaches l txs Invalid g h = tt
+
+    abbrev Many : ℕ → List Value → Type 0
+    Many k vs = length vs ≡ k
+
+    bind_reaches : {A B : Type 0} (P : A → Type 0) (Q : B → Type 0) (x : Completion ThreadState A) (f : A → ThreadState → Completion ThreadState B) → Reaches P x → ((a : A) (t : ThreadState) → P a → NotedAt t → Reaches Q (f a t)) → Reaches Q (bind x f)
+    bind_reaches P Q (Completes a t) f h k = k a t h.0 h.1
+    bind_reaches P Q (Recurs vs t) f h k = tt
+    bind_reaches P Q (Faults e t) f h k = h
+    bind_reaches P Q (Retries t) f h k = h
+    bind_reaches P Q (Waits t) f h k = h
+    bind_reaches P Q (OutOfTurns t) f h k = h
+    bind_reaches P Q Invalid f h k = tt
+
+    again_reaches : {A : Type 0} (P : A → Type 0) (x : Completion ThreadState A) (f : List Value → ThreadState → Completion ThreadState A) → Reaches P x → ((vs : List Value) (t : ThreadState) → NotedAt t → Reaches P (f vs t)) → Reaches P (again x f)
+    again_reaches P (Completes a t) f h k = h
+    again_reaches P (Recurs vs t) f h k = k vs t h
+    again_reaches P (Faults e t) f h k = h
+    again_reaches P (Retries t) f h k = h
+    again_reaches P (Waits t) f h k = h
+    again_reaches P (OutOfTurns t) f h k = h
+    again_reaches P Invalid f h k = tt
+
+    turns_reaches : (k d : ℕ) (body : List Value → ThreadState → Completion ThreadState Value) → ((vs : List Value) (t : ThreadState) → length vs ≡ d → NotedAt t → Reaches Any (body vs t)) → (vs : List Value) (t : ThreadState) → NotedAt t → Reaches Any (turns k d body vs t)
+    turns_reaches zero d body h vs t g = g
+    turns_reaches (suc k) d body h vs t g = turn (nat_eq (length vs) d) refl (λ ws t1 g1. turns_reaches k d body h ws t1 g1)
+      where
+        turn : (b : Bool) → nat_eq (length vs) d ≡ b → ((ws : List Value) (t1 : ThreadState) → NotedAt t1 → Reaches Any (turns k d body ws t1)) → Reaches Any (if b then again (body vs t) (turns k d body) else Invalid)
+        turn true e next = again_reaches Any (body vs t) (turns k d body) (h vs t (eqb-true (length vs) d e) g) next
+        turn false e next = tt
+
+    choose_reaches : (v : Value) (x y : Completion ThreadState Value) → Reaches Any x → Reaches Any y → Reaches Any (choose v x y)
+    choose_reaches Nil x y h k = k
+    choose_reaches (Truth false) x y h k = k
+    choose_reaches (Truth true) x y h k = h
+    choose_reaches (Int z) x y h k = h
+    choose_reaches (Key bs) x y h k = h
+    choose_reaches (Text bs) x y h k = h
+    choose_reaches (Vector vs) x y h k = h
+    choose_reaches (Cell c) x y h k = h
+
+    give_reaches : {A : Type 0} (o : Option A) (t : ThreadState) → NotedAt t → Reaches Any (give o t)
+    give_reaches None t g = tt
+    give_reaches (Some a) t g = (tt, g)
+
+    result_reaches : {A : Type 0} (r : Result A FaultKind) (span : Span) (t : ThreadState) → NotedAt t → Reaches Any (result_of r span t)
+    result_reaches (Ok a) span t g = (tt, g)
+    result_reaches (Err k) span t g = g
+
+    allowed_reaches : (b : Bool) (x : Completion ThreadState Value) → Reaches Any x → Reaches Any (allowed b x)
+    allowed_reaches true x h = h
+    allowed_reaches false x h = tt
+
+    meant_within : (b : Bool) (v : Value) (txs : List TxRun) (t : ThreadState) → NotedAt t → Within txs (meant b v t)
+    meant_within true v txs t g = g
+    meant_within false v txs t g = tt
+
+    -- ---- forms outside transactions
+
+    eats_reaches : (book : ℕ) (go : SeenEvent → ThreadState → Completion ThreadState Value) → ((e : SeenEvent) (t : ThreadState) → Next e.kind e.R e.Q e.C t.todo t.txs → Within t.txs (go e t)) → (es : List SeenEvent) (t : ThreadState) → NotedIn es t.txs → NotedAt t → Reaches Any (eats book go es t)
+    eats_reaches book go h [] t g here = here
+    eats_reaches book go h (e ∷ es) t g here = of_book (e.book == book)
+      where
+        of_book : (b : Bool) → Reaches Any (if b then uneaten (e ∷ es) (go e (record t { todo = es })) else Invalid)
+        of_book true = within_reaches (e ∷ es) t.txs (go e (record t { todo = es })) g (h e (record t { todo = es }) (next_event e es t.txs g))
+        of_book false = tt
+
+    read_reaches : (c : CellId) (k : EventKind) (R Q C : World) (t : ThreadState) → Next k R Q C t.todo t.txs → Within t.txs (reads c k C t)
+    read_reaches c (event.Read d) R Q C t next = meant_within (same_cell c d) (C c.number) t.txs t (without (event.Read d) R Q C t.todo t.txs next tt)
+    read_reaches c _ R Q C t next = tt
+
+    reset_reaches : (v : Value) (k : EventKind) (R Q C : World) (t : ThreadState) → Next k R Q C t.todo t.txs → Within t.txs (resets v k t)
+    reset_reaches v (event.Swap new) R Q C t next = meant_within (same_value v new) v t.txs t (without (event.Swap new) R Q C t.todo t.txs next tt)
+    reset_reaches v _ R Q C t next = tt
+
+    -- a swap, whose callee is pure
+    module _ (c : CellId) (f : Value → ThreadState → Completion ThreadState Value) (q : Value → Completion (Unit {0}) Value) (pure : (v : Value) (t : ThreadState) → (f v t ≡ carried t (q v)) × IsQuiet (q v)) where
+      swap_to : (new : Value) (t : ThreadState) → NotedAt t → (z : Completion (Unit {0}) Value) → IsQuiet z → Within t.txs (faultless (carried t z) (λ v t1. meant (same_value v new) v t1))
+      swap_to new t g (Completes v u) w = meant_within (same_value v new) v t.txs t g
+      swap_to new t g (Recurs vs u) w = tt
+      swap_to new t g (Faults e u) w = tt
+      swap_to new t g (Retries u) w = tt
+      swap_to new t g (Waits u) w = absurd w
+      swap_to new t g (OutOfTurns u) w = refl
+      swap_to new t g Invalid w = tt
+
+      swap_breaks : (t : ThreadState) → NotedAt t → (z : Completion (Unit {0}) Value) → IsQuiet z → Within {A = Value} t.txs (faulted (carried t z) (λ y t1. Faults y t1))
+      swap_breaks t g (Completes v u) w = tt
+      swap_breaks t g (Recurs vs u) w = tt
+      swap_breaks t g (Faults e u) w = g
+      swap_breaks t g (Retries u) w = tt
+      swap_breaks t g (Waits u) w = absurd w
+      swap_breaks t g (OutOfTurns u) w = refl
+      swap_breaks t g Invalid w = tt
+
+      swap_reaches : (k : EventKind) (R Q C : World) (t : ThreadState) → Next k R Q C t.todo t.txs → Within t.txs (swaps c f k R C t)
+      swap_reaches (event.Swap new) R Q C t next =
+          let p = pure (C c.number) t in
+          subst (λ z. Within t.txs (faultless z (λ v t1. meant (same_value v new) v t1))) (sym p.0) (swap_to new t (without (event.Swap new) R Q C t.todo t.txs next tt) (q (C c.number)) p.1)
+      swap_reaches (event.Broke at) R Q C t next =
+          let p = pure (R c.number) t in
+          subst (λ z. Within t.txs (faulted z (λ y t1. Faults y t1))) (sym p.0) (swap_breaks t (without (event.Broke at) R Q C t.todo t.txs next tt) (q (R c.number)) p.1)
+      swap_reaches _ R Q C t next = tt
+
+    send_reaches : (a : Action) (span : Span) (k : EventKind) (R Q C : World) (t : ThreadState) → Next k R Q C t.todo t.txs → Within t.txs (sends a span k t)
+    send_reaches a span (event.Send b) R Q C t next = meant_within (same_action a b) (Cell a.agent) t.txs t (without (event.Send b) R Q C t.todo t.txs next tt)
+    send_reaches a span (event.SendRefused g) R Q C t next = test (same_cell a.agent g)
+      where
+        test : (b : Bool) → Within {A = Value} t.txs (if b then Faults (fault_at AgentFailed span) t else Invalid)
+        test true = without (event.SendRefused g) R Q C t.todo t.txs next tt
+        test false = tt
+    send_reaches a span _ R Q C t next = tt
+
+    module _ (cells : List CellDefinition) (sound : SoundFunctions [] functions) (marks : MarkedFunctions functions) where
+      abbrev x : Surroundings
+      x = record { cells = cells; tries = suc reruns; turns = n; functions = functions }
+
+      abbrev call : ℕ → Bool → ℕ → List Value → ThreadState → Completion ThreadState Value
+      call b = call_at (on_events x) n functions b
+
+      abbrev CallsReach : ℕ → Type 0
+      CallsReach b = (inside : Bool) (f : ℕ) (vs : List Value) (t : ThreadState) → NotedAt t → Reaches Any (call b inside f vs t)
+
+      -- ---- transactions
+
+      module _ (b : ℕ) (le : b ≤ length functions) (m : Mark) (e : Tree) (env : List Value) (body_sound : SoundTree (known functions) in_dosync (length env) None e) (body_marked : Marked m.wanted e) where
+        abbrev d : Transacting
+        d = record { mark = m; body = e; locals = env; on = tx_meaning n functions b e env }
+
+        abbrev f : Applies ThreadState
+        f = apply (call b true) m.span
+
+        abbrev q : Applies (Unit {0})
+        q = quietly n functions b m.span
+
+        met : (R : World) (v : Value) (s : TxState) → d.on R ≡ Completes v s → Met functions n (run_of d v s) R
+        met R v s h = record { body_sound = body_sound; body_marked = body_marked; means = tx_deeper n functions sound b (length functions) le e env (length env) body_sound R v s h }
+
+        bound : {A B : Type 0} (t : ThreadState) (z : Completion (Unit {0}) A) (go : A → B) → bind (carried t z) (λ a s. Completes (go a) s) ≡ carried t (bind z (λ a s. Completes (go a) s))
+        bound t (Completes a u) go = refl
+        bound t (Recurs vs u) go = refl
+        bound t (Faults g u) go = refl
+        bound t (Retries u) go = refl
+        bound t (Waits u) go = refl
+        bound t (OutOfTurns u) go = refl
+        bound t Invalid go = refl
+
+        quiet_bound : {A B : Type 0} (z : Completion (Unit {0}) A) (go : A → B) → IsQuiet z → IsQuiet (bind z (λ a s. Completes (go a) s))
+        quiet_bound (Completes a u) go h = tt
+        quiet_bound (Recurs vs u) go h = tt
+        quiet_bound (Faults g u) go h = tt
+        quiet_bound (Retries u) go h = h
+        quiet_bound (Waits u) go h = h
+        quiet_bound (OutOfTurns u) go h = tt
+        quiet_bound Invalid go h = tt
+
+        -- the final writes leave the state as it was
+        finals : (w : Work) → AllCommutes (IsPure (known functions)) w.commutes → (C : World) (t : ThreadState) → final_writes f w C t ≡ carried t (final_writes q w C tt)
+        finals w suits C t =
+            let P : Callee → Type 0 = IsPure (known functions) in
+            ap (λ z. bind z (λ ws s1. Completes (merged (set_writes w) ws) s1))
+            (redone_carried P t f q (λ c us p. callee_carried (on_events x) n true functions sound b m.span c us t p) (phase_work w) (phase_some P w suits) (valued (commuted w) C)).0
+            ∙ bound t (redone q (phase_work w) (valued (commuted w) C) tt) (λ ws. merged (set_writes w) ws)
+
+        quiet_finals : (w : Work) → AllCommutes (IsPure (known functions)) w.commutes → (C : World) (t : ThreadState) → IsQuiet (final_writes q w C tt)
+        quiet_finals w suits C t =
+            let P : Callee → Type 0 = IsPure (known functions) in
+            quiet_bound (redone q (phase_work w) (valued (commuted w) C) tt) (λ ws. merged (set_writes w) ws)
+            (redone_carried P t f q (λ c us p. callee_carried (on_events x) n true functions sound b m.span c us t p) (phase_work w) (phase_some P w suits) (valued (commuted w) C)).1
+
+        -- what has final writes there has them with nothing around
+        redone_deeper : (cs : List CommuteOf) (ws xs : Writes) → redone q cs ws tt ≡ Completes xs tt → redone (purely n functions) cs ws tt ≡ Completes xs tt
+        redone_deeper [] ws xs h = h
+        redone_deeper (c ∷ cs) ws xs h =
+            let us : List Value = value_or (buffered ws c.cell.number) Nil ∷ c.args in
+            let r = splits (q c.callee us tt) (λ v s1. redone q cs (with_write ws c.cell v) s1) xs tt h in
+            ap (λ z. bind z (λ v s1. redone (purely n functions) cs (with_write ws c.cell v) s1)) (quiet_deeper n functions sound b (length functions) le m.span nowhere c.callee us r.0 r.2)
+            ∙ redone_deeper cs (with_write ws c.cell r.0) xs r.3
+
+        finals_deeper : (w : Work) (C : World) (ws : Writes) → final_writes q w C tt ≡ Completes ws tt → final_writes (purely n functions) w C tt ≡ Completes ws tt
+        finals_deeper w C ws h =
+            let r = splits (redone q (phase_work w) (valued (commuted w) C) tt) (λ vs s1. Completes (merged (set_writes w) vs) s1) ws tt h in
+            ap (λ z. bind z (λ vs s1. Completes (merged (set_writes w) vs) s1)) (redone_deeper (phase_work w) (valued (commuted w) C) r.0 r.2) ∙ r.3
+
+        commit_meant : (writes : Writes) (sent : List Action) (R C : World) (ws : Writes) (v : Value) (s : TxState) → d.on R ≡ Completes v s → final_writes q s.done C tt ≡ Completes ws tt → (same_writes ws writes && same_actions s.done.sends sent) ≡ true → Committed functions n (run_of d v s) R C writes sent
+        commit_meant writes sent R C ws v s h k same =
+            let parts = both (same_writes ws writes) (same_actions s.done.sends sent) same in record {
+              met = met R v s h;
+              writes_same = finals_deeper s.done C ws k ∙ ap (λ (l : Writes). given l) (same_writes-sound ws writes parts.0);
+              sends_same = sends_equal s.done.sends sent parts.1;
+            }
+
+        suits : (R : World) (v : Value) (s : TxState) → d.on R ≡ Completes v s → AllCommutes (IsPure (known functions)) s.done.commutes
+        suits R v s h = met_suits functions n (run_of d v s) R sound marks (met R v s h)
+
+        -- a commit
+        module _ (at view : ℕ) (writes : Writes) (sent : List Action) (R Q C : World) (t : ThreadState) (next : Next (event.Commit at view writes sent) R Q C t.todo t.txs) where
+          commit_ends : (z : Completion TxState Value) → d.on R ≡ z
+              → Within {A = Value} t.txs (over t z (λ v s. faultless (final_writes f s.done C t) (λ ws t1. meant (same_writes ws writes && same_actions s.done.sends sent) v (with_tx (run_of d v s) t1))) (λ g. Invalid))
+          commit_ends (Completes v s) h =
+              subst (λ y. Within {A = Value} t.txs (faultless y (λ ws t1. meant (same_writes ws writes && same_actions s.done.sends sent) v (with_tx (run_of d v s) t1)))) (sym (finals s.done (suits R v s h) C t)) (after (final_writes q s.done C tt) refl)
+            where
+              tested : (ws : Writes) → final_writes q s.done C tt ≡ Completes ws tt → (c : Bool) → (same_writes ws writes && same_actions s.done.sends sent) ≡ c → Within {A = Value} t.txs (meant c v (with_tx (run_of d v s) t))
+              tested ws k true e = next (run_of d v s ∷ []) (commit_meant writes sent R C ws v s h k e, tt)
+              tested ws k false e = tt
+
+              after : (y : Completion (Unit {0}) Writes) → final_writes q s.done C tt ≡ y → Within {A = Value} t.txs (faultless (carried t y) (λ ws t1. meant (same_writes ws writes && same_actions s.done.sends sent) v (with_tx (run_of d v s) t1)))
+              after (Completes ws tt) k = tested ws k (same_writes ws writes && same_actions s.done.sends sent) refl
+              after (Recurs vs u) k = tt
+              after (Faults g u) k = tt
+              after (Retries u) k = tt
+              after (Waits u) k = absurd (subst IsQuiet k (quiet_finals s.done (suits R v s h) C t))
+              after (OutOfTurns u) k = refl
+              after Invalid k = tt
+          commit_ends (Recurs vs s) h = tt
+          commit_ends (Faults g s) h = tt
+          commit_ends (Retries s) h = tt
+          commit_ends (Waits s) h = tt
+          commit_ends (OutOfTurns s) h = refl
+          commit_ends Invalid h = tt
+
+        -- a failure
+        module _ (at view : ℕ) (R Q C : World) (t : ThreadState) (next : Next (event.Fail at view) R Q C t.todo t.txs) where
+          here : NotedAt t
+          here = without (event.Fail at view) R Q C t.todo t.txs next tt
+
+          fail_ends : (z : Completion TxState Value) → d.on R ≡ z → Within {A = Value} t.txs (over t z (λ v s. faulted (final_writes f s.done Q t) (λ g t1. Faults g t1)) (λ g. Faults g t))
+          fail_ends (Completes v s) h = subst (λ y. Within {A = Value} t.txs (faulted y (λ g t1. Faults g t1))) (sym (finals s.done (suits R v s h) Q t)) (after (final_writes q s.done Q tt))
+            where
+              after : (y : Completion (Unit {0}) Writes) → Within {A = Value} t.txs (faulted (carried t y) (λ g t1. Faults g t1))
+              after (Completes ws u) = tt
+              after (Recurs vs u) = tt
+              after (Faults g u) = here
+              after (Retries u) = tt
+              after (Waits u) = here
+              after (OutOfTurns u) = refl
+              after Invalid = tt
+          fail_ends (Recurs vs s) h = tt
+          fail_ends (Faults g s) h = here
+          fail_ends (Retries s) h = tt
+          fail_ends (Waits s) h = tt
+          fail_ends (OutOfTurns s) h = refl
+          fail_ends Invalid h = tt
+
+        -- a refusal
+        module _ (at view : ℕ) (agent : CellId) (R Q C : World) (t : ThreadState) (next : Next (event.Refused at view agent) R Q C t.todo t.txs) where
+          refused_ends : (z : Completion TxState Value) → d.on R ≡ z → Within {A = Value} t.txs (over t z (λ v s. faultless (final_writes f s.done Q t) (λ ws t1. Faults (fault_at AgentFailed d.mark.span) (with_tx (run_of d v s) t1))) (λ g. Invalid))
+          refused_ends (Completes v s) h =
+              subst (λ y. Within {A = Value} t.txs (faultless y (λ ws t1. Faults (fault_at AgentFailed d.mark.span) (with_tx (run_of d v s) t1)))) (sym (finals s.done (suits R v s h) Q t)) (after (final_writes q s.done Q tt) refl)
+            where
+              after : (y : Completion (Unit {0}) Writes) → final_writes q s.done Q tt ≡ y → Within {A = Value} t.txs (faultless (carried t y) (λ ws t1. Faults (fault_at AgentFailed d.mark.span) (with_tx (run_of d v s) t1)))
+              after (Completes ws tt) k = next (run_of d v s ∷ []) (record { met = met R v s h; writes = ws; writes_there = finals_deeper s.done Q ws k }, tt)
+              after (Recurs vs u) k = tt
+              after (Faults g u) k = tt
+              after (Retries u) k = tt
+              after (Waits u) k = absurd (subst IsQuiet k (quiet_finals s.done (suits R v s h) Q t))
+              after (OutOfTurns u) k = refl
+              after Invalid k = tt
+          refused_ends (Recurs vs s) h = tt
+          refused_ends (Faults g s) h = tt
+          refused_ends (Retries s) h = tt
+          refused_ends (Waits s) h = tt
+          refused_ends (OutOfTurns s) h = refl
+          refused_ends Invalid h = tt
+
+        ends_reaches : (k : EventKind) (R Q C : World) (t : ThreadState) → Next k R Q C t.todo t.txs → Within {A = Value} t.txs (ends_tx d f k R Q C t)
+        ends_reaches (event.Commit at view writes sent) R Q C t next = commit_ends at view writes sent R Q C t next (d.on R) refl
+        ends_reaches (event.Fail at view) R Q C t next = fail_ends at view R Q C t next (d.on R) refl
+        ends_reaches (event.Refused at view agent) R Q C t next = refused_ends at view agent R Q C t next (d.on R) refl
+        ends_reaches _ R Q C t next = tt
+
+        -- a retry has no transaction
+        retry_none : (k : EventKind) (R Q C : World) → is_retry k ≡ true → RunOf functions n k R Q C IsNone []
+        retry_none (event.Retry since c commute) R Q C h = tt
+        retry_none _ R Q C h = absurd (false≢true h)
+
+        eats_tx_reaches : (k : ℕ) (es : List SeenEvent) (t : ThreadState) → NotedIn es t.txs → Reaches Any (eats_tx k d f es t)
+        eats_tx_reaches zero es t g = g
+        eats_tx_reaches (suc k) [] t g = g
+        eats_tx_reaches (suc k) (e1 ∷ es) t g = of_book (e1.book == 0) (is_retry e1.kind) refl (λ g1. eats_tx_reaches k es t g1)
+          where
+            of_book : (own again : Bool) → is_retry e1.kind ≡ again → (NotedIn es t.txs → Reaches Any (eats_tx k d f es t)) → Reaches Any (if own then (if again then eats_tx k d f es t else uneaten (e1 ∷ es) (ends_tx d f e1.kind e1.R e1.Q e1.C (record t { todo = es }))) else Invalid)
+            of_book true true h rest = rest (without e1.kind e1.R e1.Q e1.C es t.txs (next_event e1 es t.txs g) (retry_none e1.kind e1.R e1.Q e1.C h))
+            of_book true false h rest =
+                within_reaches (e1 ∷ es) t.txs (ends_tx d f e1.kind e1.R e1.Q e1.C (record t { todo = es })) g (ends_reaches e1.kind e1.R e1.Q e1.C (record t { todo = es }) (next_event e1 es t.txs g))
+            of_book false again h rest = tt
+
+      -- ---- forms
+
+      module _ (b : ℕ) (le : b ≤ length functions) (calls : CallsReach b) where
+        on_reaches : (r : Result CellId FaultKind) (span : Span) (go : CellId → ThreadState → Completion ThreadState Value) (t : ThreadState) → NotedAt t → ((c : CellId) → Reaches Any (go c t)) → Reaches Any (bind (result_of r span t) go)
+        on_reaches (Ok c) span go t g h = h c
+        on_reaches (Err k) span go t g h = g
+
+        looks : (form : LookForm) (inside : Bool) (m : Mark) (v : Value) (t : ThreadState) → NotedAt t → Reaches Any ((on_events x b).look form inside m v t)
+        looks form inside m v t g =
+            allowed_reaches (may_stand (rule (form_of.Look form)).stands false) _ (on_reaches (cell_of (rule (form_of.Look form)) false v) m.span (thread_look x form) t g (λ c. look_at form c))
+          where
+            look_at : (form1 : LookForm) (c : CellId) → Reaches Any (thread_look x form1 c t)
+            look_at Deref c = eats_reaches (home cells c) (λ e t1. reads c e.kind e.C t1) (λ e t1 next. read_reaches c e.kind e.R e.Q e.C t1 next) t.todo t g g
+            look_at Ensure c = tt
+
+        puts : (form : PutForm) (inside : Bool) (m : Mark) (v w : Value) (t : ThreadState) → NotedAt t → Reaches Any ((on_events x b).put form inside m v w t)
+        puts form inside m v w t g =
+            allowed_reaches (may_stand (rule (form_of.Put form)).stands false) _ (on_reaches (cell_of (rule (form_of.Put form)) false v) m.span (λ c t1. thread_put x form c w t1) t g (λ c. put_at form c))
+          where
+            put_at : (form1 : PutForm) (c : CellId) → Reaches Any (thread_put x form1 c w t)
+            put_at RefSet c = tt
+            put_at Reset c = eats_reaches (home cells c) (λ e t1. resets w e.kind t1) (λ e t1 next. reset_reaches w e.kind e.R e.Q e.C t1 next) t.todo t g g
+
+        updates : (form : UpdateForm) (inside : Bool) (m : Mark) (v : Value) (callee : Callee) → IsPure (known functions) callee → (vs : List Value) (t : ThreadState) → NotedAt t → Reaches Any ((on_events x b).update form inside m v callee vs (apply (call b inside) m.span) t)
+        updates form inside m v callee pure vs t g =
+            allowed_reaches (may_stand (rule (form_of.Update form)).stands false) _ (on_reaches (cell_of (rule (form_of.Update form)) false v) m.span (λ c t1. thread_update x form c callee vs (apply (call b inside) m.span) t1) t g (λ c. update_at form c))
+          where
+            update_at : (form1 : UpdateForm) (c : CellId) → Reaches Any (thread_update x form1 c callee vs (apply (call b inside) m.span) t)
+            update_at Alter c = tt
+            update_at Commute c = tt
+            update_at Swap c =
+                eats_reaches (home cells c) (λ e t1. swaps c (λ u t2. apply (call b inside) m.span callee (u ∷ vs) t2) e.kind e.R e.C t1)
+                (λ e t1 next. swap_reaches c (λ u t2. apply (call b inside) m.span callee (u ∷ vs) t2) (λ u. quietly n functions b m.span callee (u ∷ vs) tt) (λ u t2. callee_carried (on_events x) n inside functions sound b m.span callee (u ∷ vs) t2 pure) e.kind e.R e.Q e.C t1 next) t.todo t g g
+
+        sent : (inside : Bool) (m : Mark) (v : Value) (callee : Callee) (vs : List Value) (t : ThreadState) → NotedAt t → Reaches Any ((on_events x b).send inside m v callee vs t)
+        sent inside m v callee vs t g =
+            on_reaches (cell_of (rule form_of.Send) false v) m.span (λ c t1. eats 0 (λ e t2. sends (record { agent = c; callee = callee; args = vs; span = m.span }) m.span e.kind t2) t1.todo t1) t g
+            (λ c. eats_reaches 0 (λ e t2. sends (record { agent = c; callee = callee; args = vs; span = m.span }) m.span e.kind t2) (λ e t1 next. send_reaches (record { agent = c; callee = callee; args = vs; span = m.span }) m.span e.kind e.R e.Q e.C t1 next) t.todo t g g)
+
+        -- ---- trees
+
+        abbrev on : Bool → Tree → List Value → ThreadState → Completion ThreadState Value
+        on inside e env t = eval (on_events x b) (call b) n inside e env t
+
+        mutual
+          tree_reaches : (e : Tree) (inside w : Bool) (zone : Zone) (k : ℕ) (tail : Option ℕ) → SoundTree (known functions) zone k tail e → Marked w e → (env : List Value) → length env ≡ k → (t : ThreadState) → NotedAt t → Reaches Any (on inside e env t)
+          tree_reaches (Const v m) inside w zone k tail h r env l t g = (tt, g)
+          tree_reaches (Local i m) inside w zone k tail h r env l t g = give_reaches (nth env i) t g
+          tree_reaches (If c y z m) inside w zone k tail h r env l t g =
+              bind_reaches Any Any (on inside c env t) (λ v t1. choose v (on inside y env t1) (on inside z env t1)) (tree_reaches c inside true zone k None h.0 r.1 env l t g)
+              (λ v t1 p g1. choose_reaches v (on inside y env t1) (on inside z env t1) (tree_reaches y inside w zone k tail h.1 r.2 env l t1 g1) (tree_reaches z inside w zone k tail h.2 r.3 env l t1 g1))
+          tree_reaches (Do items m) inside w zone k tail h r env l t g = do_reaches items inside w zone k tail h r.1 env l t g
+          tree_reaches (Let values body m) inside w zone k tail h r env l t g =
+              bind_reaches (Many (count values)) Any (eval_let (on_events x b) (call b) n inside values env t) (λ vs t1. on inside body (env ++ vs) t1) (let_reaches values inside zone k h.0 r.1 env l t g)
+              (λ vs t1 p g1. tree_reaches body inside w zone (k + count values) tail h.1 r.2 (env ++ vs) (omega (arith, length-append env vs, l, p)) t1 g1)
+          tree_reaches (Loop values body m) inside w zone k tail h r env l t g =
+              bind_reaches (Many (count values)) Any (eval_let (on_events x b) (call b) n inside values env t) (λ vs t1. turns n (count values) (λ us t2. on inside body (env ++ us) t2) vs t1) (let_reaches values inside zone k h.0 r.1 env l t g)
+              (λ vs t1 p g1. turns_reaches n (count values) (λ us t2. on inside body (env ++ us) t2)
+              (λ us t2 p2 g2. tree_reaches body inside w zone (k + count values) (Some (count values)) h.1 r.2 (env ++ us) (omega (arith, length-append env us, l, p2)) t2 g2) vs t1 g1)
+          tree_reaches (Recur values m) inside w zone k tail h r env l t g =
+              bind_reaches (Many (count values)) Any (eval_all (on_events x b) (call b) n inside values env t) (λ vs t1. Recurs vs t1) (all_reaches values inside zone k h.1 r.1 env l t g) (λ vs t1 p g1. g1)
+          tree_reaches (Core op args m) inside w zone k tail h r env l t g =
+              bind_reaches (Many (count args)) Any (eval_all (on_events x b) (call b) n inside args env t) (λ vs t1. result_of (core op vs) m.span t1) (all_reaches args inside zone k h.1 r.1 env l t g) (λ vs t1 p g1. result_reaches (core op vs) m.span t1 g1)
+          tree_reaches (Call f args m) inside w zone k tail h r env l t g =
+              bind_reaches (Many (count args)) Any (eval_all (on_events x b) (call b) n inside args env t) (λ vs t1. call b inside f vs t1) (all_reaches args inside zone k h.1 r.1 env l t g) (λ vs t1 p g1. calls inside f vs t1 g1)
+          tree_reaches (VectorOf items m) inside w zone k tail h r env l t g =
+              bind_reaches (Many (count items)) Any (eval_all (on_events x b) (call b) n inside items env t) (λ vs t1. result_of (vector_of vs) m.span t1) (all_reaches items inside zone k h.1 r.1 env l t g) (λ vs t1 p g1. result_reaches (vector_of vs) m.span t1 g1)
+          tree_reaches (Println args m) inside w zone k tail h r env l t g =
+              bind_reaches (Many (count args)) Any (eval_all (on_events x b) (call b) n inside args env t) (λ vs t1. (on_events x b).print inside vs t1) (all_reaches args inside zone k h.2 r.1 env l t g) (λ vs t1 p g1. (tt, g1))
+          tree_reaches (Dosync body m) inside w zone k tail h r env l t g =
+              eats_tx_reaches b le m body env (subst (λ j. SoundTree (known functions) in_dosync j None body) (sym l) h) r.1 (suc reruns) t.todo t g
+          tree_reaches (Look form cell m) inside w zone k tail h r env l t g =
+              bind_reaches Any Any (on inside cell env t) (λ c t1. (on_events x b).look form inside m c t1) (tree_reaches cell inside true zone k None h.1 r.1 env l t g) (λ c t1 p g1. looks form inside m c t1 g1)
+          tree_reaches (Put form cell value m) inside w zone k tail h r env l t g =
+              bind_reaches Any Any (on inside cell env t) (λ c t1. bind (on inside value env t1) (λ v t2. (on_events x b).put form inside m c v t2)) (tree_reaches cell inside true zone k None h.1 r.1 env l t g)
+              (λ c t1 p g1. bind_reaches Any Any (on inside value env t1) (λ v t2. (on_events x b).put form inside m c v t2) (tree_reaches value inside true zone k None h.2 r.2 env l t1 g1) (λ v t2 p2 g2. puts form inside m c v t2 g2))
+          tree_reaches (Update form cell callee args m) inside w zone k tail h r env l t g =
+              bind_reaches Any Any (on inside cell env t) (λ c t1. bind (eval_all (on_events x b) (call b) n inside args env t1) (λ vs t2. (on_events x b).update form inside m c callee vs (apply (call b inside) m.span) t2)) (tree_reaches cell inside true zone k None h.1 r.1 env l t g)
+              (λ c t1 p g1. bind_reaches (Many (count args)) Any (eval_all (on_events x b) (call b) n inside args env t1) (λ vs t2. (on_events x b).update form inside m c callee vs (apply (call b inside) m.span) t2) (all_reaches args inside zone k h.3 r.2 env l t1 g1) (λ vs t2 p2 g2. updates form inside m c callee (sound_pure (known functions) callee (suc (count args)) h.2) vs t2 g2))
+          tree_reaches (Send cell callee args m) inside w zone k tail h r env l t g =
+              bind_reaches Any Any (on inside cell env t) (λ c t1. bind (eval_all (on_events x b) (call b) n inside args env t1) (λ vs t2. (on_events x b).send inside m c callee vs t2)) (tree_reaches cell inside true zone k None h.0 r.1 env l t g)
+              (λ c t1 p g1. bind_reaches (Many (count args)) Any (eval_all (on_events x b) (call b) n inside args env t1) (λ vs t2. (on_events x b).send inside m c callee vs t2) (all_reaches args inside zone k h.2 r.2 env l t1 g1) (λ vs t2 p2 g2. sent inside m c callee vs t2 g2))
+
+          all_reaches : (es : Trees) (inside : Bool) (zone : Zone) (k : ℕ) → SoundAll (known functions) zone k es → MarkedAll es → (env : List Value) → length env ≡ k → (t : ThreadState) → NotedAt t → Reaches (Many (count es)) (eval_all (on_events x b) (call b) n inside es env t)
+          all_reaches none inside zone k h r env l t g = (refl, g)
+          all_reaches (more e rest) inside zone k h r env l t g =
+              bind_reaches Any (Many (suc (count rest))) (on inside e env t) (λ v t1. bind (eval_all (on_events x b) (call b) n inside rest env t1) (λ vs t2. Completes (v ∷ vs) t2)) (tree_reaches e inside true zone k None h.0 r.0 env l t g)
+              (λ v t1 p g1. bind_reaches (Many (count rest)) (Many (suc (count rest))) (eval_all (on_events x b) (call b) n inside rest env t1) (λ vs t2. Completes (v ∷ vs) t2) (all_reaches rest inside zone k h.1 r.1 env l t1 g1) (λ vs t2 p2 g2. (ap suc p2, g2)))
+
+          let_reaches : (es : Trees) (inside : Bool) (zone : Zone) (k : ℕ) → SoundLet (known functions) zone k es → MarkedAll es → (env : List Value) → length env ≡ k → (t : ThreadState) → NotedAt t → Reaches (Many (count es)) (eval_let (on_events x b) (call b) n inside es env t)
+          let_reaches none inside zone k h r env l t g = (refl, g)
+          let_reaches (more e rest) inside zone k h r env l t g =
+              bind_reaches Any (Many (suc (count rest))) (on inside e env t) (λ v t1. bind (eval_let (on_events x b) (call b) n inside rest (env ++ v ∷ []) t1) (λ vs t2. Completes (v ∷ vs) t2)) (tree_reaches e inside true zone k None h.0 r.0 env l t g)
+              (λ v t1 p g1. bind_reaches (Many (count rest)) (Many (suc (count rest))) (eval_let (on_events x b) (call b) n inside rest (env ++ v ∷ []) t1) (λ vs t2. Completes (v ∷ vs) t2)
+              (let_reaches rest inside zone (k + 1) h.1 r.1 (env ++ v ∷ []) (omega (arith, length-append env (v ∷ []), l)) t1 g1) (λ vs t2 p2 g2. (ap suc p2, g2)))
+
+          do_reaches : (es : Trees) (inside w : Bool) (zone : Zone) (k : ℕ) (tail : Option ℕ) → SoundDo (known functions) zone k tail es → MarkedDo w es → (env : List Value) → length env ≡ k → (t : ThreadState) → NotedAt t → Reaches Any (eval_do (on_events x b) (call b) n inside es env t)
+          do_reaches none inside w zone k tail h r env l t g = tt
+          do_reaches (more e none) inside w zone k tail h r env l t g = tree_reaches e inside w zone k tail h r env l t g
+          do_reaches (more e (more f rest)) inside w zone k tail h r env l t g =
+              bind_reaches Any Any (on inside e env t) (λ v t1. eval_do (on_events x b) (call b) n inside (more f rest) env t1) (tree_reaches e inside false zone k None h.0 r.0 env l t g) (λ v t1 p g1. do_reaches (more f rest) inside w zone k tail h.1 r.1 env l t1 g1)
+
+      -- one call deeper
+      call_reaches : (b : ℕ) → b ≤ length functions → CallsReach b → CallsReach (suc b)
+      call_reaches b le calls inside f vs t g = go (nth functions f) refl
+        where
+          go : (o : Option PlainFunction) → nth functions f ≡ o → Reaches Any (bind (give o t) (λ fun t1. turns (suc n) fun.parameters (λ ws t2. eval (on_events x b) (call b) n inside fun.body ws t2) vs t1))
+          go None e = tt
+          go (Some fun) e =
+              let here = function_at functions f fun sound e in
+              let widened = tree-widened (take f (known functions)) (known functions) (λ g1 k h. (nth-take f (known functions) g1 k h).1) fun.body in_function fun.parameters (Some fun.parameters) here.1.1 in
+              turns_reaches (suc n) fun.parameters (λ ws t2. eval (on_events x b) (call b) n inside fun.body ws t2)
+              (λ ws t2 l g2. tree_reaches b le calls fun.body inside true in_function fun.parameters (Some fun.parameters) widened (marked_at functions f fun marks e) ws l t2 g2) vs t g
+
+      calls_reach : (b : ℕ) → b ≤ length functions → CallsReach b
+      calls_reach zero le inside f vs t g = tt
+      calls_reach (suc b) le inside f vs t g = call_reaches b (omega (arith, le)) (calls_reach b (omega (arith, le))) inside f vs t g
+
+      main_reaches : (main : Tree) → SoundTree (known functions) in_thread 0 None main → Marked false main → Reaches Any (closed (eval (on_events x (length functions)) (call (length functions)) n false main [] (record { todo = es0; printed = []; txs = [] })))
+      main_reaches main h r =
+          let start : ThreadState = record { todo = es0; printed = []; txs = [] } in
+          again_reaches Any (eval (on_events x (length functions)) (call (length functions)) n false main [] start) (λ vs t. Invalid)
+          (tree_reaches (length functions) (omega arith) (calls_reach (length functions) (omega arith)) main false false in_thread 0 None h r [] refl start (record { eaten = []; split = refl; runs = tt })) (λ vs t g. tt)
+
+ended : (functions : List PlainFunction) (n : ℕ) (es : List SeenEvent) (c : Completion ThreadState Value) → Reaches functions n es Any c → EndsNoted functions n es c
+ended functions n es (Completes v t) h = h.1
+ended functions n es (Recurs vs t) h = tt
+ended functions n es (Faults f t) h = h
+ended functions n es (Retries t) h = tt
+ended functions n es (Waits t) h = h
+ended functions n es (OutOfTurns t) h = h
+ended functions n es Invalid h = tt
+
+pub threads_note : ThreadsNote
+threads_note p n es sound marks marked = ended p.functions n es (thread_meaning p n es) (main_reaches p.functions n es p.cells sound.functions marks p.main sound.main marked)

@@ -1,0 +1,3 @@
+pub mod Laws
+pub mod Serial
+pub mod Whole

@@ -1,0 +1,56 @@
+-- How far a thread's events are right: up to the first one that its meaning doesn't allow.
+use Rattle.std.specs.Prelude.{ℕ, zero, suc, Bool, true, false, List, [], ◌∷◌, ◌++◌, ◌==◌, length, take, if◌then◌else◌}
+use Rattle.txs_world_protocol.specs.SeenEvent.{SeenEvent}
+use Rattle.txs_tree_meaning.specs.Meaning.{Completion, Completes, Recurs, Faults, Retries, Waits, OutOfTurns, Invalid, Effects}
+use Rattle.txs_tree_meaning.specs.Thread.{ThreadState, is_retry, Surroundings, on_events, thread_meaning}
+use Rattle.txs_tree_meaning.specs.Tree.{ThreadSource}
+use Rattle.txs_value_data.specs.declared.value.Value.{Value}
+
+-- whether there is no meaning: some event isn't one that the thread allows
+abbrev pub is_wrong : Completion ThreadState Value → Bool
+is_wrong (Completes v t) = false
+is_wrong (Recurs vs t) = true
+is_wrong (Faults f t) = false
+is_wrong (Retries t) = true
+is_wrong (Waits t) = false
+is_wrong (OutOfTurns t) = false
+is_wrong Invalid = true
+
+-- how many events a thread eats before the first that it doesn't allow, where it is known to allow the first of these lists and the
+-- second comes behind
+abbrev pub eats_right : ThreadSource → ℕ → List SeenEvent → List SeenEvent → ℕ
+eats_right p n done [] = length done
+eats_right p n done (e ∷ es) = if is_wrong (thread_meaning p n (done ++ e ∷ [])) then length done else eats_right p n (done ++ e ∷ []) es
+
+-- what the thread means on the events before that one
+abbrev pub right_meaning : ThreadSource → ℕ → List SeenEvent → Completion ThreadState Value
+right_meaning p n es = thread_meaning p n (take (eats_right p n [] es) es)
+
+-- ---- a thread that goes no further
+
+-- where an event isn't allowed, the thread stays as it was before it
+abbrev pub up_to : ThreadState → Completion ThreadState Value → Completion ThreadState Value
+up_to s (Completes v t) = Completes v t
+up_to s (Recurs vs t) = Recurs vs t
+up_to s (Faults f t) = Faults f t
+up_to s (Retries t) = Retries t
+up_to s (Waits t) = Waits t
+up_to s (OutOfTurns t) = OutOfTurns t
+up_to s Invalid = Waits s
+
+-- the events behind those that say that a transaction had to run again, at most k of them
+abbrev pub behind_retries : ℕ → List SeenEvent → List SeenEvent
+behind_retries zero es = es
+behind_retries (suc k) [] = []
+behind_retries (suc k) (e ∷ es) = if e.book == 0 then (if is_retry e.kind then behind_retries k es else e ∷ es) else e ∷ es
+
+-- the forms of a thread on its events, which waits before one that it doesn't allow
+abbrev pub on_right : Surroundings → ℕ → Effects ThreadState
+on_right x d = record {
+  print = λ inside vs t. (on_events x d).print inside vs t;
+  look = λ form inside m v t. up_to t ((on_events x d).look form inside m v t);
+  put = λ form inside m v w t. up_to t ((on_events x d).put form inside m v w t);
+  update = λ form inside m v callee vs f t. up_to t ((on_events x d).update form inside m v callee vs f t);
+  send = λ inside m v callee vs t. up_to t ((on_events x d).send inside m v callee vs t);
+  dosync = λ inside m node env body f t. up_to (record t { todo = behind_retries x.tries t.todo }) ((on_events x d).dosync inside m node env body f t);
+}
