@@ -58,6 +58,26 @@ fn file_of(words: &Words) -> Option<&str> {
     }
 }
 
+/// Whether the words ask for explanations.
+fn explains(words: &Words) -> bool {
+    match words {
+        Words::Check { explain, .. }
+        | Words::Listing { explain, .. }
+        | Words::Build { explain, .. }
+        | Words::Work { explain, .. }
+        | Words::Run { explain, .. } => *explain,
+        _ => false,
+    }
+}
+
+/// Says why a file couldn't be opened or written, where the words ask for explanations. Where that can't be said the line before it still
+/// stands.
+fn explain_file(rt: &HostRuntime, words: &Words, name: &str, error: &io::Error) {
+    if explains(words) {
+        let _ = eprintln!(rt; "{name}: {error}");
+    }
+}
+
 /// Plays the words on their file or on standard input, over this writer.
 fn play_on<
     X: Fn(Global, &Verified, usize, u64) -> Result<(SharedState, Entries), RunError>,
@@ -73,7 +93,11 @@ fn play_on<
     };
     match File::open(rt, name) {
         Ok(mut file) => play_with(alloc, runner, words, &mut file, writer, &mut faults),
-        Err(_) => play_with(alloc, runner, words, &mut Unreadable, writer, &mut faults),
+        Err(error) => {
+            let status = play_with(alloc, runner, words, &mut Unreadable, writer, &mut faults);
+            explain_file(rt, words, name, &error);
+            status
+        }
     }
 }
 
@@ -94,13 +118,17 @@ fn build_to<X: Fn(Global, &Verified, usize, u64) -> Result<(SharedState, Entries
     }
     match fs::write(rt, out, code) {
         Ok(()) => DONE,
-        Err(_) => write_told(
-            &[],
-            b"write failed\n",
-            UNUSABLE,
-            &mut io::writer(rt),
-            &mut rt.stderr(),
-        ),
+        Err(error) => {
+            let status = write_told(
+                &[],
+                b"write failed\n",
+                UNUSABLE,
+                &mut io::writer(rt),
+                &mut rt.stderr(),
+            );
+            explain_file(rt, words, out, &error);
+            status
+        }
     }
 }
 

@@ -10,6 +10,17 @@ const DEFAULT_STEPS: u64 = 100_000_000;
 /// How many workers there are, where the words don't say it.
 const DEFAULT_WORKERS: u64 = 4;
 
+/// What `--version` says behind the program's name.
+const VERSION: &str = "0.1.0 (a profile of Clojure 1.11; byte form TXS1)";
+
+/// What stands below each text of help: what the statuses say, of which the highest that applies counts.
+const STATUSES: &str = "Statuses, of which the highest that applies counts:
+  0  all went well
+  1  the script or the code is refused
+  2  the arguments can't be used, or a file or a stream can't be read or written
+  3  a thread or an agent failed
+  4  steps, memory or the journal didn't suffice";
+
 /// What the words ask for.
 #[derive(Drop)]
 pub enum Words {
@@ -108,7 +119,7 @@ const EXPLAIN: Opt = (
 /// The flag by which a command takes code in place of a script.
 const CODE: Opt = (
     "code",
-    "Takes code in its byte form, as build writes it",
+    "Takes the byte form of code, as `build` writes it; not with --explain",
     Kind::Code,
 );
 
@@ -122,28 +133,28 @@ const OUT: Opt = (
 /// The option of how many workers run a script or code.
 const WORKERS: Opt = (
     "workers",
-    "How many workers run the threads at once",
+    "How many workers run the threads at once, from 1 to 64; else 4",
     Kind::Number(64),
 );
 
 /// The option of which threads go on first.
 const TURNS: Opt = (
     "turns",
-    "Which threads go on first, as 0,1,t0x3",
+    "Which threads and agents run first, by their numbers, as 0,1,t0x3; `t` is for one step, `xN` for N times",
     Kind::Text,
 );
 
 /// The option of how many steps an actor makes.
 const STEPS: Opt = (
     "steps",
-    "How many steps an actor makes at most",
+    "How many steps each thread and each agent makes at most, from 1 to 1,000,000,000,000; else 100,000,000",
     Kind::Number(1_000_000_000_000),
 );
 
 /// The flag by which a command prints the cells.
 const CELLS: Opt = (
     "cells",
-    "Prints each cell with its newest value",
+    "Prints each ref, atom and agent with its newest value",
     Kind::Flag,
 );
 
@@ -200,7 +211,10 @@ fn below<'a>(alloc: Global, row: &Row) -> Result<Command<'a>, AllocError> {
     for of in row.2 {
         options.push(option(alloc, of)?)?;
     }
-    Command::new(alloc, row.0).about(row.1).args(options)
+    Command::new(alloc, row.0)
+        .about(row.1)
+        .after_help(STATUSES)
+        .args(options)
 }
 
 /// The commands below the program.
@@ -217,6 +231,8 @@ fn command<'a>(alloc: Global) -> Result<Command<'a>, AllocError> {
     let commands = commands(alloc)?;
     Command::new(alloc, "txs")
         .about("Compiles and runs transaction scripts")
+        .version(VERSION)
+        .after_help(STATUSES)
         .subcommand_required(true)
         .disable_help_subcommand(true)
         .no_binary_name(true)

@@ -2,7 +2,6 @@
 //! lines on two streams and in a status. Where a stream can't be written, it has got a beginning of what it was to get, and no other byte.
 #![tactic(auto)]
 
-mod advice;
 mod agents;
 pub mod cells;
 pub mod explain;

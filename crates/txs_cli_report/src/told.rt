@@ -7,11 +7,12 @@ ghost use Rattle.txs_cli_report.specs.Lent.{front_of, text_in, script_of, told_o
 ghost use Rattle.txs_cli_report.specs.Lines.{IsLesson, at_place, lesson_of, list_place, refusal_line, refused_line, refused_place, thread_front, failed_line, stopped_line, end_line, end_place, status_of, how_ended, all_printed, status_from, AreLessons};
 ghost use Rattle.txs_cli_report.specs.Told.{ScriptTells, Wanted};
 
-use crate::advice::{
-    OF_JOURNAL, OF_LIST, OF_MEMORY, OF_STEPS, of_check, of_fault, of_read, of_resolve,
-};
 use crate::explain::{Script, write_both, write_explained, write_number};
 use std::alloc::{AllocError, Global};
+use txs_cli_advice::{
+    OF_JOURNAL, OF_LIST, OF_MEMORY, OF_STEPS, of_check, of_fault, of_read, of_resolve, on_check,
+    on_read, on_resolve,
+};
 use txs_cli_plays::WrongPlay;
 use txs_compile::CompileError;
 use txs_machine::{Entries, Play, Ran};
@@ -194,6 +195,40 @@ fn refusal_of(error: &CompileError) -> Option<Refusal>
     }
 }
 
+/// What to do about a refusal, by what stands at its place in the script, where that is known.
+fn advice_on(
+    alloc: Global,
+    text: &[u8],
+    error: &CompileError,
+) -> Result<Option<String>, AllocError> {
+    match error {
+        CompileError::Read(e) => match on_read(text, *e) {
+            Some(advice) => Ok(Some(String::from_str(alloc, advice)?)),
+            None => Ok(None),
+        },
+        CompileError::Resolve(e) => on_resolve(alloc, text, *e),
+        CompileError::Check(e) => on_check(alloc, text, *e),
+        CompileError::Memory => Ok(None),
+    }
+}
+
+/// What to do about a refusal: what is known by its place, else this, which is known by its kind. Where nothing is explained, it is looked
+/// for nowhere.
+fn advice_for(
+    alloc: Global,
+    script: Script<'_>,
+    error: &CompileError,
+    advice: &str,
+) -> Result<String, AllocError> {
+    if script.file.is_none() {
+        return Ok(String::new(alloc));
+    }
+    match advice_on(alloc, script.text, error)? {
+        Some(advice) => Ok(advice),
+        None => String::from_str(alloc, advice),
+    }
+}
+
 /// What is told of a script that isn't compiled, whatever is wanted of it.
 pub fn refused(alloc: Global, script: Script<'_>, error: &CompileError) -> Result<Told, AllocError>
     requires { IsRefusal script.text.now error.now }
@@ -205,6 +240,8 @@ pub fn refused(alloc: Global, script: Script<'_>, error: &CompileError) -> Resul
     let Some(advice) = refusal.advice else {
         return Err(AllocError);
     };
+    let sentence = advice_for(alloc, script, error, advice)?;
+    let advice = sentence.as_str();
     let mut errors = Vec::new(alloc);
     write_refusal(&mut errors, script, &refusal, advice)?;
     Ok(Told {

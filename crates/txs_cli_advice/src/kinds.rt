@@ -5,7 +5,7 @@ ghost use Rattle.std.specs.Prelude.{◌≡◌, ◌↔◌, IsNone};
 
 use txs_check::CheckErrorKind;
 use txs_reader::ReadErrorKind;
-use txs_resolve::ResolveErrorKind;
+use txs_resolve_expand::ResolveErrorKind;
 use txs_value_base::FaultKind;
 
 /// What to do about a list of plays that has an item which says none.

@@ -1,0 +1,17 @@
+//! What to do about a line on the standard error, in a sentence: one for each kind of refusal, fault and stop, and of refusals
+//! one that tells of what stands at the place, where that is known: a name of clojure.core, a form by its shape, a sign or a number
+//! that the profile leaves out, a call by how many arguments it has.
+#![tactic(auto)]
+
+mod clojure;
+pub mod kinds;
+pub mod refused;
+mod rows;
+mod script;
+mod shapes;
+mod signs;
+
+pub use kinds::{
+    OF_JOURNAL, OF_LIST, OF_MEMORY, OF_STEPS, of_check, of_fault, of_read, of_resolve,
+};
+pub use refused::{on_check, on_read, on_resolve};

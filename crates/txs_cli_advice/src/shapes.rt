@@ -1,0 +1,176 @@
+//! The forms by their shapes, and the core operations by the arguments that they take.
+
+use crate::rows::{Row, in_rows, is_among};
+
+/// The forms that stand at the top of a script, or in a `def` there.
+static AT_TOP: [Row; 6] = [
+    (
+        "def",
+        "Write `(def NAME LITERAL)` or `(def NAME (ref LITERAL))`, or so with `atom` or `agent`: nothing is computed at the top of a script.",
+    ),
+    (
+        "defn",
+        "Write `(defn NAME [PARAMETER ..] BODY ..)`, with one list of parameters, each of which is a name; a text may stand before it.",
+    ),
+    (
+        "ns",
+        "Write `(ns NAME)` as the first form, with nothing behind the name: a script has no other namespaces.",
+    ),
+    (
+        "ref",
+        "Write `(def NAME (ref LITERAL))`, with no option behind the literal: nothing is computed at the top of a script.",
+    ),
+    (
+        "atom",
+        "Write `(def NAME (atom LITERAL))`, with no option behind the literal: nothing is computed at the top of a script.",
+    ),
+    (
+        "agent",
+        "Write `(def NAME (agent LITERAL))`, with no option behind the literal but `:error-mode :continue` or `:error-mode :fail`.",
+    ),
+];
+
+/// All forms, as they stand below the top.
+static INSIDE: [Row; 28] = [
+    (
+        "ns",
+        "Put the `ns` at the top of the script, as its first form.",
+    ),
+    (
+        "def",
+        "Put the `def` at the top of the script; in a body `let` names a value, and a ref or an atom holds one that changes.",
+    ),
+    (
+        "defn",
+        "Put the `defn` at the top of the script, before its first use; what it takes from around it becomes a parameter.",
+    ),
+    (
+        "future",
+        "Put the `future` at the top of the script: a thread starts no other, and gives no value.",
+    ),
+    (
+        "ref",
+        "Put it into a `def` at the top of the script, as `(def NAME (ref LITERAL))`.",
+    ),
+    (
+        "atom",
+        "Put it into a `def` at the top of the script, as `(def NAME (atom LITERAL))`.",
+    ),
+    (
+        "agent",
+        "Put it into a `def` at the top of the script, as `(def NAME (agent LITERAL))`.",
+    ),
+    (
+        "if",
+        "Write `(if TEST THEN)` or `(if TEST THEN ELSE)`; several expressions of one branch stand in a `do`.",
+    ),
+    (
+        "if-not",
+        "Write `(if-not TEST THEN)` or `(if-not TEST THEN ELSE)`; several expressions of one branch stand in a `do`.",
+    ),
+    ("when", "Write `(when TEST BODY ..)`."),
+    ("when-not", "Write `(when-not TEST BODY ..)`."),
+    (
+        "cond",
+        "Write `(cond TEST VALUE ..)` in pairs; `:else` is a test that always holds.",
+    ),
+    ("and", "Write `(and VALUE ..)`."),
+    ("or", "Write `(or VALUE ..)`."),
+    ("do", "Write `(do BODY ..)`."),
+    (
+        "let",
+        "Write `(let [NAME VALUE ..] BODY ..)`, in pairs: a NAME is a symbol, and the parts of a vector are taken by `nth`.",
+    ),
+    (
+        "loop",
+        "Write `(loop [NAME VALUE ..] BODY ..)`, in pairs: a NAME is a symbol, and the parts of a vector are taken by `nth`.",
+    ),
+    ("recur", "Write `(recur VALUE ..)`."),
+    ("println", "Write `(println VALUE ..)`."),
+    ("dosync", "Write `(dosync BODY ..)`."),
+    (
+        "deref",
+        "Write `@CELL` or `(deref CELL)`, with nothing behind the cell.",
+    ),
+    ("ensure", "Write `(ensure REF)`."),
+    ("ref-set", "Write `(ref-set REF VALUE)`."),
+    ("reset!", "Write `(reset! ATOM VALUE)`."),
+    (
+        "alter",
+        "Write `(alter REF FUNCTION VALUE ..)`, with the name of a function, which gets the ref's value first.",
+    ),
+    (
+        "commute",
+        "Write `(commute REF FUNCTION VALUE ..)`, with the name of a function, which gets the ref's value first.",
+    ),
+    (
+        "swap!",
+        "Write `(swap! ATOM FUNCTION VALUE ..)`, with the name of a function, which gets the atom's value first.",
+    ),
+    (
+        "send",
+        "Write `(send AGENT FUNCTION VALUE ..)`, with the name of a function, which gets the agent's state first.",
+    ),
+];
+
+/// The shape of a form that stands at the top of a script, or in a `def` there.
+pub(crate) fn shape_at_top(name: &str) -> Option<&'static str> {
+    in_rows(&AT_TOP, name)
+}
+
+/// The shape of a form below the top, or that it stands at the top alone. There is one for each name of a form, and for no other.
+pub(crate) fn shape_inside(name: &str) -> Option<&'static str> {
+    in_rows(&INSIDE, name)
+}
+
+/// Core operations that take alike: their names with a space between each two, how many arguments one takes at least, how that is
+/// told, and what stands behind that where there are more.
+type Counts = (&'static str, usize, &'static str, &'static str);
+
+/// The core operations.
+static OPERATIONS: [Counts; 17] = [
+    ("+ *", 2, "2 or more", ""),
+    ("-", 1, "1 or more", ""),
+    ("inc", 1, "1", "; write `(+ n m)`"),
+    ("dec", 1, "1", "; write `(- n m)`"),
+    ("quot rem mod", 2, "2", ""),
+    ("=", 2, "2", "; write `(and (= a b) (= b c))`"),
+    ("<", 2, "2", "; write `(and (< a b) (< b c))`"),
+    (">", 2, "2", "; write `(and (> a b) (> b c))`"),
+    ("<=", 2, "2", "; write `(and (<= a b) (<= b c))`"),
+    (">=", 2, "2", "; write `(and (>= a b) (>= b c))`"),
+    ("not=", 2, "2", "; write `(not (and (= a b) (= b c)))`"),
+    ("max", 2, "2", "; write `(max (max a b) c)`"),
+    ("min", 2, "2", "; write `(min (min a b) c)`"),
+    ("not nil? zero? pos? neg? count peek pop", 1, "1", ""),
+    (
+        "nth",
+        2,
+        "2",
+        "; test the index first, as `(if (< i (count v)) (nth v i) x)`",
+    ),
+    ("conj", 2, "2", "; write `(conj (conj v a) b)`"),
+    ("assoc", 3, "3", "; write `(assoc (assoc v i a) j b)`"),
+];
+
+/// How many arguments an operation or a function takes: at least, as it is told, and what stands behind that where there are more.
+#[derive(Clone, Copy)]
+pub(crate) struct Takes<'a> {
+    pub(crate) least: usize,
+    pub(crate) told: &'a str,
+    pub(crate) instead: &'static str,
+}
+
+/// How many arguments the core operation of this name takes, if there is one.
+pub(crate) fn taken_by(name: &str) -> Option<Takes<'static>> {
+    for row in &OPERATIONS {
+        if is_among(row.0, name) {
+            return Some(Takes {
+                least: row.1,
+                told: row.2,
+                instead: row.3,
+            });
+        }
+    }
+    None
+}
