@@ -70,8 +70,8 @@ fn explains(words: &Words) -> bool {
     }
 }
 
-/// Says why a file couldn't be opened or written, where the words ask for explanations. Where that can't be said the line before it still
-/// stands.
+/// Says why a file couldn't be opened or written, where the words ask for explanations. The standard error may fail too: then the line
+/// before it is all.
 fn explain_file(rt: &HostRuntime, words: &Words, name: &str, error: &io::Error) {
     if explains(words) {
         let _ = eprintln!(rt; "{name}: {error}");

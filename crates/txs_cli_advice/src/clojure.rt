@@ -17,7 +17,7 @@ static ITEMS: [Row; 22] = [
     ),
     (
         "get find",
-        "write `(nth v i)`, behind a test of `i` where there may be no such item",
+        "write `(nth v i)`, after a test of `i` where there may be no such item",
     ),
     (
         "get-in assoc-in update-in",
@@ -100,7 +100,7 @@ static VALUES: [Row; 19] = [
     ),
     (
         "pr prn print printf newline flush",
-        "write `println`, which puts a space between its arguments and a newline behind them",
+        "write `println`, which puts a space between its arguments and a newline after them",
     ),
     (
         "str format subs name namespace char pr-str prn-str print-str println-str with-out-str char-escape-string char-name-string re-find re-matches re-seq re-pattern re-groups re-matcher",
@@ -178,7 +178,7 @@ static FORMS: [Row; 20] = [
     ),
     (
         "binding with-bindings with-bindings* with-redefs with-redefs-fn with-local-vars var var-get var-set set! alter-var-root bound? thread-bound? intern find-var get-thread-bindings push-thread-bindings pop-thread-bindings",
-        "hand the value on as a parameter, or keep it in a ref or an atom",
+        "pass the value as an argument, or keep it in a ref or an atom",
     ),
     ("time", "take it out: there is no clock"),
 ];
@@ -192,7 +192,7 @@ static THREADS: [Row; 13] = [
     ),
     (
         "restart-agent agent-error agent-errors clear-agent-errors set-error-mode! set-error-handler! error-mode error-handler",
-        "write `(def g (agent 0 :error-mode :continue))` for an agent that goes on after a fault",
+        "write `(def g (agent 0 :error-mode :continue))` for an agent that continues after a fault",
     ),
     (
         "set-agent-send-executor! set-agent-send-off-executor!",

@@ -1,6 +1,6 @@
-//! What to do about a line on the standard error, in a sentence: one for each kind of refusal, fault and stop, and of refusals
-//! one that tells of what stands at the place, where that is known: a name of clojure.core, a form by its shape, a sign or a number
-//! that the profile leaves out, a call by how many arguments it has.
+//! What to do about a line on the standard error, in a sentence: one for each kind of refusal, fault and stop; and for a refusal,
+//! where that is known, one about what is at its span: a name of clojure.core, a form of another shape, a sign or a number that the
+//! profile leaves out, a call with a wrong count of arguments.
 #![tactic(auto)]
 
 mod clojure;

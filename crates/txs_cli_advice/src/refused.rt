@@ -1,8 +1,8 @@
-//! What to do about a refusal, by what stands at its place in the script.
+//! What to do about a refusal, by what is at its span in the script.
 
 use crate::clojure::instead_of;
 use crate::script::{
-    Call, byte_behind, bytes_at, call_of, forms_of, is_at_top, is_defined, list_of, parameters_of,
+    Call, byte_after, bytes_at, call_of, forms_of, is_at_top, is_defined, list_of, parameters_of,
     text_of, value_head,
 };
 use crate::shapes::{Takes, shape_at_top, shape_inside, taken_by};
@@ -20,7 +20,7 @@ type Advice = Result<Option<String>, AllocError>;
 
 /// What to do about a form at the top of a script that belongs below it.
 const AT_TOP: &str =
-    "At the top of a script stand `ns`, `def`, `defn` and `future` alone: put it into a `(future ..)`.";
+    "Only `ns`, `def`, `defn` and `future` belong at the top of a script: put it into a `(future ..)`.";
 
 /// What to do about a list without parts.
 const EMPTY: &str = "Write `[]` for an empty vector, or `nil`: there are no lists as values.";
@@ -36,7 +36,7 @@ const KEYWORD_CALLED: &str =
 /// What to do about a vector there.
 const VECTOR_CALLED: &str = "A vector is no function: write `(nth v i)`.";
 
-/// The parts, one behind the other.
+/// The parts, one after the other.
 fn join(alloc: Global, parts: &[&str]) -> Advice {
     let mut text = String::new(alloc);
     for part in parts {
@@ -78,13 +78,13 @@ fn is_of_script(alloc: Global, text: &[u8], name: &str) -> Result<bool, AllocErr
     Ok(is_defined(&forms, name))
 }
 
-/// What to do about a script that isn't read, as far as that is seen from what stands at the place.
+/// What to do about a script that isn't read, as far as that is seen at the span.
 pub fn on_read(text: &[u8], error: ReadError) -> Option<&'static str> {
     let word = bytes_at(text, error.at);
     match error.kind {
         ReadErrorKind::NotUtf8 => of_code(text),
         ReadErrorKind::BadToken => of_code(text).or(of_token(word)),
-        ReadErrorKind::LeftOut => of_left_out(word, byte_behind(text, error.at)),
+        ReadErrorKind::LeftOut => of_left_out(word, byte_after(text, error.at)),
         _ => None,
     }
 }
@@ -123,7 +123,7 @@ fn on_symbol(alloc: Global, name: &str) -> Advice {
     about(
         alloc,
         name,
-        " is a function, and no value: it stands at the head of a list, or behind the cell of an `alter`, `commute`, `swap!` or `send`.",
+        " is a function, and no value: name it where it is called, or after the cell of an `alter`, `commute`, `swap!` or `send`.",
     )
 }
 
@@ -135,7 +135,7 @@ fn on_head(alloc: Global, name: &str, otherwise: &str) -> Advice {
     only(alloc, Some(shape_at_top(name).unwrap_or(otherwise)))
 }
 
-/// What to do about a list at the top of a script that begins with this name, with these parts behind it.
+/// What to do about a list at the top of a script that begins with this name, with these parts after it.
 fn on_top_list(alloc: Global, name: &str, parts: &[Form]) -> Advice {
     if name == "def" {
         let value = value_head(parts).unwrap_or(name);
@@ -144,7 +144,7 @@ fn on_top_list(alloc: Global, name: &str, parts: &[Form]) -> Advice {
     on_head(alloc, name, AT_TOP)
 }
 
-/// What to do about a list that begins with this name, with these parts behind it.
+/// What to do about a list that begins with this name, with these parts after it.
 fn on_list(alloc: Global, name: &str, parts: &[Form], is_top: bool) -> Advice {
     if is_top {
         return on_top_list(alloc, name, parts);
@@ -164,7 +164,7 @@ fn on_form(alloc: Global, form: &Form, is_top: bool) -> Advice {
     }
 }
 
-/// The same of the form at this place.
+/// The same of the form at this span.
 fn on_form_at(alloc: Global, text: &[u8], at: Span, is_top: bool) -> Advice {
     let forms = forms_of(alloc, bytes_at(text, at))?;
     match forms.first() {
@@ -173,7 +173,7 @@ fn on_form_at(alloc: Global, text: &[u8], at: Span, is_top: bool) -> Advice {
     }
 }
 
-/// The same, where it is not yet known whether it stands at the top of the script.
+/// The same, where it isn't known yet whether the form is at the top of the script.
 fn on_bad_form(alloc: Global, text: &[u8], at: Span) -> Advice {
     let forms = forms_of(alloc, text)?;
     let is_top = is_at_top(&forms, at);
@@ -245,7 +245,7 @@ fn on_redefined(alloc: Global, name: &str) -> Advice {
     Ok(None)
 }
 
-/// What to do about forms that are no program, as far as that is seen from what stands at the place.
+/// What to do about forms that are no program, as far as that is seen at the span.
 ///
 /// # Errors
 /// Where there was no memory for the sentence, or for the forms of the script.
@@ -266,8 +266,8 @@ pub fn on_resolve(
     }
 }
 
-/// What stands behind the counts of a call: that the first argument is a cell's value, or what to write in place of more.
-fn behind_count(call: Call<'_>, takes: Takes<'_>) -> &'static str {
+/// What follows the counts of a call: that the first argument is a cell's value, or what to write in place of more.
+fn after_count(call: Call<'_>, takes: Takes<'_>) -> &'static str {
     if call.on_cell {
         return " with the cell's value as the first";
     }
@@ -277,11 +277,11 @@ fn behind_count(call: Call<'_>, takes: Takes<'_>) -> &'static str {
     ""
 }
 
-/// What a function takes, how many arguments there are, and what stands behind that.
-fn counted(alloc: Global, name: &str, takes: &str, count: &str, behind: &str) -> Advice {
+/// How many arguments a function takes, how many there are, and what follows.
+fn counted(alloc: Global, name: &str, takes: &str, count: &str, after: &str) -> Advice {
     join(
         alloc,
-        &["`", name, "` takes ", takes, ", got ", count, behind, "."],
+        &["`", name, "` takes ", takes, ", got ", count, after, "."],
     )
 }
 
@@ -289,8 +289,8 @@ fn counted(alloc: Global, name: &str, takes: &str, count: &str, behind: &str) ->
 fn on_count(alloc: Global, call: Call<'_>, takes: Takes<'_>) -> Advice {
     let mut buffer = Buffer::new();
     let count = buffer.format(call.count);
-    let behind = behind_count(call, takes);
-    counted(alloc, call.name, takes.told, count, behind)
+    let after = after_count(call, takes);
+    counted(alloc, call.name, takes.shown, count, after)
 }
 
 /// What to do about a call of a function of the script.
@@ -300,14 +300,14 @@ fn on_function(alloc: Global, text: &[u8], call: Call<'_>) -> Advice {
         return Ok(None);
     };
     let mut buffer = Buffer::new();
-    let told = buffer.format(least);
+    let shown = buffer.format(least);
     let instead = "";
     on_count(
         alloc,
         call,
         Takes {
             least,
-            told,
+            shown,
             instead,
         },
     )
@@ -349,7 +349,7 @@ fn on_call(alloc: Global, text: &[u8], kind: CheckErrorKind, call: Call<'_>) -> 
     }
 }
 
-/// What to do about a program that isn't sound, as far as that is seen from what stands at the place.
+/// What to do about a program that isn't sound, as far as that is seen at the span.
 ///
 /// # Errors
 /// Where there was no memory for the sentence, or for the forms of the script.

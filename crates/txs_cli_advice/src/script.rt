@@ -1,4 +1,4 @@
-//! What stands in a script: the bytes and the form at a place, calls, and what the top level defines.
+//! What a script has: the bytes and the form at a span, calls, and what is defined at the top.
 
 use std::alloc::{AllocError, Global};
 use std::str;
@@ -6,7 +6,7 @@ use txs_reader::{Bracket, Form, ReadErrorKind, read_script};
 use txs_value_base::Span;
 use txs_value_data::Name;
 
-/// The bytes at a place; none where it isn't one of the text.
+/// The bytes at a span; none where the text is shorter.
 pub(crate) fn bytes_at(text: &[u8], at: Span) -> &[u8] {
     match text.get(at.from as usize..at.to as usize) {
         Some(bytes) => bytes,
@@ -14,8 +14,8 @@ pub(crate) fn bytes_at(text: &[u8], at: Span) -> &[u8] {
     }
 }
 
-/// The byte behind a place, 0 at the end.
-pub(crate) fn byte_behind(text: &[u8], at: Span) -> u8 {
+/// The byte after a span, 0 at the end.
+pub(crate) fn byte_after(text: &[u8], at: Span) -> u8 {
     text.get(at.to as usize).copied().unwrap_or(0)
 }
 
@@ -38,7 +38,7 @@ pub(crate) fn forms_of(alloc: Global, text: &[u8]) -> Result<Vec<Form>, AllocErr
     }
 }
 
-/// The name at the head of a list, and the forms behind it.
+/// The name at the head of a list, and the forms after it.
 pub(crate) fn list_of(form: &Form) -> Option<(&str, &[Form])> {
     let Form::Group(Bracket::Round, forms, _) = form else {
         return None;
@@ -52,8 +52,8 @@ pub(crate) fn list_of(form: &Form) -> Option<(&str, &[Form])> {
 
 /// The name at the head of the value in a `def` with these parts, where that is a list.
 pub(crate) fn value_head(parts: &[Form]) -> Option<&str> {
-    let (_, behind) = parts.split_first()?;
-    let (name, _) = list_of(behind.first()?)?;
+    let (_, rest) = parts.split_first()?;
+    let (name, _) = list_of(rest.first()?)?;
     Some(name)
 }
 
@@ -100,7 +100,7 @@ pub(crate) fn parameters_of(forms: &[Form], name: &str) -> Option<usize> {
     None
 }
 
-/// Whether one of the forms stands just at this place.
+/// Whether one of the forms has just this span.
 pub(crate) fn is_at_top(forms: &[Form], at: Span) -> bool {
     forms.iter().any(|form| form.span() == at)
 }
@@ -115,11 +115,11 @@ pub(crate) struct Call<'a> {
 
 /// What an `alter`, `commute`, `swap!` or `send` with these parts calls.
 fn change_of(parts: &[Form]) -> Option<Call<'_>> {
-    let (_, behind) = parts.split_first()?;
-    let name = first_name(behind)?;
+    let (_, rest) = parts.split_first()?;
+    let name = first_name(rest)?;
     Some(Call {
         name,
-        count: behind.len(),
+        count: rest.len(),
         on_cell: true,
     })
 }

@@ -1,8 +1,8 @@
-//! The forms by their shapes, and the core operations by the arguments that they take.
+//! The shapes of the forms, and how many arguments the core operations take.
 
 use crate::rows::{Row, in_rows, is_among};
 
-/// The forms that stand at the top of a script, or in a `def` there.
+/// The forms of the top of a script, and of a `def` there.
 static AT_TOP: [Row; 6] = [
     (
         "def",
@@ -10,27 +10,27 @@ static AT_TOP: [Row; 6] = [
     ),
     (
         "defn",
-        "Write `(defn NAME [PARAMETER ..] BODY ..)`, with one list of parameters, each of which is a name; a text may stand before it.",
+        "Write `(defn NAME [PARAMETER ..] BODY ..)`, with one list of parameters, each of which is a name; a text may come before it.",
     ),
     (
         "ns",
-        "Write `(ns NAME)` as the first form, with nothing behind the name: a script has no other namespaces.",
+        "Write `(ns NAME)` as the first form, with nothing after the name: a script has no other namespaces.",
     ),
     (
         "ref",
-        "Write `(def NAME (ref LITERAL))`, with no option behind the literal: nothing is computed at the top of a script.",
+        "Write `(def NAME (ref LITERAL))`, with no option after the literal: nothing is computed at the top of a script.",
     ),
     (
         "atom",
-        "Write `(def NAME (atom LITERAL))`, with no option behind the literal: nothing is computed at the top of a script.",
+        "Write `(def NAME (atom LITERAL))`, with no option after the literal: nothing is computed at the top of a script.",
     ),
     (
         "agent",
-        "Write `(def NAME (agent LITERAL))`, with no option behind the literal but `:error-mode :continue` or `:error-mode :fail`.",
+        "Write `(def NAME (agent LITERAL))`, with no option after the literal but `:error-mode :continue` or `:error-mode :fail`.",
     ),
 ];
 
-/// All forms, as they stand below the top.
+/// All forms, below the top.
 static INSIDE: [Row; 28] = [
     (
         "ns",
@@ -38,7 +38,7 @@ static INSIDE: [Row; 28] = [
     ),
     (
         "def",
-        "Put the `def` at the top of the script; in a body `let` names a value, and a ref or an atom holds one that changes.",
+        "Put the `def` at the top of the script; in a body `let` names a value, and a ref or atom holds what changes.",
     ),
     (
         "defn",
@@ -62,11 +62,11 @@ static INSIDE: [Row; 28] = [
     ),
     (
         "if",
-        "Write `(if TEST THEN)` or `(if TEST THEN ELSE)`; several expressions of one branch stand in a `do`.",
+        "Write `(if TEST THEN)` or `(if TEST THEN ELSE)`; several expressions of one branch go into a `do`.",
     ),
     (
         "if-not",
-        "Write `(if-not TEST THEN)` or `(if-not TEST THEN ELSE)`; several expressions of one branch stand in a `do`.",
+        "Write `(if-not TEST THEN)` or `(if-not TEST THEN ELSE)`; several expressions of one branch go into a `do`.",
     ),
     ("when", "Write `(when TEST BODY ..)`."),
     ("when-not", "Write `(when-not TEST BODY ..)`."),
@@ -90,7 +90,7 @@ static INSIDE: [Row; 28] = [
     ("dosync", "Write `(dosync BODY ..)`."),
     (
         "deref",
-        "Write `@CELL` or `(deref CELL)`, with nothing behind the cell.",
+        "Write `@CELL` or `(deref CELL)`, with nothing after the cell.",
     ),
     ("ensure", "Write `(ensure REF)`."),
     ("ref-set", "Write `(ref-set REF VALUE)`."),
@@ -113,18 +113,18 @@ static INSIDE: [Row; 28] = [
     ),
 ];
 
-/// The shape of a form that stands at the top of a script, or in a `def` there.
+/// The shape of a form of the top of a script, or of a `def` there.
 pub(crate) fn shape_at_top(name: &str) -> Option<&'static str> {
     in_rows(&AT_TOP, name)
 }
 
-/// The shape of a form below the top, or that it stands at the top alone. There is one for each name of a form, and for no other.
+/// The shape of a form below the top, or that it belongs at the top. There is one for each name of a form, and for no other name.
 pub(crate) fn shape_inside(name: &str) -> Option<&'static str> {
     in_rows(&INSIDE, name)
 }
 
 /// Core operations that take alike: their names with a space between each two, how many arguments one takes at least, how that is
-/// told, and what stands behind that where there are more.
+/// shown, and what follows where there are more.
 type Counts = (&'static str, usize, &'static str, &'static str);
 
 /// The core operations.
@@ -153,11 +153,11 @@ static OPERATIONS: [Counts; 17] = [
     ("assoc", 3, "3", "; write `(assoc (assoc v i a) j b)`"),
 ];
 
-/// How many arguments an operation or a function takes: at least, as it is told, and what stands behind that where there are more.
+/// How many arguments an operation or a function takes: at least, as it is shown, and what follows where there are more.
 #[derive(Clone, Copy)]
 pub(crate) struct Takes<'a> {
     pub(crate) least: usize,
-    pub(crate) told: &'a str,
+    pub(crate) shown: &'a str,
     pub(crate) instead: &'static str,
 }
 
@@ -167,7 +167,7 @@ pub(crate) fn taken_by(name: &str) -> Option<Takes<'static>> {
         if is_among(row.0, name) {
             return Some(Takes {
                 least: row.1,
-                told: row.2,
+                shown: row.2,
                 instead: row.3,
             });
         }

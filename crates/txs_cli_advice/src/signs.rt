@@ -12,7 +12,7 @@ const IS_CODE: &str =
 
 /// What to do about a byte order mark.
 const IS_BYTE_ORDER_MARK: &str =
-    "Save the script without a byte order mark: its three bytes stand here.";
+    "Save the script without a byte order mark: its three bytes are here.";
 
 /// What to do about a quotation mark past ASCII.
 const IS_QUOTATION_MARK: &str = "Write a text between two straight quotes, as \"text\".";
@@ -45,11 +45,11 @@ static FIRST: [Row; 12] = [
     ),
     (
         b'^',
-        "Metadata is left out: take out the `^` and the hint behind it.",
+        "Metadata is left out: take out the `^` and the hint after it.",
     ),
     (
         b'&',
-        "`&` is left out: hand on one vector for the rest of the arguments.",
+        "`&` is left out: pass one vector for the rest of the arguments.",
     ),
     (
         b'%',
@@ -69,7 +69,7 @@ static FIRST: [Row; 12] = [
     ),
 ];
 
-/// Words that begin with `#`, by the byte behind it.
+/// Words that begin with `#`, by the next byte.
 static DISPATCH: [Row; 12] = [
     (
         b'{',
@@ -93,7 +93,7 @@ static DISPATCH: [Row; 12] = [
     ),
     (
         b'?',
-        "A reader conditional is left out: write what stands behind its `:clj` alone.",
+        "A reader conditional is left out: write only what follows its `:clj`.",
     ),
     (
         b'#',
@@ -105,7 +105,7 @@ static DISPATCH: [Row; 12] = [
     ),
     (
         b'^',
-        "Metadata is left out: take out the `#^` and the hint behind it.",
+        "Metadata is left out: take out the `#^` and the hint after it.",
     ),
     (
         b'!',
@@ -118,7 +118,7 @@ static DISPATCH: [Row; 12] = [
     ),
 ];
 
-/// A word that begins with `#`, with any other byte behind it.
+/// A word that begins with `#` and has any other byte next.
 const TAGGED: &str = "A tagged literal is left out: write a number, a text, a keyword or a vector.";
 
 /// Numbers that are left out, by a byte of theirs, of which the first in this order counts.
@@ -186,10 +186,10 @@ fn is_numeric(first: u8, second: u8) -> bool {
     first.is_ascii_digit() || (matches!(first, b'+' | b'-') && second.is_ascii_digit())
 }
 
-/// What to do about a word that is left out, with this byte behind it; nothing is known of some.
-pub(crate) fn of_left_out(word: &[u8], behind: u8) -> Option<&'static str> {
+/// What to do about a word that is left out, with this byte after it; nothing is known of some.
+pub(crate) fn of_left_out(word: &[u8], next: u8) -> Option<&'static str> {
     let first = byte_at(word, 0);
-    let second = word.get(1).copied().unwrap_or(behind);
+    let second = word.get(1).copied().unwrap_or(next);
     if first == b'#' {
         return Some(row_of(&DISPATCH, second).unwrap_or(TAGGED));
     }

@@ -195,7 +195,7 @@ fn refusal_of(error: &CompileError) -> Option<Refusal>
     }
 }
 
-/// What to do about a refusal, by what stands at its place in the script, where that is known.
+/// What to do about a refusal, by what is at its span in the script, where that is known.
 fn advice_on(
     alloc: Global,
     text: &[u8],
@@ -212,8 +212,8 @@ fn advice_on(
     }
 }
 
-/// What to do about a refusal: what is known by its place, else this, which is known by its kind. Where nothing is explained, it is looked
-/// for nowhere.
+/// What to do about a refusal: what is known by its span, else this, which is known by its kind. Where nothing is explained the script
+/// isn't looked at.
 fn advice_for(
     alloc: Global,
     script: Script<'_>,
